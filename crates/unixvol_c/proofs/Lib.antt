@@ -1,0 +1,4 @@
+pub mod AsBox
+pub mod Counting
+pub mod Judged
+pub mod Replied

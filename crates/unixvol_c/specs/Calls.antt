@@ -1,0 +1,72 @@
+-- What the exports promise of the volume that a handle holds.
+use Rattle.std.specs.Prelude.{◌≡◌, ◌≢◌, ◌≤◌, length, ℕ, ℤ, pos, nat_eq, if◌then◌else◌, Option, None, Some, Result, Err}
+use Rattle.vol_dir.specs.Refusals.{number_of}
+use Rattle.vol_dir.specs.declared.refusal.Refusal.{Refusal}
+use Rattle.vol_layout.specs.declared.edition.Edition.{Edition}
+use Rattle.vol_layout.specs.declared.edition.Edition.TheVariants.{V6, V7}
+use Rattle.vol_volume.specs.Answer.{Answers}
+use Rattle.vol_volume.specs.Journal.{Refuses}
+use Rattle.vol_volume.specs.Volume.{Mounted, reads_as, Accepts}
+use Rattle.vol_volume.specs.declared.calls.Call.{Call}
+use Rattle.vol_volume.specs.declared.calls.Call.TheVariants as calls
+use Rattle.vol_volume.specs.declared.calls.Done.{Done}
+use Rattle.vol_volume.specs.declared.queries.Query.{Query}
+use Rattle.vol_volume.specs.declared.queries.Query.TheVariants as queries
+use Rattle.vol_volume.specs.declared.queries.Reply.{Reply}
+use Rattle.vol_volume.specs.declared.queries.Reply.TheVariants as replies
+use Rattle.unixvol_c.specs.Opened.{Opened, trimmed}
+
+-- the edition that a number names: 6 or 7 (this project)
+abbrev pub edition_of : ℕ → Edition
+edition_of n = if nat_eq n 6 then V6 else V7
+
+-- a number names no edition (this project)
+abbrev pub IsNoEdition : ℕ → Type 0
+IsNoEdition n = (n ≢ 6) × (n ≢ 7)
+
+-- a query of the volume held has this outcome (this project)
+abbrev pub IsAnswered : Option Opened → Query → Result Reply Refusal → Type 0
+IsAnswered None query outcome = ⊥
+IsAnswered (Some held) query outcome = Answers (reads_as held.volume.edition held.volume.image).tree query outcome
+
+-- a reply is of its query's kind, and has no more bytes than are asked for (this project)
+abbrev pub Replies : Query → Reply → Type 0
+Replies (queries.Stat cred path) (replies.Stat stat) = Unit {0}
+Replies (queries.Read cred path offset len) (replies.Bytes bytes) = length bytes ≤ len
+Replies (queries.List cred path) (replies.Names names) = Unit {0}
+Replies _ _ = ⊥
+
+-- a query of the volume held is refused, and this is the number of the refusal (this project)
+pub record RefusesQuery (held : Option Opened) (query : Query) (number : ℤ) : Type 0 where
+  pub refusal : Refusal
+  pub numbered : number ≡ pos (number_of refusal)
+  pub answered : IsAnswered held query (Err refusal)
+
+-- the volume held before accepted a call, and is held after it, its journal cut if it has grown past the image; what was asked stays (this project)
+pub record IsMade (old new : Opened) (call : Call) (done : Done) : Type 0 where
+  pub made : Mounted
+  pub accepted : Accepts old.volume made call done
+  pub trimmed : new.volume ≡ trimmed made
+  pub answer : new.answer ≡ old.answer
+
+-- a call makes a node (this project)
+abbrev pub MakesNode : Call → Type 0
+MakesNode (calls.Create cred now path perm) = Unit {0}
+MakesNode (calls.Mkdir cred now path perm) = Unit {0}
+MakesNode _ = ⊥
+
+-- the volume that a handle held accepted a call, and the handle holds it after (this project)
+abbrev pub Makes : Option Opened → Option Opened → Call → Done → Type 0
+Makes (Some old) (Some new) call done = IsMade old new call done
+Makes _ _ call done = ⊥
+
+-- a call of the volume held is refused so (this project)
+abbrev pub IsRefused : Option Opened → Call → Refusal → Type 0
+IsRefused None call refusal = ⊥
+IsRefused (Some held) call refusal = Refuses (reads_as held.volume.edition held.volume.image) call refusal
+
+-- a call of the volume held is refused, and this is the number of the refusal (this project)
+pub record RefusesCall (held : Option Opened) (call : Call) (number : ℤ) : Type 0 where
+  pub refusal : Refusal
+  pub numbered : number ≡ pos (number_of refusal)
+  pub refused : IsRefused held call refusal

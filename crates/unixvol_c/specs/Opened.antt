@@ -1,0 +1,52 @@
+-- An open volume, as contracts see what a handle holds.
+use Rattle.std.specs.Prelude.{◌≡◌, ℕ, ◌+◌, ◌^◌, ◌<◌, ◌≤◌, ◌&&◌, nat_lt, if◌then◌else◌, List, [], length, Option, None, Some}
+use Rattle.std.specs.List.{sum_by}
+use Rattle.vol_volume.specs.Volume.{Mounted, after_cut}
+use Rattle.vol_volume.specs.declared.calls.Call.{Call}
+use Rattle.vol_volume.specs.declared.calls.Call.TheVariants.{Create, Mkdir, Link, Unlink, Rmdir, Write, Truncate, Chmod, Chown}
+use Rattle.vol_volume.specs.declared.calls.Record.{Record}
+
+-- what an open handle holds: a volume, and the answer of unknown length that was asked for last (this project)
+pub record Opened : Type 0 where
+  pub volume : Mounted
+  pub answer : List ℕ
+
+-- a volume just opened: nothing was asked (this project)
+abbrev pub opened : Mounted → Opened
+opened volume = record { volume = volume; answer = [] }
+
+-- how many bytes the record of a call is counted as: 128, those of its paths, and those that it writes (this project)
+abbrev pub call_bytes : Call → ℕ
+call_bytes (Create cred now path perm) = 128 + length path
+call_bytes (Mkdir cred now path perm) = 128 + length path
+call_bytes (Link cred now source target) = 128 + length source + length target
+call_bytes (Unlink cred now path) = 128 + length path
+call_bytes (Rmdir cred now path) = 128 + length path
+call_bytes (Write cred now path offset bytes) = 128 + length path + length bytes
+call_bytes (Truncate cred now path size) = 128 + length path
+call_bytes (Chmod cred now path perm) = 128 + length path
+call_bytes (Chown cred now path uid gid) = 128 + length path
+
+-- how many bytes a journal is counted as (this project)
+abbrev pub journal_bytes : List Record → ℕ
+journal_bytes records = sum_by (λ (entry : Record). call_bytes entry.call) records
+
+-- the records of a volume can be cut: the number of the next is below 2^64 (this project)
+abbrev pub CanCut : Mounted → Type 0
+CanCut volume = volume.first + length volume.journal < 2 ^ 64
+
+-- a volume whose journal is cut if it is counted as more bytes than the image has (this project)
+abbrev pub trimmed : Mounted → Mounted
+trimmed volume =
+    if nat_lt (length volume.image) (journal_bytes volume.journal) && nat_lt (volume.first + length volume.journal) (2 ^ 64)
+    then after_cut volume else volume
+
+-- what an open volume keeps: its journal is counted, and as no more bytes than the image has (this project)
+pub record IsCounted (volume : Mounted) (growth : ℕ) : Type 0 where
+  pub counted : CanCut volume → growth ≡ journal_bytes volume.journal
+  pub few : CanCut volume → growth ≤ length volume.image
+
+-- a journal is counted as so many bytes, or as 2^64 and more (this project)
+abbrev pub HasGrowth : Mounted → Option ℕ → Type 0
+HasGrowth volume (Some growth) = CanCut volume → growth ≡ journal_bytes volume.journal
+HasGrowth volume None = CanCut volume → 2 ^ 64 ≤ journal_bytes volume.journal

@@ -1,0 +1,73 @@
+-- Reports, archives and texts, as C gets them.
+use Rattle.std.specs.Prelude.{◌≡◌, ℕ, nat_eq, if◌then◌else◌, not, Bool, List, Option, None, Some, Result, Ok}
+use Rattle.std.specs.List.{count_by}
+use Rattle.vol_dir.specs.Refusals.{number_of}
+use Rattle.vol_layout.specs.declared.edition.Edition.{Edition}
+use Rattle.vol_layout.specs.declared.geometry.GeometryFault.TheVariants.{Short, Bounds}
+use Rattle.vol_reports.specs.Texts.{report_text}
+use Rattle.vol_reports.specs.declared.line.Line.{Line}
+use Rattle.vol_check.specs.Reporting.{IsReport}
+use Rattle.vol_check.specs.declared.checker.Checker.{Checker}
+use Rattle.vol_check.specs.declared.checker.Checker.TheVariants.{Blocks, Entries, Names}
+use Rattle.vol_findings.specs.Reports.{IsReport as IsFindings}
+use Rattle.vol_archive.specs.Exporting.{start_of}
+use Rattle.vol_archive.specs.Laws.{is_kept}
+use Rattle.vol_archive.specs.Members.{archive_bytes}
+use Rattle.vol_archive.specs.Walking.{IsWalk}
+use Rattle.vol_archive.specs.declared.exporting.Start.{Start}
+use Rattle.vol_archive.specs.declared.exporting.StartFault.{StartFault}
+use Rattle.vol_archive.specs.declared.exporting.StartFault.TheVariants.{Unsound, Refused}
+use Rattle.vol_archive.specs.declared.found.Found.{Found}
+use Rattle.unixvol_c.specs.Opened.{Opened}
+
+-- what was held before and what is held after are related so (this project)
+abbrev pub BothHeld : Option Opened → Option Opened → (Opened → Opened → Type 0) → Type 0
+BothHeld (Some old) (Some new) relation = relation old new
+BothHeld _ _ relation = ⊥
+
+-- the checker that a letter names: i icheck, d dcheck, n ncheck (this project)
+abbrev pub checker_of : ℕ → Option Checker
+checker_of letter =
+    if nat_eq letter 105 then Some Blocks else if nat_eq letter 100 then Some Entries else if nat_eq letter 110 then Some Names else None
+
+-- a text is the report of a checker on an image (icheck, dcheck, ncheck)
+pub record IsReportText (checker : Checker) (edition : Edition) (image text : List ℕ) : Type 0 where
+  pub lines : List Line
+  pub report : IsReport checker edition image lines
+  pub words : text ≡ report_text lines
+
+-- the report that a letter names is the answer kept, and the volume stays (this project)
+pub record KeepsReport (letter : ℕ) (old new : Opened) : Type 0 where
+  pub checker : Checker
+  pub named : checker_of letter ≡ Some checker
+  pub report : IsReportText checker old.volume.edition old.volume.image new.answer
+  pub volume : new.volume ≡ old.volume
+
+-- how many of what was met are no members of an archive (this project)
+abbrev pub left_out : List Found → ℕ
+left_out founds = count_by (λ (found : Found). not (is_kept found.role)) founds
+
+-- bytes are the archive of what is met from a start on, and so many entries are left out (POSIX ustar)
+pub record IsArchive (start : Start) (image bytes : List ℕ) (count : ℕ) : Type 0 where
+  pub founds : List Found
+  pub walked : IsWalk start.geometry image start.inode founds
+  pub members : bytes ≡ archive_bytes start.geometry image founds
+  pub counted : count ≡ left_out founds
+
+-- the archive of what is below a path is the answer kept, and the volume stays (this project)
+pub record KeepsArchive (path : List ℕ) (count : ℕ) (old new : Opened) : Type 0 where
+  pub start : Start
+  pub begun : start_of old.volume.edition old.volume.image path ≡ Ok start
+  pub archive : IsArchive start old.volume.image new.answer count
+  pub volume : new.volume ≡ old.volume
+
+-- the number of why there is nothing to export (this project)
+abbrev pub start_number : StartFault → ℕ
+start_number (Unsound Short) = 201
+start_number (Unsound Bounds) = 202
+start_number (Refused refusal) = number_of refusal
+
+-- a text is what is found of each of the twelve rules (this project)
+pub record Explains (edition : Edition) (image text : List ℕ) : Type 0 where
+  pub is_sound : Bool
+  pub report : IsFindings edition image text is_sound

@@ -1,0 +1,255 @@
+//! Answers of a length that isn't known before: they are kept in the handle, and copied out.
+ghost use Rattle.std.specs.Prelude.{◌≡◌, ◌≢◌, ◌↔◌, ◌⊎◌, ◌-◌, pos, None, Some, Ok, Err, IsSomeAnd, IfSome, IfOk, IsNone, length, min, take, drop};
+ghost use Rattle.vol_layout.specs.Geometry.{Fits};
+ghost use Rattle.vol_dir.specs.Entries.{IsDirectory};
+ghost use Rattle.vol_check.specs.Layouts.{HasSwept, IsFor, IsSeatIn};
+ghost use Rattle.vol_check.specs.Reporting.{IsReport};
+ghost use Rattle.vol_check.specs.Stepping.{Ran};
+ghost use Rattle.vol_archive.specs.Exporting.{start_of};
+ghost use Rattle.unixvol_c.specs.Texts.{BothHeld, IsArchive, IsReportText, KeepsArchive, KeepsReport, checker_of, start_number};
+
+use crate::handle::Handle;
+use crate::open_volume::OpenVolume;
+use crate::queries::put_bytes;
+use crate::{CLOSED, DONE, NO_MEMORY, NO_REPORT};
+use pdp_words::{Image, IntoWrite};
+use std::alloc::{AllocError, Global};
+use vol_archive::{Role, Start, StartFault, export, start_of};
+use vol_check::{CheckSeat, Checker, Sweep};
+use vol_layout::{Edition, GeometryFault};
+use vol_reports::Report;
+
+/// Keeps the report of a checker on the volume: that of `icheck` for the letter `i`, of `dcheck` for `d`, of `ncheck`
+/// for `n`. It is the text that the program prints.
+///
+/// Costs and takes memory for what the checker does with one thread, and for the text.
+#[unsafe(no_mangle)]
+pub extern "C" fn unixvol_report(alloc: Global, handle: &mut Handle, letter: u8) -> i32
+    ensures kept { result ≡ DONE → BothHeld handle.old.sealed.held handle.new.sealed.held (KeepsReport letter) }
+    ensures closed { result ≡ CLOSED ↔ handle.old.sealed.held ≡ None }
+    ensures unnamed { IfSome handle.old.sealed.held (λ held. result ≡ NO_REPORT ↔ checker_of letter ≡ None) }
+    ensures others { (result ≡ DONE) ⊎ (result ≡ CLOSED) ⊎ (result ≡ NO_REPORT) ⊎ (result ≡ NO_MEMORY) }
+    ensures unchanged { result ≢ DONE → handle.new.sealed.held ≡ handle.old.sealed.held }
+{
+    let Some(mut held) = handle.take(alloc) else {
+        return CLOSED;
+    };
+    let answer = keep_report(alloc, &mut held, letter);
+    handle.put(held);
+    answer
+}
+
+/// Keeps a tar archive of all that is below a directory, and hands out how many entries are left out, since a header
+/// has no room for their paths. The empty path is the root's.
+///
+/// Costs the walk over the tree, with memory for all paths, and for the archive.
+#[unsafe(no_mangle)]
+pub extern "C" fn unixvol_export(
+    alloc: Global,
+    handle: &mut Handle,
+    path: &[u8],
+    left_out: &mut usize,
+) -> i32
+    ensures kept { result ≡ DONE → BothHeld handle.old.sealed.held handle.new.sealed.held (KeepsArchive path.now left_out.new) }
+    ensures closed { result ≡ CLOSED ↔ handle.old.sealed.held ≡ None }
+    ensures refused { result ≢ DONE → result ≢ NO_MEMORY → result ≢ CLOSED → IsSomeAnd handle.old.sealed.held (λ held. (fault : StartFault)
+        × (start_of held.volume.edition held.volume.image path.now ≡ Err fault) × (result ≡ pos (start_number fault))) }
+    ensures unchanged { result ≢ DONE → (handle.new.sealed.held ≡ handle.old.sealed.held) × (left_out.new ≡ left_out.old) }
+{
+    let Some(mut held) = handle.take(alloc) else {
+        return CLOSED;
+    };
+    let answer = keep_archive(alloc, &mut held, path, left_out);
+    handle.put(held);
+    answer
+}
+
+/// The number of bytes of the answer that is kept. Takes no memory.
+#[unsafe(no_mangle)]
+pub extern "C" fn unixvol_answer_size(alloc: Global, handle: &mut Handle, count: &mut usize) -> i32
+    ensures closed { handle.old.sealed.held ≡ None → (result ≡ CLOSED) × (count.new ≡ count.old) }
+    ensures held { IfSome handle.old.sealed.held (λ held. (result ≡ DONE) × (count.new ≡ length held.answer)) }
+    ensures same { handle.new.sealed.held ≡ handle.old.sealed.held }
+{
+    let Some(held) = handle.take(alloc) else {
+        return CLOSED;
+    };
+    *count = held.answer().len();
+    handle.put(held);
+    DONE
+}
+
+/// Copies bytes of the answer that is kept, from a place on: as many as the buffer has room for, fewer at the end.
+/// Takes no memory.
+#[unsafe(no_mangle)]
+pub extern "C" fn unixvol_answer(
+    alloc: Global,
+    handle: &mut Handle,
+    from: usize,
+    into: &mut [u8],
+    count: &mut usize,
+) -> i32
+    ensures closed { handle.old.sealed.held ≡ None → (result ≡ CLOSED) × (count.new ≡ count.old) × (into.new ≡ into.old) }
+    ensures done { IfSome handle.old.sealed.held (λ held. result ≡ DONE) }
+    ensures count { IfSome handle.old.sealed.held (λ held. count.new ≡ min (length into.old) (length held.answer - from)) }
+    ensures bytes { IfSome handle.old.sealed.held (λ held. take count.new into.new ≡ take count.new (drop from held.answer)) }
+    ensures rest { IfSome handle.old.sealed.held (λ held. drop count.new into.new ≡ drop count.new into.old) }
+    ensures same { handle.new.sealed.held ≡ handle.old.sealed.held }
+{
+    let Some(held) = handle.take(alloc) else {
+        return CLOSED;
+    };
+    *count = copy_from(held.answer(), from, into);
+    handle.put(held);
+    DONE
+}
+
+/// Copies bytes from a place on, as many as there are and as there is room for, and returns their number.
+fn copy_from(bytes: &[u8], from: usize, into: &mut [u8]) -> usize
+    ensures count { result ≡ min (length into.old) (length bytes.now - from) }
+    ensures bytes { take result into.new ≡ take result (drop from bytes.now) }
+    ensures rest { drop result into.new ≡ drop result into.old }
+{
+    if from >= bytes.len() {
+        return 0;
+    }
+    let count = into.len().min(bytes.len() - from);
+    put_bytes(&bytes[from..from + count], into)
+}
+
+/// Keeps the report of a checker.
+fn keep_report(alloc: Global, held: &mut OpenVolume, letter: u8) -> i32
+    ensures kept { result ≡ DONE → KeepsReport letter held.old held.new }
+    ensures unnamed { result ≡ NO_REPORT ↔ checker_of letter ≡ None }
+    ensures others { (result ≡ DONE) ⊎ (result ≡ NO_REPORT) ⊎ (result ≡ NO_MEMORY) }
+    ensures unchanged { result ≢ DONE → held.new ≡ held.old }
+{
+    let Some(checker) = checker_of(letter) else {
+        return NO_REPORT;
+    };
+    let volume = held.volume();
+    let Ok(text) = report_text(alloc, volume.edition(), volume.image(), checker) else {
+        return NO_MEMORY;
+    };
+    held.keep(text);
+    DONE
+}
+
+/// Returns the checker that a letter names.
+fn checker_of(letter: u8) -> Option<Checker>
+    ensures { result ≡ checker_of letter }
+{
+    match letter {
+        b'i' => Some(Checker::Blocks),
+        b'd' => Some(Checker::Entries),
+        b'n' => Some(Checker::Names),
+        _ => None,
+    }
+}
+
+/// The text of a checker's report.
+fn report_text(
+    alloc: Global,
+    edition: Edition,
+    image: &Image,
+    checker: Checker,
+) -> Result<Vec<u8>, AllocError>
+    ensures { IfOk result (λ text. IsReportText checker edition image.now text.items) }
+{
+    let report = report(alloc, edition, image, checker)?;
+    let mut text = Vec::new(alloc);
+    report.push_text(&mut text)?;
+    Ok(text)
+}
+
+/// A checker's report, by one seat of a sweep.
+fn report(
+    alloc: Global,
+    edition: Edition,
+    image: &Image,
+    checker: Checker,
+) -> Result<Report, AllocError>
+    ensures { IfOk result (λ report. IsReport checker edition image.now report) }
+{
+    let (sweep, mut seats) = Sweep::new(alloc, edition, image, checker, 1)?;
+    let Some(mut seat) = seats.pop() else {
+        unreachable!();
+    };
+    run(alloc, &sweep, image, &mut seat);
+    seats.push(seat)?;
+    sweep.finish(alloc, seats)
+}
+
+/// Draws pieces and does them until none is left, or there is no memory.
+fn run(alloc: Global, sweep: &Sweep, image: &Image, seat: &mut CheckSeat)
+    requires own { IsSeatIn sweep.now seat.old }
+    requires layout { IsFor sweep.now image.now }
+    requires image { HasSwept sweep.now image.now seat.old }
+    ensures { Ran sweep.now image.now seat.new }
+{
+    while let Ok(Some(_piece)) = sweep.step(alloc, image, seat) {}
+}
+
+/// An archive, and how many entries are left out of it.
+#[derive(Drop)]
+struct Archive {
+    bytes: Vec<u8>,
+    left_out: usize,
+}
+
+/// Keeps the archive of all below a directory.
+fn keep_archive(alloc: Global, held: &mut OpenVolume, path: &[u8], left_out: &mut usize) -> i32
+    ensures kept { result ≡ DONE → KeepsArchive path.now left_out.new held.old held.new }
+    ensures refused { result ≢ DONE → result ≢ NO_MEMORY → (fault : StartFault)
+        × (start_of held.old.volume.edition held.old.volume.image path.now ≡ Err fault) × (result ≡ pos (start_number fault)) }
+    ensures few { result ≢ CLOSED }
+    ensures unchanged { result ≢ DONE → (held.new ≡ held.old) × (left_out.new ≡ left_out.old) }
+{
+    let volume = held.volume();
+    let start = match start_of(volume.edition(), volume.image(), path) {
+        Ok(start) => start,
+        Err(fault) => return start_number(fault),
+    };
+    let Ok(archive) = archive_of(alloc, volume.image(), &start) else {
+        return NO_MEMORY;
+    };
+    let Archive {
+        bytes,
+        left_out: count,
+    } = archive;
+    *left_out = count;
+    held.keep(bytes);
+    DONE
+}
+
+/// The archive of all below a start.
+fn archive_of(alloc: Global, image: &Image, start: &Start) -> Result<Archive, AllocError>
+    requires fits { Fits start.now.geometry image.now }
+    requires directory { IsDirectory start.now.geometry image.now start.now.inode }
+    ensures { IfOk result (λ archive. IsArchive start.now image.now archive.bytes.items archive.left_out) }
+{
+    let mut sink = IntoWrite::new(Vec::new(alloc));
+    let Ok(founds) = export(alloc, image, &start.geometry, start.inode, &mut sink) else {
+        return Err(AllocError);
+    };
+    let left_out = founds
+        .iter()
+        .filter(|found| matches!(found.role, Role::Left(_)))
+        .count();
+    Ok(Archive {
+        bytes: sink.into_inner(),
+        left_out,
+    })
+}
+
+/// Returns the number of why there is nothing to export.
+fn start_number(fault: StartFault) -> i32
+    ensures number { result ≡ pos (start_number fault) }
+    ensures few { (result ≢ DONE) × (result ≢ CLOSED) }
+{
+    match fault {
+        StartFault::Unsound(GeometryFault::Short) => 201,
+        StartFault::Unsound(GeometryFault::Bounds) => 202,
+        StartFault::Refused(refusal) => refusal.number() as i32,
+    }
+}

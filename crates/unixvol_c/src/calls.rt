@@ -1,0 +1,381 @@
+//! Calls that change a volume.
+ghost use Rattle.std.specs.Prelude.{◌≡◌, ◌≢◌, ◌↔◌, ◌+◌, ◌^◌, ◌≤◌, None, Some, IsSome, IfSome, IfOk, IfErr, OnErr, length};
+ghost use Rattle.vol_volume.specs.Volume.{after_cut};
+ghost use Rattle.vol_volume.specs.declared.calls.Call.TheVariants as called;
+ghost use Rattle.unixvol_c.specs.Calls.{Makes, MakesNode, RefusesCall};
+ghost use Rattle.unixvol_c.specs.Opened.{CanCut};
+
+use crate::handle::Handle;
+use crate::{CLOSED, DONE, NO_MEMORY, TOO_MANY};
+use std::alloc::Global;
+use vol_dir::Cred;
+use vol_volume::{Bytes, Call, Done};
+
+/// Makes an empty regular file, and hands out its i-number.
+///
+/// Each call here takes memory for its bytes and for the journal, and costs what `Volume::call` does.
+#[unsafe(no_mangle)]
+pub extern "C" fn unixvol_create(
+    alloc: Global,
+    handle: &mut Handle,
+    uid: u16,
+    gid: u16,
+    now: u32,
+    path: &[u8],
+    perm: u16,
+    inode: &mut u16,
+) -> i32
+    ensures made { result ≡ DONE → Makes handle.old.sealed.held handle.new.sealed.held (called.Create (record { uid = uid; gid = gid }) now path.now perm) (Done.Made inode.new) }
+    ensures refused { result ≢ DONE → result ≢ NO_MEMORY → result ≢ CLOSED → RefusesCall handle.old.sealed.held
+        (called.Create (record { uid = uid; gid = gid }) now path.now perm) result }
+    ensures closed { result ≡ CLOSED ↔ handle.old.sealed.held ≡ None }
+    ensures unchanged { result ≢ DONE → (handle.new.sealed.held ≡ handle.old.sealed.held) × (inode.new ≡ inode.old) }
+{
+    if !handle.is_open() {
+        return CLOSED;
+    }
+    let Ok(path) = Bytes::from_slice(alloc, path) else {
+        return NO_MEMORY;
+    };
+    let cred = Cred { uid, gid };
+    let call = Call::Create {
+        cred,
+        now,
+        path,
+        perm,
+    };
+    make_node(alloc, handle, call, inode)
+}
+
+/// Makes a directory that has `.` and `..` alone, and hands out its i-number.
+#[unsafe(no_mangle)]
+pub extern "C" fn unixvol_mkdir(
+    alloc: Global,
+    handle: &mut Handle,
+    uid: u16,
+    gid: u16,
+    now: u32,
+    path: &[u8],
+    perm: u16,
+    inode: &mut u16,
+) -> i32
+    ensures made { result ≡ DONE → Makes handle.old.sealed.held handle.new.sealed.held (called.Mkdir (record { uid = uid; gid = gid }) now path.now perm) (Done.Made inode.new) }
+    ensures refused { result ≢ DONE → result ≢ NO_MEMORY → result ≢ CLOSED → RefusesCall handle.old.sealed.held
+        (called.Mkdir (record { uid = uid; gid = gid }) now path.now perm) result }
+    ensures closed { result ≡ CLOSED ↔ handle.old.sealed.held ≡ None }
+    ensures unchanged { result ≢ DONE → (handle.new.sealed.held ≡ handle.old.sealed.held) × (inode.new ≡ inode.old) }
+{
+    if !handle.is_open() {
+        return CLOSED;
+    }
+    let Ok(path) = Bytes::from_slice(alloc, path) else {
+        return NO_MEMORY;
+    };
+    let cred = Cred { uid, gid };
+    let call = Call::Mkdir {
+        cred,
+        now,
+        path,
+        perm,
+    };
+    make_node(alloc, handle, call, inode)
+}
+
+/// Gives a node other than a directory a further name.
+#[unsafe(no_mangle)]
+pub extern "C" fn unixvol_link(
+    alloc: Global,
+    handle: &mut Handle,
+    uid: u16,
+    gid: u16,
+    now: u32,
+    source: &[u8],
+    target: &[u8],
+) -> i32
+    ensures made { result ≡ DONE → (done : Done) × Makes handle.old.sealed.held handle.new.sealed.held (called.Link (record { uid = uid; gid = gid }) now source.now target.now) done }
+    ensures refused { result ≢ DONE → result ≢ NO_MEMORY → result ≢ CLOSED → RefusesCall handle.old.sealed.held
+        (called.Link (record { uid = uid; gid = gid }) now source.now target.now) result }
+    ensures closed { result ≡ CLOSED ↔ handle.old.sealed.held ≡ None }
+    ensures unchanged { result ≢ DONE → handle.new.sealed.held ≡ handle.old.sealed.held }
+{
+    if !handle.is_open() {
+        return CLOSED;
+    }
+    let Ok(source) = Bytes::from_slice(alloc, source) else {
+        return NO_MEMORY;
+    };
+    let Ok(target) = Bytes::from_slice(alloc, target) else {
+        return NO_MEMORY;
+    };
+    let cred = Cred { uid, gid };
+    let call = Call::Link {
+        cred,
+        now,
+        source,
+        target,
+    };
+    make(alloc, handle, call)
+}
+
+/// Removes a name of a node other than a directory, which is freed with its last name.
+#[unsafe(no_mangle)]
+pub extern "C" fn unixvol_unlink(
+    alloc: Global,
+    handle: &mut Handle,
+    uid: u16,
+    gid: u16,
+    now: u32,
+    path: &[u8],
+) -> i32
+    ensures made { result ≡ DONE → (done : Done) × Makes handle.old.sealed.held handle.new.sealed.held (called.Unlink (record { uid = uid; gid = gid }) now path.now) done }
+    ensures refused { result ≢ DONE → result ≢ NO_MEMORY → result ≢ CLOSED → RefusesCall handle.old.sealed.held
+        (called.Unlink (record { uid = uid; gid = gid }) now path.now) result }
+    ensures closed { result ≡ CLOSED ↔ handle.old.sealed.held ≡ None }
+    ensures unchanged { result ≢ DONE → handle.new.sealed.held ≡ handle.old.sealed.held }
+{
+    if !handle.is_open() {
+        return CLOSED;
+    }
+    let Ok(path) = Bytes::from_slice(alloc, path) else {
+        return NO_MEMORY;
+    };
+    let cred = Cred { uid, gid };
+    let call = Call::Unlink { cred, now, path };
+    make(alloc, handle, call)
+}
+
+/// Removes a directory that has `.` and `..` alone.
+#[unsafe(no_mangle)]
+pub extern "C" fn unixvol_rmdir(
+    alloc: Global,
+    handle: &mut Handle,
+    uid: u16,
+    gid: u16,
+    now: u32,
+    path: &[u8],
+) -> i32
+    ensures made { result ≡ DONE → (done : Done) × Makes handle.old.sealed.held handle.new.sealed.held (called.Rmdir (record { uid = uid; gid = gid }) now path.now) done }
+    ensures refused { result ≢ DONE → result ≢ NO_MEMORY → result ≢ CLOSED → RefusesCall handle.old.sealed.held
+        (called.Rmdir (record { uid = uid; gid = gid }) now path.now) result }
+    ensures closed { result ≡ CLOSED ↔ handle.old.sealed.held ≡ None }
+    ensures unchanged { result ≢ DONE → handle.new.sealed.held ≡ handle.old.sealed.held }
+{
+    if !handle.is_open() {
+        return CLOSED;
+    }
+    let Ok(path) = Bytes::from_slice(alloc, path) else {
+        return NO_MEMORY;
+    };
+    let cred = Cred { uid, gid };
+    let call = Call::Rmdir { cred, now, path };
+    make(alloc, handle, call)
+}
+
+/// Writes bytes into a regular file, all or none. Bytes between its end and the offset become zeros.
+#[unsafe(no_mangle)]
+pub extern "C" fn unixvol_write(
+    alloc: Global,
+    handle: &mut Handle,
+    uid: u16,
+    gid: u16,
+    now: u32,
+    path: &[u8],
+    offset: u32,
+    bytes: &[u8],
+) -> i32
+    ensures made { result ≡ DONE → (done : Done) × Makes handle.old.sealed.held handle.new.sealed.held (called.Write (record { uid = uid; gid = gid }) now path.now offset bytes.now) done }
+    ensures refused { result ≢ DONE → result ≢ NO_MEMORY → result ≢ CLOSED → RefusesCall handle.old.sealed.held
+        (called.Write (record { uid = uid; gid = gid }) now path.now offset bytes.now) result }
+    ensures closed { result ≡ CLOSED ↔ handle.old.sealed.held ≡ None }
+    ensures unchanged { result ≢ DONE → handle.new.sealed.held ≡ handle.old.sealed.held }
+{
+    if !handle.is_open() {
+        return CLOSED;
+    }
+    let Ok(path) = Bytes::from_slice(alloc, path) else {
+        return NO_MEMORY;
+    };
+    let Ok(bytes) = Bytes::from_slice(alloc, bytes) else {
+        return NO_MEMORY;
+    };
+    let cred = Cred { uid, gid };
+    let call = Call::Write {
+        cred,
+        now,
+        path,
+        offset,
+        bytes,
+    };
+    make(alloc, handle, call)
+}
+
+/// Cuts a regular file to its first `length` bytes.
+#[unsafe(no_mangle)]
+pub extern "C" fn unixvol_truncate(
+    alloc: Global,
+    handle: &mut Handle,
+    uid: u16,
+    gid: u16,
+    now: u32,
+    path: &[u8],
+    length: u32,
+) -> i32
+    ensures made { result ≡ DONE → (done : Done) × Makes handle.old.sealed.held handle.new.sealed.held (called.Truncate (record { uid = uid; gid = gid }) now path.now length) done }
+    ensures refused { result ≢ DONE → result ≢ NO_MEMORY → result ≢ CLOSED → RefusesCall handle.old.sealed.held
+        (called.Truncate (record { uid = uid; gid = gid }) now path.now length) result }
+    ensures closed { result ≡ CLOSED ↔ handle.old.sealed.held ≡ None }
+    ensures unchanged { result ≢ DONE → handle.new.sealed.held ≡ handle.old.sealed.held }
+{
+    if !handle.is_open() {
+        return CLOSED;
+    }
+    let Ok(path) = Bytes::from_slice(alloc, path) else {
+        return NO_MEMORY;
+    };
+    let cred = Cred { uid, gid };
+    let call = Call::Truncate {
+        cred,
+        now,
+        path,
+        length,
+    };
+    make(alloc, handle, call)
+}
+
+/// Gives a node other permission bits.
+#[unsafe(no_mangle)]
+pub extern "C" fn unixvol_chmod(
+    alloc: Global,
+    handle: &mut Handle,
+    uid: u16,
+    gid: u16,
+    now: u32,
+    path: &[u8],
+    perm: u16,
+) -> i32
+    ensures made { result ≡ DONE → (done : Done) × Makes handle.old.sealed.held handle.new.sealed.held (called.Chmod (record { uid = uid; gid = gid }) now path.now perm) done }
+    ensures refused { result ≢ DONE → result ≢ NO_MEMORY → result ≢ CLOSED → RefusesCall handle.old.sealed.held
+        (called.Chmod (record { uid = uid; gid = gid }) now path.now perm) result }
+    ensures closed { result ≡ CLOSED ↔ handle.old.sealed.held ≡ None }
+    ensures unchanged { result ≢ DONE → handle.new.sealed.held ≡ handle.old.sealed.held }
+{
+    if !handle.is_open() {
+        return CLOSED;
+    }
+    let Ok(path) = Bytes::from_slice(alloc, path) else {
+        return NO_MEMORY;
+    };
+    let cred = Cred { uid, gid };
+    let call = Call::Chmod {
+        cred,
+        now,
+        path,
+        perm,
+    };
+    make(alloc, handle, call)
+}
+
+/// Gives a node to another user and group.
+#[unsafe(no_mangle)]
+pub extern "C" fn unixvol_chown(
+    alloc: Global,
+    handle: &mut Handle,
+    uid: u16,
+    gid: u16,
+    now: u32,
+    path: &[u8],
+    owner: u16,
+    group: u16,
+) -> i32
+    ensures made { result ≡ DONE → (done : Done) × Makes handle.old.sealed.held handle.new.sealed.held (called.Chown (record { uid = uid; gid = gid }) now path.now owner group) done }
+    ensures refused { result ≢ DONE → result ≢ NO_MEMORY → result ≢ CLOSED → RefusesCall handle.old.sealed.held
+        (called.Chown (record { uid = uid; gid = gid }) now path.now owner group) result }
+    ensures closed { result ≡ CLOSED ↔ handle.old.sealed.held ≡ None }
+    ensures unchanged { result ≢ DONE → handle.new.sealed.held ≡ handle.old.sealed.held }
+{
+    if !handle.is_open() {
+        return CLOSED;
+    }
+    let Ok(path) = Bytes::from_slice(alloc, path) else {
+        return NO_MEMORY;
+    };
+    let cred = Cred { uid, gid };
+    let call = Call::Chown {
+        cred,
+        now,
+        path,
+        uid: owner,
+        gid: group,
+    };
+    make(alloc, handle, call)
+}
+
+/// Cuts the journal: the image becomes what the next calls start from. The bytes of the records are freed; room for as
+/// many stays. Each call does so by itself once the journal is counted as more bytes than the image has. Takes no memory.
+#[unsafe(no_mangle)]
+pub extern "C" fn unixvol_cut(alloc: Global, handle: &mut Handle) -> i32
+    ensures closed { handle.old.sealed.held ≡ None → (result ≡ CLOSED) × (handle.new.sealed.held ≡ None) }
+    ensures cut { IfSome handle.old.sealed.held (λ held. CanCut held.volume
+        → (result ≡ DONE) × (handle.new.sealed.held ≡ Some (record held { volume = after_cut held.volume }))) }
+    ensures many { IfSome handle.old.sealed.held (λ held. 2 ^ 64 ≤ held.volume.first + length held.volume.journal
+        → (result ≡ TOO_MANY) × (handle.new.sealed.held ≡ handle.old.sealed.held)) }
+{
+    let Some(mut held) = handle.take(alloc) else {
+        return CLOSED;
+    };
+    let is_cut = held.cut();
+    handle.put(held);
+    if is_cut { DONE } else { TOO_MANY }
+}
+
+/// Makes a call that makes a node, of the volume that an open handle holds, and hands out the node's i-number.
+fn make_node(alloc: Global, handle: &mut Handle, call: Call, inode: &mut u16) -> i32
+    requires open_handle { IsSome handle.old.sealed.held }
+    requires node { MakesNode call }
+    ensures made { result ≡ DONE → Makes handle.old.sealed.held handle.new.sealed.held call (Done.Made inode.new) }
+    ensures refused { result ≢ DONE → RefusesCall handle.old.sealed.held call result }
+    ensures few { result ≢ CLOSED }
+    ensures unchanged { result ≢ DONE → (handle.new.sealed.held ≡ handle.old.sealed.held) × (inode.new ≡ inode.old) }
+{
+    match call_held(alloc, handle, call) {
+        Ok(Done::Made(number)) => {
+            *inode = number;
+            DONE
+        }
+        Ok(_) => unreachable!(),
+        Err(number) => number,
+    }
+}
+
+/// Makes a call of the volume that an open handle holds.
+fn make(alloc: Global, handle: &mut Handle, call: Call) -> i32
+    requires { IsSome handle.old.sealed.held }
+    ensures made { result ≡ DONE → (done : Done) × Makes handle.old.sealed.held handle.new.sealed.held call done }
+    ensures refused { result ≢ DONE → RefusesCall handle.old.sealed.held call result }
+    ensures few { result ≢ CLOSED }
+    ensures unchanged { result ≢ DONE → handle.new.sealed.held ≡ handle.old.sealed.held }
+{
+    match call_held(alloc, handle, call) {
+        Ok(_) => DONE,
+        Err(number) => number,
+    }
+}
+
+/// Makes a call of the volume that an open handle holds; the error is the number of the refusal.
+fn call_held(alloc: Global, handle: &mut Handle, call: Call) -> Result<Done, i32>
+    requires { IsSome handle.old.sealed.held }
+    ensures made { IfOk result (λ done. Makes handle.old.sealed.held handle.new.sealed.held call done) }
+    ensures refused { IfErr result (λ number. RefusesCall handle.old.sealed.held call number) }
+    ensures few { IfErr result (λ number. (number ≢ DONE) × (number ≢ CLOSED)) }
+    ensures unchanged { OnErr result (handle.new.sealed.held ≡ handle.old.sealed.held) }
+{
+    let Some(mut held) = handle.take(alloc) else {
+        unreachable!();
+    };
+    let outcome = held.call(alloc, call);
+    handle.put(held);
+    match outcome {
+        Ok(done) => Ok(done),
+        Err(refusal) => Err(refusal.number() as i32),
+    }
+}

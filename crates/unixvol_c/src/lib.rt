@@ -1,0 +1,60 @@
+//! Volumes for programs in C, Python and Rust: a handle, and the functions that are called of it.
+#![tactic(auto)]
+
+mod answers;
+mod calls;
+mod handle;
+mod loose;
+mod naming;
+mod open_volume;
+mod opening;
+mod queries;
+mod repairing;
+mod sealed;
+#[cfg(test)]
+mod tests;
+mod told;
+
+pub use answers::{unixvol_answer, unixvol_answer_size, unixvol_export, unixvol_report};
+pub use calls::{
+    unixvol_chmod, unixvol_chown, unixvol_create, unixvol_cut, unixvol_link, unixvol_mkdir,
+    unixvol_rmdir, unixvol_truncate, unixvol_unlink, unixvol_write,
+};
+pub use handle::Handle;
+pub use naming::unixvol_name;
+pub use opening::{
+    unixvol_close, unixvol_image, unixvol_judge, unixvol_mkfs, unixvol_open, unixvol_size,
+};
+pub use queries::{unixvol_about, unixvol_list, unixvol_read, unixvol_stat};
+pub use repairing::{unixvol_explain, unixvol_salvage};
+pub use told::{About, Entry, Node};
+
+/// Done.
+pub const DONE: i32 = 0;
+
+/// An allocation was refused. Nothing was changed.
+pub const NO_MEMORY: i32 = 12;
+
+/// With the rule added, 1 to 12: the bytes are no sound volume.
+pub const UNSOUND: i32 = 200;
+
+/// The user or group number is above the edition's highest.
+pub const BAD_ID: i32 = 104;
+
+/// The handle holds no volume.
+pub const CLOSED: i32 = 300;
+
+/// The edition is neither 6 nor 7.
+pub const NO_EDITION: i32 = 301;
+
+/// The buffer hasn't the size that is wanted.
+pub const NO_ROOM: i32 = 302;
+
+/// The sizes aren't those of a volume.
+pub const BOUNDS: i32 = 303;
+
+/// The journal can't be cut: its records' numbers would reach 2^64.
+pub const TOO_MANY: i32 = 304;
+
+/// The letter names no checker.
+pub const NO_REPORT: i32 = 305;

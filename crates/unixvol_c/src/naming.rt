@@ -1,0 +1,92 @@
+//! What the numbers mean that exports return.
+ghost use Rattle.std.specs.Prelude.{◌≡◌, ◌<◌, ◌≤◌, length, take, drop};
+ghost use Rattle.unixvol_c.specs.Numbers.{number_text, own_text, refusal_text, rule_text};
+
+use crate::queries::put_text;
+use crate::{DONE, NO_ROOM};
+
+/// Puts the text of a number that an export returned into a buffer, as `NoEntry` or `unsound, rule 7`, and hands out
+/// its length. If the buffer has no room for it, the length alone is handed out. Takes no memory.
+#[unsafe(no_mangle)]
+pub extern "C" fn unixvol_name(number: u16, into: &mut [u8], count: &mut usize) -> i32
+    ensures count { count.new ≡ length (number_text number) }
+    ensures named { length (number_text number) ≤ length into.old
+        → (result ≡ DONE) × (take count.new into.new ≡ number_text number) × (drop count.new into.new ≡ drop count.new into.old) }
+    ensures room { length into.old < length (number_text number) → (result ≡ NO_ROOM) × (into.new ≡ into.old) }
+{
+    put_text(number_text(number).as_bytes(), into, count)
+}
+
+/// The text of a number.
+fn number_text(number: u16) -> &'static str
+    ensures { result.now ≡ number_text number }
+{
+    if number < 200 {
+        refusal_text(number)
+    } else if number < 300 {
+        rule_text(number)
+    } else {
+        own_text(number)
+    }
+}
+
+/// The name of a refusal, and the text of 0.
+fn refusal_text(number: u16) -> &'static str
+    ensures { result.now ≡ refusal_text number }
+{
+    match number {
+        0 => "done",
+        1 => "NotOwner",
+        2 => "NoEntry",
+        12 => "NoMemory",
+        13 => "Access",
+        17 => "Exists",
+        20 => "NotDirectory",
+        21 => "IsDirectory",
+        22 => "Invalid",
+        27 => "TooBig",
+        28 => "NoSpace",
+        31 => "TooManyLinks",
+        101 => "NotEmpty",
+        102 => "NotRegular",
+        103 => "NoInode",
+        104 => "BadId",
+        _ => "unknown",
+    }
+}
+
+/// The text of a broken rule.
+fn rule_text(number: u16) -> &'static str
+    ensures { result.now ≡ rule_text number }
+{
+    match number {
+        201 => "unsound, rule 1",
+        202 => "unsound, rule 2",
+        203 => "unsound, rule 3",
+        204 => "unsound, rule 4",
+        205 => "unsound, rule 5",
+        206 => "unsound, rule 6",
+        207 => "unsound, rule 7",
+        208 => "unsound, rule 8",
+        209 => "unsound, rule 9",
+        210 => "unsound, rule 10",
+        211 => "unsound, rule 11",
+        212 => "unsound, rule 12",
+        _ => "unknown",
+    }
+}
+
+/// The text of another number.
+fn own_text(number: u16) -> &'static str
+    ensures { result.now ≡ own_text number }
+{
+    match number {
+        300 => "closed",
+        301 => "no such edition",
+        302 => "no room",
+        303 => "bounds",
+        304 => "too many records",
+        305 => "no such report",
+        _ => "unknown",
+    }
+}

@@ -1,0 +1,74 @@
+//! Images that are no volumes: what is wrong with them, and the free list made anew.
+ghost use Rattle.std.specs.Prelude.{◌≡◌, ◌≢◌, ◌↔◌, ◌⊎◌, ◌+◌, ◌<◌, ◌≤◌, pos, ℕ, List, false, IfOk, length, take, drop};
+ghost use Rattle.vol_judge.specs.Sound.{IsLeastBroken};
+ghost use Rattle.vol_check.specs.Salvaging.{IsSalvaged};
+ghost use Rattle.unixvol_c.specs.Calls.{edition_of, IsNoEdition};
+ghost use Rattle.unixvol_c.specs.Texts.{Explains};
+
+use crate::opening::{edition_of, unsound};
+use crate::queries::put_text;
+use crate::{DONE, NO_EDITION, NO_MEMORY, NO_ROOM};
+use pdp_words::Image;
+use std::alloc::Global;
+use vol_check::{SalvageFault, salvage};
+use vol_findings::make_report;
+
+/// Puts what is found of each of the twelve rules into a buffer, a line for each, and hands out how many bytes that
+/// is. The bytes may be any. If the buffer has no room for it, the number of its bytes alone is handed out.
+///
+/// Costs and takes memory for a copy, for checking each rule, and for the text, which is about a thousand bytes.
+#[unsafe(no_mangle)]
+pub extern "C" fn unixvol_explain(
+    alloc: Global,
+    edition: u8,
+    bytes: &[u8],
+    into: &mut [u8],
+    count: &mut usize,
+) -> i32
+    ensures told { result ≡ DONE → Explains (edition_of edition) bytes.now (take count.new into.new) }
+    ensures rest { result ≡ DONE → (count.new ≤ length into.old) × (drop count.new into.new ≡ drop count.new into.old) }
+    ensures room { result ≡ NO_ROOM → (length into.old < count.new) × ((text : List ℕ) × (count.new ≡ length text) × Explains (edition_of edition) bytes.now text) }
+    ensures edition { result ≡ NO_EDITION ↔ IsNoEdition edition }
+    ensures others { (result ≡ DONE) ⊎ (result ≡ NO_ROOM) ⊎ (result ≡ NO_EDITION) ⊎ (result ≡ NO_MEMORY) }
+    ensures same { result ≢ DONE → into.new ≡ into.old }
+    ensures unchanged { result ≢ DONE → result ≢ NO_ROOM → count.new ≡ count.old }
+{
+    let Some(edition) = edition_of(edition) else {
+        return NO_EDITION;
+    };
+    let Ok(bytes) = Vec::from_slice(alloc, bytes) else {
+        return NO_MEMORY;
+    };
+    let Ok(report) = make_report(alloc, edition, &Image::from_bytes(bytes)) else {
+        return NO_MEMORY;
+    };
+    put_text(report.text.as_bytes(), into, count)
+}
+
+/// Makes the free list of an image anew, in place, if it breaks no rule but those of the free list; the image is sound
+/// then, and its files and directories are as they were. Else 200 and the least other rule that it breaks.
+///
+/// Takes memory for a copy, to judge it, and two bytes for each block.
+#[unsafe(no_mangle)]
+pub extern "C" fn unixvol_salvage(alloc: Global, edition: u8, bytes: &mut [u8]) -> i32
+    ensures salvaged { result ≡ DONE → IsSalvaged (edition_of edition) bytes.old bytes.new }
+    ensures edition { result ≡ NO_EDITION ↔ IsNoEdition edition }
+    ensures unsound { result ≢ DONE → result ≢ NO_EDITION → result ≢ NO_MEMORY
+        → (rule : ℕ) × (result ≡ pos (200 + rule)) × IsLeastBroken false (edition_of edition) bytes.old rule }
+    ensures unchanged { result ≢ DONE → bytes.new ≡ bytes.old }
+{
+    let Some(edition) = edition_of(edition) else {
+        return NO_EDITION;
+    };
+    let Ok(copy) = Vec::from_slice(alloc, bytes) else {
+        return NO_MEMORY;
+    };
+    match salvage(alloc, edition, copy) {
+        Ok(salvaged) => {
+            bytes.copy_from_slice(&salvaged);
+            DONE
+        }
+        Err((SalvageFault::Unsound(rule), _)) => unsound(rule),
+        Err((SalvageFault::NoMemory, _)) => NO_MEMORY,
+    }
+}

@@ -1,0 +1,149 @@
+//! Each export once, where nothing refuses it.
+use crate::{
+    About, DONE, Entry, Handle, Node, unixvol_about, unixvol_answer, unixvol_answer_size,
+    unixvol_chmod, unixvol_chown, unixvol_close, unixvol_create, unixvol_cut, unixvol_explain,
+    unixvol_export, unixvol_image, unixvol_judge, unixvol_link, unixvol_list, unixvol_mkdir,
+    unixvol_mkfs, unixvol_name, unixvol_open, unixvol_read, unixvol_report, unixvol_rmdir,
+    unixvol_salvage, unixvol_size, unixvol_stat, unixvol_truncate, unixvol_unlink, unixvol_write,
+};
+use std::alloc::Global;
+use std::process::Abort;
+
+/// Makes `/d/a` of 600 bytes with the second name `/b`, makes and removes `/e` and a name, and returns each answer.
+fn change(alloc: Global, handle: &mut Handle) -> [i32; 10] {
+    let mut inode = 0;
+    [
+        unixvol_mkdir(alloc, handle, 0, 0, 7, b"/d", 0o755, &mut inode),
+        unixvol_create(alloc, handle, 0, 0, 7, b"/d/a", 0o644, &mut inode),
+        unixvol_write(alloc, handle, 0, 0, 7, b"/d/a", 0, &[9; 700]),
+        unixvol_truncate(alloc, handle, 0, 0, 7, b"/d/a", 600),
+        unixvol_link(alloc, handle, 0, 0, 7, b"/d/a", b"/b"),
+        unixvol_mkdir(alloc, handle, 0, 0, 7, b"/e", 0o755, &mut inode),
+        unixvol_rmdir(alloc, handle, 0, 0, 7, b"/e"),
+        unixvol_unlink(alloc, handle, 0, 0, 7, b"/d/a"),
+        unixvol_chmod(alloc, handle, 0, 0, 7, b"/b", 0o600),
+        unixvol_chown(alloc, handle, 0, 0, 7, b"/b", 3, 4),
+    ]
+}
+
+/// Asks for `/b`, for its bytes and for the names of the root.
+fn ask(rt: &impl Abort, alloc: Global, handle: &mut Handle) {
+    let mut node = NO_NODE;
+    assert_eq!(rt; unixvol_stat(alloc, handle, 0, 0, b"/b", &mut node), DONE);
+    assert_eq!(rt; (node.size, node.uid, node.gid, node.links), (600, 3, 4, 1));
+    let mut bytes = [0; 100];
+    let mut count = 0;
+    assert_eq!(rt;
+        unixvol_read(alloc, handle, 0, 0, b"/b", 550, &mut bytes, &mut count),
+        DONE
+    );
+    assert_eq!(rt; (count, bytes[49], bytes[50]), (50, 9, 0));
+    let mut names = [NO_ENTRY; 3];
+    assert_eq!(rt;
+        unixvol_list(alloc, handle, 0, 0, b"/", &mut names, &mut count),
+        DONE
+    );
+    assert_eq!(rt;
+        (count, names[2].inode, names[2].name),
+        (4, node.inode, *b"b\0\0\0\0\0\0\0\0\0\0\0\0\0")
+    );
+}
+
+/// Keeps the names of `/b` and `/d`, and then their archive: two headers, two blocks of the file, two of zeros.
+fn keep(rt: &impl Abort, alloc: Global, handle: &mut Handle) {
+    let mut left_out = 1;
+    let mut size = 1;
+    let mut block = [0; 512];
+    assert_eq!(rt; unixvol_report(alloc, handle, b'n'), DONE);
+    assert_eq!(rt;
+        unixvol_answer(alloc, handle, 0, &mut block, &mut size),
+        DONE
+    );
+    assert_eq!(rt;
+        (size, block[2], block[3], block[5]),
+        (12, b' ', b'/', b'\n')
+    );
+    assert_eq!(rt; unixvol_export(alloc, handle, b"", &mut left_out), DONE);
+    assert_eq!(rt; unixvol_answer_size(alloc, handle, &mut size), DONE);
+    assert_eq!(rt; (size, left_out), (3_072, 0));
+    assert_eq!(rt;
+        unixvol_answer(alloc, handle, 2_600, &mut block, &mut size),
+        DONE
+    );
+    assert_eq!(rt; (size, block[0]), (472, 0));
+}
+
+/// No node.
+const NO_NODE: Node = Node {
+    size: 0,
+    accessed: 0,
+    modified: 0,
+    changed: 0,
+    inode: 0,
+    permissions: 0,
+    links: 0,
+    uid: 0,
+    gid: 0,
+    kind: 0,
+    keeps_changed: false,
+};
+
+/// No entry.
+const NO_ENTRY: Entry = Entry {
+    inode: 0,
+    name: [0; 14],
+};
+
+#[test]
+fn each_export_succeeds(rt: HostRuntime) {
+    let alloc = rt.alloc();
+    let mut handle = Handle::closed(alloc);
+    assert_eq!(rt; unixvol_mkfs(alloc, &mut handle, 7, 40, 2, 0, 0, 7), DONE);
+    for answer in change(alloc, &mut handle) {
+        assert_eq!(rt; answer, DONE);
+    }
+    ask(&rt, alloc, &mut handle);
+    let mut about = About {
+        blocks: 0,
+        data_start: 0,
+        free_blocks: 0,
+        last_inode: 0,
+        edition: 0,
+    };
+    assert_eq!(rt; unixvol_about(alloc, &mut handle, &mut about), DONE);
+    assert_eq!(rt;
+        (
+            about.blocks,
+            about.data_start,
+            about.last_inode,
+            about.edition
+        ),
+        (40, 4, 16, 7)
+    );
+    assert_eq!(rt; unixvol_cut(alloc, &mut handle), DONE);
+    keep(&rt, alloc, &mut handle);
+    let mut size = 0;
+    assert_eq!(rt; unixvol_size(alloc, &mut handle, &mut size), DONE);
+    let mut image = [0; 20480];
+    assert_eq!(rt; size, image.len());
+    assert_eq!(rt; unixvol_image(alloc, &mut handle, &mut image), DONE);
+    assert_eq!(rt; unixvol_judge(alloc, 7, &image), DONE);
+    let mut text = [0; 4096];
+    assert_eq!(rt;
+        unixvol_explain(alloc, 7, &image, &mut text, &mut size),
+        DONE
+    );
+    assert_eq!(rt; (text[0], text[1]), (b'1', b' '));
+    assert_eq!(rt; unixvol_name(104, &mut text, &mut size), DONE);
+    assert_eq!(rt; (size, text[0]), (5, b'B'));
+    assert_eq!(rt; unixvol_salvage(alloc, 7, &mut image), DONE);
+    assert_eq!(rt; unixvol_open(alloc, &mut handle, 7, &image), DONE);
+    ask(&rt, alloc, &mut handle);
+    unixvol_close(alloc, &mut handle);
+    send(handle);
+}
+
+/// Takes what may go to another thread.
+fn send<T: Send + Drop>(value: T) {
+    drop(value);
+}

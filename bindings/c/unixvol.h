@@ -1,0 +1,227 @@
+/* unixvol.h: volumes of Sixth and Seventh Edition Unix, from C.
+ *
+ * A volume is opened from a copy of its bytes and kept in memory. Programs query and change it in a user's name, and
+ * copy its bytes out again. Nothing here reads or writes a file. Each function is proved to do what its comment says
+ * (docs/PROOFS.md, "From C"), for every image and every argument, as long as the program keeps these rules. Nothing
+ * checks them.
+ *
+ * Handles   A `unixvol` begins as UNIXVOL_CLOSED, all zeros. Don't copy one while it is open, and don't change its
+ *           fields. Closing it frees all that it holds. A closed handle may be closed again, or opened anew; every
+ *           other function returns UNIXVOL_IS_CLOSED.
+ * Buffers   They are the caller's. What goes in is copied; no pointer is kept, and none is handed out. A pointer may
+ *           be null only if its count is 0. A buffer that is written overlaps no other argument.
+ * Paths     Bytes and their count, with no zero at the end, from the root: UNIXVOL_TEXT("/etc/passwd"), or
+ *           path, strlen(path). Of a name longer than 14 bytes only the first 14 count.
+ * Numbers   0 is done. Any other number means that nothing has changed, neither the volume nor a buffer.
+ * Users     Queries and calls are made in the name of a user and a group: 0 to 255 in the sixth edition, 0 to 32,767
+ *           in the seventh. User 0 passes every test of permissions.
+ * Times     Seconds since the beginning of 1970. The library reads no clock.
+ * Threads   Different handles may be used at the same time. A handle is used by one thread at a time; another may go
+ *           on with it after a lock, or once the first thread has ended. Nothing here waits.
+ * Memory    From malloc, realloc and free, which must be of one allocator. If a block is refused, the function
+ *           returns UNIXVOL_NO_MEMORY. An open handle takes two images, and the journal of its calls, which is cut as
+ *           soon as it is counted as more bytes than the image: up to three and a half images in all.
+ * Stack     128 KB are enough for each function. Call none from a signal handler, nor in the child of a fork of a
+ *           program with threads.
+ *
+ * Link with libunixvol.a or libunixvol.so. Both are for Linux on x86-64, and need the C library alone.
+ */
+#ifndef UNIXVOL_H
+#define UNIXVOL_H
+
+#include <stdbool.h>
+#include <stddef.h>
+#include <stdint.h>
+
+#ifdef __cplusplus
+extern "C" {
+#endif
+
+/* A handle. Between calls is_open may be read; both fields are the library's to change. */
+typedef struct unixvol {
+    void *volume;
+    bool is_open;
+} unixvol;
+
+#define UNIXVOL_CLOSED {0}
+
+/* A literal as a path: its bytes, and their count. */
+#define UNIXVOL_TEXT(literal) (literal), (sizeof(literal) - 1)
+
+/* What functions return. Those up to 31 are the system's own error numbers; those from 101 on are this project's. */
+enum unixvol_number {
+    UNIXVOL_DONE = 0,
+    UNIXVOL_NOT_OWNER = 1,       /* the user is neither the owner nor user 0, or only user 0 may do it */
+    UNIXVOL_NO_ENTRY = 2,        /* a directory on the way has no such name */
+    UNIXVOL_NO_MEMORY = 12,      /* a block of memory was refused */
+    UNIXVOL_ACCESS = 13,         /* the permissions don't grant it */
+    UNIXVOL_EXISTS = 17,         /* the name is there already */
+    UNIXVOL_NOT_DIRECTORY = 20,  /* what is on the way, or wanted, is no directory */
+    UNIXVOL_IS_DIRECTORY = 21,   /* it is a directory */
+    UNIXVOL_INVALID = 22,        /* the path holds a zero byte, or the call can't be made of it */
+    UNIXVOL_TOO_BIG = 27,        /* the file would be greater than the greatest */
+    UNIXVOL_NO_SPACE = 28,       /* more blocks are needed than are free */
+    UNIXVOL_TOO_MANY_LINKS = 31, /* the link count would be above its limit */
+    UNIXVOL_NOT_EMPTY = 101,     /* the directory has other entries than . and .. */
+    UNIXVOL_NOT_REGULAR = 102,   /* it is a special file */
+    UNIXVOL_NO_INODE = 103,      /* no i-number above the root's is free */
+    UNIXVOL_BAD_ID = 104,        /* a user or group number is above the edition's highest */
+    UNIXVOL_UNSOUND = 200,       /* and a rule, 1 to 12: the least that the bytes break (docs/FORMATS.md) */
+    UNIXVOL_IS_CLOSED = 300,     /* the handle holds no volume */
+    UNIXVOL_NO_EDITION = 301,    /* the edition is neither 6 nor 7 */
+    UNIXVOL_NO_ROOM = 302,       /* the buffer hasn't the image's size, or no room for the text */
+    UNIXVOL_BOUNDS = 303,        /* the sizes aren't those of a volume */
+    UNIXVOL_TOO_MANY = 304,      /* the journal can't be cut: its records' numbers would reach 2^64 */
+    UNIXVOL_NO_REPORT = 305      /* the letter is not i, d or n */
+};
+
+/* Puts the text of such a number into a buffer, as "NoEntry" or "unsound, rule 7"; count is how many bytes it has. 32
+ * have room for each; with less room than is wanted, UNIXVOL_NO_ROOM is returned, and count is set all the same. */
+int32_t unixvol_name(uint16_t number, void *into, size_t room, size_t *count);
+
+/* The kinds of nodes. */
+enum unixvol_kind { UNIXVOL_REGULAR = 1, UNIXVOL_DIRECTORY = 2, UNIXVOL_SPECIAL = 3 };
+
+/* What a node is. */
+typedef struct unixvol_node {
+    uint32_t size;
+    uint32_t accessed;
+    uint32_t modified;
+    uint32_t changed; /* when its i-node last changed, if keeps_changed; else 0 */
+    uint16_t inode;
+    uint16_t permissions; /* the bits under octal 7777 */
+    uint16_t links;
+    uint16_t uid;
+    uint16_t gid;
+    uint8_t kind;
+    bool keeps_changed; /* true in the seventh edition */
+} unixvol_node;
+
+/* A name in a directory, with zeros after it if it has fewer than 14 bytes. */
+typedef struct unixvol_entry {
+    uint16_t inode;
+    uint8_t name[14];
+} unixvol_entry;
+
+/* The sizes of a volume. */
+typedef struct unixvol_sizes {
+    uint32_t blocks;     /* of 512 bytes each */
+    uint32_t data_start; /* the first block after the i-list */
+    uint32_t free_blocks;
+    uint16_t last_inode;
+    uint8_t edition;
+} unixvol_sizes;
+
+/* ---- Opening and closing. What the handle held before is freed if this returns 0, and kept if not. */
+
+/* Opens a handle on a copy of a volume's bytes. They must be a sound volume. */
+int32_t unixvol_open(unixvol *volume, uint8_t edition, const void *bytes, size_t bytes_count);
+
+/* Opens a handle on a new volume, whose root directory belongs to uid and gid. list_blocks of its blocks are the
+ * i-list, with 16 i-nodes each in the sixth edition, and 8 in the seventh. */
+int32_t unixvol_mkfs(unixvol *volume, uint8_t edition, uint32_t blocks, uint16_t list_blocks, uint16_t uid,
+                     uint16_t gid, uint32_t now);
+
+/* Closes a handle, which may be closed already. */
+void unixvol_close(unixvol *volume);
+
+/* ---- Bytes */
+
+/* Tells if bytes are a sound volume, and opens nothing. They may be any bytes. */
+int32_t unixvol_judge(uint8_t edition, const void *bytes, size_t bytes_count);
+
+/* The number of bytes of the image. Needs no memory. */
+int32_t unixvol_size(unixvol *volume, size_t *count);
+
+/* Copies the image into a buffer of just that size. Needs no memory. */
+int32_t unixvol_image(unixvol *volume, void *into, size_t room);
+
+/* Describes, of any bytes, what is found of each of the twelve rules: a line for each, and fewer than 4,096 bytes in
+ * all. If that is more than there is room for, UNIXVOL_NO_ROOM is returned, and count is set all the same. */
+int32_t unixvol_explain(uint8_t edition, const void *bytes, size_t bytes_count, void *into, size_t room,
+                        size_t *count);
+
+/* Makes the free list of an image anew, in place, if nothing else is wrong with it. The image is sound then, and all
+ * files and directories are as they were. */
+int32_t unixvol_salvage(uint8_t edition, void *bytes, size_t bytes_count);
+
+/* ---- Queries. None changes the volume, nor its times. */
+
+int32_t unixvol_stat(unixvol *volume, uint16_t uid, uint16_t gid, const void *path, size_t path_count,
+                     unixvol_node *node);
+
+/* Reads bytes of a regular file from an offset on: as many as there is room for, fewer at the file's end. */
+int32_t unixvol_read(unixvol *volume, uint16_t uid, uint16_t gid, const void *path, size_t path_count,
+                     uint32_t offset, void *into, size_t room, size_t *count);
+
+/* The names in a directory, . and .. too, in ascending order of their bytes: as many as there is room for. count is
+ * how many there are; ask again if it is more than room. */
+int32_t unixvol_list(unixvol *volume, uint16_t uid, uint16_t gid, const void *path, size_t path_count,
+                     unixvol_entry *into, size_t room, size_t *count);
+
+/* The edition and the sizes. Needs no memory. */
+int32_t unixvol_about(unixvol *volume, unixvol_sizes *about);
+
+/* ---- Calls, at the moment now. Each is made whole, or refused. */
+
+/* Makes an empty regular file, or a directory, and hands out its i-number. */
+int32_t unixvol_create(unixvol *volume, uint16_t uid, uint16_t gid, uint32_t now, const void *path,
+                       size_t path_count, uint16_t permissions, uint16_t *inode);
+int32_t unixvol_mkdir(unixvol *volume, uint16_t uid, uint16_t gid, uint32_t now, const void *path,
+                      size_t path_count, uint16_t permissions, uint16_t *inode);
+
+/* Gives a node other than a directory a further name. */
+int32_t unixvol_link(unixvol *volume, uint16_t uid, uint16_t gid, uint32_t now, const void *source,
+                     size_t source_count, const void *target, size_t target_count);
+
+/* Removes a name of a node other than a directory. The node is freed with its last name. */
+int32_t unixvol_unlink(unixvol *volume, uint16_t uid, uint16_t gid, uint32_t now, const void *path,
+                       size_t path_count);
+
+/* Removes a directory that has . and .. alone. */
+int32_t unixvol_rmdir(unixvol *volume, uint16_t uid, uint16_t gid, uint32_t now, const void *path,
+                      size_t path_count);
+
+/* Writes bytes into a regular file, all or none. Bytes between its end and the offset become zeros. */
+int32_t unixvol_write(unixvol *volume, uint16_t uid, uint16_t gid, uint32_t now, const void *path,
+                      size_t path_count, uint32_t offset, const void *bytes, size_t bytes_count);
+
+/* Cuts a regular file to its first length bytes, of which it has as many at least. */
+int32_t unixvol_truncate(unixvol *volume, uint16_t uid, uint16_t gid, uint32_t now, const void *path,
+                         size_t path_count, uint32_t length);
+
+/* Gives a node other permissions, or another owner and group. */
+int32_t unixvol_chmod(unixvol *volume, uint16_t uid, uint16_t gid, uint32_t now, const void *path,
+                      size_t path_count, uint16_t permissions);
+int32_t unixvol_chown(unixvol *volume, uint16_t uid, uint16_t gid, uint32_t now, const void *path,
+                      size_t path_count, uint16_t owner, uint16_t group);
+
+/* Cuts the journal now, and frees the bytes of its records. Needs no memory. */
+int32_t unixvol_cut(unixvol *volume);
+
+/* ---- Answers of a length that isn't known before. Each is kept in the handle up to the next of them. */
+
+/* Keeps the report of a checker: icheck for the letter i, dcheck for d, ncheck for n. */
+int32_t unixvol_report(unixvol *volume, uint8_t letter);
+
+/* Keeps a tar archive of all that is below a directory. left_out is how many entries are left out, since a header has
+ * no room for their paths. */
+int32_t unixvol_export(unixvol *volume, const void *path, size_t path_count, size_t *left_out);
+
+/* The number of bytes of the answer. Needs no memory. */
+int32_t unixvol_answer_size(unixvol *volume, size_t *count);
+
+/* Copies bytes of the answer from a place on: as many as there is room for, fewer at its end. Needs no memory. */
+int32_t unixvol_answer(unixvol *volume, size_t from, void *into, size_t room, size_t *count);
+
+#if defined __STDC_VERSION__ && __STDC_VERSION__ >= 201112L
+_Static_assert(sizeof(unixvol) == 2 * sizeof(void *), "unixvol");
+_Static_assert(sizeof(unixvol_node) == 28, "unixvol_node");
+_Static_assert(sizeof(unixvol_entry) == 16, "unixvol_entry");
+_Static_assert(sizeof(unixvol_sizes) == 16, "unixvol_sizes");
+#endif
+
+#ifdef __cplusplus
+}
+#endif
+#endif

@@ -1,0 +1,80 @@
+"""Volumes of Sixth and Seventh Edition Unix.
+
+    import unixvol
+
+    with unixvol.open("disk.img", edition=7) as volume:
+        for path in (volume / "etc").iterdir():
+            print(path, path.stat().size)
+        (volume / "etc/motd").write_text("welcome\\n")
+        volume.save()
+
+A `Volume` is in memory, and is a sound one after each call; `save` writes its bytes to a file, whole or not at all. Its
+paths are used as those of `pathlib`. What is refused raises an exception that is named for the refusal, has its
+`number`, and is Python's own too, if Python has one of that meaning: `NoEntry` is a `FileNotFoundError`.
+
+Any number of volumes may be used by any number of threads. Each takes two to three and a half times the memory of its
+image.
+"""
+
+from ._faults import (
+    Access,
+    BadId,
+    Bounds,
+    Closed,
+    Exists,
+    Invalid,
+    IsDirectory,
+    NoEdition,
+    NoEntry,
+    NoInode,
+    NoMemory,
+    NoReport,
+    NoSpace,
+    NotDirectory,
+    NotEmpty,
+    NotOwner,
+    NotRegular,
+    Refusal,
+    TooBig,
+    TooMany,
+    TooManyLinks,
+    UnixvolError,
+    Unsound,
+)
+from ._paths import Stat, VolumePath
+from ._volume import About, Volume, explain, judge, mkfs, open, salvage
+
+__all__ = [
+    "About",
+    "Access",
+    "BadId",
+    "Bounds",
+    "Closed",
+    "Exists",
+    "Invalid",
+    "IsDirectory",
+    "NoEdition",
+    "NoEntry",
+    "NoInode",
+    "NoMemory",
+    "NoReport",
+    "NoSpace",
+    "NotDirectory",
+    "NotEmpty",
+    "NotOwner",
+    "NotRegular",
+    "Refusal",
+    "Stat",
+    "TooBig",
+    "TooMany",
+    "TooManyLinks",
+    "UnixvolError",
+    "Unsound",
+    "Volume",
+    "VolumePath",
+    "explain",
+    "judge",
+    "mkfs",
+    "open",
+    "salvage",
+]

@@ -1,0 +1,173 @@
+"""What the library raises."""
+
+from __future__ import annotations
+
+import errno
+from typing import ClassVar
+
+from ._library import text_of
+
+
+class UnixvolError(Exception):
+    """Any of the exceptions here. `number` is what the library for C returns."""
+
+    number: int
+
+
+class Refusal(UnixvolError, OSError):
+    """A query or a call was refused. Nothing has changed."""
+
+    code: ClassVar[int]
+
+    def __init__(self, path: str | None = None):
+        super().__init__(self.code, f"{self.number} {text_of(self.number)}", path)
+
+    def __reduce__(self):
+        return type(self), (self.filename,)
+
+
+class NotOwner(Refusal, PermissionError):
+    """The user is neither the owner nor user 0, or only user 0 may do it."""
+
+    number, code = 1, errno.EPERM
+
+
+class NoEntry(Refusal, FileNotFoundError):
+    """A directory on the way has no such name."""
+
+    number, code = 2, errno.ENOENT
+
+
+class NoMemory(Refusal, MemoryError):
+    """A block of memory was refused."""
+
+    number, code = 12, errno.ENOMEM
+
+
+class Access(Refusal, PermissionError):
+    """The permissions don't grant it."""
+
+    number, code = 13, errno.EACCES
+
+
+class Exists(Refusal, FileExistsError):
+    """The name is there already."""
+
+    number, code = 17, errno.EEXIST
+
+
+class NotDirectory(Refusal, NotADirectoryError):
+    """What is on the way, or wanted, is no directory."""
+
+    number, code = 20, errno.ENOTDIR
+
+
+class IsDirectory(Refusal, IsADirectoryError):
+    """It is a directory."""
+
+    number, code = 21, errno.EISDIR
+
+
+class Invalid(Refusal):
+    """The path holds a zero byte, or the call can't be made of it."""
+
+    number, code = 22, errno.EINVAL
+
+
+class TooBig(Refusal):
+    """The file would be greater than the greatest."""
+
+    number, code = 27, errno.EFBIG
+
+
+class NoSpace(Refusal):
+    """More blocks are needed than are free."""
+
+    number, code = 28, errno.ENOSPC
+
+
+class TooManyLinks(Refusal):
+    """The link count would be above its limit."""
+
+    number, code = 31, errno.EMLINK
+
+
+class NotEmpty(Refusal):
+    """The directory has other entries than `.` and `..`."""
+
+    number, code = 101, errno.ENOTEMPTY
+
+
+class NotRegular(Refusal):
+    """It is a special file."""
+
+    number, code = 102, errno.EINVAL
+
+
+class NoInode(Refusal):
+    """No i-number above the root's is free."""
+
+    number, code = 103, errno.ENOSPC
+
+
+class BadId(Refusal):
+    """A user or group number is above the edition's highest."""
+
+    number, code = 104, errno.EINVAL
+
+
+class Unsound(UnixvolError, ValueError):
+    """The bytes are no sound volume. `rule` is the least of the twelve rules that they break."""
+
+    def __init__(self, rule: int):
+        super().__init__(rule)
+        self.rule = rule
+        self.number = 200 + rule
+
+    def __str__(self) -> str:
+        return text_of(self.number)
+
+
+class Closed(UnixvolError, ValueError):
+    """The volume is closed."""
+
+    number = 300
+
+
+class NoEdition(UnixvolError, ValueError):
+    """The edition is neither 6 nor 7."""
+
+    number = 301
+
+
+class Bounds(UnixvolError, ValueError):
+    """The sizes aren't those of a volume."""
+
+    number = 303
+
+
+class TooMany(UnixvolError):
+    """The journal can't be cut, since its records' numbers would reach 2^64."""
+
+    number = 304
+
+
+class NoReport(UnixvolError, ValueError):
+    """There is no checker of that name."""
+
+    number = 305
+
+
+_REFUSALS = {kind.number: kind for kind in Refusal.__subclasses__()}
+_OTHERS: dict[int, type[UnixvolError]] = {kind.number: kind for kind in (Closed, NoEdition, Bounds, TooMany, NoReport)}
+
+
+def check(number: int, path: str | None = None) -> None:
+    """Raises the exception of a number that isn't 0."""
+    if number == 0:
+        return
+    if number in _REFUSALS:
+        raise _REFUSALS[number](path)
+    if 201 <= number <= 212:
+        raise Unsound(number - 200)
+    raise _OTHERS[number](text_of(number))

@@ -1,0 +1,259 @@
+"""Paths in a volume, used as those of `pathlib`."""
+
+from __future__ import annotations
+
+import ctypes
+import io
+import os
+import stat as modes
+import tarfile
+import warnings
+from collections.abc import Iterator
+from dataclasses import dataclass
+from datetime import datetime, timezone
+from pathlib import PurePosixPath
+from typing import TYPE_CHECKING, Any, Literal
+
+from ._faults import Exists, NoEntry, NotDirectory
+from ._library import Entry, Node, room, word
+
+if TYPE_CHECKING:
+    from ._volume import Volume
+
+Kind = Literal["regular", "directory", "special"]
+
+_KINDS: dict[int, Kind] = {1: "regular", 2: "directory", 3: "special"}
+_MODES = {"regular": modes.S_IFREG, "directory": modes.S_IFDIR, "special": 0}
+
+
+@dataclass(frozen=True)
+class Stat:
+    """What a node is. `changed` is None in the sixth edition, which doesn't keep it."""
+
+    inode: int
+    kind: Kind
+    permissions: int
+    links: int
+    uid: int
+    gid: int
+    size: int
+    accessed: datetime
+    modified: datetime
+    changed: datetime | None
+
+    @property
+    def mode(self) -> str:
+        """Kind and permissions as `ls -l` shows them; a special file begins with `?`."""
+        return modes.filemode(_MODES[self.kind] | self.permissions)
+
+
+class VolumePath:
+    """A path in a volume. Queries and calls are made in the name of the volume's user, at the volume's moment.
+
+    Names are bytes on the volume, and text here as `os.fsdecode` makes it, so that any name comes back as it was.
+    """
+
+    __slots__ = ("path", "volume")
+
+    def __init__(self, volume: Volume, path: str | os.PathLike[str] = "/"):
+        self.volume = volume
+        self.path = PurePosixPath("/", path)
+
+    def __truediv__(self, name: str | os.PathLike[str]) -> VolumePath:
+        return VolumePath(self.volume, self.path / name)
+
+    def __str__(self) -> str:
+        return str(self.path)
+
+    def __repr__(self) -> str:
+        return f"VolumePath({str(self)!r})"
+
+    def __eq__(self, other: object) -> bool:
+        return isinstance(other, VolumePath) and self.volume is other.volume and self.path == other.path
+
+    def __hash__(self) -> int:
+        return hash((id(self.volume), self.path))
+
+    @property
+    def name(self) -> str:
+        """The last name, or the empty text of the root."""
+        return self.path.name
+
+    @property
+    def parent(self) -> VolumePath:
+        """The path without its last name."""
+        return VolumePath(self.volume, self.path.parent)
+
+    # Queries
+
+    def stat(self) -> Stat:
+        """What the node is."""
+        node = Node()
+        self._query("stat", node)
+        return Stat(
+            inode=node.inode,
+            kind=_KINDS[node.kind],
+            permissions=node.permissions,
+            links=node.links,
+            uid=node.uid,
+            gid=node.gid,
+            size=node.size,
+            accessed=_time(node.accessed),
+            modified=_time(node.modified),
+            changed=_time(node.changed) if node.keeps_changed else None,
+        )
+
+    def exists(self) -> bool:
+        """True if the path leads to a node."""
+        return self._kind() is not None
+
+    def is_dir(self) -> bool:
+        """True if the path leads to a directory."""
+        return self._kind() == "directory"
+
+    def is_file(self) -> bool:
+        """True if the path leads to a regular file."""
+        return self._kind() == "regular"
+
+    def iterdir(self) -> Iterator[VolumePath]:
+        """The paths of all names in a directory but `.` and `..`, in ascending order of their bytes."""
+        for name in self._names():
+            yield self / name
+
+    def walk(self) -> Iterator[tuple[VolumePath, list[str], list[str]]]:
+        """This directory and all below it, each with the names of its directories and those of its other nodes.
+
+        As `pathlib.Path.walk`: names that are removed from the first list aren't walked.
+        """
+        pending = [self]
+        while pending:
+            folder = pending.pop()
+            folders: list[str] = []
+            others: list[str] = []
+            for name in folder._names():
+                (folders if (folder / name).is_dir() else others).append(name)
+            yield folder, folders, others
+            pending.extend(folder / name for name in reversed(folders))
+
+    def read_bytes(self, offset: int = 0, count: int | None = None) -> bytes:
+        """Reads a regular file from an offset on: `count` bytes, fewer at its end, or all up to its end."""
+        if count is None:
+            count = max(self.stat().size - offset, 0)
+        into, read = room(count), ctypes.c_size_t()
+        self._query("read", word(offset, 32, "offset"), into, count, read)
+        return into.raw[: read.value]
+
+    def read_text(self, encoding: str = "latin-1") -> str:
+        """Reads a regular file as text."""
+        return self.read_bytes().decode(encoding)
+
+    def export(self) -> tarfile.TarFile:
+        """A tar archive of all that is below a directory. Warns of entries that it has no room for."""
+        data, left_out = self.volume._export(str(self))
+        if left_out:
+            warnings.warn(f"{left_out} entries are left out, since their paths are too long for tar", stacklevel=2)
+        return tarfile.open(fileobj=io.BytesIO(data))
+
+    # Calls
+
+    def create(self, permissions: int = 0o644) -> int:
+        """Makes an empty regular file, and returns its i-number."""
+        return self._make("create", permissions)
+
+    def mkdir(self, permissions: int = 0o755, parents: bool = False, exist_ok: bool = False) -> None:
+        """Makes a directory; with `parents` those on the way too. With `exist_ok` it may be there already."""
+        try:
+            self._make("mkdir", permissions)
+        except NoEntry:
+            if not parents or self.parent == self:
+                raise
+            self.parent.mkdir(parents=True, exist_ok=True)
+            self.mkdir(permissions, exist_ok=exist_ok)
+        except Exists:
+            if not exist_ok or not self.is_dir():
+                raise
+
+    def hardlink_to(self, target: VolumePath) -> None:
+        """Makes this path a further name of a node other than a directory."""
+        if target.volume is not self.volume:
+            raise ValueError("a node has all its names in one volume")
+        name = os.fsencode(str(self))
+        target._call("link", name, len(name))
+
+    def unlink(self) -> None:
+        """Removes a name of a node other than a directory. The node is freed with its last name."""
+        self._call("unlink")
+
+    def rmdir(self) -> None:
+        """Removes a directory that has `.` and `..` alone."""
+        self._call("rmdir")
+
+    def write_at(self, offset: int, data: bytes) -> None:
+        """Writes bytes into a regular file, all or none. Bytes between its end and the offset become zeros."""
+        data = bytes(data)
+        self._call("write", word(offset, 32, "offset"), data, len(data))
+
+    def write_bytes(self, data: bytes) -> int:
+        """Makes a regular file of just these bytes, and returns their number. A file that is there keeps its i-number,
+        owner and permissions. If the bytes are refused, what was there stays."""
+        is_new = not self.exists()
+        if is_new:
+            self.create()
+        try:
+            self.write_at(0, data)
+        except OSError:
+            if is_new:
+                self.unlink()
+            raise
+        if self.stat().size > len(data):
+            self.truncate(len(data))
+        return len(data)
+
+    def write_text(self, text: str, encoding: str = "latin-1") -> int:
+        """Makes a regular file of just this text."""
+        return self.write_bytes(text.encode(encoding))
+
+    def truncate(self, length: int) -> None:
+        """Cuts a regular file to its first `length` bytes."""
+        self._call("truncate", word(length, 32, "length"))
+
+    def chmod(self, permissions: int) -> None:
+        """Gives the node other permissions, bits under octal 7777."""
+        self._call("chmod", word(permissions, 16, "permissions"))
+
+    def chown(self, uid: int, gid: int) -> None:
+        """Gives the node to another user and group."""
+        self._call("chown", word(uid, 16, "uid"), word(gid, 16, "gid"))
+
+    # What these have in common
+
+    def _query(self, name: str, *more: Any) -> None:
+        self.volume._query(name, str(self), *more)
+
+    def _call(self, name: str, *more: Any) -> None:
+        self.volume._change(name, str(self), *more)
+
+    def _make(self, name: str, permissions: int) -> int:
+        inode = ctypes.c_uint16()
+        self._call(name, word(permissions, 16, "permissions"), inode)
+        return inode.value
+
+    def _kind(self) -> Kind | None:
+        try:
+            return self.stat().kind
+        except (NoEntry, NotDirectory):
+            return None
+
+    def _names(self) -> list[str]:
+        has_room, count = 0, ctypes.c_size_t(64)
+        entries: Any = ()
+        while has_room < count.value:
+            has_room = count.value
+            entries = (Entry * has_room)()
+            self._query("list", entries, has_room, count)
+        names = [bytes(entry.name).split(b"\0")[0] for entry in entries[: count.value]]
+        return [os.fsdecode(name) for name in names if name not in (b".", b"..")]
+
+
+def _time(seconds: int) -> datetime:
+    return datetime.fromtimestamp(seconds, timezone.utc)

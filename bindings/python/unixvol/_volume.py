@@ -1,0 +1,257 @@
+"""Volumes, and bytes that may be one."""
+
+from __future__ import annotations
+
+import builtins
+import ctypes
+import os
+import secrets
+import stat
+import threading
+import time
+from contextlib import suppress
+from dataclasses import dataclass
+from datetime import datetime
+from typing import Any, Literal
+
+from ._faults import NoReport, Unsound, check
+from ._library import Handle, Sizes, function, room, word
+from ._paths import VolumePath
+
+# A file's name, or an image's bytes.
+Source = str | os.PathLike[str] | bytes | bytearray | memoryview
+
+# A moment: with its time zone, in seconds since the beginning of 1970, or None for that of the clock.
+Moment = datetime | int | None
+
+Checker = Literal["icheck", "dcheck", "ncheck"]
+
+
+@dataclass(frozen=True)
+class About:
+    """The edition and the sizes of a volume: its blocks of 512 bytes, the first after the i-list, how many are free;
+    and its last i-number."""
+
+    edition: int
+    blocks: int
+    data_start: int
+    free_blocks: int
+    last_inode: int
+
+
+class Volume:
+    """A volume in memory. Use it in a `with`, or close it; what wasn't saved is lost then.
+
+    `uid` and `gid` are the user and the group in whose name queries and calls are made; user 0 may do everything. `now`
+    is the moment of calls, or None for that of the clock. All three may be changed. Threads may share a volume: its
+    queries and calls are made one at a time.
+    """
+
+    def __init__(self, handle: Handle, name: str | None = None, now: Moment = None):
+        """For `open` and `mkfs`, which make it."""
+        self._handle = handle
+        self._lock = threading.Lock()
+        self._name = name
+        self.uid = 0
+        self.gid = 0
+        self.now = now
+
+    def __truediv__(self, path: str | os.PathLike[str]) -> VolumePath:
+        return self.root / path
+
+    def __bytes__(self) -> bytes:
+        """The image."""
+        with self._lock:
+            size = ctypes.c_size_t()
+            check(function("size")(self._handle, size))
+            into = room(size.value)
+            check(function("image")(self._handle, into, size))
+        return into.raw
+
+    def __enter__(self) -> Volume:
+        return self
+
+    def __exit__(self, *fault: object) -> None:
+        self.close()
+
+    def __del__(self, close: Any = function("close")) -> None:
+        close(self._handle)
+
+    def __reduce__(self) -> Any:
+        raise TypeError("a Volume can't be copied or pickled; bytes(volume) is its image")
+
+    @property
+    def closed(self) -> bool:
+        """True once the volume is closed."""
+        # (a call of another thread shows it as closed while it lasts)
+        with self._lock:
+            return not self._handle.is_open
+
+    @property
+    def root(self) -> VolumePath:
+        """The path of the root."""
+        return VolumePath(self)
+
+    def close(self) -> None:
+        """Closes the volume and frees its memory. It may be closed already."""
+        with self._lock:
+            function("close")(self._handle)
+
+    def about(self) -> About:
+        """The edition and the sizes."""
+        sizes = Sizes()
+        with self._lock:
+            check(function("about")(self._handle, sizes))
+        return About(sizes.edition, sizes.blocks, sizes.data_start, sizes.free_blocks, sizes.last_inode)
+
+    def cut(self) -> None:
+        """Frees the memory of the calls that were made. It is freed by itself once it is more than the image."""
+        with self._lock:
+            check(function("cut")(self._handle))
+
+    def report(self, checker: Checker) -> str:
+        """The report of `icheck`, `dcheck` or `ncheck`, as the program prints it."""
+        if checker not in ("icheck", "dcheck", "ncheck"):
+            raise NoReport(checker)
+        with self._lock:
+            check(function("report")(self._handle, ord(checker[0])))
+            return os.fsdecode(self._answer())
+
+    def save(self, name: str | os.PathLike[str] | None = None) -> None:
+        """Writes the image to a file, or to the one that it was opened from.
+
+        A new file is written beside it, and then takes its name. So whatever happens, that name has the old bytes or
+        the new ones. The permissions stay, and the owner too, if the system allows it."""
+        if name is None and self._name is None:
+            raise ValueError("the volume was opened from no file, so save needs a name")
+        _replace(os.path.realpath(os.fspath(name) if name is not None else str(self._name)), bytes(self))
+
+    # What paths call
+
+    def _query(self, name: str, path: str, *more: Any) -> None:
+        raw = os.fsencode(path)
+        uid, gid = word(self.uid, 16, "uid"), word(self.gid, 16, "gid")
+        with self._lock:
+            check(function(name)(self._handle, uid, gid, raw, len(raw), *more), path)
+
+    def _change(self, name: str, path: str, *more: Any) -> None:
+        raw, now = os.fsencode(path), _seconds(self.now)
+        uid, gid = word(self.uid, 16, "uid"), word(self.gid, 16, "gid")
+        with self._lock:
+            check(function(name)(self._handle, uid, gid, now, raw, len(raw), *more), path)
+
+    def _export(self, path: str) -> tuple[bytes, int]:
+        raw, left_out = os.fsencode(path), ctypes.c_size_t()
+        with self._lock:
+            check(function("export")(self._handle, raw, len(raw), left_out), path)
+            return self._answer(), left_out.value
+
+    def _answer(self) -> bytes:
+        count = ctypes.c_size_t()
+        check(function("answer_size")(self._handle, count))
+        into = room(count.value)
+        check(function("answer")(self._handle, 0, into, count, count))
+        return into.raw
+
+
+def open(source: Source, edition: int) -> Volume:
+    """Opens the volume in a file, or in bytes. It must be sound, else `Unsound` is raised."""
+    data, handle = _data(source), Handle()
+    name = os.path.abspath(source) if isinstance(source, (str, os.PathLike)) else None
+    check(function("open")(handle, word(edition, 8, "edition"), data, len(data)))
+    return Volume(handle, name)
+
+
+def mkfs(edition: int, blocks: int, list_blocks: int, *, uid: int = 0, gid: int = 0, now: Moment = None) -> Volume:
+    """Makes a new volume of so many blocks of 512 bytes.
+
+    `list_blocks` of them are the i-list, with 16 i-nodes each in the sixth edition, and 8 in the seventh. The root
+    belongs to `uid` and `gid`. `now` is its moment, and that of later calls."""
+    handle = Handle()
+    number = function("mkfs")(
+        handle,
+        word(edition, 8, "edition"),
+        word(blocks, 32, "blocks"),
+        word(list_blocks, 16, "list_blocks"),
+        word(uid, 16, "uid"),
+        word(gid, 16, "gid"),
+        _seconds(now),
+    )
+    check(number)
+    return Volume(handle, now=now)
+
+
+def judge(source: Source, edition: int) -> int | None:
+    """Returns the least of the twelve rules that a file or bytes break, or None for a sound volume."""
+    data = _data(source)
+    try:
+        check(function("judge")(word(edition, 8, "edition"), data, len(data)))
+    except Unsound as fault:
+        return fault.rule
+    return None
+
+
+def explain(source: Source, edition: int) -> str:
+    """Returns what is found of each of the twelve rules in a file or bytes, a line for each."""
+    data, into, count = _data(source), room(4096), ctypes.c_size_t()
+    check(function("explain")(word(edition, 8, "edition"), data, len(data), into, len(into), count))
+    return os.fsdecode(into.raw[: count.value])
+
+
+def salvage(source: Source, edition: int) -> bytes:
+    """Returns the image in a file or bytes with its free list made anew.
+
+    It is sound then, and all files and directories are as they were. If anything else is wrong with it, `Unsound` is
+    raised."""
+    data = bytearray(_data(source))
+    view = (ctypes.c_char * len(data)).from_buffer(data)
+    check(function("salvage")(word(edition, 8, "edition"), view, len(data)))
+    return bytes(data)
+
+
+def _data(source: Source) -> bytes:
+    if isinstance(source, (bytes, bytearray, memoryview)):
+        return bytes(source)
+    with builtins.open(source, "rb") as file:
+        return file.read()
+
+
+def _seconds(now: Moment) -> int:
+    if isinstance(now, datetime):
+        now = int(now.timestamp())
+    return word(int(time.time()) if now is None else now, 32, "the moment in seconds")
+
+
+def _replace(name: str, data: bytes) -> None:
+    """Replaces a regular file, or makes one, by a new file beside it and a rename."""
+    old = None
+    with suppress(FileNotFoundError):
+        old = os.stat(name)
+    if old is not None and not stat.S_ISREG(old.st_mode):
+        raise ValueError(f"{name} is no regular file")
+    folder = os.path.dirname(name)
+    beside = os.path.join(folder, f".unixvol-{secrets.token_hex(8)}")
+    try:
+        with builtins.open(beside, "xb") as file:
+            file.write(data)
+            file.flush()
+            if old is not None:
+                with suppress(PermissionError):
+                    os.fchown(file.fileno(), old.st_uid, old.st_gid)
+                os.fchmod(file.fileno(), stat.S_IMODE(old.st_mode))
+            os.fsync(file.fileno())
+        os.replace(beside, name)
+    except BaseException:
+        with suppress(FileNotFoundError):
+            os.unlink(beside)
+        raise
+    _sync_folder(folder)
+
+
+def _sync_folder(folder: str) -> None:
+    """Has the folder's entries written to the disk."""
+    number = os.open(folder, os.O_RDONLY)
+    try:
+        os.fsync(number)
+    finally:
+        os.close(number)

@@ -4,7 +4,7 @@ RT ?= rt
 PREFIX ?= /usr/local
 
 .DEFAULT_GOAL := help
-.PHONY: help run build test bench faults wrong-bodies manual release install
+.PHONY: help run build test bench faults wrong-bodies manual release install library library-test
 
 # The scripts of rows that the gate runs the built program through.
 ROWS = program words volumes looks checks checkers changes trees many_trees archives migrations plays explaining serve mount manual readme
@@ -15,6 +15,8 @@ help:
 	@echo '                            where it was built, else the program in dist/'
 	@echo 'make build                  proves and builds the program, and leaves it as ./unixvol'
 	@echo 'make test                   the whole gate: every proof and test from nothing, then the built program from the shell'
+	@echo 'make library                proves and builds the library for C, Python and Rust, and leaves it in bindings/out; make install then installs it too'
+	@echo 'make library-test           tests that library, as two compilers make it, from each of the three; a tool that is missing is skipped aloud'
 	@echo 'make bench                  times the program against one in plain Rust that does the same; needs rustc, and some minutes'
 	@echo 'make faults                 refuses each allocation in turn, of the libraries and of the program, and runs the program 10,000 times where memory, the stack,'
 	@echo '                            the disk or a descriptor fails it, or a signal ends it; needs rustc, and some minutes'
@@ -36,6 +38,15 @@ test:
 	RT=$(RT) tools/sources.sh > crates/unixvol/out/sources
 	@set -e; for rows in $(ROWS); do echo "tests/$$rows.sh ./unixvol"; tests/$$rows.sh ./unixvol; done
 	RT=$(RT) tools/compare.sh
+	$(MAKE) library-test
+
+library:
+	RT=$(RT) tools/library.sh
+
+library-test: library
+	tests/library.sh bindings/out
+	BACKEND=rattle OUT=bindings/out/second RT=$(RT) tools/library.sh
+	tests/library.sh bindings/out/second
 
 bench: build
 	cd crates/bench_library && $(RT) run -- calls 0 0 create + checks 6 icheck 1 1 + views view 0 1 400 5 < stdin

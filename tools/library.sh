@@ -1,0 +1,43 @@
+#!/usr/bin/env bash
+# Proves and builds the library for C, Python and Rust, and leaves it in bindings/out: libunixvol.a, libunixvol.so, unixvol.pc, and in python/ the
+# package with the shared object in it. It needs `rt` alone, since archiver and linker are those of the toolchain.
+# BACKEND names the compiler: llvm, or rattle. OUT names another folder than bindings/out.
+set -euo pipefail
+cd "$(dirname "$0")/.."
+rt=$(realpath "$(command -v "${RT:-rt}")")
+kit=${rt%/bin/rt}
+out=$(realpath -m "${OUT:-bindings/out}")
+(cd crates/unixvol_c && "$rt" lib --backend "${BACKEND:-llvm}")
+rm -rf "$out"/libunixvol.* "$out"/python/unixvol
+mkdir -p "$out/python/unixvol"
+
+# One archive, with the toolchain's three functions over malloc, realloc and free.
+"$kit/toolchain/bin/llvm-ar" -M <<END
+create $out/libunixvol.a
+addlib crates/unixvol_c/out/libunixvol_c.a
+addlib $kit/c/liblibc_c.a
+save
+end
+END
+
+# The shared object shows only what unixvol.h declares, and needs the C library alone.
+echo '{ global: unixvol_*; local: *; };' >"$out/exports"
+"$kit/toolchain/bin/ld.lld" -shared -soname libunixvol.so.0 --version-script="$out/exports" -z text -z defs -z now -z noexecstack --strip-all \
+    -o "$out/libunixvol.so.0" --whole-archive "$out/libunixvol.a" --no-whole-archive "$kit/toolchain/lib/libc.so.6"
+rm "$out/exports"
+ln -s libunixvol.so.0 "$out/libunixvol.so"
+
+version=$(sed -n 's/^version = "\(.*\)"$/\1/p' bindings/python/pyproject.toml)
+cat >"$out/unixvol.pc" <<END
+prefix=\${pcfiledir}/../..
+Name: unixvol
+Description: Volumes of Sixth and Seventh Edition Unix
+Version: $version
+Libs: -L\${prefix}/lib -lunixvol
+Cflags: -I\${prefix}/include
+END
+
+cp bindings/python/pyproject.toml bindings/python/make_wheel.py "$out/python"
+cp bindings/python/unixvol/*.py bindings/python/unixvol/py.typed "$out/python/unixvol"
+cp "$out/libunixvol.so.0" "$out/python/unixvol"
+echo "$out: libunixvol.a ($(wc -c <"$out/libunixvol.a") bytes), libunixvol.so ($(wc -c <"$out/libunixvol.so") bytes)"

@@ -18,3 +18,8 @@ install -D -m 644 "$manual/unixvol.1" "$folder/share/man/man1/unixvol.1"
 install -D -m 644 manual/unixvol-mount.1 "$folder/share/man/man1/unixvol-mount.1"
 install -D -m 644 "$manual/unixvol.bash" "$folder/share/bash-completion/completions/unixvol"
 install -D -m 644 "$manual/_unixvol" "$folder/share/zsh/site-functions/_unixvol"
+
+# The library for C, Python and Rust, where that was built.
+if [ -e bindings/out/libunixvol.a ]; then
+    tools/install_library.sh "$folder"
+fi

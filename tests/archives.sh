@@ -505,9 +505,9 @@ ROWS
 saves 'an image into which no front of an archive was imported' disk.img blank.v7
 
 # Input without end: what is no archive is refused, what follows an archive is left, and a header that claims too many bytes is refused.
-# endless LABEL STATUS LINE IMAGE WORD..: what the command writes is imported into IMAGE, and ends so within 20 seconds
+# endless LABEL STATUS LINE IMAGE WORD..: what the command writes is imported into IMAGE, and ends so within a minute
 endless() {
-    "${@:5}" 2> /dev/null | timeout 20 "$program" import 7 "$4" '' 2000 > output 2> error
+    "${@:5}" 2> /dev/null | timeout 60 "$program" import 7 "$4" '' 2000 > output 2> error
     echo "${PIPESTATUS[1]}" > status
     printf '%s' "$3" > line
     wants "$1" "$2" none line

@@ -48,7 +48,7 @@ played() {
 }
 
 # number EDITION IMAGE PATH: the i-number to which a path leads
-number() { "$program" ls "$1" "$2" "$3" | awk 'NR == 1 { print $1 }'; }
+number() { "$program" ls -d "$1" "$2" "$3" | awk 'NR == 1 { print $1 }'; }
 
 # listed EDITION IMAGE [PATH]: all that is below the root, or below PATH, without i-numbers and without `.` and `..`
 listed() { "$program" ls -lR "$1" "$2" "${3:-/}" | sed -E 's/^ *[0-9]+ //; s/ +/ /g' | grep -v ' \.\.*$'; }

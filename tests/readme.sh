@@ -5,14 +5,14 @@
 . "$(dirname "$0")/rows.sh"
 top=${samples%/*}
 ln -s "$program" unixvol
-for name in samples dist manual tools Makefile; do ln -s "$top/$name" .; done
-mkdir bin home
+for name in samples dist manual tools bin bindings Makefile; do ln -s "$top/$name" .; done
+mkdir path home
 : > said
-ln -s "$program" bin/unixvol
-export PATH=$folder/bin:$PATH HOME=$folder/home
+ln -s "$program" path/unixvol
+export PATH=$folder/path:$PATH HOME=$folder/home
 
 # blocks: README's blocks of commands, without the spaces before each line, apart by a byte of zero
-blocks() { awk '/^    / { print substr($0, 5); on = 1; next } on && /^$/ { printf "%c", 0; on = 0 }' "$top/README.md"; }
+blocks() { awk '/^```/ { fenced = !fenced } fenced { next } /^    / { print substr($0, 5); on = 1; next } on && /^$/ { printf "%c", 0; on = 0 }' "$top/README.md"; }
 
 # session TEXT: what each command after a prompt prints, as a terminal would show it with the command
 session() {

@@ -15,7 +15,7 @@ refuses 3 'unixvol: cannot read none.img' serve --read-only 7 none.img
 refuses 1 'unixvol: unsound, rule 2' serve --read-only 6 "$linux"
 head -c 5000 "$linux" > short.img
 refuses 1 'unixvol: unsound, rule 1' serve --read-only 7 short.img
-printf '%s\n' 'unixvol: unsound, rule 1' "unixvol: short.img: it breaks rule 1, that the image has all blocks of the volume; perhaps it is of the other edition" > line
+printf '%s\n' 'unixvol: unsound, rule 1' "unixvol: short.img: it breaks rule 1, that the image has all blocks of the volume: it has 9 blocks, its super-block says 240" > line
 runs serve --read-only 7 short.img --explain
 wants 'serve of a short image, explained' 1 none line
 
@@ -26,7 +26,7 @@ prints none serve --read-only 7 "$linux"
 node_at() { echo $((1024 + (edition == 6 ? 32 : 64) * ($1 - 1))); }
 
 # number PATH: the i-number to which a path leads in the volume
-number() { "$program" ls "$edition" volume "$1" | awk 'NR == 1 { print $1 }'; }
+number() { "$program" ls -d "$edition" volume "$1" | awk 'NR == 1 { print $1 }'; }
 
 # breaks RULE IMAGE: the image breaks this rule, none before it; a server says so, and ends with its input
 breaks() {

@@ -10,12 +10,12 @@ bench=$(dirname "$(realpath "$0")")
 export UNIXVOL=$program
 mkdir -p "${FOLDER:=$bench/out}"
 cd "$FOLDER" || exit 1
-trap 'umount -l mounted 2> /dev/null; rm -rf files mounted six.img seven.img ext2.img output wanted' EXIT
+trap 'umount -l mounted 2> /dev/null; rm -rf files mounted six.img seven.img ext2.img output wanted told' EXIT
 (: <> /dev/fuse) && mkdir -p mounted files/many || exit 1
 
 # mount_ours, mount_theirs: mounts an image on `mounted`, and waits until it is
-mount_ours() { "$bench/../bin/unixvol-mount" --read-only 7 seven.img mounted > output & }
-mount_theirs() { fuse2fs -f -o ro ext2.img mounted > output 2>&1 & }
+mount_ours() { "$bench/../bin/unixvol-mount" --read-only 7 seven.img mounted > told 2>&1 & }
+mount_theirs() { fuse2fs -f -o ro ext2.img mounted > told 2>&1 & }
 up() {
     until mountpoint -q mounted; do sleep 0.05; done
     sleep 0.2
@@ -67,4 +67,4 @@ tar -cf - --owner=0 --group=0 -C files . | "$program" import 7 seven.img / 17375
 echo "load before: $(cut -d ' ' -f 1-3 /proc/loadavg)"
 printf '%-38s %9s %9s %6s\n' job 'ms' 'fuse2fs' ratio
 row 'read 100,000,000 bytes, mounted' cat mounted/big
-row 'stat of 5,000 files, mounted' find mounted/many -type f -printf '%f %s\n'
+row 'stat of 5,000 files, mounted' bash -c "find mounted/many -type f -printf '%f %s\n' | sort"

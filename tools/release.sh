@@ -1,5 +1,5 @@
 #!/usr/bin/env bash
-# Packs the built program, ./unixvol, which `make build` or `make test` has built of these sources, with unixvol-mount, their manual pages, completions, licence and README, as dist/unixvol-VERSION-x86_64-linux.tar.xz. Beside it are SHA256SUMS
+# Packs the built program, ./unixvol, which `make build` or `make test` has built of these sources, with unixvol-mount, their manual pages, completions, samples, licence and README, as dist/unixvol-VERSION-x86_64-linux.tar.xz. Beside it are SHA256SUMS
 # and SOURCES, the sum of the sources (tools/sources.sh). The same files give the same archive, byte for byte.
 set -euo pipefail
 cd "$(dirname "$0")/.."
@@ -12,6 +12,9 @@ cp LICENSE README.md manual/unixvol.1 manual/unixvol-mount.1 manual/unixvol.bash
 cp unixvol bin/unixvol-mount "$room/$name"
 chmod 644 "$room/$name"/*
 chmod 755 "$room/$name/unixvol" "$room/$name/unixvol-mount"
+mkdir "$room/$name/samples"
+cp samples/* "$room/$name/samples"
+chmod 644 "$room/$name/samples"/*
 mkdir "$room/dist"
 tar -C "$room" --sort=name --owner=0 --group=0 --numeric-owner --mtime=@0 --mode=go-w -cf - "$name" | xz -9e --threads=1 >"$room/dist/$name.tar.xz"
 (cd "$room/dist" && sha256sum "$name.tar.xz" >SHA256SUMS)

@@ -11,7 +11,7 @@ export UNIXVOL=$program
 mkdir -p "${FOLDER:=$bench/out}"
 cd "$FOLDER" || exit 1
 trap 'umount -l mounted 2> /dev/null; rm -rf files mounted six.img seven.img ext2.img output wanted told' EXIT
-(: <> /dev/fuse) && mkdir -p mounted files/many || exit 1
+[ -c /dev/fuse ] && (: <> /dev/fuse) && mkdir -p mounted files/many || exit 1
 
 # mount_ours, mount_theirs: mounts an image on `mounted`, and waits until it is
 mount_ours() { "$bench/../bin/unixvol-mount" --read-only 7 seven.img mounted > told 2>&1 & }

@@ -55,7 +55,7 @@ unmounted() {
 
 skipped=
 [ "$(id -u)" = 0 ] || skipped='only root mounts here'
-[ -n "$skipped" ] || (: <> /dev/fuse) 2> /dev/null || skipped='there is no /dev/fuse'
+[ -n "$skipped" ] || { [ -c /dev/fuse ] && (: <> /dev/fuse) 2> /dev/null; } || skipped='there is no /dev/fuse'
 [ -n "$skipped" ] || unshare -m true 2> /dev/null || skipped='mounting is not allowed here'
 if [ -n "$skipped" ]; then
     echo "skipped: mounts, since $skipped"

@@ -7,8 +7,6 @@
 mod rule;
 mod summed;
 mod tally;
-#[cfg(test)]
-mod tests;
 mod words;
 
 pub use rule::{AllCounted, Mark, SeatView, TableShape, TallySeat};

@@ -1,4 +1,5 @@
-use crate::{TableShape, Tally};
+// The table of counts, by two seats of one thread.
+use count_table::{TableShape, Tally};
 use std::test::Fail;
 
 #[test]

@@ -100,6 +100,10 @@ with_permission_bits now perm node = record (stamped now node) { permissions = p
 abbrev pub with_owner : ℕ → ℕ → ℕ → Node → Node
 with_owner now uid gid node = record (stamped now node) { uid = uid; gid = gid }
 
+-- a node of other times, of the last reading and of the last change of what it holds, whose i-node was changed by that (utime, section 2 of the manual)
+abbrev pub with_times : ℕ → ℕ → ℕ → Node → Node
+with_times now accessed modified node = record (stamped now node) { accessed = accessed; modified = modified }
+
 -- node i gets one link more (Lions on link)
 abbrev pub add_link : ℕ → ℕ → State → State
 add_link now i state = change_node i (λ node. record (stamped now node) { links = node.links + 1 }) state

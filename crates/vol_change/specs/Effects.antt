@@ -1,7 +1,7 @@
 -- What each call makes of a state, once its paths are walked.
 use Rattle.std.specs.Prelude.{ℕ, List, [], Some}
 use Rattle.vol_dir.specs.Tree.{Body, State, no_shape}
-use Rattle.vol_change.specs.Edits.{change_node, with_permission_bits, with_owner, put_node, put_shape, remove_node, new_node, add_entry, remove_entry, add_link, drop_link, release, new_directory}
+use Rattle.vol_change.specs.Edits.{change_node, with_permission_bits, with_owner, with_times, put_node, put_shape, remove_node, new_node, add_entry, remove_entry, add_link, drop_link, release, new_directory}
 use Rattle.vol_change.specs.Nodes.{number_of_name}
 use Rattle.vol_change.specs.Shapes.{new_directory_shape}
 use Rattle.vol_dir.specs.declared.cred.Cred.{Cred}
@@ -40,3 +40,7 @@ after_chmod state now perm i = change_node i (with_permission_bits now perm) sta
 -- node i gets another user and group (chown, section 2 of the manual)
 abbrev pub after_chown : State → ℕ → ℕ → ℕ → ℕ → State
 after_chown state now uid gid i = change_node i (with_owner now uid gid) state
+
+-- node i gets other times, of the last reading and of the last change of what it holds (utime, section 2 of the manual)
+abbrev pub after_utime : State → ℕ → ℕ → ℕ → ℕ → State
+after_utime state now accessed modified i = change_node i (with_times now accessed modified) state

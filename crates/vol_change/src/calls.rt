@@ -1,4 +1,4 @@
-//! The nine calls, once their paths are walked.
+//! The ten calls, once their paths are walked.
 
 pub mod chmod;
 pub mod chown;
@@ -8,4 +8,5 @@ pub mod mkdir;
 pub mod rmdir;
 pub mod truncate;
 pub mod unlink;
+pub mod utime;
 pub mod write;

@@ -1,4 +1,4 @@
-//! The change that each of the nine calls makes of a volume, once its paths are walked.
+//! The change that each of the ten calls makes of a volume, once its paths are walked.
 #![tactic(auto)]
 
 mod calls;
@@ -17,5 +17,6 @@ pub use calls::mkdir::mkdir;
 pub use calls::rmdir::rmdir;
 pub use calls::truncate::truncate;
 pub use calls::unlink::unlink;
+pub use calls::utime::utime;
 pub use calls::write::write;
 pub use new_nodes::NewNode;

@@ -11,7 +11,7 @@ ghost use Rattle.vol_dir.specs.Tree.{state};
 ghost use Rattle.vol_judge.specs.Graph.{graph_of};
 ghost use Rattle.vol_judge.specs.GraphEdits.{IsSameGraph};
 ghost use Rattle.vol_change.specs.Changed.{Changed, IsAny, as_before};
-ghost use Rattle.vol_change.specs.Edits.{at_time, change_node, modified};
+ghost use Rattle.vol_change.specs.Edits.{at_time, change_node, modified, with_times};
 ghost use Rattle.vol_change.specs.Unused.{KeepsAllUnused};
 ghost use Rattle.vol_change.specs.Whole.{Rules3To8, HasNode};
 
@@ -51,6 +51,34 @@ pub fn touch(image: &mut Image, geometry: &Geometry, i: u16, now: u32)
         ..node
     };
     put_inode(image, geometry, i, &touched);
+}
+
+/// Makes `accessed` and `modified` the times, in seconds, at which node `i` was last read and what it holds
+/// was last changed, and in the seventh edition `now` that of its i-node. Node `i` is any that isn't free.
+pub fn put_times(
+    image: &mut Image,
+    geometry: &Geometry,
+    i: u16,
+    accessed: u32,
+    modified: u32,
+    now: u32,
+)
+    requires node { HasNode geometry.now image.old i }
+    ensures changed { Changed geometry.now image.old image.new IsAny
+        (change_node i (with_times now accessed modified) (state geometry.now image.old)) as_before }
+    ensures graph { IsSameGraph (graph_of geometry.now image.old) (graph_of geometry.now image.new) }
+    ensures unused { KeepsAllUnused geometry.now image.old image.new }
+    ensures others { SameOutside image.old image.new (inode_place geometry.now.edition i)
+        (inode_place geometry.now.edition i + (constants geometry.now.edition).inode_bytes) }
+{
+    let node = inode(image, geometry, i);
+    let timed = Inode {
+        accessed,
+        modified,
+        changed: stamp(node.changed, now),
+        ..node
+    };
+    put_inode(image, geometry, i, &timed);
 }
 
 /// The time of an i-node's change, now: the sixth edition has none.

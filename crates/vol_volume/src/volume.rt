@@ -266,20 +266,14 @@ impl Volume {
     /// Cuts the journal: its records go, the base becomes the present image, and the first record's number
     /// grows by as many. The image stays. Where the records' numbers would reach 2^64, nothing changes.
     ///
-    /// Takes no memory. Costs a copy of the image's bytes, and the journal's drop.
+    /// Takes no memory, and gives back all that the journal took. Costs a copy of the image's bytes, and the
+    /// journal's drop.
     pub fn cut(&mut self) -> Result<(), TooManyRecords>
         ensures cut { OnOk result (self.new ≡ after_cut self.old) }
         ensures fault { OnErr result (2 ^ 64 ≤ self.old.first + length self.old.journal) }
         ensures unchanged { OnErr result (self.new ≡ self.old) }
     {
-        let parts = &mut self.parts;
-        let Some(first) = parts.first.checked_add(parts.records.len() as u64) else {
-            return Err(TooManyRecords);
-        };
-        parts.base.copy_from_slice(parts.current.as_bytes());
-        parts.records.clear();
-        parts.first = first;
-        Ok(())
+        cut_journal(&mut self.parts)
     }
 
     /// Gives the image's bytes back. The journal goes. Takes no memory.
@@ -333,6 +327,25 @@ pub(crate) fn accept(
         unreachable!();
     }
     Ok(done)
+}
+
+/// Cuts the journal, and keeps no room for records. Where their numbers would reach 2^64, nothing changes.
+fn cut_journal(parts: &mut Parts) -> Result<(), TooManyRecords>
+    requires kept { IsKept parts.old }
+    ensures kept { IsKept parts.new }
+    ensures cut { OnOk result (held parts.new ≡ after_cut (held parts.old)) }
+    ensures room { OnOk result (vec_capacity parts.new.records ≡ 0) }
+    ensures fault { OnErr result (2 ^ 64 ≤ parts.old.first + vec_len parts.old.records) }
+    ensures unchanged { OnErr result (parts.new ≡ parts.old) }
+{
+    let Some(first) = parts.first.checked_add(parts.records.len() as u64) else {
+        return Err(TooManyRecords);
+    };
+    parts.base.copy_from_slice(parts.current.as_bytes());
+    parts.records.clear();
+    parts.records.shrink_to_fit();
+    parts.first = first;
+    Ok(())
 }
 
 /// The refusal of a call for whose record a full journal has no room: what speaks against it, else NoMemory.

@@ -75,7 +75,7 @@ no_attributes = record {
   block_size = 0;
 }
 
--- the reply to LOOKUP (fuse_entry_out, 128 bytes)
+-- the reply to LOOKUP, MKNOD, MKDIR and LINK (fuse_entry_out, 128 bytes)
 unfoldable pub entry_message : ℕ → Entry → List ℕ
 entry_message unique entry =
     with_attributes
@@ -88,7 +88,7 @@ entry_message unique entry =
     ++ little_bytes 4 0)  -- attr_valid_nsec
     entry.attributes
 
--- the reply to GETATTR (fuse_attr_out, 104 bytes)
+-- the reply to GETATTR and SETATTR (fuse_attr_out, 104 bytes)
 unfoldable pub attributes_message : ℕ → ℕ → Attributes → List ℕ
 attributes_message unique seconds attributes =
     with_attributes
@@ -109,6 +109,13 @@ open_message unique handle flags =
 -- the reply to READ and READDIR (fuse_out_header)
 unfoldable pub data_message : ℕ → List ℕ → List ℕ
 data_message unique bytes = reply_header (length bytes) unique ++ bytes
+
+-- the reply to WRITE (fuse_write_out, 8 bytes)
+unfoldable pub written_message : ℕ → ℕ → List ℕ
+written_message unique size =
+    reply_header 8 unique
+    ++ little_bytes 4 size
+    ++ little_bytes 4 0  -- padding
 
 -- the reply to STATFS (fuse_kstatfs, 80 bytes)
 unfoldable pub statfs_message : ℕ → Statistics → List ℕ

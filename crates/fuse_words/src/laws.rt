@@ -1,7 +1,7 @@
 //! Laws about messages. A call does nothing: what matters is the contract, which is proved.
 ghost use Rattle.fuse_words.specs.Laws.{RequestsAreReadBack, RepliesHaveTheirLengths, EntriesAreAligned};
 
-/// A request with its fields in the order of fuse.h is read as that request, whatever follows the fields that are read.
+/// A request with its fields in the order of fuse.h is read as that request, whatever is in the fields that aren't read.
 pub fn requests_are_read_back()
     ensures { RequestsAreReadBack }
 {}

@@ -1,9 +1,12 @@
-//! The messages of the Linux kernel's FUSE protocol, version 7.31, as a file server that is mounted read-only takes and sends them:
-//! requests are read, and replies are made. (Linux, include/uapi/linux/fuse.h.)
+//! The messages of the Linux kernel's FUSE protocol, version 7.31, as a file server takes and sends them: requests are read, and
+//! replies are made. (Linux, include/uapi/linux/fuse.h.)
 #![tactic(auto)]
 
+pub mod attribute_changes;
 pub mod directory;
 pub mod laws;
+pub mod name;
+pub mod opcode;
 pub mod operation;
 mod pushing;
 pub mod reply;
@@ -12,8 +15,13 @@ pub mod request;
 #[cfg(test)]
 mod tests;
 
+pub use attribute_changes::{AttributeChanges, NewTime};
 pub use directory::{EntryKind, push_entry};
-pub use operation::{Name, Operation};
-pub use reply::{ASYNC_READ, Attributes, CACHE_DIRECTORY, Entry, KEEP_CACHE, Settings, Statistics};
+pub use name::{Content, Name};
+pub use opcode::SYMLINK;
+pub use operation::Operation;
+pub use reply::{
+    ASYNC_READ, Attributes, BIG_WRITES, CACHE_DIRECTORY, Entry, KEEP_CACHE, Settings, Statistics,
+};
 pub use reply_buffer::{MOST_DATA, ReplyBuffer};
 pub use request::{Header, ROOT, Request, RequestFault, read_header, read_request};

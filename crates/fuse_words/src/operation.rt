@@ -1,56 +1,18 @@
 //! What a request asks for.
-ghost use Rattle.std.specs.Prelude.{◌≡◌, ◌≤◌, ◌==◌, length};
-ghost use Rattle.std.specs.List.{position};
-ghost use Rattle.fuse_words.specs.Requests.{number, struct_size, name_of, fields_of, operation_of};
+ghost use Rattle.std.specs.Prelude.{◌≡◌, ◌≤◌, true, false, length, Some};
+ghost use Rattle.fuse_words.specs.Requests.{number, struct_size, is_named, is_rename, named, renamed, write_of, fields_of, operation_of};
 
+use crate::attribute_changes::{AttributeChanges, read_changes};
+use crate::name::{Content, Name};
+use crate::opcode::{
+    BATCH_FORGET, DESTROY, FLUSH, FORGET, FSYNC, FSYNCDIR, GETATTR, INIT, INTERRUPT, LINK, LOOKUP,
+    MKDIR, MKNOD, OPEN, OPENDIR, READ, READDIR, RELEASE, RELEASEDIR, RENAME, RENAME2, RMDIR,
+    SETATTR, STATFS, UNLINK, WRITE,
+};
 use crate::request::{u32_at, u64_at};
-use std::marker::Model;
 
-const LOOKUP: u32 = 1;
-
-pub(crate) const FORGET: u32 = 2;
-
-const GETATTR: u32 = 3;
-
-const OPEN: u32 = 14;
-
-const READ: u32 = 15;
-
-const STATFS: u32 = 17;
-
-const RELEASE: u32 = 18;
-
-const FLUSH: u32 = 25;
-
-const INIT: u32 = 26;
-
-const OPENDIR: u32 = 27;
-
-const READDIR: u32 = 28;
-
-const RELEASEDIR: u32 = 29;
-
-pub(crate) const INTERRUPT: u32 = 36;
-
-const DESTROY: u32 = 38;
-
-pub(crate) const NOTIFY_REPLY: u32 = 41;
-
-pub(crate) const BATCH_FORGET: u32 = 42;
-
-/// A name in a request, without the NUL at its end. A contract sees it as the list of its bytes.
-#[derive(Debug, Drop)]
-pub struct Name<'a> {
-    bytes: &'a [u8],
-}
-
-impl<'a> Model for Name<'a> {
-    ghost use Rattle.std.specs.Prelude.{List, ℕ};
-
-    ghost Value = { List ℕ };
-
-    ghost view = { λ name. name.bytes.now };
-}
+/// Bytes in front of those that WRITE brings (`fuse_write_in`).
+const WRITE_FRONT: usize = 40;
 
 /// What a request asks for.
 #[derive(Debug, Drop)]
@@ -79,6 +41,64 @@ pub enum Operation<'a> {
     BatchForget,
     /// Asks for the attributes of a node.
     GetAttr,
+    /// Sets attributes of a node.
+    SetAttr {
+        /// The attributes.
+        changes: AttributeChanges,
+    },
+    /// Makes a file, which may be a special file.
+    MkNod {
+        /// Kind and permissions, as stat(2) has them.
+        mode: u32,
+        /// The device, if it is a special file.
+        device: u32,
+        /// The name.
+        name: Name<'a>,
+    },
+    /// Makes a directory.
+    MkDir {
+        /// Permissions, as stat(2) has them.
+        mode: u32,
+        /// The name.
+        name: Name<'a>,
+    },
+    /// Removes a name of a file.
+    Unlink {
+        /// The name.
+        name: Name<'a>,
+    },
+    /// Removes an empty directory.
+    RmDir {
+        /// The name.
+        name: Name<'a>,
+    },
+    /// Renames a file or a directory. What has the new name is replaced.
+    Rename {
+        /// The node of the directory that gets the new name.
+        directory: u64,
+        /// The old name.
+        name: Name<'a>,
+        /// The new name.
+        new_name: Name<'a>,
+    },
+    /// Renames a file or a directory, as flags say.
+    Rename2 {
+        /// The node of the directory that gets the new name.
+        directory: u64,
+        /// As for renameat2(2).
+        flags: u32,
+        /// The old name.
+        name: Name<'a>,
+        /// The new name.
+        new_name: Name<'a>,
+    },
+    /// Gives a file one more name, in the directory that the request is about.
+    Link {
+        /// The file's node.
+        node: u64,
+        /// The new name.
+        name: Name<'a>,
+    },
     /// Opens a file.
     Open {
         /// As for open(2).
@@ -92,6 +112,15 @@ pub enum Operation<'a> {
         offset: u64,
         /// The greatest number of bytes.
         size: u32,
+    },
+    /// Writes bytes into a file.
+    Write {
+        /// The file's handle.
+        handle: u64,
+        /// The place of the first byte.
+        offset: u64,
+        /// The bytes.
+        content: Content<'a>,
     },
     /// Closes a file: nothing uses its handle from now on.
     Release {
@@ -116,6 +145,16 @@ pub enum Operation<'a> {
         /// The directory's handle.
         handle: u64,
     },
+    /// Asks for what was written into a file to be kept.
+    Fsync {
+        /// The file's handle.
+        handle: u64,
+    },
+    /// Asks for the changes of a directory to be kept.
+    FsyncDir {
+        /// The directory's handle.
+        handle: u64,
+    },
     /// A process closes a file that others may have open.
     Flush,
     /// A caller gave up waiting for another request.
@@ -124,64 +163,108 @@ pub enum Operation<'a> {
     Other(u32),
 }
 
-impl<'a> Name<'a> {
-    /// The name that a body is: one NUL, at its end.
-    fn read(body: &'a [u8]) -> Option<Name<'a>>
-        ensures { result ≡ name_of body.now }
-    {
-        let end = first_nul(body)?;
-        if end + 1 == body.len() {
-            Some(Name {
-                bytes: &body[..end],
-            })
-        } else {
-            None
-        }
-    }
-
-    /// The bytes of the name.
-    pub fn into_slice(self) -> &'a [u8]
-        ensures { result.now ≡ self.entry }
-    {
-        self.bytes
-    }
-}
-
-/// The place of the first NUL.
-fn first_nul(bytes: &[u8]) -> Option<usize>
-    ensures { result ≡ position (λ b. b == 0) bytes.now }
-{
-    bytes.iter().position(|b| *b == 0)
-}
-
 /// Bytes of the struct that an operation's body begins with.
 fn struct_size(opcode: u32) -> usize
     ensures { result ≡ struct_size opcode }
 {
     match opcode {
-        GETATTR | INIT => 16,
-        OPEN | OPENDIR => 8,
-        READ | READDIR => 40,
-        RELEASE | RELEASEDIR | FLUSH => 24,
+        MKDIR | RENAME | LINK | OPEN | OPENDIR => 8,
+        GETATTR | MKNOD | FSYNC | INIT | FSYNCDIR | RENAME2 => 16,
+        RELEASE | FLUSH | RELEASEDIR => 24,
+        READ | WRITE | READDIR => 40,
+        SETATTR => 88,
         _ => 0,
     }
 }
 
-/// The operation that a body, behind the header, asks for. `None` if the body is too short, or no name where one is wanted.
+/// The operation that a body, behind the header, asks for. `None` if the body is too short, if it hasn't the names that are wanted, or
+/// if WRITE brings fewer or more bytes than it says.
 #[tactic(auto, unfolding(crate::specs::Requests::operation_of))]
 pub(crate) fn read_operation(opcode: u32, body: &[u8]) -> Option<Operation<'_>>
     ensures { result ≡ operation_of opcode body.now }
 {
-    if body.len() < struct_size(opcode) {
+    let size = struct_size(opcode);
+    if body.len() < size {
         return None;
     }
-    if opcode != LOOKUP {
-        return Some(read_fields(opcode, body));
+    match opcode {
+        LOOKUP | MKNOD | MKDIR | UNLINK | RMDIR | LINK => match Name::read(&body[size..]) {
+            Some(name) => Some(read_named(opcode, body, name)),
+            None => None,
+        },
+        RENAME | RENAME2 => match Name::read_two(&body[size..]) {
+            Some((name, new_name)) => Some(read_rename(opcode, body, name, new_name)),
+            None => None,
+        },
+        WRITE => read_write(body),
+        _ => Some(read_fields(opcode, body)),
     }
-    match Name::read(body) {
-        Some(name) => Some(Operation::Lookup { name }),
-        None => None,
+}
+
+/// The operation with one name that a body asks for.
+#[tactic(auto, unfolding(crate::specs::Requests::named))]
+fn read_named<'a>(opcode: u32, body: &[u8], name: Name<'a>) -> Operation<'a>
+    requires { struct_size opcode ≤ length body.now }
+    ensures { result ≡ named opcode body.now name.entry }
+{
+    match opcode {
+        MKNOD => Operation::MkNod {
+            mode: u32_at(body, 0),
+            device: u32_at(body, 4),
+            name,
+        },
+        MKDIR => Operation::MkDir {
+            mode: u32_at(body, 0),
+            name,
+        },
+        UNLINK => Operation::Unlink { name },
+        RMDIR => Operation::RmDir { name },
+        LINK => Operation::Link {
+            node: u64_at(body, 0),
+            name,
+        },
+        _ => Operation::Lookup { name },
     }
+}
+
+/// The operation with two names that a body asks for (`fuse_rename_in`, `fuse_rename2_in`).
+#[tactic(auto, unfolding(crate::specs::Requests::renamed))]
+fn read_rename<'a>(opcode: u32, body: &[u8], name: Name<'a>, new_name: Name<'a>) -> Operation<'a>
+    requires is_rename { is_rename opcode ≡ true }
+    requires size { struct_size opcode ≤ length body.now }
+    ensures { result ≡ renamed opcode body.now (name.entry, new_name.entry) }
+{
+    let directory = u64_at(body, 0);
+    if opcode == RENAME {
+        Operation::Rename {
+            directory,
+            name,
+            new_name,
+        }
+    } else {
+        Operation::Rename2 {
+            directory,
+            flags: u32_at(body, 8),
+            name,
+            new_name,
+        }
+    }
+}
+
+/// The WRITE that a body asks for, if it brings as many bytes as it says (`fuse_write_in`).
+fn read_write(body: &[u8]) -> Option<Operation<'_>>
+    requires { 40 ≤ length body.now }
+    ensures { result ≡ write_of body.now }
+{
+    let bytes = &body[WRITE_FRONT..];
+    if u32_at(body, 16) as usize != bytes.len() {
+        return None;
+    }
+    Some(Operation::Write {
+        handle: u64_at(body, 0),
+        offset: u64_at(body, 8),
+        content: Content::new(bytes),
+    })
 }
 
 /// The operation without a name that a body asks for.
@@ -193,6 +276,9 @@ fn read_fields(opcode: u32, body: &[u8]) -> Operation<'_>
     match opcode {
         FORGET => Operation::Forget,
         GETATTR => Operation::GetAttr,
+        SETATTR => Operation::SetAttr {
+            changes: read_changes(body),
+        },
         OPEN => Operation::Open {
             flags: u32_at(body, 0),
         },
@@ -206,6 +292,9 @@ fn read_fields(opcode: u32, body: &[u8]) -> Operation<'_>
         }
         STATFS => Operation::StatFs,
         RELEASE => Operation::Release {
+            handle: u64_at(body, 0),
+        },
+        FSYNC => Operation::Fsync {
             handle: u64_at(body, 0),
         },
         FLUSH => Operation::Flush,
@@ -225,6 +314,9 @@ fn read_fields(opcode: u32, body: &[u8]) -> Operation<'_>
             }
         }
         RELEASEDIR => Operation::ReleaseDir {
+            handle: u64_at(body, 0),
+        },
+        FSYNCDIR => Operation::FsyncDir {
             handle: u64_at(body, 0),
         },
         INTERRUPT => Operation::Interrupt,

@@ -5,6 +5,9 @@ ghost use Rattle.fuse_words.specs.Replies.{no_attributes};
 /// A flag of INIT: the kernel may read ahead.
 pub const ASYNC_READ: u32 = 1;
 
+/// A flag of INIT: a write may bring more than one page.
+pub const BIG_WRITES: u32 = 32;
+
 /// A flag of an open file: what the kernel has of its bytes is still right.
 pub const KEEP_CACHE: u32 = 2;
 

@@ -29,7 +29,7 @@ impl Model for ReplyBuffer {
 
 impl ReplyBuffer {
     ghost use Rattle.std.specs.Prelude.{◌≡◌, ◌<◌, ◌≤◌, [], length, IfOk};
-    ghost use Rattle.fuse_words.specs.Replies.{status_message, init_message, entry_message, attributes_message, open_message, data_message, statfs_message};
+    ghost use Rattle.fuse_words.specs.Replies.{status_message, init_message, entry_message, attributes_message, open_message, data_message, written_message, statfs_message};
 
     /// Returns an empty buffer. Takes 131,088 bytes.
     pub fn new(alloc: Global) -> Result<ReplyBuffer, AllocError>
@@ -76,7 +76,7 @@ impl ReplyBuffer {
         push(&mut self.bytes, &[0; 32]);
     }
 
-    /// Makes the reply to LOOKUP.
+    /// Makes the reply to LOOKUP, MKNOD, MKDIR and LINK.
     #[tactic(auto, unfolding(crate::specs::Replies::entry_message))]
     pub fn put_entry(&mut self, unique: u64, entry: &Entry)
         ensures { self.new ≡ entry_message unique entry.now }
@@ -91,7 +91,7 @@ impl ReplyBuffer {
         push_attributes(&mut self.bytes, &entry.attributes);
     }
 
-    /// Makes the reply to GETATTR: the kernel may keep the attributes for some seconds.
+    /// Makes the reply to GETATTR and SETATTR: the kernel may keep the attributes for some seconds.
     #[tactic(auto, unfolding(crate::specs::Replies::attributes_message))]
     pub fn put_attributes(&mut self, unique: u64, seconds: u64, attributes: &Attributes)
         ensures { self.new ≡ attributes_message unique seconds attributes.now }
@@ -122,6 +122,16 @@ impl ReplyBuffer {
     {
         begin(&mut self.bytes, unique, content.len() as u32);
         push(&mut self.bytes, content);
+    }
+
+    /// Makes the reply to WRITE, of which `size` bytes were written.
+    #[tactic(auto, unfolding(crate::specs::Replies::written_message))]
+    pub fn put_written(&mut self, unique: u64, size: u32)
+        ensures { self.new ≡ written_message unique size }
+    {
+        begin(&mut self.bytes, unique, 8);
+        push_u32(&mut self.bytes, size);
+        push_u32(&mut self.bytes, 0);
     }
 
     /// Makes the reply to STATFS.

@@ -2,7 +2,8 @@
 ghost use Rattle.std.specs.Prelude.{◌≡◌, ◌+◌, ◌≤◌, length, IfSome};
 ghost use Rattle.fuse_words.specs.Requests.{number, header_of, request_of, wants_reply};
 
-use crate::operation::{BATCH_FORGET, FORGET, INTERRUPT, NOTIFY_REPLY, Operation, read_operation};
+use crate::opcode::{BATCH_FORGET, FORGET, INTERRUPT, NOTIFY_REPLY};
+use crate::operation::{Operation, read_operation};
 use byteorder::{ByteOrder, LittleEndian};
 
 /// The node of the root directory.
@@ -46,7 +47,8 @@ pub enum RequestFault {
     NoHeader,
     /// There are fewer or more bytes than the header says.
     Length(Header),
-    /// The body is shorter than the operation's struct, or it isn't one name with a NUL at its end.
+    /// The body is shorter than the operation's struct, or after it aren't the names that are wanted, each with a NUL after it, or not
+    /// as many bytes as WRITE says.
     Body(Header),
 }
 

@@ -1,5 +1,6 @@
 use crate::{
-    Entry, EntryKind, Operation, ReplyBuffer, Settings, Statistics, push_entry, read_request,
+    AttributeChanges, Entry, EntryKind, NewTime, Operation, ReplyBuffer, Settings, Statistics,
+    push_entry, read_request,
 };
 use std::test::Fail;
 
@@ -11,6 +12,28 @@ const LOOKUP: [u8; 44] =
 const READDIR: [u8; 80] =
     *b"\x50\0\0\0\x1c\0\0\0\x16\0\0\0\0\0\0\0\x01\0\0\0\0\0\0\0\0\0\0\0\0\0\0\0\xaa\x59\0\0\0\0\0\0\
 \x03\0\0\0\0\0\0\0\x02\0\0\0\0\0\0\0\0\x80\0\0\0\0\0\0\0\0\0\0\0\0\0\0\x88\x01\0\0\0\0\0\0";
+
+/// WRITE of `hello` at byte 0, as Linux 6.18 sent it.
+const WRITE: [u8; 85] =
+    *b"\x55\0\0\0\x10\0\0\0\x26\0\0\0\0\0\0\0\x02\0\0\0\0\0\0\0\0\0\0\0\0\0\0\0\x76\x65\0\0\0\0\0\0\
+\x07\0\0\0\0\0\0\0\0\0\0\0\0\0\0\0\x05\0\0\0\0\0\0\0\0\0\0\0\0\0\0\0\x01\x84\0\0\0\0\0\0hello";
+
+/// SETATTR, as Linux 6.18 sent it for `chown 3:4`.
+const CHOWN: [u8; 128] =
+    *b"\x80\0\0\0\x04\0\0\0\xc2\0\0\0\0\0\0\0\x02\0\0\0\0\0\0\0\0\0\0\0\0\0\0\0\x80\x65\0\0\0\0\0\0\
+\x06\0\0\0\0\0\0\0\0\0\0\0\0\0\0\0\0\0\0\0\0\0\0\0\0\0\0\0\0\0\0\0\0\0\0\0\0\0\0\0\0\0\0\0\0\0\0\0\
+\0\0\0\0\0\0\0\0\0\0\0\0\0\0\0\0\0\0\0\0\0\0\0\0\0\0\0\0\x03\0\0\0\x04\0\0\0\0\0\0\0";
+
+/// SETATTR, as Linux 6.18 sent it for `touch`: both times are to be now.
+const TOUCH: [u8; 128] =
+    *b"\x80\0\0\0\x04\0\0\0\x52\0\0\0\0\0\0\0\x02\0\0\0\0\0\0\0\0\0\0\0\0\0\0\0\x79\x65\0\0\0\0\0\0\
+\xb0\x01\0\0\0\0\0\0\0\0\0\0\0\0\0\0\0\0\0\0\0\0\0\0\0\0\0\0\0\0\0\0\x7c\x1c\x09\x6b\0\0\0\0\x7c\x1c\x09\x6b\0\0\0\0\
+\0\0\0\0\0\0\0\0\0\0\0\0\0\0\0\0\0\0\0\0\0\0\0\0\0\0\0\0\0\0\0\0\0\0\0\0\0\0\0\0";
+
+/// RENAME2 of `a` to `c`, not to replace anything, as Linux 6.18 sent it for `mv`.
+const RENAME2: [u8; 60] =
+    *b"\x3c\0\0\0\x2d\0\0\0\x78\0\0\0\0\0\0\0\x01\0\0\0\0\0\0\0\0\0\0\0\0\0\0\0\x7b\x65\0\0\0\0\0\0\
+\x01\0\0\0\0\0\0\0\x01\0\0\0\0\0\0\0a\0c\0";
 
 /// A reply to READDIR, of which `ls` of Linux 6.18 listed both entries.
 const LISTED: [u8; 80] = *b"\x50\0\0\0\0\0\0\0\x0c\0\0\0\0\0\0\0\
@@ -39,6 +62,71 @@ fn requests_that_a_kernel_sent(rt: HostRuntime) -> Result<(), Fail> {
         return Err(Fail::from("the operation of READDIR"));
     };
     assert_eq!(rt; (handle, offset, size), (3, 2, 32768));
+    Ok(())
+}
+
+#[test]
+fn changes_that_a_kernel_sent(rt: HostRuntime) -> Result<(), Fail> {
+    let Ok(write) = read_request(&WRITE) else {
+        return Err(Fail::from("WRITE"));
+    };
+    let Operation::Write {
+        handle,
+        offset,
+        content,
+    } = write.operation
+    else {
+        return Err(Fail::from("the operation of WRITE"));
+    };
+    assert_eq!(rt; (handle, offset), (7, 0));
+    assert_eq!(rt; content.into_slice(), b"hello".as_slice());
+    let Ok(rename) = read_request(&RENAME2) else {
+        return Err(Fail::from("RENAME2"));
+    };
+    let Operation::Rename2 {
+        directory,
+        flags,
+        name,
+        new_name,
+    } = rename.operation
+    else {
+        return Err(Fail::from("the operation of RENAME2"));
+    };
+    assert_eq!(rt; (directory, flags), (1, 1));
+    assert_eq!(rt; name.into_slice(), b"a".as_slice());
+    assert_eq!(rt; new_name.into_slice(), b"c".as_slice());
+    Ok(())
+}
+
+#[test]
+fn attributes_that_a_kernel_sent(rt: HostRuntime) -> Result<(), Fail> {
+    let none = AttributeChanges {
+        mode: None,
+        uid: None,
+        gid: None,
+        size: None,
+        accessed: None,
+        modified: None,
+    };
+    let owners = AttributeChanges {
+        uid: Some(3),
+        gid: Some(4),
+        ..none
+    };
+    let times = AttributeChanges {
+        accessed: Some(NewTime::Now),
+        modified: Some(NewTime::Now),
+        ..none
+    };
+    for (bytes, wanted) in [(CHOWN, owners), (TOUCH, times)] {
+        let Ok(setattr) = read_request(&bytes) else {
+            return Err(Fail::from("SETATTR"));
+        };
+        let Operation::SetAttr { changes } = setattr.operation else {
+            return Err(Fail::from("the operation of SETATTR"));
+        };
+        assert_eq!(rt; changes, wanted);
+    }
     Ok(())
 }
 
@@ -86,6 +174,8 @@ fn all_other_replies(rt: HostRuntime) -> Result<(), Fail> {
     assert_eq!(rt; reply.as_slice().len(), 120);
     reply.put_open(8, 3, 0);
     assert_eq!(rt; reply.as_slice().len(), 32);
+    reply.put_written(8, 5);
+    assert_eq!(rt; reply.as_slice().len(), 24);
     reply.put_statfs(10, &sizes);
     assert_eq!(rt; reply.as_slice().len(), 96);
     reply.put_status(12, 5);

@@ -43,3 +43,12 @@ pub named_more : (geometry : Geometry) (image : List ℕ) (i k : ℕ) (entries :
     → named geometry image i (place_to k entries (d + 1)) ≡ pointer_in geometry image (named geometry image i (place_to k entries d)) (slice_index entries d)
 named_more geometry image i k entries zero = refl
 named_more geometry image i k entries (suc d) = let next : suc d + 1 ≡ suc (suc d) = omega arith in rw next refl
+
+-- a pointer of an indirect block lies in it
+pub entry_room : (geometry : Geometry) (j : ℕ) → j < (constants geometry.edition).pointers
+    → (constants geometry.edition).number_bytes * (j + 1) ≤ 512
+entry_room geometry j h =
+    let fit = number_room geometry.edition j h in
+    let more : (constants geometry.edition).number_bytes * (j + 1)
+    ≡ (constants geometry.edition).number_bytes * j + (constants geometry.edition).number_bytes = grind arith in
+    omega (arith, fit, more)

@@ -25,6 +25,7 @@ pub mod Ranges
 pub mod Reaching
 pub mod ReadingLaws
 pub mod Repeating
+pub mod RunLaws
 pub mod Sizing
 pub mod Soundness
 pub mod Splicing

@@ -20,11 +20,11 @@ use Rattle.vol_file.specs.Holes.{IsHole, blocks_left, direct_count}
 use Rattle.vol_layout.proofs.LastPlaces.{last_small, last_large, last_huge, last_direct, last_single, last_double, last_triple}
 
 -- the first index of a list, and the others
-abbrev head_of : List ℕ → ℕ
+abbrev pub head_of : List ℕ → ℕ
 head_of [] = 0
 head_of (j ∷ p) = j
 
-abbrev tail_of : List ℕ → List ℕ
+abbrev pub tail_of : List ℕ → List ℕ
 tail_of [] = []
 tail_of (j ∷ p) = p
 
@@ -302,7 +302,7 @@ hole_past geometry image i form b end none = λ t from within.
     ap (λ o. option_map_or (named geometry image i) o 0) (has_no_way form t past)
 
 -- what an entry of the block at the end of a front of a way names
-named_under : (geometry : Geometry) (image : List ℕ) (i k : ℕ) (entries : List ℕ) (d x : ℕ)
+pub named_under : (geometry : Geometry) (image : List ℕ) (i k : ℕ) (entries : List ℕ) (d x : ℕ)
     → named geometry image i (x ∷ place_to k entries d) ≡ pointer_in geometry image (named geometry image i (place_to k entries d)) x
 named_under geometry image i k entries zero x = refl
 named_under geometry image i k entries (suc d) x = refl

@@ -12,6 +12,7 @@ pub mod Missing
 pub mod Need
 pub mod Repeats
 pub mod Rules
+pub mod Runs
 pub mod Shape
 pub mod Steps
 pub mod Visits

@@ -1,12 +1,13 @@
 //! Following the way of a logical block to the number of the block that holds it.
-ghost use Rattle.std.specs.Prelude.{◌≡◌, ◌+◌, ◌*◌, ◌≤◌};
+ghost use Rattle.std.specs.Prelude.{◌≡◌, ℕ, ◌+◌, ◌*◌, ◌<◌, ◌≤◌, slice_index};
 ghost use Rattle.vol_layout.specs.Edition.{constants};
 ghost use Rattle.vol_layout.specs.Geometry.{Fits};
-ghost use Rattle.vol_layout.specs.Names.{pointer_in, form_at, stored, block_named};
+ghost use Rattle.vol_layout.specs.Names.{pointer_in, form_at, named, stored, block_named};
+ghost use Rattle.vol_layout.specs.Places.{place_to};
 
 use pdp_words::{BLOCK, Image};
 use vol_layout::i_list::{address, mode};
-use vol_layout::{Form, Geometry, number};
+use vol_layout::{Form, Geometry, Way, number};
 
 /// The block that holds logical block `b` of i-node `i`, from 1 to the last, by the number that its
 /// last place holds; None where nothing is named there, `b` is past the blocks that a file can have,
@@ -49,8 +50,22 @@ pub(crate) fn number_at(image: &Image, geometry: &Geometry, i: u16, form: Form, 
     ensures { result ≡ stored geometry.now image.now i form b }
 {
     let Some(way) = form.way(b) else { return 0 };
+    follow(image, geometry, i, &way, way.depth)
+}
+
+/// The number that the first `depth` entries of a way lead to.
+pub(crate) fn follow(image: &Image, geometry: &Geometry, i: u16, way: &Way, depth: usize) -> u32
+    requires fits { Fits geometry.now image.now }
+    requires first { 1 ≤ i }
+    requires last { i ≤ geometry.now.last_inode }
+    requires depth { depth ≤ 3 }
+    requires address { way.now.address < 13 }
+    requires entries { (d : ℕ) → d < depth
+        → (constants geometry.now.edition).number_bytes * (slice_index way.now.entries d + 1) ≤ 512 }
+    ensures { result ≡ named geometry.now image.now i (place_to way.now.address way.now.entries depth) }
+{
     let mut block = address(image, geometry, i, way.address);
-    for d in 0..way.depth {
+    for d in 0..depth {
         block = entry(image, geometry, block, way.entries[d]);
     }
     block

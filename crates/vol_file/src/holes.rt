@@ -90,7 +90,7 @@ fn hole_end(image: &Image, geometry: &Geometry, i: u16, form: Form, b: u32) -> u
 }
 
 /// How many of the first logical blocks of a file have an address of the i-node each.
-fn direct_count(form: Form) -> u32
+pub(crate) fn direct_count(form: Form) -> u32
     ensures { result ≡ direct_count form }
 {
     match form {

@@ -1,20 +1,19 @@
 //! Reading the bytes of a file.
 ghost use Rattle.std.specs.Prelude.{◌≡◌, ℕ, ◌+◌, ◌-◌, ◌^◌, ◌<◌, ◌≤◌, min, length, take, drop, slice_index, slice_range};
 ghost use Rattle.vol_layout.specs.Geometry.{Fits};
-ghost use Rattle.vol_layout.specs.Names.{form_at};
 ghost use Rattle.vol_layout.specs.Body.{zone_byte, body_byte, body_size, body};
 
-use crate::following::number_at;
+use crate::runs::BlockNumbers;
 use pdp_words::{BLOCK, Image};
-use vol_layout::i_list::{mode, size};
-use vol_layout::{Form, Geometry};
+use vol_layout::Geometry;
+use vol_layout::i_list::size;
 
 /// Reads the bytes of i-node `i`, from 1 to the last, from byte `offset` on, as many as `buffer` has
 /// room for, and answers how many: none at the end and past it. The rest of `buffer` stays. Holes, and
 /// numbers outside the data zone, read as zeros; so does all of an i-node that is no regular file or
 /// directory.
 ///
-/// Costs a copy of the bytes, and for each logical block its way.
+/// Costs a copy of the bytes, for each logical block a look at its number, and the way of the first one in each indirect block.
 pub fn read(image: &Image, geometry: &Geometry, i: u16, offset: u32, buffer: &mut [u8]) -> usize
     requires fits { Fits geometry.now image.now }
     requires first { 1 ≤ i }
@@ -28,8 +27,7 @@ pub fn read(image: &Image, geometry: &Geometry, i: u16, offset: u32, buffer: &mu
         return 0;
     }
     let count = buffer.len().min((length - offset) as usize);
-    let form = Form::of(geometry.edition, mode(image, geometry, i));
-    read_whole(image, geometry, i, form, offset, &mut buffer[..count]);
+    read_whole(image, geometry, i, offset, &mut buffer[..count]);
     count
 }
 
@@ -44,26 +42,19 @@ fn body_length(image: &Image, geometry: &Geometry, i: u16) -> u32
 }
 
 /// Fills `buffer` with the bytes of i-node `i` from byte `offset` on.
-fn read_whole(
-    image: &Image,
-    geometry: &Geometry,
-    i: u16,
-    form: Form,
-    offset: u32,
-    buffer: &mut [u8],
-)
+fn read_whole(image: &Image, geometry: &Geometry, i: u16, offset: u32, buffer: &mut [u8])
     requires fits { Fits geometry.now image.now }
     requires first { 1 ≤ i }
     requires last { i ≤ geometry.now.last_inode }
-    requires form { form ≡ form_at geometry.now image.now i }
     requires range { offset + length buffer.old < 2 ^ 32 }
     ensures { (n : ℕ) → n < length buffer.old
         → slice_index buffer.new n ≡ body_byte geometry.now image.now i (offset + n) }
 {
+    let mut numbers = BlockNumbers::of(image, geometry, i);
     let mut done = 0;
     while done < buffer.len() {
         let at = offset as usize + done;
-        let block = number_at(image, geometry, i, form, (at / BLOCK) as u32);
+        let block = numbers.number_at(image, geometry, (at / BLOCK) as u32);
         let start = at % BLOCK;
         let count = (BLOCK - start).min(buffer.len() - done);
         read_piece(

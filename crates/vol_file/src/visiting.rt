@@ -5,17 +5,16 @@ ghost use Rattle.vol_layout.specs.Body.{zone_byte};
 ghost use Rattle.vol_layout.specs.Geometry.{Fits};
 ghost use Rattle.vol_file.specs.Visits.{Visits};
 
-use crate::following::number_at;
+use crate::runs::BlockNumbers;
 use pdp_words::{BLOCK, Image};
-use vol_layout::i_list::mode;
-use vol_layout::{Form, Geometry};
+use vol_layout::Geometry;
 
 /// Calls `visit` with the 512 bytes of each of `count` logical blocks of i-node `i`, from 1 to the last, in their
 /// order from block `first` on. Holes, numbers outside the data zone and blocks past those that a file can have read
 /// as zeros; so does all of an i-node that is no regular file or directory. What is stored past the size is handed
 /// out too.
 ///
-/// Takes no memory, and copies nothing. Costs the way of each block.
+/// Takes no memory, and copies nothing. Costs a look at the number of each block, and the way of the first one in each indirect block.
 pub fn read_range<F: FnMut(&[u8])>(
     image: &Image,
     geometry: &Geometry,
@@ -31,10 +30,10 @@ pub fn read_range<F: FnMut(&[u8])>(
     requires callable { F.IsAlwaysCallable visit }
     ensures { (end : F) × FoldsTo (Visits F.FnMut geometry.now image.now i) visit (range_with_len first count) end }
 {
-    let form = Form::of(geometry.edition, mode(image, geometry, i));
+    let mut numbers = BlockNumbers::of(image, geometry, i);
     let hole = [0; BLOCK];
     for b in first..first + count {
-        let block = number_at(image, geometry, i, form, b);
+        let block = numbers.number_at(image, geometry, b);
         visit(block_bytes(image, geometry, block, &hole));
     }
 }

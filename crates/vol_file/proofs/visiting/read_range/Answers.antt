@@ -1,10 +1,11 @@
-use Rattle.std.proofs.Common.{rules, ◌≡◌, ℕ, zero, suc, ◌+◌, ◌-◌, ◌<◌, [], ◌∷◌, ◌++◌, arith, ap, sym, ◌∙◌, of_calls}
+use Rattle.std.proofs.Common.{◌≡◌, ℕ, zero, suc, ◌+◌, ◌-◌, ◌<◌, [], ◌∷◌, ◌++◌, arith, ap, sym, subst, ◌∙◌, of_calls}
 use Rattle.std.specs.List.{range_with_len}
 use Rattle.std.proofs.lemmas.List.{get_or-replicate}
 use Rattle.std.proofs.lemmas.Fn.{FoldsTo-push}
 use Rattle.vol_layout.specs.Body.{zone_byte}
 use Rattle.vol_layout.specs.Names.{form_at, stored}
 use Rattle.vol_layout.proofs.BodyLaws.{body_byte_at}
+use Rattle.vol_file.specs.Runs.{LooksUp}
 use Rattle.vol_file.specs.Visits.{IsBlock, Visits}
 use Rattle.vol_file.proofs.visiting.read_range.Goals as goal
 
@@ -31,8 +32,9 @@ loop-b-preserved g c =
     let image = c.args.image.now in
     let i = c.args.i in
     let b = c.loop-b.b in
+    let inode = c.loop-b.invariant.0.inode in
     let number : c.number_at-block.result ≡ stored geometry image i (form_at geometry image i) b =
-    ◌∙◌ {b = stored geometry image i c.of-form.result b} c.number_at-block.ensures (ap (λ form. stored geometry image i form b) (search rules)) in
+    subst (λ j. c.number_at-block.result ≡ stored geometry image j (form_at geometry image j) b) inode c.number_at-block.ensures.number in
     let block : IsBlock geometry image i b c.block_bytes.result.now = record {
       len = c.block_bytes.ensures.len;
       at = λ r h. ◌∙◌ {b = zone_byte geometry image c.number_at-block.result r} (c.block_bytes.ensures.bytes r h)
@@ -42,5 +44,8 @@ loop-b-preserved g c =
       shown = c.block_bytes.result;
       block = block;
       called = c.visit.ensures;
-    } in
-    (rw (range_to c.args.first b (omega arith)) (FoldsTo-push (Visits g.F.FnMut geometry image i) _ _ _ b _ c.loop-b.invariant.0 visits), search of_calls)
+    } in (
+      subst (λ j. LooksUp geometry image j c.number_at-block.new.self) inode c.number_at-block.ensures.own,
+      rw (range_to c.args.first b (omega arith)) (FoldsTo-push (Visits g.F.FnMut geometry image i) _ _ _ b _ c.loop-b.invariant.1 visits),
+      search of_calls,
+    )

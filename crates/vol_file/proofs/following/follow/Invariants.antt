@@ -1,7 +1,7 @@
 use Rattle.std.proofs.Common.{◌≡◌}
 use Rattle.vol_layout.specs.Names.{named}
 use Rattle.vol_layout.specs.Places.{place_to}
-use Rattle.vol_file.proofs.following.number_at.Given as goal
+use Rattle.vol_file.proofs.following.follow.Given as goal
 
 -- the block that the first d entries lead to
 abbrev pub invariant-loop-d : goal.invariant-loop-d

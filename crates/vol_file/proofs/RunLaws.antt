@@ -1,0 +1,120 @@
+-- Runs of logical blocks whose numbers stand one after the other.
+use Rattle.std.proofs.Common.{◌≡◌, ℕ, suc, ◌+◌, ◌-◌, ◌/◌, ◌%◌, ◌<◌, ◌≤◌, ◌∙◌, sym, ap, subst, List, [], ◌∷◌, length, slice_index, arith, inl, inr, Some}
+use Rattle.std.specs.Option.{option_map_or}
+use Rattle.std.proofs.lemmas.Bool.{cases_lt}
+use Rattle.vol_layout.specs.Edition.{constants}
+use Rattle.vol_layout.specs.Names.{form_at, pointer_in, named, stored}
+use Rattle.vol_layout.specs.Places.{pointer_count, last_place, place_to, end_of}
+use Rattle.vol_layout.specs.declared.geometry.Geometry.{Geometry}
+use Rattle.vol_layout.specs.declared.block_map.Form.{Form}
+use Rattle.vol_layout.specs.declared.block_map.Form.TheVariants.{Small, Large, Deep, Bare}
+use Rattle.vol_layout.specs.declared.block_map.Way.{Way}
+use Rattle.vol_layout.proofs.PlaceLaws.{last_leaf}
+use Rattle.vol_layout.proofs.LastPlaces.{last_large, last_huge, last_single, last_double, last_triple}
+use Rattle.vol_file.specs.Holes.{direct_count}
+use Rattle.vol_file.proofs.Subtrees.{some_is, head_of, tail_of, pointers_at, length_to, named_under}
+
+-- a last place whose last index is t more
+abbrev moved : ℕ → List ℕ → List ℕ
+moved t p = (head_of p + t) ∷ tail_of p
+
+-- the last place of the logical block t behind one of a large file, in the same indirect block
+next_large : (b t : ℕ) → b < 1792 → b % 256 + t < 256 → last_place Large (b + t) ≡ Some ((b % 256 + t) ∷ ((b / 256) ∷ []))
+next_large b t low within =
+    let entry : (b + t) % 256 ≡ b % 256 + t = omega arith in
+    let above : (b + t) / 256 ≡ b / 256 = omega arith in
+    last_large (b + t) (omega arith) ∙ (ap (λ x. Some (x ∷ (((b + t) / 256) ∷ []))) entry ∙ ap (λ x. Some ((b % 256 + t) ∷ (x ∷ []))) above)
+
+-- the same below the doubly indirect block
+next_huge : (b t : ℕ) → 1792 ≤ b → b < 32768 → b % 256 + t < 256 → last_place Large (b + t) ≡ Some ((b % 256 + t) ∷ ((b / 256 - 7) ∷ (7 ∷ [])))
+next_huge b t low high within =
+    let entry : (b + t) % 256 ≡ b % 256 + t = omega arith in
+    let above : (b + t) / 256 ≡ b / 256 = omega arith in
+    last_huge (b + t) (omega arith) (omega arith)
+    ∙ (ap (λ x. Some (x ∷ (((b + t) / 256 - 7) ∷ (7 ∷ [])))) entry ∙ ap (λ x. Some ((b % 256 + t) ∷ ((x - 7) ∷ (7 ∷ [])))) above)
+
+-- the same in the seventh edition, below the indirect block
+next_single : (b t : ℕ) → 10 ≤ b → b < 138 → b - 10 + t < 128 → last_place Deep (b + t) ≡ Some ((b - 10 + t) ∷ (10 ∷ []))
+next_single b t low high within =
+    let entry : b + t - 10 ≡ b - 10 + t = omega arith in
+    last_single (b + t) (omega arith) (omega arith) ∙ ap (λ x. Some (x ∷ (10 ∷ []))) entry
+
+-- the same below the doubly indirect block
+next_double : (b t : ℕ) → 138 ≤ b → b < 16522 → (b - 138) % 128 + t < 128
+    → last_place Deep (b + t) ≡ Some (((b - 138) % 128 + t) ∷ (((b - 138) / 128) ∷ (11 ∷ [])))
+next_double b t low high within =
+    let entry : (b + t - 138) % 128 ≡ (b - 138) % 128 + t = omega arith in
+    let above : (b + t - 138) / 128 ≡ (b - 138) / 128 = omega arith in
+    last_double (b + t) (omega arith) (omega arith)
+    ∙ (ap (λ x. Some (x ∷ (((b + t - 138) / 128) ∷ (11 ∷ [])))) entry ∙ ap (λ x. Some (((b - 138) % 128 + t) ∷ (x ∷ (11 ∷ [])))) above)
+
+-- the same below the triply indirect block
+next_triple : (b t : ℕ) → 16522 ≤ b → b < 2113674 → (b - 16522) % 128 + t < 128
+    → last_place Deep (b + t) ≡ Some (((b - 16522) % 128 + t) ∷ (((b - 16522) / 128 % 128) ∷ (((b - 16522) / 16384) ∷ (12 ∷ []))))
+next_triple b t low high within =
+    let entry : (b + t - 16522) % 128 ≡ (b - 16522) % 128 + t = omega arith in
+    let above : (b + t - 16522) / 128 ≡ (b - 16522) / 128 = omega arith in
+    let top : (b + t - 16522) / 16384 ≡ (b - 16522) / 16384 = omega arith in
+    last_triple (b + t) (omega arith) (omega arith)
+    ∙ (ap (λ x. Some (x ∷ (((b + t - 16522) / 128 % 128) ∷ (((b + t - 16522) / 16384) ∷ (12 ∷ []))))) entry
+    ∙ (ap (λ x. Some (((b - 16522) % 128 + t) ∷ ((x % 128) ∷ (((b + t - 16522) / 16384) ∷ (12 ∷ []))))) above
+    ∙ ap (λ x. Some (((b - 16522) % 128 + t) ∷ (((b - 16522) / 128 % 128) ∷ (x ∷ (12 ∷ []))))) top))
+
+-- the last place of a logical block behind the direct ones is a pointer, and those that follow it in its block are of the blocks that follow
+pub record IsFollowed (form : Form) (b : ℕ) (p : List ℕ) : Type 0 where
+  pub deep : 2 ≤ length p
+  pub next : (t : ℕ) → head_of p + t < pointer_count form → last_place form (b + t) ≡ Some (moved t p)
+
+-- by what the place is
+followed_as : (form : Form) (b : ℕ) (p q : List ℕ) → last_place form b ≡ Some p → last_place form b ≡ Some q → IsFollowed form b q → IsFollowed form b p
+followed_as form b p q e is followed = subst (IsFollowed form b) (some_is q p (sym is ∙ e)) followed
+
+pub followed : (form : Form) (b : ℕ) (p : List ℕ) → direct_count form ≤ b → last_place form b ≡ Some p → IsFollowed form b p
+followed Small b p behind e = let low : b < 8 = (last_leaf Small b p e).limit in absurd (omega arith)
+followed Large b p behind e = elim (cases_lt b 1792) [
+  | inl low ↦ followed_as Large b p _ e (last_large b low) (record { deep = omega arith; next = λ t within. next_large b t low within })
+  | inr low ↦
+      let high : b < 32768 = (last_leaf Large b p e).limit in
+      followed_as Large b p _ e (last_huge b low high) (record { deep = omega arith; next = λ t within. next_huge b t low high within })
+]
+followed Deep b p behind e =
+    let limit : b < 2113674 = (last_leaf Deep b p e).limit in
+    elim (cases_lt b 138) [
+      | inl low ↦ followed_as Deep b p _ e (last_single b behind low) (record { deep = omega arith; next = λ t within. next_single b t behind low within })
+      | inr second ↦ elim (cases_lt b 16522) [
+        | inl low ↦ followed_as Deep b p _ e (last_double b second low) (record { deep = omega arith; next = λ t within. next_double b t second low within })
+        | inr third ↦ followed_as Deep b p _ e (last_triple b third limit) (record { deep = omega arith; next = λ t within. next_triple b t third limit within })
+      ]
+    ]
+followed Bare b p behind e = let limit : b < 0 = (last_leaf Bare b p e).limit in absurd (omega arith)
+
+-- behind the direct blocks a way has an indirect block
+pub deep_way : (form : Form) (b : ℕ) (way : Way) → direct_count form ≤ b → Some (end_of way) ≡ last_place form b → 1 ≤ way.depth
+deep_way form b way behind e =
+    let deep = (followed form b (end_of way) behind (sym e)).deep in
+    let long : length (end_of way) ≡ suc way.depth = length_to way.address way.entries way.depth in
+    omega arith
+
+-- what is stored for the logical block t behind one stands t pointers behind its number
+pub stored_behind : (geometry : Geometry) (image : List ℕ) (i : ℕ) (form : Form) (b above t : ℕ) (way : Way) → form ≡ form_at geometry image i
+    → direct_count form ≤ b → Some (end_of way) ≡ last_place form b → above + 1 ≡ way.depth
+    → slice_index way.entries above + t < (constants geometry.edition).pointers
+    → stored geometry image i form (b + t)
+    ≡ pointer_in geometry image (named geometry image i (place_to way.address way.entries above)) (slice_index way.entries above + t)
+stored_behind geometry image i form b above t way is behind e last within =
+    let p = end_of way in
+    let j = slice_index way.entries above in
+    let depth : way.depth ≡ suc above = omega arith in
+    let top : p ≡ j ∷ place_to way.address way.entries above = ap (place_to way.address way.entries) depth in
+    let head : head_of p ≡ j = ap head_of top in
+    let next : last_place form (b + t) ≡ Some (moved t p) =
+    (followed form b p behind (sym e)).next t (omega (arith, head, pointers_at geometry image i form b way is e, within)) in
+    ap (λ o. option_map_or (named geometry image i) o 0) (next ∙ ap (λ q. Some (moved t q)) top)
+    ∙ named_under geometry image i way.address way.entries above (j + t)
+
+-- an i-node has at most ten addresses of data blocks
+pub few_direct : (form : Form) → direct_count form ≤ 10
+few_direct Small = omega arith
+few_direct Large = omega arith
+few_direct Deep = omega arith
+few_direct Bare = omega arith

@@ -1,0 +1,170 @@
+//! The numbers of a file's logical blocks, looked up one after the other.
+ghost use Rattle.std.specs.Prelude.{◌≡◌, ◌≤◌};
+ghost use Rattle.vol_layout.specs.Geometry.{Fits};
+ghost use Rattle.vol_layout.specs.Names.{form_at, stored, block_named};
+ghost use Rattle.vol_file.specs.Runs.{IsRun, LooksUp, number_from};
+
+use crate::following::{entry, follow};
+use crate::holes::direct_count;
+use pdp_words::Image;
+use vol_layout::i_list::{address, mode};
+use vol_layout::{Form, Geometry};
+
+/// Where the numbers of a run of logical blocks stand.
+#[derive(Clone, Copy, Debug)]
+pub(crate) enum Source {
+    /// Nowhere: these blocks have no way.
+    Nowhere,
+    /// In the i-node, as its addresses.
+    Inode,
+    /// In the indirect block with this number, as its pointers.
+    Indirect(u32),
+}
+
+/// Logical blocks of a file whose numbers stand one after the other.
+#[derive(Clone, Copy, Debug)]
+pub(crate) struct Run {
+    /// The first logical block.
+    first: u32,
+    /// The last one; before the first where there is none.
+    last: u32,
+    /// Where the numbers stand.
+    source: Source,
+    /// Which number there is that of the first block.
+    entry: u32,
+}
+
+/// Looks up the numbers of a file's logical blocks. It follows the way of a block only where its number doesn't stand
+/// beside the one before: in the same indirect block, or in the i-node.
+#[derive(Clone, Copy, Debug)]
+pub struct BlockNumbers {
+    inode: u16,
+    form: Form,
+    run: Run,
+}
+
+impl BlockNumbers {
+    /// The numbers of i-node `i`, from 1 to the last. None is looked up yet.
+    pub fn of(image: &Image, geometry: &Geometry, i: u16) -> BlockNumbers
+        requires fits { Fits geometry.now image.now }
+        requires first { 1 ≤ i }
+        requires last { i ≤ geometry.now.last_inode }
+        ensures { LooksUp geometry.now image.now i result }
+    {
+        let run = Run {
+            first: 1,
+            last: 0,
+            source: Source::Nowhere,
+            entry: 0,
+        };
+        BlockNumbers {
+            inode: i,
+            form: Form::of(geometry.edition, mode(image, geometry, i)),
+            run,
+        }
+    }
+
+    /// The block that holds logical block `b`, as [`block_at`](crate::block_at) says, of the image and geometry of the calls before.
+    ///
+    /// Costs a look at one number, and the way of the block where it doesn't lie in the run of the one before.
+    pub fn block_at(&mut self, image: &Image, geometry: &Geometry, b: u32) -> Option<u32>
+        requires fits { Fits geometry.now image.now }
+        requires own { LooksUp geometry.now image.now self.old.inode self.old }
+        ensures own { LooksUp geometry.now image.now self.old.inode self.new }
+        ensures number { result ≡ block_named geometry.now image.now self.old.inode b }
+    {
+        match self.number_at(image, geometry, b) {
+            0 => None,
+            k => Some(k),
+        }
+    }
+
+    /// The number at the last place of the way of logical block `b`; 0 where there is no way, or nothing is named.
+    pub(crate) fn number_at(&mut self, image: &Image, geometry: &Geometry, b: u32) -> u32
+        requires fits { Fits geometry.now image.now }
+        requires own { LooksUp geometry.now image.now self.old.inode self.old }
+        ensures own { LooksUp geometry.now image.now self.old.inode self.new }
+        ensures number { result ≡ stored geometry.now image.now self.old.inode (form_at geometry.now image.now self.old.inode) b }
+    {
+        self.run = self.run_with(image, geometry, b);
+        self.run.number(image, geometry, self.inode, b)
+    }
+
+    /// A run with logical block `b`: the last one, if it lies there, else the one that begins with it.
+    fn run_with(&self, image: &Image, geometry: &Geometry, b: u32) -> Run
+        requires fits { Fits geometry.now image.now }
+        requires own { LooksUp geometry.now image.now self.now.inode self.now }
+        ensures run { IsRun geometry.now image.now self.now.inode self.now.form result }
+        ensures first { result.first ≤ b }
+        ensures last { b ≤ result.last }
+    {
+        if self.run.first <= b && b <= self.run.last {
+            self.run
+        } else {
+            run_from(image, geometry, self.inode, self.form, b)
+        }
+    }
+}
+
+impl Run {
+    /// The number of logical block `b` of i-node `i`, which lies in this run of it.
+    #[tactic(auto, using(crate::proofs::Indexes::entry_room))]
+    fn number(&self, image: &Image, geometry: &Geometry, i: u16, b: u32) -> u32
+        requires fits { Fits geometry.now image.now }
+        requires first { 1 ≤ i }
+        requires last { i ≤ geometry.now.last_inode }
+        requires run { IsRun geometry.now image.now i (form_at geometry.now image.now i) self.now }
+        requires low { self.now.first ≤ b }
+        requires high { b ≤ self.now.last }
+        ensures { result ≡ stored geometry.now image.now i (form_at geometry.now image.now i) b }
+    {
+        match self.source {
+            Source::Nowhere => 0,
+            Source::Inode => {
+                let k = self.entry + (b - self.first);
+                address(image, geometry, i, k as usize)
+            }
+            Source::Indirect(m) => entry(image, geometry, m, self.entry + (b - self.first)),
+        }
+    }
+}
+
+/// The run of the numbers of i-node `i` from that of logical block `b` on to the end of its indirect block, or of the addresses of
+/// data blocks.
+///
+/// Costs the way of the block.
+fn run_from(image: &Image, geometry: &Geometry, i: u16, form: Form, b: u32) -> Run
+    requires fits { Fits geometry.now image.now }
+    requires first { 1 ≤ i }
+    requires last { i ≤ geometry.now.last_inode }
+    requires form { form ≡ form_at geometry.now image.now i }
+    ensures run { IsRun geometry.now image.now i form result }
+    ensures first { result.first ≡ b }
+    ensures last { b ≤ result.last }
+{
+    let direct = direct_count(form);
+    if b < direct {
+        return Run {
+            first: b,
+            last: direct - 1,
+            source: Source::Inode,
+            entry: b,
+        };
+    }
+    let Some(way) = form.way(b) else {
+        return Run {
+            first: b,
+            last: u32::MAX,
+            source: Source::Nowhere,
+            entry: 0,
+        };
+    };
+    let above = way.depth - 1;
+    let entry = way.entries[above];
+    Run {
+        first: b,
+        last: b + (geometry.edition.constants().pointers - 1 - entry),
+        source: Source::Indirect(follow(image, geometry, i, &way, above)),
+        entry,
+    }
+}

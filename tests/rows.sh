@@ -206,3 +206,49 @@ finds() {
 
 # totals FILES DIRECTORIES SPECIAL ODD USED FREE MISSING: the last lines of icheck
 totals() { printf '%s\n' "files $1" "directories $2" "special $3" "odd $4" "used $5" "free $6" "missing $7"; }
+
+# named: makes the program the command `unixvol`, as documents call it, with an empty home
+named() {
+    mkdir path home
+    ln -s "$program" path/unixvol
+    export PATH=$folder/path:$PATH HOME=$folder/home
+}
+
+# blocks FILE: a document's blocks of commands, without the spaces before each line, apart by a byte of zero
+blocks() { awk '/^```/ { fenced = !fenced } fenced { next } /^    / { print substr($0, 5); on = 1; next } on && /^$/ { printf "%c", 0; on = 0 } END { if (on) printf "%c", 0 }' "$1"; }
+
+# session TEXT: what each command after a prompt prints, as a terminal would show it with the command
+session() {
+    local line
+    while IFS= read -r line; do
+        [[ $line == '$ '* ]] || continue
+        echo "$line"
+        (eval "${line#'$ '}") 2>&1 < /dev/null
+    done <<< "$1"
+}
+
+# runs_blocks FILE: runs a document's blocks of commands, one after the other in one folder. In a block with prompts, the lines after a command are what
+# it must print; a block without prompts must end with status 0.
+runs_blocks() {
+    local block
+    has "the blocks in $1" yes "$(grep -q '^    ' "$1" && echo yes)"
+    while IFS= read -r -d '' block; do
+        : > said
+        if [[ $block == '$ '* ]]; then
+            session "$block" > output
+            printf '%s' "$block" > wanted
+        else
+            bash -euo pipefail -c "$block" > said 2>&1 < /dev/null
+            echo "status $?" > output
+            echo 'status 0' > wanted
+        fi
+        if cmp -s output wanted; then
+            passed=$((passed + 1))
+        else
+            failed=$((failed + 1))
+            echo "failed: the block of ${1##*/} that begins with ${block%%$'\n'*}:"
+            diff output wanted
+            cat said
+        fi
+    done < <(blocks "$1")
+}

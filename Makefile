@@ -7,7 +7,7 @@ PREFIX ?= /usr/local
 .PHONY: help run build test bench faults wrong-bodies manual release install library library-test
 
 # The scripts of rows that the gate runs the built program through.
-ROWS = program words volumes looks checks checkers changes trees many_trees archives migrations plays explaining serve mount manual readme
+ROWS = program words volumes looks checks checkers changes trees many_trees archives migrations plays explaining serve mount manual readme lessons
 
 help:
 	@echo 'make run                    prints the file in samples/hello.v6, by ./unixvol where it was built, else by the program in dist/'

@@ -12,9 +12,8 @@ cp LICENSE README.md manual/unixvol.1 manual/unixvol-mount.1 manual/unixvol.bash
 cp unixvol bin/unixvol-mount "$room/$name"
 chmod 644 "$room/$name"/*
 chmod 755 "$room/$name/unixvol" "$room/$name/unixvol-mount"
-mkdir "$room/$name/samples"
-cp samples/* "$room/$name/samples"
-chmod 644 "$room/$name/samples"/*
+cp -r samples "$room/$name"
+chmod -R u=rwX,go=rX "$room/$name/samples"
 mkdir "$room/dist"
 tar -C "$room" --sort=name --owner=0 --group=0 --numeric-owner --mtime=@0 --mode=go-w -cf - "$name" | xz -9e --threads=1 >"$room/dist/$name.tar.xz"
 (cd "$room/dist" && sha256sum "$name.tar.xz" >SHA256SUMS)

@@ -1,9 +1,13 @@
 #!/usr/bin/env bash
-# Makes the images and texts of samples/lessons again: they must be those that are there, and each image break the rule that it is named for, and none
-# before it.
+# Runs the steps of docs/LESSON.md in one folder, as a student does, and makes the images and texts of samples/lessons again: they must be those that
+# are there, and each image break the rule that it is named for, and none before it.
 # Usage: tests/lessons.sh PROGRAM. It prints a line for each row that fails, and ends with 'N passed, N failed'.
 . "$(dirname "$0")/rows.sh"
 lessons=$samples/lessons
+
+named
+runs_blocks "$samples/../docs/LESSON.md"
+has 'the steps of the lesson' 10 "$(grep -c '^## [0-9]' "$samples/../docs/LESSON.md")"
 
 mkdir made
 "$lessons/make.sh" "$program" made

@@ -10,11 +10,11 @@ use Rattle.vol_layout.specs.declared.geometry.Geometry.{Geometry}
 use Rattle.vol_dir.specs.Names.{get, insert, remove}
 use Rattle.vol_dir.specs.Tree.{Body, Node, State, no_shape, state}
 use Rattle.vol_dir.specs.declared.cred.Cred.{Cred}
-use Rattle.vol_change.specs.Edits.{put_node, put_shape, change_node, remove_node, at_time, stamped, modified, new_node, change_names, add_entry, remove_entry, add_link, drop_link, release, body_of, new_directory, after_write, after_truncate, with_permission_bits, with_owner}
+use Rattle.vol_change.specs.Edits.{put_node, put_shape, change_node, remove_node, at_time, stamped, modified, new_node, change_names, add_entry, remove_entry, add_link, drop_link, release, body_of, new_directory, after_write, after_truncate, with_permission_bits, with_owner, with_times}
 use Rattle.vol_change.specs.Nodes.{node_at, names_at, size_with_entry}
 use Rattle.vol_change.specs.Shapes.{new_directory_shape}
 use Rattle.vol_change.specs.Unused.{IsCleared, KeepsUnused}
-use Rattle.vol_change.specs.Effects.{after_create, after_mkdir, after_link, after_unlink, after_rmdir, after_chmod, after_chown}
+use Rattle.vol_change.specs.Effects.{after_create, after_mkdir, after_link, after_unlink, after_rmdir, after_chmod, after_chown, after_utime}
 use Rattle.vol_change.proofs.FreeAfter.{entry_is, links_kept}
 use Rattle.vol_change.proofs.NodeEdits.{set_here}
 use Rattle.vol_change.proofs.SideStates.{set_beside}
@@ -136,6 +136,12 @@ module _ (geometry : Geometry) (old new : List ℕ) where
       → ((j : ℕ) → 1 ≤ j → j ≤ geometry.last_inode → KeepsUnused geometry old new j) → KeepsInodes geometry old new
   chown_inodes now uid gid i makes kept =
       inodes_same (λ j. free_as _ makes j ∙ changed_free (state geometry old) i (with_owner now uid gid) j) kept
+
+  -- other times
+  pub times_inodes : (now atime mtime i : ℕ) → state geometry new ≡ at_time now (after_utime (state geometry old) now atime mtime i)
+      → ((j : ℕ) → 1 ≤ j → j ≤ geometry.last_inode → KeepsUnused geometry old new j) → KeepsInodes geometry old new
+  times_inodes now atime mtime i makes kept =
+      inodes_same (λ j. free_as _ makes j ∙ changed_free (state geometry old) i (with_times now atime mtime) j) kept
 
   -- bytes that are written
   pub write_inodes : (now offset : ℕ) (bytes : List ℕ) (i : ℕ)

@@ -20,7 +20,7 @@ use Rattle.vol_change.specs.Shapes.{need_in}
 use Rattle.vol_change.proofs.FreeAfter.{entry_is}
 use Rattle.vol_volume.specs.Leaving.{Reach, takes, gives, unlinked, removed, with_entry, without_entry, reach_of_node, reach_of_parent, reached_by, KeepsBytes, LeavesTheRest}
 use Rattle.vol_volume.specs.declared.calls.Call.{Call}
-use Rattle.vol_volume.specs.declared.calls.Call.TheVariants.{Create, Mkdir, Link, Unlink, Rmdir, Write, Truncate, Chmod, Chown}
+use Rattle.vol_volume.specs.declared.calls.Call.TheVariants.{Create, Mkdir, Link, Unlink, Rmdir, Write, Truncate, Chmod, Chown, Times}
 use Rattle.vol_volume.specs.declared.calls.Done.{Done}
 use Rattle.vol_volume.specs.declared.calls.Done.TheVariants.{Made, Plain}
 
@@ -162,4 +162,11 @@ module _ (geometry : Geometry) (old new : List ℕ) where
           → KeepsFiles geometry old new → ChangesInode geometry old new i → LeavesTheRest geometry old new (Chown cred now path uid gid) Plain
       unfolding reached_by KeepsBytes
       chown_leaves uid gid free files inode =
+          record { free = free; files = λ j low high _ _. files j low high; slot = tt; bytes = rw walked inode }
+
+      -- other times
+      pub times_leaves : (atime mtime : ℕ) → FreeBecomes geometry old new as_before
+          → KeepsFiles geometry old new → ChangesInode geometry old new i → LeavesTheRest geometry old new (Times cred now path atime mtime) Plain
+      unfolding reached_by KeepsBytes
+      times_leaves atime mtime free files inode =
           record { free = free; files = λ j low high _ _. files j low high; slot = tt; bytes = rw walked inode }

@@ -9,7 +9,7 @@ use Rattle.vol_dir.specs.Names.{get}
 use Rattle.vol_dir.specs.Tree.{State, tree, shapes, state, place_count, free_count}
 use Rattle.vol_dir.specs.Walk.{walk, walk_parent}
 use Rattle.vol_change.specs.Edits.{at_time, after_write, after_truncate}
-use Rattle.vol_change.specs.Effects.{after_create, after_mkdir, after_link, after_unlink, after_rmdir, after_chmod, after_chown}
+use Rattle.vol_change.specs.Effects.{after_create, after_mkdir, after_link, after_unlink, after_rmdir, after_chmod, after_chown, after_utime}
 use Rattle.vol_change.specs.Nodes.{node_at, names_at}
 use Rattle.vol_change.specs.Ready.{Rules1To12, Becomes, free_in}
 use Rattle.vol_change.proofs.FreeAfter.{free_after_unlink, free_after_last_unlink}
@@ -21,7 +21,7 @@ use Rattle.vol_volume.specs.Step.{on_node, on_parent, changed_by, step}
 use Rattle.vol_dir.specs.declared.cred.Cred.{Cred}
 use Rattle.vol_layout.specs.declared.geometry.Geometry.{Geometry}
 use Rattle.vol_volume.specs.declared.calls.Call.{Call}
-use Rattle.vol_volume.specs.declared.calls.Call.TheVariants.{Create, Mkdir, Link, Unlink, Rmdir, Write, Truncate, Chmod, Chown}
+use Rattle.vol_volume.specs.declared.calls.Call.TheVariants.{Create, Mkdir, Link, Unlink, Rmdir, Write, Truncate, Chmod, Chown, Times}
 use Rattle.vol_volume.specs.declared.calls.Done.{Done}
 use Rattle.vol_volume.specs.declared.calls.Done.TheVariants.{Made, Plain}
 
@@ -96,6 +96,12 @@ module _ (state : State) (cred : Cred) (now : ℕ) (path : List ℕ) where
       → step state (Chown cred now path uid gid) Plain ≡ at_time now (after_chown state now uid gid i)
   unfolding changed_by
   step_chown uid gid i walked = ap (λ w. at_time now (on_node state w (after_chown state now uid gid))) walked
+
+  -- other times
+  pub step_times : (atime mtime i : ℕ) → walk state.tree cred path ≡ Ok i
+      → step state (Times cred now path atime mtime) Plain ≡ at_time now (after_utime state now atime mtime i)
+  unfolding changed_by
+  step_times atime mtime i walked = ap (λ w. at_time now (on_node state w (after_utime state now atime mtime))) walked
 
 -- block numbers are of at most 24 bits
 limit_low : (edition : Edition) → (constants edition).number_limit ≤ 16777216

@@ -10,13 +10,13 @@ use Rattle.vol_dir.specs.Walk.{has_zero, map_of, search_node, search, and_then, 
 use Rattle.vol_layout.specs.Ids.{is_bad_id}
 use Rattle.vol_change.specs.Nodes.{node_at}
 use Rattle.vol_volume.specs.Journal.{Refuses}
-use Rattle.vol_volume.specs.Verdict.{first_of, then_others, of_node, of_parent, link_refusal, verdict, create_tests, mkdir_tests, link_tests, unlink_tests, rmdir_tests, body_tests, write_tests, truncate_tests, chmod_tests, chown_tests}
+use Rattle.vol_volume.specs.Verdict.{first_of, then_others, of_node, of_parent, link_refusal, verdict, create_tests, mkdir_tests, link_tests, unlink_tests, rmdir_tests, body_tests, write_tests, truncate_tests, owner_tests, chown_tests}
 use Rattle.vol_volume.specs.Answer.{query_refusal, list_tests}
 use Rattle.vol_dir.specs.declared.cred.Cred.{Cred}
 use Rattle.vol_dir.specs.declared.refusal.Refusal.{Refusal}
 use Rattle.vol_dir.specs.declared.refusal.Refusal.TheVariants as refusals
 use Rattle.vol_volume.specs.declared.calls.Call.{Call}
-use Rattle.vol_volume.specs.declared.calls.Call.TheVariants.{Create, Mkdir, Link, Unlink, Rmdir, Write, Truncate, Chmod, Chown}
+use Rattle.vol_volume.specs.declared.calls.Call.TheVariants.{Create, Mkdir, Link, Unlink, Rmdir, Write, Truncate, Chmod, Chown, Times}
 use Rattle.vol_volume.specs.declared.queries.Query.{Query}
 use Rattle.vol_volume.specs.declared.queries.Query.TheVariants as queries
 
@@ -162,13 +162,17 @@ says_verdict state (Truncate cred now path size) =
     (λ i. says_first (truncate_tests state.tree cred size i) (refl, (refl, (refl, (refl, tt))))))
 says_verdict state (Chmod cred now path perm) =
     says_then state.tree cred (path ∷ []) _
-    (says_node (walk state.tree cred path) (λ i. first_of (chmod_tests state.tree cred i)) (fails_walk state.tree cred path)
-    (λ i. says_first (chmod_tests state.tree cred i) (refl, tt)))
+    (says_node (walk state.tree cred path) (λ i. first_of (owner_tests state.tree cred i)) (fails_walk state.tree cred path)
+    (λ i. says_first (owner_tests state.tree cred i) (refl, tt)))
 says_verdict state (Chown cred now path uid gid) =
     says_if (is_bad_id state.tree.geometry.edition uid gid) refusals.BadId _ refl
     (says_then state.tree cred (path ∷ []) _
     (says_node (walk state.tree cred path) (λ i. first_of (chown_tests cred)) (fails_walk state.tree cred path)
     (λ i. says_first (chown_tests cred) (refl, tt))))
+says_verdict state (Times cred now path atime mtime) =
+    says_then state.tree cred (path ∷ []) _
+    (says_node (walk state.tree cred path) (λ i. first_of (owner_tests state.tree cred i)) (fails_walk state.tree cred path)
+    (λ i. says_first (owner_tests state.tree cred i) (refl, tt)))
 
 -- no refusal of a query
 says_query : (tree : Tree) (query : Query) → says (query_refusal tree query) ≡ false

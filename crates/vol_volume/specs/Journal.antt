@@ -6,7 +6,7 @@ use Rattle.vol_volume.specs.Step.{step}
 use Rattle.vol_dir.specs.declared.refusal.Refusal.{Refusal}
 use Rattle.vol_dir.specs.declared.refusal.Refusal.TheVariants as refusals
 use Rattle.vol_volume.specs.declared.calls.Call.{Call}
-use Rattle.vol_volume.specs.declared.calls.Call.TheVariants.{Create, Mkdir, Link, Unlink, Rmdir, Write, Truncate, Chmod, Chown}
+use Rattle.vol_volume.specs.declared.calls.Call.TheVariants.{Create, Mkdir, Link, Unlink, Rmdir, Write, Truncate, Chmod, Chown, Times}
 use Rattle.vol_volume.specs.declared.calls.Done.{Done}
 use Rattle.vol_volume.specs.declared.calls.Done.TheVariants.{Made, Wrote, Plain}
 use Rattle.vol_volume.specs.declared.calls.Record.{Record}
@@ -22,6 +22,7 @@ MayAnswer state (Rmdir cred now path) Plain = Unit {0}
 MayAnswer state (Truncate cred now path size) Plain = Unit {0}
 MayAnswer state (Chmod cred now path perm) Plain = Unit {0}
 MayAnswer state (Chown cred now path uid gid) Plain = Unit {0}
+MayAnswer state (Times cred now path atime mtime) Plain = Unit {0}
 MayAnswer state _ _ = ⊥
 
 -- a record may come next: its call isn't refused, and may answer so (this project)

@@ -16,7 +16,7 @@ use Rattle.vol_change.specs.Shapes.{need_in}
 use Rattle.vol_volume.specs.Step.{made_number}
 use Rattle.vol_dir.specs.declared.refusal.Refusal.{Refusal}
 use Rattle.vol_volume.specs.declared.calls.Call.{Call}
-use Rattle.vol_volume.specs.declared.calls.Call.TheVariants.{Create, Mkdir, Link, Unlink, Rmdir, Write, Truncate, Chmod, Chown}
+use Rattle.vol_volume.specs.declared.calls.Call.TheVariants.{Create, Mkdir, Link, Unlink, Rmdir, Write, Truncate, Chmod, Chown, Times}
 use Rattle.vol_volume.specs.declared.calls.Done.{Done}
 
 -- the files that a call may change, at most two, by their i-numbers; what it makes of the free list, the next block to be taken first; and where the first file is a directory of which it changes a slot, the slot and its new bytes (this project)
@@ -71,7 +71,7 @@ unlinked geometry image d i =
 abbrev pub removed : Geometry → List ℕ → ℕ → ℕ → Reach
 removed geometry image d i = gives d i (blocks_freed geometry image i)
 
--- what a call reaches (Lions; mkdir, rmdir, and chmod and chown, section 2 of the manual)
+-- what a call reaches (Lions; mkdir, rmdir, and chmod, chown and utime, section 2 of the manual)
 unfoldable pub reached_by : Geometry → List ℕ → Call → Done → Reach
 reached_by geometry image (Create cred now path perm) done =
     reach_of_parent (walk_parent (tree geometry image) cred path)
@@ -97,8 +97,9 @@ reached_by geometry image (Truncate cred now path left) done =
 reached_by geometry image (Chmod cred now path perm) done =
     reach_of_node (walk (tree geometry image) cred path) (λ i. record { file = i; other = i; listed = as_before; put = None })
 reached_by geometry image (Chown cred now path uid gid) done = no_reach
+reached_by geometry image (Times cred now path atime mtime) done = no_reach
 
--- the bytes that a call keeps besides: Chmod and Chown all but those of one i-node and of the super-block's time, and Truncate of its file what is stored in the blocks that it keeps (Lions on itrunc; chmod and chown, section 2 of the manual)
+-- the bytes that a call keeps besides: Chmod, Chown and Times all but those of one i-node and of the super-block's time, and Truncate of its file what is stored in the blocks that it keeps (Lions on itrunc; chmod, chown and utime, section 2 of the manual)
 unfoldable pub KeepsBytes : Geometry → List ℕ → List ℕ → Call → Type 0
 KeepsBytes geometry old new (Create cred now path perm) = Unit {0}
 KeepsBytes geometry old new (Mkdir cred now path perm) = Unit {0}
@@ -109,6 +110,7 @@ KeepsBytes geometry old new (Write cred now path offset bytes) = Unit {0}
 KeepsBytes geometry old new (Truncate cred now path left) = IfOk (walk (tree geometry old) cred path) (λ i. KeepsStored geometry old new i left)
 KeepsBytes geometry old new (Chmod cred now path perm) = IfOk (walk (tree geometry old) cred path) (ChangesInode geometry old new)
 KeepsBytes geometry old new (Chown cred now path uid gid) = IfOk (walk (tree geometry old) cred path) (ChangesInode geometry old new)
+KeepsBytes geometry old new (Times cred now path atime mtime) = IfOk (walk (tree geometry old) cred path) (ChangesInode geometry old new)
 
 -- an accepted call takes from the free list the next blocks alone, or puts on it what it gives back, in that order; every file that it doesn't reach stands for what it did, with all bytes of its blocks: also those that no tree shows, past the file's size or behind the end of a name; and of the bytes of a directory it changes those of one slot alone (this project)
 pub record LeavesTheRest (geometry : Geometry) (old new : List ℕ) (call : Call) (done : Done) : Type 0 where

@@ -13,7 +13,7 @@ use Rattle.vol_dir.specs.declared.cred.Cred.{Cred}
 use Rattle.vol_dir.specs.declared.entries.Entry.{Entry}
 use Rattle.vol_layout.specs.declared.geometry.Geometry.{Geometry}
 use Rattle.vol_volume.specs.declared.calls.Call.{Call}
-use Rattle.vol_volume.specs.declared.calls.Call.TheVariants.{Create, Mkdir, Link, Unlink, Rmdir, Write, Truncate, Chmod, Chown}
+use Rattle.vol_volume.specs.declared.calls.Call.TheVariants.{Create, Mkdir, Link, Unlink, Rmdir, Write, Truncate, Chmod, Chown, Times}
 use Rattle.vol_volume.specs.declared.calls.Done.{Done}
 use Rattle.vol_volume.specs.declared.calls.Done.TheVariants.{Made, Wrote, Plain}
 use Rattle.vol_volume.specs.declared.steps.Caller.{Caller}
@@ -53,6 +53,7 @@ cred_of (Write cred now path offset bytes) = cred
 cred_of (Truncate cred now path size) = cred
 cred_of (Chmod cred now path perm) = cred
 cred_of (Chown cred now path uid gid) = cred
+cred_of (Times cred now path atime mtime) = cred
 
 -- who makes a call, and when (this project)
 abbrev pub caller_of : Call → Caller

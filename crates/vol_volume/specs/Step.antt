@@ -3,10 +3,10 @@ use Rattle.std.specs.Prelude.{ℕ, List, Option, None, Some, Result, Ok, Err}
 use Rattle.vol_dir.specs.Tree.{State}
 use Rattle.vol_dir.specs.Walk.{walk, walk_parent}
 use Rattle.vol_change.specs.Edits.{at_time, after_write, after_truncate}
-use Rattle.vol_change.specs.Effects.{after_create, after_mkdir, after_link, after_unlink, after_rmdir, after_chmod, after_chown}
+use Rattle.vol_change.specs.Effects.{after_create, after_mkdir, after_link, after_unlink, after_rmdir, after_chmod, after_chown, after_utime}
 use Rattle.vol_dir.specs.declared.refusal.Refusal.{Refusal}
 use Rattle.vol_volume.specs.declared.calls.Call.{Call}
-use Rattle.vol_volume.specs.declared.calls.Call.TheVariants.{Create, Mkdir, Link, Unlink, Rmdir, Write, Truncate, Chmod, Chown}
+use Rattle.vol_volume.specs.declared.calls.Call.TheVariants.{Create, Mkdir, Link, Unlink, Rmdir, Write, Truncate, Chmod, Chown, Times}
 use Rattle.vol_volume.specs.declared.calls.Done.{Done}
 use Rattle.vol_volume.specs.declared.calls.Done.TheVariants.{Made, Wrote, Plain}
 
@@ -41,6 +41,7 @@ changed_by state (Write cred now path offset bytes) done = on_node state (walk s
 changed_by state (Truncate cred now path size) done = on_node state (walk state.tree cred path) (after_truncate state now size)
 changed_by state (Chmod cred now path perm) done = on_node state (walk state.tree cred path) (after_chmod state now perm)
 changed_by state (Chown cred now path uid gid) done = on_node state (walk state.tree cred path) (after_chown state now uid gid)
+changed_by state (Times cred now path atime mtime) done = on_node state (walk state.tree cred path) (after_utime state now atime mtime)
 
 -- the moment of a call (this project)
 abbrev pub moment_of : Call → ℕ
@@ -53,6 +54,7 @@ moment_of (Write cred now path offset bytes) = now
 moment_of (Truncate cred now path size) = now
 moment_of (Chmod cred now path perm) = now
 moment_of (Chown cred now path uid gid) = now
+moment_of (Times cred now path atime mtime) = now
 
 -- the state after an accepted call, which always sets the super-block's time (this project)
 abbrev pub step : State → Call → Done → State

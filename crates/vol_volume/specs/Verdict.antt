@@ -15,7 +15,7 @@ use Rattle.vol_dir.specs.declared.cred.Cred.{Cred}
 use Rattle.vol_dir.specs.declared.refusal.Refusal.{Refusal}
 use Rattle.vol_dir.specs.declared.refusal.Refusal.TheVariants as refusals
 use Rattle.vol_volume.specs.declared.calls.Call.{Call}
-use Rattle.vol_volume.specs.declared.calls.Call.TheVariants.{Create, Mkdir, Link, Unlink, Rmdir, Write, Truncate, Chmod, Chown}
+use Rattle.vol_volume.specs.declared.calls.Call.TheVariants.{Create, Mkdir, Link, Unlink, Rmdir, Write, Truncate, Chmod, Chown, Times}
 
 -- the first refusal whose test holds, in a list of tests with their refusals (this project)
 abbrev pub first_of : List (Bool × Refusal) → Option Refusal
@@ -157,9 +157,9 @@ link_refusal state cred target i =
 abbrev pub is_owner : Cred → Node → Bool
 is_owner cred node = cred.uid == 0 || cred.uid == node.uid
 
--- what is asked of a node that is to have other permission bits (chmod, section 2 of the manual)
-abbrev pub chmod_tests : Tree → Cred → ℕ → List (Bool × Refusal)
-chmod_tests tree cred i = (not (is_owner cred (node_at tree i)), refusals.NotOwner) ∷ []
+-- what is asked of a node that is to have other permission bits or other times (chmod and utime, section 2 of the manual)
+abbrev pub owner_tests : Tree → Cred → ℕ → List (Bool × Refusal)
+owner_tests tree cred i = (not (is_owner cred (node_at tree i)), refusals.NotOwner) ∷ []
 
 -- what is asked of who gives a node to another user and group, whatever the node (chown, section 2 of the manual)
 abbrev pub chown_tests : Cred → List (Bool × Refusal)
@@ -190,7 +190,10 @@ verdict state (Truncate cred now path size) =
     (of_node (walk state.tree cred path) (λ i. first_of (truncate_tests state.tree cred size i)))
 verdict state (Chmod cred now path perm) =
     then_others state.tree cred (path ∷ [])
-    (of_node (walk state.tree cred path) (λ i. first_of (chmod_tests state.tree cred i)))
+    (of_node (walk state.tree cred path) (λ i. first_of (owner_tests state.tree cred i)))
 verdict state (Chown cred now path uid gid) =
     if is_bad_id state.tree.geometry.edition uid gid then Some refusals.BadId
     else then_others state.tree cred (path ∷ []) (of_node (walk state.tree cred path) (λ i. first_of (chown_tests cred)))
+verdict state (Times cred now path atime mtime) =
+    then_others state.tree cred (path ∷ [])
+    (of_node (walk state.tree cred path) (λ i. first_of (owner_tests state.tree cred i)))

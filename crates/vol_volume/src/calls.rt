@@ -126,6 +126,20 @@ pub enum Call {
         /// The new group.
         gid: u16,
     },
+    /// Gives a node of any kind other times; in the seventh edition that of its i-node's change becomes the
+    /// call's, as with every call. Refused: the walk; a user who is neither 0 nor the node's owner (NotOwner).
+    Times {
+        /// Who calls.
+        cred: Cred,
+        /// The moment.
+        now: u32,
+        /// The node's path.
+        path: Bytes,
+        /// When it was last read, in seconds since the beginning of 1970.
+        atime: u32,
+        /// When what it holds was last changed, in seconds since the beginning of 1970.
+        mtime: u32,
+    },
 }
 
 /// What an accepted call answers.

@@ -19,12 +19,13 @@ pub(crate) mod found;
 mod link;
 mod mkdir;
 mod rmdir;
+mod times;
 mod truncate;
 mod unlink;
 mod write;
 
 use crate::calls::{Call, Done};
-use crate::steps::asked::is_free_number;
+use crate::steps::asked::{find_owned, is_free_number};
 use pdp_words::Image;
 use vol_change::NewNode;
 use vol_dir::{Cred, Refusal};
@@ -115,7 +116,7 @@ pub(crate) fn check(
             Ok(Done::Plain)
         }
         Call::Chmod { cred, path, .. } => {
-            chmod::check(image, geometry, *cred, path.as_slice())?;
+            find_owned(image, geometry, *cred, path.as_slice())?;
             Ok(Done::Plain)
         }
         Call::Chown {
@@ -127,6 +128,10 @@ pub(crate) fn check(
         } => {
             let owner = new_owner(*uid, *gid);
             chown::check(image, geometry, *cred, path.as_slice(), owner)?;
+            Ok(Done::Plain)
+        }
+        Call::Times { cred, path, .. } => {
+            find_owned(image, geometry, *cred, path.as_slice())?;
             Ok(Done::Plain)
         }
     }
@@ -188,6 +193,15 @@ pub(crate) fn make(
             let owner = new_owner(*uid, *gid);
             chown::make(image, geometry, free, caller, path.as_slice(), owner)
         }
+        Call::Times {
+            path,
+            atime,
+            mtime,
+            ..
+        } => {
+            let path = path.as_slice();
+            times::make(image, geometry, free, caller, path, *atime, *mtime)
+        }
     }
 }
 
@@ -207,7 +221,8 @@ pub(crate) fn may_answer(image: &Image, geometry: &Geometry, call: &Call, done: 
             | Call::Rmdir { .. }
             | Call::Truncate { .. }
             | Call::Chmod { .. }
-            | Call::Chown { .. },
+            | Call::Chown { .. }
+            | Call::Times { .. },
             Done::Plain,
         ) => true,
         _ => false,
@@ -227,7 +242,8 @@ fn caller_of(call: &Call) -> Caller
         | Call::Write { cred, now, .. }
         | Call::Truncate { cred, now, .. }
         | Call::Chmod { cred, now, .. }
-        | Call::Chown { cred, now, .. } => (cred, now),
+        | Call::Chown { cred, now, .. }
+        | Call::Times { cred, now, .. } => (cred, now),
     };
     Caller {
         cred: *cred,

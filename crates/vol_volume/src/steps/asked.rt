@@ -1,5 +1,5 @@
 //! What is asked of calls one by one: facts of i-nodes, names and free blocks.
-ghost use Rattle.std.specs.Prelude.{◌≡◌, ◌≢◌, ℕ, ◌*◌, ◌≤◌, if◌then◌else◌, Bool, true, false, List, None, Some, Ok, OnOk, IfOk, IfErr, IsTrue, ◌↔◌, MatchResult};
+ghost use Rattle.std.specs.Prelude.{◌≡◌, ◌≢◌, ℕ, ◌*◌, ◌≤◌, if◌then◌else◌, Bool, true, false, List, [], ◌∷◌, None, Some, Ok, OnOk, IfOk, IfErr, IsTrue, ◌↔◌, MatchResult};
 ghost use Rattle.std.specs.Result.{result_err};
 ghost use Rattle.vol_layout.specs.Geometry.{Fits};
 ghost use Rattle.vol_file.specs.Rules.{kind_at};
@@ -8,13 +8,13 @@ ghost use Rattle.vol_dir.specs.Entries.{IsDirectory, IsInUse, slots};
 ghost use Rattle.vol_dir.specs.Names.{get, names_in};
 ghost use Rattle.vol_dir.specs.Searching.{new_slot, slot_named};
 ghost use Rattle.vol_dir.specs.Tree.{tree, state};
-ghost use Rattle.vol_dir.specs.Walk.{IsComponent, has_zero, is_directory, walk_parent};
+ghost use Rattle.vol_dir.specs.Walk.{IsComponent, has_zero, is_directory, walk, walk_parent};
 ghost use Rattle.vol_change.specs.Nodes.{node_at, names_at, size_with_entry};
 ghost use Rattle.vol_volume.specs.Answering.{IsPathRefused, LeadsTo, IsParentRefused, IsParentAsked};
 ghost use Rattle.vol_layout.specs.Ids.{is_bad_id};
-ghost use Rattle.vol_volume.specs.Performing.{LeadsToParent};
+ghost use Rattle.vol_volume.specs.Performing.{LeadsToParent, LeadsToNode};
 ghost use Rattle.vol_volume.specs.Standing.{Rules3To7And9};
-ghost use Rattle.vol_volume.specs.Verdict.{first_of, has_name, has_others, is_device, has_free_number, is_free_number, is_too_great, is_full, is_owner, of_parent, body_tests};
+ghost use Rattle.vol_volume.specs.Verdict.{first_of, has_name, has_others, is_device, has_free_number, is_free_number, is_too_great, is_full, is_owner, then_others, of_node, of_parent, body_tests, owner_tests};
 ghost use Rattle.vol_change.specs.Ready.{entry_need};
 
 use pdp_words::Image;
@@ -233,6 +233,23 @@ pub(crate) fn find_node(
 {
     first_tests(geometry, cred, path)?;
     walk(image, geometry, cred, path)
+}
+
+/// The node that a path leads to, which its owner or user 0 is to change, or why the call is refused.
+pub(crate) fn find_owned(
+    image: &Image,
+    geometry: &Geometry,
+    cred: Cred,
+    path: &[u8],
+) -> Result<u16, Refusal>
+    requires { Rules3To7And9 geometry.now image.now }
+    ensures refusal { result_err result ≡ then_others (tree geometry.now image.now) cred (path.now ∷ [])
+        (of_node (walk (tree geometry.now image.now) cred path.now) (λ i. first_of (owner_tests (tree geometry.now image.now) cred i))) }
+    ensures node { IfOk result (λ i. LeadsToNode geometry.now image.now cred path.now i) }
+{
+    let i = find_node(image, geometry, cred, path)?;
+    refuse_if(!is_owner(image, geometry, i, cred), Refusal::NotOwner)?;
+    Ok(i)
 }
 
 /// The parent that a path leads to, and its last component. A path without component is refused as `bare`.

@@ -38,8 +38,14 @@ returns-in_err-check-in-Truncate-clause-refusal c =
     let p = err_from_is_err_and c.from_residual-in_err-check-in-Truncate.result c.from_residual-in_err-check-in-Truncate.ensures.1 in
     rw (p.1, p.2, c.in-Truncate.is, ← c.as_slice-in-Truncate.ensures) c.in_err-check-in-Truncate.ensures.refusal
 
-pub returns-in_err-check-in-Chmod-clause-refusal : goal.returns-in_err-check-in-Chmod-clause-refusal
+pub returns-in_err-find_owned-in-Chmod-clause-refusal : goal.returns-in_err-find_owned-in-Chmod-clause-refusal
 unfolding verdict
-returns-in_err-check-in-Chmod-clause-refusal c =
-    let p = err_from_is_err_and c.from_residual-in_err-check-in-Chmod.result c.from_residual-in_err-check-in-Chmod.ensures.1 in
-    rw (p.1, p.2, c.in-Chmod.is, ← c.as_slice-in-Chmod.ensures) c.in_err-check-in-Chmod.ensures.refusal
+returns-in_err-find_owned-in-Chmod-clause-refusal c =
+    let p = err_from_is_err_and c.from_residual-in_err-find_owned-in-Chmod.result c.from_residual-in_err-find_owned-in-Chmod.ensures.1 in
+    rw (p.1, p.2, c.in-Chmod.is, ← c.as_slice-in-Chmod.ensures) c.in_err-find_owned-in-Chmod.ensures.refusal
+
+pub returns-in_err-find_owned-in-Times-clause-refusal : goal.returns-in_err-find_owned-in-Times-clause-refusal
+unfolding verdict
+returns-in_err-find_owned-in-Times-clause-refusal c =
+    let p = err_from_is_err_and c.from_residual-in_err-find_owned-in-Times.result c.from_residual-in_err-find_owned-in-Times.ensures.1 in
+    rw (p.1, p.2, c.in-Times.is, ← c.as_slice-in-Times.ensures) c.in_err-find_owned-in-Times.ensures.refusal

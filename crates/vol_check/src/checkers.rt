@@ -49,8 +49,8 @@ pub fn icheck<R: Threads + Sync, W: Wait, G: Gate>(
 
 /// The entry report of an image, by so many threads, as [`icheck`] has them.
 ///
-/// Costs the way of each logical block of each directory that is in no hole, and a look at each slot of the data blocks that
-/// hold those of a piece. Takes sixteen bytes for each i-number, a few KB for each thread, and memory for the lines.
+/// Costs a look at the number of each logical block of each directory that is in no hole, and a look at each slot of the data
+/// blocks that hold those of a piece. Takes sixteen bytes for each i-number, a few KB for each thread, and memory for the lines.
 pub fn dcheck<R: Threads + Sync, W: Wait, G: Gate>(
     threads: &R,
     _wait: &W,

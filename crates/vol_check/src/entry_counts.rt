@@ -7,6 +7,7 @@ ghost use Rattle.count_table.specs.declared.rule.Mark.{Mark};
 ghost use Rattle.count_table.specs.Sums.{below};
 ghost use Rattle.count_table.specs.Tallies.{IsSeatAt, table_shape};
 ghost use Rattle.count_table.specs.Views.{mark};
+ghost use Rattle.vol_file.specs.Runs.{LooksUp};
 ghost use Rattle.vol_reports.specs.Words.{HasEntryWords, entry_word};
 ghost use Rattle.vol_check.specs.Pieces.{Adds};
 ghost use Rattle.vol_check.specs.Slots.{entry_weight, entries_of};
@@ -17,14 +18,15 @@ use crate::slots::SLOTS;
 use count_table::{Tally, TallySeat};
 use pdp_words::{BLOCK, Image};
 use std::alloc::{AllocError, Global};
-use vol_file::{block_at, next_block};
+use vol_file::{BlockNumbers, next_block};
 use vol_layout::slot::SLOT;
 use vol_layout::{Geometry, Slot};
 use vol_reports::words::entry_word;
 
 /// Counts the entries in the logical blocks of directory `d` from one up to another, all of which it has whole.
 ///
-/// Costs the way of each of them, and a look at each slot of the blocks that hold them. Takes sixteen bytes for each.
+/// Costs a look at the number of each of them, the way of the first one in each indirect block, and a look at each slot of the
+/// blocks that hold them. Takes sixteen bytes for each.
 pub(crate) fn count_blocks(
     alloc: Global,
     tally: &Tally,
@@ -74,9 +76,10 @@ fn stored_blocks(
         ≡ below (λ t. entry_weight geometry.now weight (entry_at geometry.now image.now d (32 * from + t))) (32 * (end - from))) }
 {
     let mut named = Vec::new(alloc);
+    let mut numbers = BlockNumbers::of(image, geometry, d);
     let mut b = next_block(image, geometry, d, from, end);
     while b < end {
-        b = push_next(image, geometry, &mut named, d, b, end)?;
+        b = push_next(image, geometry, &mut numbers, &mut named, d, b, end)?;
     }
     Ok(named)
 }
@@ -86,6 +89,7 @@ fn stored_blocks(
 fn push_next(
     image: &Image,
     geometry: &Geometry,
+    numbers: &mut BlockNumbers,
     named: &mut Vec<Named>,
     d: u16,
     b: u32,
@@ -96,14 +100,16 @@ fn push_next(
     requires last { d ≤ geometry.now.last_inode }
     requires order { b < end }
     requires whole { 32 * end ≤ slot_count geometry.now image.now d }
+    requires numbers { LooksUp geometry.now image.now d numbers.old }
     requires named { All (IsNamed geometry.now) named.old.items }
     ensures order { IfOk result (λ next. (b < next) × (next ≤ end)) }
+    ensures numbers { IfOk result (λ _. LooksUp geometry.now image.now d numbers.new) }
     ensures named { IfOk result (λ _. All (IsNamed geometry.now) named.new.items) }
     ensures same { IfOk result (λ next. (weight : Mark → ℕ) → sum_by (by_times (entries_of geometry.now image.now weight)) named.new.items
         ≡ sum_by (by_times (entries_of geometry.now image.now weight)) named.old.items
         + below (λ t. entry_weight geometry.now weight (entry_at geometry.now image.now d (32 * b + t))) (32 * (next - b))) }
 {
-    let Some(number) = block_at(image, geometry, d, b) else {
+    let Some(number) = numbers.block_at(image, geometry, b) else {
         return Ok(next_block(image, geometry, d, b, end));
     };
     if !geometry.in_zone(number) {

@@ -1,9 +1,9 @@
-use Rattle.std.proofs.Common.{◌≡◌, ◌+◌, ◌-◌, ◌*◌, ◌≤◌, All, sym, ap, subst, ◌∙◌, true, false, refl, arith}
+use Rattle.std.proofs.Common.{◌≡◌, ◌+◌, ◌-◌, ◌*◌, ◌≤◌, All, sym, ap, subst, ◌∙◌, true, false, Some, refl, arith}
 use Rattle.std.specs.List.{sum_by}
 use Rattle.std.proofs.lemmas.List.Elements.{All-push}
 use Rattle.std.proofs.lemmas.List.Sums.{sum_by_push}
 use Rattle.vol_layout.specs.Geometry.{in_zone}
-use Rattle.vol_layout.specs.Names.{form_at, stored}
+use Rattle.vol_layout.specs.Names.{form_at, stored, block_named}
 use Rattle.vol_dir.proofs.SlotReading.{number_named}
 use Rattle.vol_check.specs.declared.checker.Checker.TheVariants.{Entries}
 use Rattle.vol_check.specs.Levels.{IsNamed, by_times}
@@ -26,7 +26,8 @@ returns-clause-same c = λ weight.
     let d = c.args.d in
     let b = c.args.b in
     let k = c.in-Some.number in
-    let at : stored g image d (form_at g image d) b ≡ k = number_named (stored g image d (form_at g image d) b) k (sym c.in-Some.ensures) in
+    let is = subst (λ j. block_named g image j b ≡ Some k) c.requires.numbers.inode (sym c.in-Some.ensures.number) in
+    let at : stored g image d (form_at g image d) b ≡ k = number_named (stored g image d (form_at g image d) b) k is in
     let zone : in_zone g k ≡ true = sym c.in_zone.ensures ∙ c.if-not-in_zone.false in
     let f = by_times (entries_of g image weight) in
     let push = ap (sum_by f) c.in_ok-push.ensures.items ∙ sum_by_push f c.args.named.now.items (record { number = k; times = 1 }) in
@@ -41,7 +42,8 @@ returns-then-not-in_zone-clause-same c = λ weight.
     let d = c.args.d in
     let b = c.args.b in
     let at = stored g image d (form_at g image d) b in
-    let outside : in_zone g at ≡ false = ap (in_zone g) (number_named at c.in-Some.number (sym c.in-Some.ensures)) ∙ (sym c.in_zone.ensures ∙ c.if-not-in_zone.true) in
+    let is = subst (λ j. block_named g image j b ≡ Some c.in-Some.number) c.requires.numbers.inode (sym c.in-Some.ensures.number) in
+    let outside : in_zone g at ≡ false = ap (in_zone g) (number_named at c.in-Some.number is) ∙ (sym c.in_zone.ensures ∙ c.if-not-in_zone.true) in
     let none = over_blank g image d (slot_weight Entries g weight) (blank_weight Entries g weight d) (32 * b) 32 (λ s low high. block_hole g image d b at s refl outside low high) in
     let one = one_block Entries g image d b weight in
     omega arith

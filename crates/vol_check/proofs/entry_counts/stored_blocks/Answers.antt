@@ -17,6 +17,7 @@ loop-b-init c =
     let next = c.next_block-b.ensures in
     let low : from ≤ b = next.reached in
     record {
+      numbers = c.of-numbers.ensures;
       low = low;
       high = next.within;
       named = subst (All (IsNamed g)) (sym c.new-named.ensures.items) (All-nil (IsNamed g));
@@ -34,6 +35,7 @@ loop-b-preserved c =
     let inv = c.loop-b.invariant in
     let order = c.in_ok-b.ensures.order in
     record {
+      numbers = c.in_ok-b.ensures.numbers;
       low = omega (arith, inv.low, order.0);
       high = order.1;
       named = c.in_ok-b.ensures.named;

@@ -1,6 +1,7 @@
 use Rattle.std.proofs.Common.{◌≡◌, ℕ, ◌-◌, ◌*◌, ◌≤◌, All}
 use Rattle.std.specs.List.{sum_by}
 use Rattle.count_table.specs.declared.rule.Mark.{Mark}
+use Rattle.vol_file.specs.Runs.{LooksUp}
 use Rattle.vol_check.specs.declared.checker.Checker.TheVariants.{Entries}
 use Rattle.vol_check.specs.Levels.{IsNamed, by_times}
 use Rattle.vol_check.specs.Slots.{entries_of}
@@ -10,6 +11,7 @@ use Rattle.vol_check.proofs.entry_counts.stored_blocks.Given as goal
 -- the blocks before b are found
 abbrev pub invariant-loop-b : goal.invariant-loop-b
 invariant-loop-b l = record {
+  numbers : LooksUp l.geometry l.image l.d l.numbers;
   low : l.from ≤ l.b;
   high : l.b ≤ l.end;
   named : All (IsNamed l.geometry) l.named.items;

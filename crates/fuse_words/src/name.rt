@@ -60,6 +60,13 @@ impl<'a> Name<'a> {
         Some((first, second))
     }
 
+    /// The bytes of the name, which stays.
+    pub fn as_slice(&self) -> &[u8]
+        ensures { result.now ≡ self.now }
+    {
+        self.bytes
+    }
+
     /// The bytes of the name.
     pub fn into_slice(self) -> &'a [u8]
         ensures { result.now ≡ self.entry }
@@ -74,6 +81,13 @@ impl<'a> Content<'a> {
         ensures { result ≡ bytes.now }
     {
         Content { bytes }
+    }
+
+    /// The bytes, which stay.
+    pub fn as_slice(&self) -> &[u8]
+        ensures { result.now ≡ self.now }
+    {
+        self.bytes
     }
 
     /// The bytes.

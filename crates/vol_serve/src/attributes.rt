@@ -55,11 +55,7 @@ fn attributes_of(stat: &Stat, special: Option<SpecialFile>) -> Attributes
 }
 
 /// The attributes of node `i`. Stale if no node has this number.
-pub(crate) fn node_attributes(
-    image: &Image,
-    geometry: &Geometry,
-    i: u16,
-) -> Result<Attributes, NodeFault>
+pub fn node_attributes(image: &Image, geometry: &Geometry, i: u16) -> Result<Attributes, NodeFault>
     requires { Fits geometry.now image.now }
     ensures { result ≡ attributes_in (tree geometry.now image.now) i }
 {

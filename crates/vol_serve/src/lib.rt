@@ -3,18 +3,18 @@
 #![tactic(auto)]
 
 mod answering;
-mod attributes;
+pub mod attributes;
 pub mod errno;
 mod listing;
-mod memory;
+pub mod memory;
 pub mod messages;
 pub mod node_numbers;
-mod node_replies;
+pub mod node_replies;
 mod served;
 pub mod serving;
 #[cfg(test)]
 mod session;
-mod statistics;
+pub mod statistics;
 pub mod streams;
 #[cfg(test)]
 mod tests;

@@ -11,16 +11,25 @@ use vol_layout::Geometry;
 
 /// Bytes of a request, at most: the 128 KiB of a write, and 4096 more. The kernel gives no request to a read with room for fewer than
 /// 8192 bytes.
-const MOST_REQUEST: usize = 135_168;
+pub const MOST_REQUEST: usize = 135_168;
 
 /// Room for a reply, and for the bytes that one brings.
 #[derive(Debug, Drop)]
-pub(crate) struct Room {
+pub struct Room {
     /// The reply.
-    pub(crate) reply: ReplyBuffer,
+    pub reply: ReplyBuffer,
     /// The bytes of a file, or entries of a directory.
-    pub(crate) content: Vec<u8>,
-    pub(crate) ghost enough: { 131072 ≤ vec_capacity content },
+    pub content: Vec<u8>,
+    pub ghost enough: { 131072 ≤ vec_capacity content },
+}
+
+impl Room {
+    /// Takes the room: 262,160 bytes.
+    pub fn new(alloc: Global) -> Result<Room, AllocError> {
+        let reply = ReplyBuffer::new(alloc)?;
+        let content = Vec::with_capacity(alloc, MOST_DATA)?;
+        Ok(Room { reply, content })
+    }
 }
 
 /// What a server needs.
@@ -45,12 +54,11 @@ impl Memory {
         ensures { IfOk result (λ memory. memory.sizes ≡ statistics_of geometry.now image.now) }
     {
         let request = vec![in alloc; 0u8; MOST_REQUEST]?;
-        let reply = ReplyBuffer::new(alloc)?;
-        let content = Vec::with_capacity(alloc, MOST_DATA)?;
+        let room = Room::new(alloc)?;
         let sizes = statistics(alloc, image, geometry)?;
         Ok(Memory {
             request,
-            room: Room { reply, content },
+            room,
             sizes,
         })
     }

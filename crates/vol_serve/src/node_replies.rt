@@ -1,5 +1,6 @@
 //! The replies to requests that are about a node.
 ghost use Rattle.std.specs.Prelude.{◌≡◌, Ok, Err, MatchResult};
+ghost use Rattle.vol_layout.specs.Geometry.{Fits};
 ghost use Rattle.vol_dir.specs.Tree.{tree};
 ghost use Rattle.vol_serve.specs.Answers.{node_reply, lookup_reply, attributes_reply, open_reply, open_directory_reply, read_reply, listing_reply};
 
@@ -10,7 +11,8 @@ use crate::memory::Room;
 use crate::node_numbers::node_number;
 use crate::served::Served;
 use fuse_words::{CACHE_DIRECTORY, Entry, KEEP_CACHE, MOST_DATA, Operation};
-use vol_layout::Kind;
+use pdp_words::Image;
+use vol_layout::{Geometry, Kind};
 use vol_nodes::{NodeFault, look_up, read, stat};
 
 /// Seconds for which the kernel may keep names and attributes: an hour. The image never changes.
@@ -34,9 +36,17 @@ pub(crate) fn reply_of_node(
         Operation::GetAttr => put_attributes(served, unique, i, room),
         Operation::Open { flags } => put_opened(served, unique, i, flags, room),
         Operation::OpenDir => put_opened_directory(served, unique, i, room),
-        Operation::Read { offset, size, .. } => put_bytes(served, unique, i, offset, size, room),
+        Operation::Read { offset, size, .. } => put_bytes(
+            served.image,
+            served.geometry,
+            unique,
+            i,
+            offset,
+            size,
+            room,
+        ),
         Operation::ReadDir { offset, size, .. } => {
-            put_listing(served, unique, i, offset, size, room)
+            put_listing(served.image, served.geometry, unique, i, offset, size, room)
         }
         _ => Err(RequestRefusal::Unserved),
     }
@@ -128,48 +138,45 @@ fn put_opened_directory(
 }
 
 /// Puts the reply to READ into `room`.
-fn put_bytes(
-    served: &Served<'_>,
+pub fn put_bytes(
+    image: &Image,
+    geometry: &Geometry,
     unique: u64,
     i: u16,
     offset: u64,
     size: u32,
     room: &mut Room,
 ) -> Result<(), RequestRefusal>
+    requires { Fits geometry.now image.now }
     ensures { MatchResult result
-        (λ _. read_reply (tree served.now.geometry.now served.now.image.now) unique i offset size ≡ Ok room.new.reply)
-        (λ refusal. read_reply (tree served.now.geometry.now served.now.image.now) unique i offset size ≡ Err refusal) }
+        (λ _. read_reply (tree geometry.now image.now) unique i offset size ≡ Ok room.new.reply)
+        (λ refusal. read_reply (tree geometry.now image.now) unique i offset size ≡ Err refusal) }
 {
     let size = MOST_DATA.min(size as usize);
     // There is room, so nothing is refused.
     let _ = room.content.resize(size, 0);
-    let count = read(served.image, served.geometry, i, offset, &mut room.content)?;
+    let count = read(image, geometry, i, offset, &mut room.content)?;
     room.reply.put_data(unique, &room.content[..count]);
     Ok(())
 }
 
 /// Puts the reply to READDIR into `room`.
-fn put_listing(
-    served: &Served<'_>,
+pub fn put_listing(
+    image: &Image,
+    geometry: &Geometry,
     unique: u64,
     dir: u16,
     offset: u64,
     size: u32,
     room: &mut Room,
 ) -> Result<(), RequestRefusal>
+    requires { Fits geometry.now image.now }
     ensures { MatchResult result
-        (λ _. listing_reply served.now.geometry.now served.now.image.now unique dir offset size ≡ Ok room.new.reply)
-        (λ refusal. listing_reply served.now.geometry.now served.now.image.now unique dir offset size ≡ Err refusal) }
+        (λ _. listing_reply geometry.now image.now unique dir offset size ≡ Ok room.new.reply)
+        (λ refusal. listing_reply geometry.now image.now unique dir offset size ≡ Err refusal) }
 {
     let size = MOST_DATA.min(size as usize);
-    put_entries(
-        served.image,
-        served.geometry,
-        dir,
-        offset,
-        size,
-        &mut room.content,
-    )?;
+    put_entries(image, geometry, dir, offset, size, &mut room.content)?;
     room.reply.put_data(unique, &room.content);
     Ok(())
 }

@@ -12,7 +12,7 @@ use vol_layout::slot::NAME;
 
 /// Counts the free blocks and i-nodes of a volume. Takes memory for the walk over the free list, and gives it back.
 #[tactic(auto, unfolding(crate::specs::Statistics::statistics_of))]
-pub(crate) fn statistics(
+pub fn statistics(
     alloc: Global,
     image: &Image,
     geometry: &Geometry,

@@ -2,10 +2,11 @@
 ghost use Rattle.std.specs.Prelude.{◌≡◌, ◌≤◌};
 ghost use Rattle.vol_layout.specs.Geometry.{Fits};
 ghost use Rattle.vol_layout.specs.Names.{form_at, stored, block_named};
+ghost use Rattle.vol_file.specs.Holes.{IsNextStored};
 ghost use Rattle.vol_file.specs.Runs.{IsRun, LooksUp, number_from};
 
 use crate::following::{entry, follow};
-use crate::holes::direct_count;
+use crate::holes::{direct_count, next_stored};
 use pdp_words::Image;
 use vol_layout::i_list::{address, mode};
 use vol_layout::{Form, Geometry};
@@ -76,6 +77,24 @@ impl BlockNumbers {
         match self.number_at(image, geometry, b) {
             0 => None,
             k => Some(k),
+        }
+    }
+
+    /// The first logical block from `from` up to `end` for which the block map has a number, as
+    /// [`next_block`](crate::next_block) says, of the image and geometry of the calls before.
+    ///
+    /// Costs what [`BlockNumbers::block_at`] does where that is `from`, and else what `next_block` does besides.
+    pub fn next_block(&mut self, image: &Image, geometry: &Geometry, from: u32, end: u32) -> u32
+        requires fits { Fits geometry.now image.now }
+        requires own { LooksUp geometry.now image.now self.old.inode self.old }
+        requires order { from ≤ end }
+        ensures own { LooksUp geometry.now image.now self.old.inode self.new }
+        ensures next { IsNextStored geometry.now image.now self.old.inode (form_at geometry.now image.now self.old.inode) from end result }
+    {
+        if self.number_at(image, geometry, from) == 0 {
+            next_stored(image, geometry, self.inode, self.form, from, end)
+        } else {
+            from
         }
     }
 

@@ -75,9 +75,9 @@ fn stored_blocks(
     ensures same { IfOk result (λ named. (weight : Mark → ℕ) → sum_by (by_times (entries_of geometry.now image.now weight)) named.items
         ≡ below (λ t. entry_weight geometry.now weight (entry_at geometry.now image.now d (32 * from + t))) (32 * (end - from))) }
 {
-    let mut named = Vec::new(alloc);
     let mut numbers = BlockNumbers::of(image, geometry, d);
     let mut b = next_block(image, geometry, d, from, end);
+    let mut named = Vec::with_capacity(alloc, (end - b) as usize)?;
     while b < end {
         b = push_next(image, geometry, &mut numbers, &mut named, d, b, end)?;
     }

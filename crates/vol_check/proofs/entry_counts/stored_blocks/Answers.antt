@@ -20,9 +20,9 @@ loop-b-init c =
       numbers = c.of-numbers.ensures;
       low = low;
       high = next.within;
-      named = subst (All (IsNamed g)) (sym c.new-named.ensures.items) (All-nil (IsNamed g));
+      named = subst (All (IsNamed g)) (sym c.in_ok-named.ensures.items) (All-nil (IsNamed g));
       same = λ weight.
-          let none = ap (sum_by (by_times (entries_of g image weight))) c.new-named.ensures.items in
+          let none = ap (sum_by (by_times (entries_of g image weight))) c.in_ok-named.ensures.items in
           let blank = over_blank g image d (slot_weight Entries g weight) (blank_weight Entries g weight d) (32 * from) (32 * (b - from))
           (λ s at before. entry_hole g image d from b s c.requires.fits next.hole at (omega (arith, before, low))) in
           omega arith;

@@ -75,11 +75,11 @@ concluded edition image wanted errors (Err fault) answer made reason done told h
 -- what is saved has the members of the archive
 pub archive_saved : (edition : Edition) (image archive path : List ℕ) (now : ℕ) (said : List ℕ → Type 0) (answer : Answer)
     → ImportsArchive edition image (calls_to_make (reads_as edition image).tree archive path now) said answer
-    → IfSome answer.image (λ saved. HasArchive (reads_as edition saved.items).tree path now (members archive))
+    → IfSome answer.image (λ saved. HasArchive (reads_as edition image).tree (reads_as edition saved.items).tree path now (members archive))
 archive_saved edition image archive path now said answer imports = by answer.image imports.made
   where
     by : (saved : Option (Vec ℕ))
         → IfSome saved (λ bytes. Imports edition image (calls_to_make (reads_as edition image).tree archive path now) bytes.items × said [])
-        → IfSome saved (λ saved. HasArchive (reads_as edition saved.items).tree path now (members archive))
+        → IfSome saved (λ saved. HasArchive (reads_as edition image).tree (reads_as edition saved.items).tree path now (members archive))
     by None made = tt
     by (Some saved) made = archive_had edition image archive path saved.items now made.0

@@ -42,13 +42,13 @@ abbrev pub Salvages : Edition → List ℕ → Streams → Answer → Type 0
 Salvages edition image streams answer =
     SalvagesVolume edition image streams.said answer × Keeps streams.old streams.new × (streams.failed ≡ streams.had_failed)
 
--- an archive is imported below a path, and standard output is as it was; the tree that is to be saved has its members (this project)
+-- an archive is imported below a path, and standard output is as it was; the tree that is to be saved has its members, and keeps what the image's had (this project)
 abbrev pub ImportsBelow : Edition → List ℕ → List ℕ → Streams → Answer → List ℕ → ℕ → Type 0
 ImportsBelow edition image archive streams answer path now =
     ImportsArchive edition image (calls_to_make (reads_as edition image).tree archive path now) streams.said answer
     × Keeps streams.old streams.new
     × (streams.failed ≡ streams.had_failed)
-    × IfSome answer.image (λ saved. HasArchive (reads_as edition saved.items).tree path now (members archive))
+    × IfSome answer.image (λ saved. HasArchive (reads_as edition image).tree (reads_as edition saved.items).tree path now (members archive))
 
 -- what a path leads to is taken away, with all that is below it, and standard output is as it was (this project)
 abbrev pub RemovesBelow : Edition → List ℕ → Streams → Answer → List ℕ → ℕ → Type 0

@@ -1,5 +1,5 @@
 -- What calls of an import leave: a tree that has grown, and a node of it that is changed.
-use Rattle.std.proofs.Common.{◌≡◌, ◌∙◌, sym, ap, subst, refl, ℕ, ◌+◌, max, true, false, List, [], ◌∷◌, length, Option, None, Some, Result, Ok, inl, inr}
+use Rattle.std.proofs.Common.{◌≡◌, ◌≢◌, ◌∙◌, sym, ap, subst, refl, ℕ, ◌+◌, max, true, false, List, [], ◌∷◌, length, Option, None, Some, Result, Ok, inl, inr}
 use Rattle.std.specs.List.{list_any}
 use Rattle.std.specs.Option.{option_map}
 use Rattle.std.proofs.lemmas.Bool.{cases_eq, true≢false}
@@ -20,7 +20,7 @@ use Rattle.vol_volume.specs.Verdict.{verdict, link_refusal, link_tests, of_node}
 use Rattle.vol_volume.specs.declared.calls.Call.TheVariants.{Chmod, Chown, Link, Write}
 use Rattle.vol_volume.specs.declared.calls.Done.{Done}
 use Rattle.vol_volume.proofs.Accepted.{link_passed}
-use Rattle.vol_import.proofs.MadeNames.{LeadsTo, HasNamesOf, Keeps, keeps_none, keeps_then, nodes_set, EntersName, Grows, Gains, linked, linked_keeps, searched_names, name_entered, grown_path, path_kept, path_made}
+use Rattle.vol_import.proofs.MadeNames.{LeadsTo, HasNamesOf, Keeps, keeps_none, keeps_then, nodes_set, KeepsOwner, KeepsOwners, owner_none, owner_same, owner_then, owner_told, owners_set, EntersName, Grows, Gains, linked, linked_keeps, linked_owner, searched_names, name_entered, grown_path, path_kept, path_made}
 use Rattle.vol_import.proofs.MadePaths.{node_found, not_first}
 use Rattle.vol_import.proofs.TreeWalks.{passes_paths, parent_found, reaches, searched}
 
@@ -55,6 +55,11 @@ unfolding changed_by
 chmod_changes state now path perm done i walked =
     subst (λ (r : Result ℕ Refusal). ChangesAt state.tree (at_time now (on_node state r (after_chmod state now perm))).tree i (with_permission_bits now perm))
     (sym walked) (record { rooted = refl; nodes = refl })
+
+-- the other nodes stay
+node_beside : (old new : Tree) (i : ℕ) (change : Node → Node) → ChangesAt old new i change → (x : ℕ) → x ≢ i → new.nodes x ≡ old.nodes x
+node_beside old new i change changes x other =
+    ap (λ (ns : ℕ → Option Node). ns x) changes.nodes ∙ set_beside old.nodes i (option_map change (old.nodes i)) x other
 
 -- a path leads to the node that is changed
 leads_changed : (old new : Tree) (path : List ℕ) (node : Node) (change : Node → Node) (leads : LeadsTo old path node)
@@ -94,13 +99,17 @@ gains_changed old mid new path node change gains changes names =
               | inr other ↦ subst (Keeps (old.nodes x)) (sym (set_beside mid.nodes i after x other)) (gains.grows.kept x)
             ]);
       };
+      owners = λ x. elim (cases_eq x i) [
+        | inl here ↦ owner_none (old.nodes x) (new.nodes x) (ap old.nodes here ∙ gains.free)
+        | inr other ↦ subst (KeepsOwner (old.nodes x)) (sym (node_beside mid new i change changes x other)) (gains.owners x)
+      ];
     }
 
 -- a path leads to a directory
 abbrev pub LeadsToDirectory : Tree → List ℕ → Type 0
 LeadsToDirectory tree path = (node : Node) × LeadsTo tree path node × (is_directory node ≡ true)
 
-pub grown_directory : (old new : Tree) (path : List ℕ) → Grows old new → LeadsToDirectory old path → LeadsToDirectory new path
+abbrev pub grown_directory : (old new : Tree) (path : List ℕ) → Grows old new → LeadsToDirectory old path → LeadsToDirectory new path
 grown_directory old new path grows led =
     let i = led.1.number in
     let stays = (grows.kept i).1 led.0 led.1.stands in
@@ -123,6 +132,30 @@ directory_changed old new path change led changes names kind =
           (nodes_set old.nodes i (option_map change (old.nodes i)) (subst (λ n. Keeps n (option_map change n)) (sym led.1.stands) keeps) x);
     }
 
+-- node i of a tree, in which nothing else changes, is given an owner
+pub record Gives (old new : Tree) (i : ℕ) (owner : ℕ × ℕ × ℕ) : Type 0 where
+  pub grows : Grows old new
+  pub beside : (x : ℕ) → x ≢ i → KeepsOwner (old.nodes x) (new.nodes x)
+  pub node : Node
+  pub stands : new.nodes i ≡ Some node
+  pub owned : owner_told node ≡ owner
+
+-- a directory is
+pub directory_given : (old new : Tree) (path : List ℕ) (change : Node → Node) (owner : ℕ × ℕ × ℕ) (led : LeadsToDirectory old path)
+    → ChangesAt old new led.1.number change → HasNamesOf (Some led.0) (Some (change led.0)) → is_directory (change led.0) ≡ is_directory led.0
+    → owner_told (change led.0) ≡ owner → Gives old new led.1.number owner
+directory_given old new path change owner led changes names kind owned =
+    let i = led.1.number in
+    record {
+      grows = directory_changed old new path change led changes names kind;
+      beside = λ x other. subst (KeepsOwner (old.nodes x)) (sym (node_beside old new i change changes x other)) (owner_same (old.nodes x));
+      node = change led.0;
+      stands =
+          ap (λ (ns : ℕ → Option Node). ns i) changes.nodes
+          ∙ (set_here old.nodes i (option_map change (old.nodes i)) ∙ ap (option_map change) led.1.stands);
+      owned = owned;
+    }
+
 -- two paths lead to one node
 abbrev pub LeadBoth : Tree → List ℕ → List ℕ → Type 0
 LeadBoth tree source target = (i : ℕ) × (walk tree user source ≡ Ok i) × (walk tree user target ≡ Ok i)
@@ -134,6 +167,7 @@ grown_both old new source target grows led = (led.0, grown_path old new source l
 pub link_grows : (state : State) (now : ℕ) (source target : List ℕ) (done : Done) → verdict state (Link user now source target) ≡ None
     → Grows state.tree (step state (Link user now source target) done).tree × LeadBoth (step state (Link user now source target) done).tree source target
     × (list_any has_zero (source ∷ target ∷ []) ≡ false)
+    × KeepsOwners state.tree (step state (Link user now source target) done).tree
 unfolding verdict changed_by
 link_grows state now source target done accepted =
     let old = state.tree in
@@ -157,20 +191,23 @@ link_grows state now source target done accepted =
     ] in
     let new = (at_time now (after_link state now i d name)).tree in
     let enters = name_entered mid now size d i name reached.names there fresh in
-    let whole : EntersName old.nodes new.nodes d name i =
-    record { kept = λ x. keeps_then (old.nodes x) (mid x) (new.nodes x) (links x) (enters.kept x); named = enters.named } in
+    let counts : (x : ℕ) → KeepsOwner (old.nodes x) (mid x) = owners_set old.nodes i (linked now (old.nodes i)) (linked_owner now (old.nodes i)) in
+    let whole : EntersName old.nodes new.nodes d name i = record {
+      kept = λ x. keeps_then (old.nodes x) (mid x) (new.nodes x) (links x) (enters.kept x);
+      owners = λ x. owner_then (old.nodes x) (mid x) (new.nodes x) (counts x) (enters.owners x);
+      named = enters.named;
+    } in
     let grows : Grows old new = record { rooted = refl; kept = whole.kept } in
     let both : LeadBoth new source target =
     (i, grown_path old new source i grows led.1, path_made old new target d i name refl reached whole) in
-    let made : Grows old (at_time now (on_parent state (walk_parent old user target) (after_link state now i))).tree
-    × LeadBoth (at_time now (on_parent state (walk_parent old user target) (after_link state now i))).tree source target =
-    subst (λ (p : Option (Result (ℕ × List ℕ) Refusal)). Grows old (at_time now (on_parent state p (after_link state now i))).tree
-    × LeadBoth (at_time now (on_parent state p (after_link state now i))).tree source target) (sym parent.2) (grows, both) in
+    let Left : Tree → Type 0 = λ tree. Grows old tree × LeadBoth tree source target × KeepsOwners old tree in
+    let made : Left (at_time now (on_parent state (walk_parent old user target) (after_link state now i))).tree =
+    subst (λ (p : Option (Result (ℕ × List ℕ) Refusal)). Left (at_time now (on_parent state p (after_link state now i))).tree) (sym parent.2)
+    (grows, both, whole.owners) in
     let all = subst (λ (r : Result ℕ Refusal).
-    Grows old (at_time now (on_node state r (λ j. on_parent state (walk_parent old user target) (after_link state now j)))).tree
-    × LeadBoth (at_time now (on_node state r (λ j. on_parent state (walk_parent old user target) (after_link state now j)))).tree source target)
+    Left (at_time now (on_node state r (λ j. on_parent state (walk_parent old user target) (after_link state now j)))).tree)
     (sym led.1) made in
-    (all.0, all.1, first.no_zero)
+    (all.0, all.1, first.no_zero, all.2)
   where
     same_names : (node : Option Node) → searched (linked now node) ≡ searched node
     same_names None = refl

@@ -1,7 +1,10 @@
 pub mod ArchiveFronts
 mod DotWalks
+mod DraftRuns
+mod DraftedMembers
 mod GrownTrees
 pub mod ImportFaults
+mod KeptNodes
 pub mod MadeCalls
 pub mod MadeMembers
 pub mod MadeNames

@@ -140,6 +140,36 @@ leads_still old new path i changed same nodes plain is = (
   ap (λ (ns : ℕ → Option Node). ns i) nodes ∙ set_here old.nodes i changed,
 )
 
+-- what is told of a node's owner
+abbrev pub owner_told : Node → ℕ × ℕ × ℕ
+owner_told node = (node.permissions, node.uid, node.gid)
+
+-- a node keeps its permissions, its owner and its group
+abbrev pub KeepsOwner : Option Node → Option Node → Type 0
+KeepsOwner old new = (node : Node) → old ≡ Some node → (next : Node) × (new ≡ Some next) × (owner_told next ≡ owner_told node)
+
+pub owner_same : (old : Option Node) → KeepsOwner old old
+owner_same old x is = (x, is, refl)
+
+pub owner_then : (old mid new : Option Node) → KeepsOwner old mid → KeepsOwner mid new → KeepsOwner old new
+owner_then old mid new first second x is =
+    let one = first x is in
+    let two = second one.0 one.1 in
+    (two.0, two.1, two.2 ∙ one.2)
+
+pub owner_none : (old new : Option Node) → old ≡ None → KeepsOwner old new
+owner_none old new none x is = let both : None ≡ Some x = sym none ∙ is in absurd (cc)
+
+-- where a change leaves the owner
+pub owner_kept : (change : Node → Node) → ((x : Node) → owner_told (change x) ≡ owner_told x) → (node : Option Node)
+    → KeepsOwner node (option_map change node)
+owner_kept change same None x is = (x, is, refl)
+owner_kept change same (Some node) x is = let here : node ≡ x = cc in (change node, refl, same node ∙ ap owner_told here)
+
+pub owners_set : (nodes : ℕ → Option Node) (i : ℕ) (node : Option Node) → KeepsOwner (nodes i) node
+    → (x : ℕ) → KeepsOwner (nodes x) (set_at nodes i node x)
+owners_set = set_keeps KeepsOwner owner_same
+
 -- a directory with an entry more
 abbrev pub entered : ℕ → ℕ → List ℕ → ℕ → Option Node → Option Node
 entered now size name i node =
@@ -149,9 +179,16 @@ entered now size name i node =
 abbrev pub linked : ℕ → Option Node → Option Node
 linked now node = option_map (λ (x : Node). record (stamped now x) { links = x.links + 1 }) node
 
+pub linked_owner : (now : ℕ) (node : Option Node) → KeepsOwner node (linked now node)
+linked_owner now node = owner_kept (λ x. record (stamped now x) { links = x.links + 1 }) (λ x. refl) node
+
 pub linked_keeps : (now : ℕ) (node : Option Node) → Keeps node (linked now node)
 linked_keeps now None = keeps_same None
 linked_keeps now (Some node) = (λ name i is. is, λ x is. let same : node ≡ x = cc in (_, refl, ap is_directory same, λ plain. ap told same))
+
+entered_owner : (now size i : ℕ) (name : List ℕ) (node : Option Node) → KeepsOwner node (entered now size name i node)
+entered_owner now size i name node =
+    owner_kept (λ x. record (modified now x) { content = change_names (λ names. insert names name i) x.content; size = size }) (λ x. refl) node
 
 -- what a map with a name more answers
 get_insert : (names : Names) (name word : List ℕ) (i : ℕ) → get (insert names name i) word ≡ cond (bytes_eq word name) (Some i) (get names word)
@@ -226,12 +263,14 @@ entered_found now size i name (Some node) names held = by node.content held
 -- an entry for i in directory d, of a name that d hasn't
 pub record EntersName (old new : ℕ → Option Node) (d : ℕ) (name : List ℕ) (i : ℕ) : Type 0 where
   pub kept : (x : ℕ) → Keeps (old x) (new x)
+  pub owners : (x : ℕ) → KeepsOwner (old x) (new x)
   pub named : found (new d) name ≡ Ok i
 
 pub name_entered : (nodes : ℕ → Option Node) (now size d i : ℕ) (name : List ℕ) (names : Names) → searched (nodes d) ≡ Ok names → get names name ≡ None
     → EntersName nodes (set_at nodes d (entered now size name i (nodes d))) d name i
 name_entered nodes now size d i name names held fresh = record {
   kept = nodes_set nodes d (entered now size name i (nodes d)) (entered_keeps now size i name (nodes d) names held fresh);
+  owners = owners_set nodes d (entered now size name i (nodes d)) (entered_owner now size i name (nodes d));
   named = ap (λ n. found n name) (set_here nodes d (entered now size name i (nodes d))) ∙ entered_found now size i name (nodes d) names held;
 }
 
@@ -258,6 +297,7 @@ name_made nodes now size d i name node names free held fresh =
       apart = apart;
       enters = record {
         kept = λ x. keeps_then (nodes x) (put x) _ (nodes_set nodes i (Some node) (keeps_none (nodes i) (Some node) free) x) (enters.kept x);
+        owners = λ x. owner_then (nodes x) (put x) _ (owners_set nodes i (Some node) (owner_none (nodes i) (Some node) free) x) (enters.owners x);
         named = enters.named;
       };
       stands = set_beside put d (entered now size name i (put d)) i apart ∙ set_here nodes i (Some node);
@@ -273,6 +313,7 @@ name_linked old mid now d i name node makes =
       apart = makes.apart;
       enters = record {
         kept = λ x. keeps_then (old x) (mid x) _ (makes.enters.kept x) (nodes_set mid d (linked now (mid d)) links x);
+        owners = λ x. owner_then (old x) (mid x) _ (makes.enters.owners x) (owners_set mid d (linked now (mid d)) (linked_owner now (mid d)) x);
         named = ap (λ n. found n name) (set_here mid d (linked now (mid d))) ∙ links.0 name i makes.enters.named;
       };
       stands = set_beside mid d (linked now (mid d)) i makes.apart ∙ makes.stands;
@@ -291,6 +332,10 @@ grows_then old mid new first second = record {
   rooted = second.rooted ∙ first.rooted;
   kept = λ x. keeps_then (old.nodes x) (mid.nodes x) (new.nodes x) (first.kept x) (second.kept x);
 }
+
+-- and all of them their owners
+abbrev pub KeepsOwners : Tree → Tree → Type 0
+KeepsOwners old new = (x : ℕ) → KeepsOwner (old.nodes x) (new.nodes x)
 
 -- what a path led to, it leads to still
 pub grown_path : (old new : Tree) (path : List ℕ) (i : ℕ) → Grows old new → walk old user path ≡ Ok i → walk new user path ≡ Ok i
@@ -313,6 +358,7 @@ pub record Gains (old new : Tree) (path : List ℕ) (node : Node) : Type 0 where
   pub leads : LeadsTo new path node
   pub free : old.nodes leads.number ≡ None
   pub grows : Grows old new
+  pub owners : KeepsOwners old new
 
 pub gains_made : (old new : Tree) (path : List ℕ) (d i : ℕ) (name : List ℕ) (node : Node) → root new ≡ root old → Reaches old path d name
     → MakesName old.nodes new.nodes d name i node → Gains old new path node
@@ -320,4 +366,5 @@ gains_made old new path d i name node same reached makes = record {
   leads = record { number = i; walked = path_made old new path d i name same reached makes.enters; stands = makes.stands };
   free = makes.free;
   grows = record { rooted = same; kept = makes.enters.kept };
+  owners = makes.enters.owners;
 }

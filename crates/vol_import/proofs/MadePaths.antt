@@ -228,16 +228,16 @@ abbrev held_tests : Content → Option Refusal
 held_tests held = first_of ((is_some (map_of held), refusals.IsDirectory) ∷ (is_device held, refusals.NotRegular) ∷ (false, refusals.Access) ∷ [])
 
 -- a Read gives the bytes of a file
-pub read_answered : (tree : Tree) (path bytes : List ℕ) (offset len : ℕ) → list_any has_zero (path ∷ []) ≡ false → Holds tree path bytes
-    → answer tree (queries.Read user path offset len) ≡ Ok (replies.Bytes (read_bytes bytes offset len))
+pub read_answered : (tree : Tree) (path bytes : List ℕ) (offset len : ℕ) (node : Node) → list_any has_zero (path ∷ []) ≡ false → LeadsTo tree path node
+    → node.content ≡ Body bytes → answer tree (queries.Read user path offset len) ≡ Ok (replies.Bytes (read_bytes bytes offset len))
 unfolding query_refusal reply_of
-read_answered tree path bytes offset len plain held =
-    let i = held.leads.number in
+read_answered tree path bytes offset len node plain leads content =
+    let i = leads.number in
     answered (is_bad_id tree.geometry.edition 0 0) (list_any has_zero (path ∷ [])) (walk tree user path) (λ j. read_tests (node_at tree j))
-    (λ j. replies.Bytes (read_bytes (body_of (node_at tree j).content) offset len)) i (good_id tree.geometry.edition) plain held.leads.walked
-    (ap (λ (n : Option Node). read_tests (unwrap_or n no_node)) held.leads.stands ∙ ap held_tests held.content)
-    ∙ (ap (λ (n : Option Node). Ok (replies.Bytes (read_bytes (body_of (unwrap_or n no_node).content) offset len))) held.leads.stands
-    ∙ ap (λ (c : Content). Ok (replies.Bytes (read_bytes (body_of c) offset len))) held.content)
+    (λ j. replies.Bytes (read_bytes (body_of (node_at tree j).content) offset len)) i (good_id tree.geometry.edition) plain leads.walked
+    (ap (λ (n : Option Node). read_tests (unwrap_or n no_node)) leads.stands ∙ ap held_tests content)
+    ∙ (ap (λ (n : Option Node). Ok (replies.Bytes (read_bytes (body_of (unwrap_or n no_node).content) offset len))) leads.stands
+    ∙ ap (λ (c : Content). Ok (replies.Bytes (read_bytes (body_of c) offset len))) content)
 
 -- so it is one that holds them
 abbrev pub holds_file : (tree : Tree) (path bytes : List ℕ) → list_any has_zero (path ∷ []) ≡ false → Holds tree path bytes → HasFile tree path bytes
@@ -246,5 +246,5 @@ holds_file tree path bytes plain held = record {
   found = stat_answered tree path held.node plain held.leads;
   kind = ap kind_of_content held.content;
   size = held.size;
-  read = λ offset len. read_answered tree path bytes offset len plain held;
+  read = λ offset len. read_answered tree path bytes offset len held.node plain held.leads held.content;
 }

@@ -1,5 +1,5 @@
 -- What the calls that make a member leave.
-use Rattle.std.proofs.Common.{◌≡◌, ◌∙◌, sym, ap, subst, refl, ℕ, ◌+◌, ◌%◌, ◌&&◌, ◌==◌, max, Bool, true, false, cond, List, [], ◌∷◌, ◌++◌, length, Some, arith}
+use Rattle.std.proofs.Common.{◌≡◌, ◌∙◌, sym, ap, subst, refl, ℕ, ◌+◌, ◌%◌, ◌&&◌, ◌==◌, max, Bool, true, false, cond, List, [], ◌∷◌, ◌++◌, length, Option, Some, arith}
 use Rattle.std.specs.List.{list_any}
 use Rattle.std.specs.Option.{is_some}
 use Rattle.std.proofs.lemmas.Bool.{and_parts, eqb-true}
@@ -7,7 +7,7 @@ use Rattle.vol_file.specs.Changes.{spliced}
 use Rattle.vol_dir.specs.Access.{user}
 use Rattle.vol_dir.specs.Names.{Names}
 use Rattle.vol_dir.specs.Tree.{Content, Body, Directory, Node, Tree, State}
-use Rattle.vol_dir.specs.Walk.{map_of, has_zero}
+use Rattle.vol_dir.specs.Walk.{map_of, has_zero, is_directory}
 use Rattle.vol_dir.specs.declared.cred.Cred.{Cred}
 use Rattle.vol_change.specs.Edits.{body_of, with_owner, with_permission_bits}
 use Rattle.vol_volume.specs.Journal.{MayFollow}
@@ -18,8 +18,8 @@ use Rattle.vol_volume.specs.declared.calls.Call.TheVariants as calls
 use Rattle.vol_volume.specs.declared.calls.Done.{Done}
 use Rattle.vol_import.specs.Plan.{file_calls, write_calls, owner_calls, directory_calls, given_calls}
 use Rattle.vol_import.proofs.DotWalks.{DotsLead}
-use Rattle.vol_import.proofs.GrownTrees.{LeadsToDirectory, filled, write_changes, chown_changes, chmod_changes, gains_changed, directory_changed, grown_directory}
-use Rattle.vol_import.proofs.MadeNames.{Grows, Gains, grows_then, no_names, told}
+use Rattle.vol_import.proofs.GrownTrees.{Gives, LeadsToDirectory, filled, write_changes, chown_changes, chmod_changes, gains_changed, directory_given}
+use Rattle.vol_import.proofs.MadeNames.{Gains, Stays, grown_path, grows_then, no_names, owner_then, told}
 use Rattle.vol_import.proofs.MadePaths.{create_gains, mkdir_gains, spliced_all}
 use Rattle.vol_import.proofs.TreeWalks.{passes_first}
 
@@ -116,22 +116,46 @@ directory_made old new now perm path owner run =
     )
 
 -- a directory gets other permissions
-pub chmod_grows : (old : State) (now perm : ℕ) (path : List ℕ) (done : Done) → LeadsToDirectory old.tree path
-    → Grows old.tree (step old (calls.Chmod user now path perm) done).tree
-chmod_grows old now perm path done led =
-    directory_changed old.tree _ path (with_permission_bits now perm) led (chmod_changes old now path perm done led.1.number led.1.walked) (λ name i is. is) refl
+pub chmod_gives : (old : State) (now perm : ℕ) (path : List ℕ) (done : Done) (led : LeadsToDirectory old.tree path)
+    → Gives old.tree (step old (calls.Chmod user now path perm) done).tree led.1.number (perm % 4096, led.0.uid, led.0.gid)
+chmod_gives old now perm path done led =
+    directory_given old.tree _ path (with_permission_bits now perm) _ led (chmod_changes old now path perm done led.1.number led.1.walked)
+    (λ name i is. is) refl refl
 
 -- and another owner
-pub given_grows : (old new : State) (now perm : ℕ) (path : List ℕ) (owner : Cred) → LeadsToDirectory old.tree path
-    → IsRun old (given_calls now path perm owner) new → Grows old.tree new.tree × (list_any has_zero (path ∷ []) ≡ false)
+pub given_gives : (old new : State) (now perm : ℕ) (path : List ℕ) (owner : Cred) (led : LeadsToDirectory old.tree path)
+    → IsRun old (given_calls now path perm owner) new
+    → Gives old.tree new.tree led.1.number (perm % 4096, owner.uid, owner.gid) × (list_any has_zero (path ∷ []) ≡ false)
 unfolding verdict
-given_grows old new now perm path owner led run =
+given_gives old new now perm path owner led run =
+    let i = led.1.number in
     let mid = step old (calls.Chmod user now path perm) run.0 in
-    let first = chmod_grows old now perm path run.0 led in
-    let next = grown_directory old.tree mid.tree path first led in
+    let first = chmod_gives old now perm path run.0 led in
+    let is : is_directory first.node ≡ true = kind (first.grows.kept i).1 led.0 led.1.stands first.node first.stands led.2 in
+    let next : LeadsToDirectory mid.tree path = (
+      first.node,
+      record { number = i; walked = grown_path old.tree mid.tree path i first.grows led.1.walked; stands = first.stands },
+      is,
+    ) in
     let last = step mid (calls.Chown user now path owner.uid owner.gid) run.3.0 in
-    let second = directory_changed mid.tree last.tree path (with_owner now owner.uid owner.gid) next
-    (chown_changes mid now path owner.uid owner.gid run.3.0 next.1.number next.1.walked) (λ name i is. is) refl in (
-      subst (λ (s : State). Grows old.tree s.tree) (sym run.3.3) (grows_then old.tree mid.tree last.tree first second),
+    let perm_given = ap (λ (o : ℕ × ℕ × ℕ). o.0) first.owned in
+    let second = directory_given mid.tree last.tree path (with_owner now owner.uid owner.gid) (perm % 4096, owner.uid, owner.gid) next
+    (chown_changes mid now path owner.uid owner.gid run.3.0 i next.1.walked) (λ name j is. is) refl
+    (ap (λ p. (p, owner.uid, owner.gid)) perm_given) in (
+      subst (λ (s : State). Gives old.tree s.tree i (perm % 4096, owner.uid, owner.gid)) (sym run.3.3) (record {
+        grows = grows_then old.tree mid.tree last.tree first.grows second.grows;
+        beside = λ x other. owner_then (old.tree.nodes x) (mid.tree.nodes x) (last.tree.nodes x) (first.beside x other) (second.beside x other);
+        node = second.node;
+        stands = second.stands;
+        owned = second.owned;
+      }),
       (passes_first old.tree path _ run.1.accepted).no_zero,
     )
+  where
+    kind : {old new : Option Node} → Stays old new → (x : Node) → old ≡ Some x → (next : Node) → new ≡ Some next → is_directory x ≡ true
+        → is_directory next ≡ true
+    kind stays x was next is directory =
+        let kept = stays x was in
+        let same : Some next ≡ Some kept.0 = sym is ∙ kept.1 in
+        let here : next ≡ kept.0 = cc in
+        ap is_directory here ∙ (kept.2 ∙ directory)

@@ -1,5 +1,7 @@
 -- What an import leaves of the members of an archive.
-use Rattle.std.specs.Prelude.{◌≡◌, ℕ, List, [], ◌∷◌, Result, Ok, Err, length}
+use Rattle.std.specs.Prelude.{◌≡◌, ◌≢◌, ℕ, Bool, false, List, [], ◌∷◌, Result, Ok, Err, length}
+use Rattle.std.specs.List.{list_any}
+use Rattle.std.specs.Str.{bytes_eq}
 use Rattle.vol_dir.specs.Access.{user}
 use Rattle.vol_dir.specs.Tree.{Tree}
 use Rattle.vol_layout.specs.declared.mode.Kind.TheVariants as kinds
@@ -7,7 +9,7 @@ use Rattle.vol_volume.specs.Answer.{answer, read_bytes}
 use Rattle.vol_volume.specs.declared.queries.Query.TheVariants as queries
 use Rattle.vol_volume.specs.declared.queries.Reply.TheVariants as replies
 use Rattle.vol_volume.specs.declared.queries.Stat.{Stat}
-use Rattle.vol_import.specs.Plan.{below, made_as, moment_of, permissions_of}
+use Rattle.vol_import.specs.Plan.{below, is_directory, joined, made_as, moment_of, permissions_of, steps_of}
 use Rattle.vol_import.specs.declared.checking.Made.{Made}
 use Rattle.vol_import.specs.declared.checking.Made.TheVariants.{File, Directory, Link}
 use Rattle.vol_import.specs.declared.checking.MemberFault.{MemberFault}
@@ -42,20 +44,65 @@ pub record HasDirectory (tree : Tree) (path : List ℕ) : Type 0 where
   pub found : answer tree (queries.Stat user path) ≡ Ok (replies.Stat stat)
   pub kind : stat.kind ≡ kinds.Directory
 
--- a tree has a member below a path, as what it is to be made as; one that can't be made it hasn't (POSIX, ustar interchange format)
-abbrev pub HasMember : Tree → List ℕ → ℕ → Member → Result Made MemberFault → Type 0
-HasMember tree base now member (Ok File) = HasMemberFile tree (below base member.path) now member
-HasMember tree base now member (Ok Link) = HasLink tree (below base member.link) (below base member.path)
-HasMember tree base now member (Ok Directory) = HasDirectory tree (below base member.path)
-HasMember tree base now member (Err fault) = ⊥
+-- a Stat says what a member does of permissions, owner and group (POSIX, ustar interchange format)
+pub record IsGiven (stat : Stat) (member : Member) : Type 0 where
+  pub permissions : stat.permissions ≡ permissions_of member.header
+  pub uid : stat.uid ≡ member.header.uid
+  pub gid : stat.gid ≡ member.header.gid
+
+-- a path leads to a directory as a member has it, with its permissions, owner and group, if there was none before, and no later member is for this directory again (POSIX, ustar interchange format)
+pub record HasMemberDirectory (old tree : Tree) (path : List ℕ) (member : Member) (again : Bool) : Type 0 where
+  pub directory : HasDirectory tree path
+  pub given : is_directory (answer old (queries.Stat user path)) ≡ false → again ≡ false → IsGiven directory.stat member
+
+-- whether what is made as something, at a path of its own, is a directory of these steps (this project)
+abbrev pub is_made_at : Result Made MemberFault → List ℕ → List ℕ → Bool
+is_made_at (Ok Directory) path steps = bytes_eq (joined (steps_of path)) steps
+is_made_at (Ok File) path steps = false
+is_made_at (Ok Link) path steps = false
+is_made_at (Err fault) path steps = false
+
+-- whether a member is the directory of these steps (this project)
+abbrev pub is_for : List ℕ → Member → Bool
+is_for steps member = is_made_at (made_as member.header.flag member.path) member.path steps
+
+-- whether one of some members is the directory of these steps (this project)
+abbrev pub is_among : List Member → List ℕ → Bool
+is_among all steps = list_any (is_for steps) all
+
+-- a tree has a member below a path, as what it is to be made as, which another tree came to have; one that can't be made it hasn't (POSIX, ustar interchange format)
+abbrev pub HasMember : Tree → Tree → List ℕ → ℕ → Member → List Member → Result Made MemberFault → Type 0
+HasMember old tree base now member later (Ok File) = HasMemberFile tree (below base member.path) now member
+HasMember old tree base now member later (Ok Link) = HasLink tree (below base member.link) (below base member.path)
+HasMember old tree base now member later (Ok Directory) =
+    HasMemberDirectory old tree (below base member.path) member (is_among later (joined (steps_of member.path)))
+HasMember old tree base now member later (Err fault) = ⊥
 
 -- and has each of some members (POSIX, ustar interchange format)
-unfoldable pub HasMembers : Tree → List ℕ → ℕ → List Member → Type 0
-HasMembers tree base now [] = Unit {0}
-HasMembers tree base now (member ∷ rest) =
-    HasMember tree base now member (made_as member.header.flag member.path) × HasMembers tree base now rest
+unfoldable pub HasMembers : Tree → Tree → List ℕ → ℕ → List Member → Type 0
+HasMembers old tree base now [] = Unit {0}
+HasMembers old tree base now (member ∷ later) =
+    HasMember old tree base now member later (made_as member.header.flag member.path) × HasMembers old tree base now later
 
--- and has all members of an archive, which can be read (POSIX, ustar interchange format)
-unfoldable pub HasArchive : Tree → List ℕ → ℕ → Result (List Member) ArchiveFault → Type 0
-HasArchive tree base now (Ok all) = HasMembers tree base now all
-HasArchive tree base now (Err fault) = ⊥
+-- a path leads to the node of which this was told before, which keeps its kind, permissions, owner and group; if it is no directory, its size and the time of its last change too, and a regular file its bytes (stat, read)
+pub record KeepsNode (old tree : Tree) (path : List ℕ) (told : Stat) : Type 0 where
+  pub stat : Stat
+  pub found : answer tree (queries.Stat user path) ≡ Ok (replies.Stat stat)
+  pub number : stat.number ≡ told.number
+  pub kind : stat.kind ≡ told.kind
+  pub permissions : stat.permissions ≡ told.permissions
+  pub uid : stat.uid ≡ told.uid
+  pub gid : stat.gid ≡ told.gid
+  pub size : told.kind ≢ kinds.Directory → stat.size ≡ told.size
+  pub modified : told.kind ≢ kinds.Directory → stat.modified ≡ told.modified
+  pub read : told.kind ≡ kinds.Regular → (offset len : ℕ)
+      → answer tree (queries.Read user path offset len) ≡ answer old (queries.Read user path offset len)
+
+-- each path that led to a node of a tree leads to it still (stat)
+abbrev pub KeepsNodes : Tree → Tree → Type 0
+KeepsNodes old tree = (path : List ℕ) (told : Stat) → answer old (queries.Stat user path) ≡ Ok (replies.Stat told) → KeepsNode old tree path told
+
+-- a tree has all members of an archive, which can be read, and keeps what another one had (POSIX, ustar interchange format)
+unfoldable pub HasArchive : Tree → Tree → List ℕ → ℕ → Result (List Member) ArchiveFault → Type 0
+HasArchive old tree base now (Ok all) = HasMembers old tree base now all × KeepsNodes old tree
+HasArchive old tree base now (Err fault) = ⊥

@@ -61,7 +61,7 @@ pub fn import(
     now: u32,
 ) -> Result<Vec<u8>, ImportFault>
     ensures made { IfOk result (λ bytes. Imports edition image.items (calls_to_make (reads_as edition image.items).tree archive.items base.now now) bytes.items) }
-    ensures members { IfOk result (λ bytes. HasArchive (reads_as edition bytes.items).tree base.now now (members archive.items)) }
+    ensures members { IfOk result (λ bytes. HasArchive (reads_as edition image.items).tree (reads_as edition bytes.items).tree base.now now (members archive.items)) }
     ensures fault { IfErr result (IsReason edition image.items (calls_to_make (reads_as edition image.items).tree archive.items base.now now)) }
 {
     let mut volume = mount(alloc, edition, image)?;

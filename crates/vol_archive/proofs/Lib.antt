@@ -10,6 +10,7 @@ pub mod NamedEntries
 pub mod Outputs
 pub mod Rings
 pub mod Roles
+pub mod RoomyPaths
 pub mod TreeMembers
 pub mod WalkSteps
 pub mod WholeDirectories

@@ -2,6 +2,7 @@ pub mod ArchiveFronts
 mod DotWalks
 mod DraftRuns
 mod DraftedMembers
+mod ExportedMembers
 mod GrownTrees
 pub mod ImportFaults
 mod KeptNodes
@@ -13,5 +14,7 @@ mod MemberCalls
 pub mod MemberRuns
 pub mod PlanRuns
 pub mod RecordRuns
+mod SplitPaths
 pub mod Steps
 pub mod TreeWalks
+mod WrittenMembers

@@ -5,6 +5,7 @@ pub use Rattle.vol_judge.specs.Sound
 pub use Rattle.vol_volume.specs.Answer
 pub use Rattle.vol_volume.specs.Volume
 pub mod Entries
+pub mod ExportedMembers
 pub mod Faults
 pub mod Making
 pub mod MadeMembers
@@ -12,3 +13,4 @@ pub mod Members
 pub mod Names
 pub mod Plan
 pub mod Records
+pub mod WrittenMembers

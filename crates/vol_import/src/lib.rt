@@ -6,6 +6,7 @@ mod closing;
 mod drafting;
 pub mod entries;
 pub mod faults;
+pub mod laws;
 pub mod long_names;
 pub mod making;
 pub mod planning;

@@ -9,7 +9,13 @@ import json, random, socket, struct, subprocess, sys
 LOOKUP, FORGET, GETATTR, OPEN, READ, STATFS, RELEASE, INIT, OPENDIR, READDIR, RELEASEDIR = 1, 2, 3, 14, 15, 17, 18, 26, 27, 28, 29
 INTERRUPT, NOTIFY_REPLY, BATCH_FORGET = 36, 41, 42
 UNANSWERED = {FORGET, INTERRUPT, NOTIFY_REPLY, BATCH_FORGET}
-CHANGES = {4: "SETATTR", 6: "SYMLINK", 8: "MKNOD", 9: "MKDIR", 10: "UNLINK", 11: "RMDIR", 12: "RENAME", 13: "LINK", 16: "WRITE", 35: "CREATE"}
+SETATTR, SYMLINK, MKNOD, MKDIR, UNLINK, RMDIR, RENAME, LINK, WRITE, CREATE, RENAME2 = 4, 6, 8, 9, 10, 11, 12, 13, 16, 35, 45
+# What changes a volume, each with a whole body.
+CHANGES = {
+    "SETATTR": (SETATTR, bytes(88)), "SYMLINK": (SYMLINK, b"new\0old\0"), "MKNOD": (MKNOD, bytes(16) + b"new\0"), "MKDIR": (MKDIR, bytes(8) + b"new\0"),
+    "UNLINK": (UNLINK, b"new\0"), "RMDIR": (RMDIR, b"new\0"), "RENAME": (RENAME, bytes(8) + b"old\0new\0"), "LINK": (LINK, bytes(8) + b"new\0"),
+    "WRITE": (WRITE, bytes(40)), "CREATE": (CREATE, bytes(16) + b"new\0"), "RENAME2": (RENAME2, bytes(16) + b"old\0new\0"),
+}
 ROOT = 1
 ENOENT, ENOSYS, ENAMETOOLONG, EROFS = 2, 38, 36, 30
 
@@ -233,9 +239,8 @@ def compare_tree(program, edition, image):
     blocks = int(dict(line.split()[:2] for line in printed(program, "super", edition, image).decode().splitlines())["fsize"])
     check("the size of the volume", (0, True), (error, struct.unpack_from("<Q", body)[0] <= blocks))
     check("the length of names", 14, struct.unpack_from("<I", body, 44)[0])
-    for opcode, name in CHANGES.items():
-        error, _ = kernel.ask(opcode, ROOT, struct.pack("<16I", *16 * [0]) + b"new\0new\0")
-        check(f"{name} is refused", True, error in (EROFS, ENOSYS))
+    for name, (opcode, body) in CHANGES.items():
+        check(f"{name} is refused", EROFS, kernel.ask(opcode, ROOT, body)[0])
     status, said = kernel.end()
     check("the status", 0, status)
     print(f"{count} files; {said.strip()}")

@@ -59,10 +59,6 @@ abbrev pub is_change : ℕ → Bool
 is_change opcode =
     (opcode == 4) || (opcode == 6) || (nat_le 8 opcode && nat_le opcode 13) || (opcode == 16) || (opcode == 35) || (opcode == 43) || (opcode == 45) || (opcode == 47)
 
--- why an operation is refused that isn't one of those served (this project)
-abbrev pub refusal_of : ℕ → RequestRefusal
-refusal_of opcode = if is_change opcode then ReadOnly else Unserved
-
 -- the reply to OPEN of a node of some kind: only a regular file, and only to be read; the kernel may keep the bytes that it has (FOPEN_KEEP_CACHE; O_ACCMODE)
 abbrev pub open_by : Kind → ℕ → ℕ → Result (List ℕ) RequestRefusal
 open_by kinds.Regular unique flags = if flags % 4 == 0 then Ok (open_message unique 0 2) else Err ReadOnly
@@ -120,16 +116,21 @@ node_reply geometry image unique i (operations.Read handle offset size) = read_r
 node_reply geometry image unique i (operations.ReadDir handle offset size) = listing_reply geometry image unique i offset size
 node_reply geometry image unique i _ = Err Unserved
 
--- the reply to an operation, or why it is refused (fuse_opcode)
-unfoldable pub operation_reply : Geometry → List ℕ → Header → Operation → Result (List ℕ) RequestRefusal
-operation_reply geometry image header (operations.Init major minor max_readahead flags) = init_reply header.unique major max_readahead flags
-operation_reply geometry image header operations.StatFs = Ok (statfs_message header.unique (statistics_of geometry image))
-operation_reply geometry image header operations.Destroy = Ok (status_message header.unique 0)
-operation_reply geometry image header (operations.Release handle) = Ok (status_message header.unique 0)
-operation_reply geometry image header (operations.ReleaseDir handle) = Ok (status_message header.unique 0)
-operation_reply geometry image header (operations.Other opcode) = Err (refusal_of opcode)
-operation_reply geometry image header operation =
+-- the reply to an operation that changes nothing, or why it is refused (fuse_opcode)
+unfoldable pub served_reply : Geometry → List ℕ → Header → Operation → Result (List ℕ) RequestRefusal
+served_reply geometry image header (operations.Init major minor max_readahead flags) = init_reply header.unique major max_readahead flags
+served_reply geometry image header operations.StatFs = Ok (statfs_message header.unique (statistics_of geometry image))
+served_reply geometry image header operations.Destroy = Ok (status_message header.unique 0)
+served_reply geometry image header (operations.Release handle) = Ok (status_message header.unique 0)
+served_reply geometry image header (operations.ReleaseDir handle) = Ok (status_message header.unique 0)
+served_reply geometry image header (operations.Other opcode) = Err Unserved
+served_reply geometry image header operation =
     answered (number_at geometry.edition header.node) (λ i. node_reply geometry image header.unique i operation)
+
+-- the reply to an operation, or why it is refused: all that would change the volume is (this project)
+abbrev pub operation_reply : Geometry → List ℕ → Header → Operation → Result (List ℕ) RequestRefusal
+operation_reply geometry image header operation =
+    if is_change header.opcode then Err ReadOnly else served_reply geometry image header operation
 
 -- a reply, or the message of an error by its number (fuse_out_header)
 abbrev pub message_of : ℕ → Result (List ℕ) RequestRefusal → List ℕ

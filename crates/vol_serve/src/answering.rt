@@ -1,6 +1,6 @@
 //! The reply to one request.
 ghost use Rattle.std.specs.Prelude.{◌≡◌, if◌then◌else◌, Some, None, Ok, Err, MatchResult};
-ghost use Rattle.vol_serve.specs.Answers.{reply_to, waited_for, operation_reply, init_reply, number_at, refusal_of};
+ghost use Rattle.vol_serve.specs.Answers.{reply_to, waited_for, operation_reply, served_reply, init_reply, number_at, is_change};
 ghost use Rattle.vol_serve.specs.Errno.{errno};
 ghost use Rattle.fuse_words.specs.Replies.{status_message};
 
@@ -50,8 +50,7 @@ fn refuse(header: &Header, refusal: RequestRefusal, room: &mut Room)
     room.reply.put_status(header.unique, errno(refusal));
 }
 
-/// Puts the reply to an operation into `room`, if it isn't refused.
-#[tactic(auto, unfolding(crate::specs::Answers::operation_reply))]
+/// Puts the reply to an operation into `room`, if it isn't refused. One that would change the volume is.
 fn put_reply(
     served: &Served<'_>,
     header: &Header,
@@ -61,6 +60,24 @@ fn put_reply(
     ensures { MatchResult result
         (λ _. operation_reply served.now.geometry.now served.now.image.now header.now operation.entry ≡ Ok room.new.reply)
         (λ refusal. operation_reply served.now.geometry.now served.now.image.now header.now operation.entry ≡ Err refusal) }
+{
+    if is_change(header.opcode) {
+        return Err(RequestRefusal::ReadOnly);
+    }
+    put_served(served, header, operation, room)
+}
+
+/// Puts the reply to an operation that changes nothing into `room`, if it isn't refused.
+#[tactic(auto, unfolding(crate::specs::Answers::served_reply))]
+fn put_served(
+    served: &Served<'_>,
+    header: &Header,
+    operation: Operation<'_>,
+    room: &mut Room,
+) -> Result<(), RequestRefusal>
+    ensures { MatchResult result
+        (λ _. served_reply served.now.geometry.now served.now.image.now header.now operation.entry ≡ Ok room.new.reply)
+        (λ refusal. served_reply served.now.geometry.now served.now.image.now header.now operation.entry ≡ Err refusal) }
 {
     let unique = header.unique;
     match operation {
@@ -74,7 +91,7 @@ fn put_reply(
         Operation::Destroy | Operation::Release { .. } | Operation::ReleaseDir { .. } => {
             room.reply.put_status(unique, 0)
         }
-        Operation::Other(opcode) => return Err(unserved(opcode)),
+        Operation::Other(_) => return Err(RequestRefusal::Unserved),
         operation => {
             let i = number_at(served, header.node)?;
             reply_of_node(served, unique, i, operation, room)?
@@ -118,13 +135,10 @@ fn put_init(
     Ok(())
 }
 
-/// Why an operation that isn't one of those served is refused.
-fn unserved(opcode: u32) -> RequestRefusal
-    ensures { result ≡ refusal_of opcode }
+/// True if an operation would change the volume: SETATTR, SYMLINK, MKNOD to LINK, WRITE, CREATE, FALLOCATE, RENAME2 or
+/// COPY_FILE_RANGE.
+fn is_change(opcode: u32) -> bool
+    ensures { result ≡ is_change opcode }
 {
-    match opcode {
-        // SETATTR, SYMLINK, MKNOD to LINK, WRITE, CREATE, FALLOCATE, RENAME2, COPY_FILE_RANGE
-        4 | 6 | 8..=13 | 16 | 35 | 43 | 45 | 47 => RequestRefusal::ReadOnly,
-        _ => RequestRefusal::Unserved,
-    }
+    matches!(opcode, 4 | 6 | 8..=13 | 16 | 35 | 43 | 45 | 47)
 }

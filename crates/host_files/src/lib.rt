@@ -9,5 +9,5 @@ mod volume_front;
 
 pub use image_file::{ImageFiles, Kind, OpenFault, Stamp, expect_image, open_image, open_stamped};
 pub use noted::{Noted, noted_reader, noted_writer};
-pub use saving_file::{Content, is_pipe, save_file};
+pub use saving_file::{Content, HeldFile, is_pipe, save_file, save_held};
 pub use volume_front::{FrontFault, UpTo, read_up_to};

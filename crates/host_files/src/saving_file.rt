@@ -1,7 +1,7 @@
 //! Saving an image in a file, so that a failure leaves the file that was there.
 ghost use Rattle.std.specs.Prelude.{◌≡◌, true, IfOk, IfSome, OnErr, OnOk};
 ghost use Rattle.std.specs.Path.{path_bytes, path_buf_bytes};
-ghost use Rattle.host_files.specs.Saving.{IsBeside, Grows, Saves};
+ghost use Rattle.host_files.specs.Saving.{IsBeside, Grows, Saves, IsPlaced, Holds};
 
 use crate::image_file::{ImageFiles, Kind, Stamp};
 use crate::noted::noted_writer;
@@ -26,6 +26,9 @@ const REPLACED: &str = "another program has put another file in its place";
 
 /// The message for a new file whose name another program gave to something else.
 const MOVED: &str = "another program moved the new file that was to take its place";
+
+/// The message for a new file that another program has locked.
+const TAKEN: &str = "another program has locked the new file that was to take its place";
 
 /// What is told of a path at which too many symbolic links begin.
 const TOO_MANY_LINKS: &str = "more than 40 symbolic links lead on from it";
@@ -55,6 +58,24 @@ struct Replaced {
     stamp: Stamp,
     /// Its owner, its group and its permissions.
     metadata: Metadata,
+}
+
+/// Where a content was saved, and the stamp that the file there has now.
+#[derive(Drop)]
+enum Place<F> {
+    /// In a new file that took the old one's place, and is locked.
+    New(F, Stamp),
+    /// In the file that was there, which is no regular file.
+    Old(Stamp),
+}
+
+/// The file of an image that stays open and locked while its image is saved in it, as often as it changes.
+#[derive(Drop)]
+pub struct HeldFile<F> {
+    /// The file.
+    pub file: F,
+    /// The stamp that it had when it was read or saved last.
+    pub stamp: Stamp,
 }
 
 impl Content<'_> {
@@ -90,6 +111,43 @@ pub fn save_file<R: ImageFiles + AllocGlobal>(
     ensures saved { OnOk result (Saves R.File.contents content.entry) }
     ensures unchanged { OnOk result (IfSome read R.stood) }
 {
+    put_content(rt, path, read, content)?;
+    Ok(())
+}
+
+/// Saves a content in the file `path`, from which `held` was opened and locked, as [`save_file`] does if `read` is the stamp of `held`. The
+/// new file is locked before it takes the old one's place, and is held from then on: so no other command comes between two saves.
+/// What is no regular file stays held.
+///
+/// The errors are those of [`save_file`], and `held` stays as it was.
+pub fn save_held<R: ImageFiles + AllocGlobal>(
+    rt: &R,
+    path: &str,
+    held: &mut HeldFile<R::File>,
+    content: Content<'_>,
+) -> io::Result<()>
+    ensures saved { OnOk result (Saves R.File.contents content.entry) }
+    ensures unchanged { OnOk result (R.stood held.old.stamp) }
+    ensures held { OnOk result (Holds R.File.contents R.had content.entry held.old held.new) }
+    ensures kept { OnErr result (held.new ≡ held.old) }
+{
+    match put_content(rt, path, Some(held.stamp), content)? {
+        Place::New(file, stamp) => *held = HeldFile { file, stamp },
+        Place::Old(stamp) => held.stamp = stamp,
+    }
+    Ok(())
+}
+
+/// Saves a content in the file `path`, as [`save_file`] says, and returns where it is.
+fn put_content<R: ImageFiles + AllocGlobal>(
+    rt: &R,
+    path: &str,
+    read: Option<Stamp>,
+    content: Content<'_>,
+) -> io::Result<Place<R::File>>
+    ensures saved { IfOk result (IsPlaced R.File.contents R.had content.entry) }
+    ensures unchanged { OnOk result (IfSome read R.stood) }
+{
     match OpenOptions::new().write(true).open(rt, path) {
         Ok(file) => {
             let metadata = file.metadata()?;
@@ -101,8 +159,8 @@ pub fn save_file<R: ImageFiles + AllocGlobal>(
             } else {
                 expect_unchanged(rt, path, read)?;
                 expect_same(stamp, rt.stamp_at(path)?)?;
-                write_in_place(file, content)?;
-                Ok(())
+                let file = write_in_place(file, content)?;
+                Ok(Place::Old(rt.stamp_of(&file)?))
             }
         }
         Err(error) if error.kind() == ErrorKind::NotFound => {
@@ -176,48 +234,58 @@ fn is_end(error: io::Error) -> bool {
 }
 
 /// Puts a new file with this content in the place of `path`, which is no symbolic link, and still has the stamp `read`, if one is given.
+/// Returns the new file, locked.
 fn replace<R: ImageFiles + AllocGlobal>(
     rt: &R,
     path: Path<'_>,
     old: Option<&Replaced>,
     read: Option<Stamp>,
     content: Content<'_>,
-) -> io::Result<()>
-    ensures saved { OnOk result (Saves R.File.contents content.entry) }
+) -> io::Result<Place<R::File>>
+    ensures saved { IfOk result (IsPlaced R.File.contents R.had content.entry) }
     ensures unchanged { OnOk result (IfSome read R.stood) }
 {
     expect_there(rt, path.as_str(), old)?;
     let (file, beside) = new_file(rt, path, old.is_some())?;
     let result = match fill(rt, file, old, content) {
-        Ok(file) => rename_over(rt, &file, beside.as_path(), path, old, read),
+        Ok(file) => rename_over(rt, file, beside.as_path(), path, old, read),
         Err(error) => Err(error),
     };
-    if result.is_err() {
-        let _ = fs::remove_file(rt, beside.as_path());
+    match result {
+        Ok((file, stamp)) => Ok(Place::New(file, stamp)),
+        Err(error) => {
+            let _ = fs::remove_file(rt, beside.as_path());
+            Err(error)
+        }
     }
-    result
 }
 
-/// Puts the new file, open as `file` with the name `beside`, in the place of `path`. Each of the two names must be that of the same file as before,
-/// and the old one must have the stamp `read` still.
+/// Locks the new file `file`, which has the name `beside`, puts it in the place of `path`, and returns it with its stamp. Each of the two
+/// names must be that of the same file as before, and the old one must have the stamp `read` still.
 fn rename_over<R: ImageFiles>(
     rt: &R,
-    file: &R::File,
+    file: R::File,
     beside: Path<'_>,
     path: Path<'_>,
     old: Option<&Replaced>,
     read: Option<Stamp>,
-) -> io::Result<()>
-    ensures { OnOk result (IfSome read R.stood) }
+) -> io::Result<(R::File, Stamp)>
+    ensures same { IfOk result (λ renamed. renamed.0 ≡ file) }
+    ensures stamp { IfOk result (λ renamed. R.had renamed.0 renamed.1) }
+    ensures unchanged { OnOk result (IfSome read R.stood) }
 {
+    if !rt.try_lock(&file) {
+        return Err(io::Error::new(ErrorKind::ResourceBusy, TAKEN));
+    }
+    let stamp = rt.stamp_of(&file)?;
     expect_unchanged(rt, path.as_str(), read)?;
     expect_there(rt, path.as_str(), old)?;
-    if !rt.stamp_of_name(beside.as_str())?.is_of(rt.stamp_of(file)?) {
+    if !rt.stamp_of_name(beside.as_str())?.is_of(stamp) {
         return Err(io::Error::new(ErrorKind::ResourceBusy, MOVED));
     }
     fs::rename(rt, beside, path)?;
     sync_folder(rt, path);
-    Ok(())
+    Ok((file, stamp))
 }
 
 /// Sees the names in the folder of `path` on the disk, if the system lets it: the image is whole in any case.

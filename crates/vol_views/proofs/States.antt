@@ -9,7 +9,7 @@ use Rattle.vol_volume.specs.Journal.{after, MayAnswer, MayFollow}
 use Rattle.vol_volume.specs.Step.{step}
 use Rattle.vol_volume.specs.Verdict.{verdict}
 use Rattle.vol_volume.specs.declared.calls.Call.{Call}
-use Rattle.vol_volume.specs.declared.calls.Call.TheVariants.{Create, Mkdir, Link, Unlink, Rmdir, Write, Truncate, Chmod, Chown}
+use Rattle.vol_volume.specs.declared.calls.Call.TheVariants.{Create, Mkdir, Link, Unlink, Rmdir, Write, Truncate, Chmod, Chown, Times}
 use Rattle.vol_volume.specs.declared.calls.Done.{Done}
 use Rattle.vol_volume.specs.declared.calls.Done.TheVariants.{Made, Wrote, Plain}
 use Rattle.vol_volume.specs.declared.calls.Record.{Record}
@@ -62,6 +62,9 @@ answer_is state (Chmod cred now path perm) Plain e = tt
 answer_is state (Chown cred now path uid gid) (Made i) e = true≢false (sym e)
 answer_is state (Chown cred now path uid gid) (Wrote n) e = true≢false (sym e)
 answer_is state (Chown cred now path uid gid) Plain e = tt
+answer_is state (Times cred now path atime mtime) (Made i) e = true≢false (sym e)
+answer_is state (Times cred now path atime mtime) (Wrote n) e = true≢false (sym e)
+answer_is state (Times cred now path atime mtime) Plain e = tt
 
 pub is_answered : (state : State) (call : Call) (done : Done) → MayAnswer state call done → is_answer state call done ≡ true
 is_answered state (Create cred now path perm) (Made i) h = h
@@ -91,6 +94,9 @@ is_answered state (Chmod cred now path perm) Plain h = refl
 is_answered state (Chown cred now path uid gid) (Made i) h = absurd h
 is_answered state (Chown cred now path uid gid) (Wrote n) h = absurd h
 is_answered state (Chown cred now path uid gid) Plain h = refl
+is_answered state (Times cred now path atime mtime) (Made i) h = absurd h
+is_answered state (Times cred now path atime mtime) (Wrote n) h = absurd h
+is_answered state (Times cred now path atime mtime) Plain h = refl
 
 none_is : (refusal : Option Refusal) → is_none refusal ≡ true → refusal ≡ None
 none_is None e = refl

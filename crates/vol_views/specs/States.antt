@@ -5,7 +5,7 @@ use Rattle.vol_volume.specs.Journal.{after}
 use Rattle.vol_volume.specs.Step.{step}
 use Rattle.vol_volume.specs.Verdict.{verdict, is_free_number}
 use Rattle.vol_volume.specs.declared.calls.Call.{Call}
-use Rattle.vol_volume.specs.declared.calls.Call.TheVariants.{Create, Mkdir, Link, Unlink, Rmdir, Write, Truncate, Chmod, Chown}
+use Rattle.vol_volume.specs.declared.calls.Call.TheVariants.{Create, Mkdir, Link, Unlink, Rmdir, Write, Truncate, Chmod, Chown, Times}
 use Rattle.vol_volume.specs.declared.calls.Done.{Done}
 use Rattle.vol_volume.specs.declared.calls.Done.TheVariants.{Made, Wrote, Plain}
 use Rattle.vol_volume.specs.declared.calls.Record.{Record}
@@ -25,6 +25,7 @@ is_answer state (Rmdir cred now path) Plain = true
 is_answer state (Truncate cred now path size) Plain = true
 is_answer state (Chmod cred now path perm) Plain = true
 is_answer state (Chown cred now path uid gid) Plain = true
+is_answer state (Times cred now path atime mtime) Plain = true
 is_answer state _ _ = false
 
 -- whether a record may come next (this project)

@@ -3,6 +3,7 @@ pub mod Gatherings
 pub mod Found
 pub mod Tallies
 pub mod UseLaws
+pub mod LostNames
 pub mod Shared
 pub mod LaidOut
 pub mod Named

@@ -7,6 +7,7 @@ pub use Rattle.vol_reports.specs.Blocks
 pub mod Extents
 pub mod Inspecting
 pub mod Laws
+pub mod Lost
 pub mod Texts
 pub mod Placing
 pub mod Sharing

@@ -1,0 +1,8 @@
+use Rattle.std.proofs.Common.{◌≡◌, ◌-◌}
+use Rattle.std.specs.List.{filter, range_with_len}
+use Rattle.vol_inspect.specs.Lost.{is_lost}
+use Rattle.vol_inspect.proofs.lost.lost_inodes.Given as goal
+
+-- those before i are there
+abbrev pub invariant-loop-i : goal.invariant-loop-i
+invariant-loop-i l = l.lost.items ≡ filter (is_lost l.geometry l.image l.named.items) (range_with_len 0 (l.i - 0))

@@ -1,0 +1,43 @@
+-- The i-nodes that no entry names.
+use Rattle.std.specs.Prelude.{◌≡◌, ℕ, ◌+◌, ◌<◌, ◌≤◌, ◌&&◌, Bool, true, false, not, nat_lt, List, filter, length, slice_index_or}
+use Rattle.std.specs.List.{range_with_len}
+use Rattle.vol_layout.specs.declared.geometry.Geometry.{Geometry}
+use Rattle.vol_layout.specs.declared.mode.Kind.{Kind}
+use Rattle.vol_layout.specs.declared.mode.Kind.TheVariants as kinds
+use Rattle.vol_file.specs.Rules.{kind_at}
+use Rattle.vol_judge.specs.Directories.{root_of, Enters}
+use Rattle.vol_judge.specs.InodeMarks.{IsEnteredBefore}
+
+-- whether an i-node of a kind has something to be brought back: it is allocated, and its mode is one of the edition's (this project)
+abbrev pub has_content : Kind → Bool
+has_content kinds.Regular = true
+has_content kinds.Directory = true
+has_content kinds.Special = true
+has_content kinds.Free = false
+has_content kinds.Odd = false
+
+-- i is an i-number of the volume (manual section 5, file system)
+pub record IsInList (geometry : Geometry) (i : ℕ) : Type 0 where
+  pub first : 1 ≤ i
+  pub last : i ≤ geometry.last_inode
+
+-- the marks say of each i-number whether an entry other than `.` and `..` is for it (ncheck)
+pub record KnowsNamed (geometry : Geometry) (image : List ℕ) (named : List Bool) : Type 0 where
+  pub room : length named ≡ geometry.last_inode + 1
+  pub all : (d s i : ℕ) → i ≤ geometry.last_inode → Enters geometry image d s i → slice_index_or named i false ≡ true
+  pub only : (i : ℕ) → slice_index_or named i false ≡ true → (d : ℕ) × (s : ℕ) × Enters geometry image d s i
+
+-- the marks say so of the entries before a place (ncheck)
+pub record NamedBefore (geometry : Geometry) (image : List ℕ) (place : ℕ) (named : List Bool) : Type 0 where
+  pub room : length named ≡ geometry.last_inode + 1
+  pub all : (i : ℕ) → i ≤ geometry.last_inode → IsEnteredBefore geometry image place i → slice_index_or named i false ≡ true
+  pub only : (i : ℕ) → slice_index_or named i false ≡ true → (d : ℕ) × (s : ℕ) × Enters geometry image d s i
+
+-- whether i-node i is lost, by marks of those that an entry names: it is above the root, has something to be brought back, and has no name (ncheck; this project)
+abbrev pub is_lost : Geometry → List ℕ → List Bool → ℕ → Bool
+is_lost geometry image named i = nat_lt (root_of geometry) i && (has_content (kind_at geometry image i) && not (slice_index_or named i false))
+
+-- these are the lost i-nodes, ascending (ncheck; this project)
+abbrev pub AreLost : Geometry → List ℕ → List ℕ → Type 0
+AreLost geometry image lost =
+    (named : List Bool) × KnowsNamed geometry image named × (lost ≡ filter (is_lost geometry image named) (range_with_len 0 (geometry.last_inode + 1)))

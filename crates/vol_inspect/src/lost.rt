@@ -1,0 +1,104 @@
+//! The i-nodes that no entry names.
+ghost use Rattle.std.specs.Prelude.{◌≡◌, ◌+◌, ◌++◌, ◌∷◌, [], ◌≤◌, ℕ, All, List, IfOk, OnOk, length, if◌then◌else◌};
+ghost use Rattle.vol_layout.specs.Geometry.{Fits};
+ghost use Rattle.vol_layout.specs.declared.geometry.Geometry.{Geometry};
+ghost use Rattle.vol_judge.specs.Stepping.{rank, IsNextSlot};
+ghost use Rattle.vol_inspect.specs.Lost.{has_content, is_lost, AreLost, IsInList, KnowsNamed, NamedBefore};
+
+use pdp_words::Image;
+use std::alloc::{AllocError, Global};
+use vol_file::no_marks;
+use vol_judge::reading::{Entry, Place, next_entry};
+use vol_layout::i_list::kind;
+use vol_layout::{Geometry, Kind};
+
+/// The i-nodes that no entry names, in ascending order: regular files, directories and special files above the root's i-number for
+/// which no directory has an entry other than `.` and `..`. The image may be any bytes otherwise. Of directories that name one another,
+/// and of what is below a directory that no entry names, none is among them.
+///
+/// Costs a look at each i-node, and at each slot of each directory, less those below blocks that were found without entries before.
+/// Takes a byte for each i-number, three for each block, and two for each that is found.
+pub fn lost_inodes(
+    alloc: Global,
+    image: &Image,
+    geometry: &Geometry,
+) -> Result<Vec<u16>, AllocError>
+    requires { Fits geometry.now image.now }
+    ensures lost { IfOk result (λ lost. AreLost geometry.now image.now lost.items) }
+    ensures numbers { IfOk result (λ lost. All (IsInList geometry.now) lost.items) }
+{
+    let named = named_inodes(alloc, image, geometry)?;
+    let mut lost = Vec::new(alloc);
+    for i in 0..u32::from(geometry.last_inode) + 1 {
+        push_lost(image, geometry, &named, i as u16, &mut lost)?;
+    }
+    Ok(lost)
+}
+
+/// Appends an i-number, if its i-node is lost.
+fn push_lost(
+    image: &Image,
+    geometry: &Geometry,
+    named: &[bool],
+    i: u16,
+    lost: &mut Vec<u16>,
+) -> Result<(), AllocError>
+    requires fits { Fits geometry.now image.now }
+    requires last { i ≤ geometry.now.last_inode }
+    requires room { length named.now ≡ geometry.now.last_inode + 1 }
+    ensures { OnOk result (lost.new.items ≡ lost.old.items ++ (if is_lost geometry.now image.now named.now i then i ∷ [] else [])) }
+{
+    if is_lost(image, geometry, named, i) {
+        lost.push(i)?;
+    }
+    Ok(())
+}
+
+/// Whether i-node `i` is lost, by whether an entry names each.
+fn is_lost(image: &Image, geometry: &Geometry, named: &[bool], i: u16) -> bool
+    requires fits { Fits geometry.now image.now }
+    requires last { i ≤ geometry.now.last_inode }
+    requires room { length named.now ≡ geometry.now.last_inode + 1 }
+    ensures { result ≡ is_lost geometry.now image.now named.now i }
+{
+    i > geometry.edition.constants().root
+        && has_content(kind(image, geometry, i))
+        && !named[i as usize]
+}
+
+/// Whether an i-node of a kind has something to be brought back.
+fn has_content(kind: Kind) -> bool
+    ensures { result ≡ has_content kind }
+{
+    match kind {
+        Kind::Regular | Kind::Directory | Kind::Special => true,
+        Kind::Free | Kind::Odd => false,
+    }
+}
+
+/// Of each i-number whether an entry other than `.` and `..` is for it.
+fn named_inodes(alloc: Global, image: &Image, geometry: &Geometry) -> Result<Vec<bool>, AllocError>
+    requires { Fits geometry.now image.now }
+    ensures { IfOk result (λ named. KnowsNamed geometry.now image.now named.items) }
+{
+    let mut marks = no_marks(alloc, geometry)?;
+    let mut named = vec![in alloc; false; geometry.last_inode as usize + 1]?;
+    let mut place = Place::first();
+    while let Some(entry) = next_entry(image, geometry, place, &mut marks) {
+        note_named(&entry, &mut named);
+        place = entry.next_place();
+    }
+    Ok(named)
+}
+
+/// Notes that an entry names what it is for, unless it is `.` or `..`.
+fn note_named(entry: &Entry, named: &mut [bool])
+    ensures { (geometry : Geometry) (image : List ℕ) (place : ℕ) → NamedBefore geometry image place named.old
+        → IsNextSlot geometry image place entry.now.directory entry.now.number entry.now.slot
+        → NamedBefore geometry image (rank entry.now.directory (entry.now.number + 1)) named.new }
+{
+    let i = entry.slot.inode as usize;
+    if i < named.len() && !entry.is_dots() {
+        named[i] = true;
+    }
+}

@@ -14,5 +14,5 @@ pub use exporting::{Start, StartFault, export, start_of};
 pub use found::{Found, Reason, Role};
 pub use members::{device_number, put_archive, special_kind};
 pub use names::is_plain;
-pub use walking::walk;
+pub use walking::{walk, walk_lost};
 pub use writing::WriteFault;

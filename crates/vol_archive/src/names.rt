@@ -1,8 +1,8 @@
 //! The entries below a directory, in ascending order of their names.
-ghost use Rattle.std.specs.Prelude.{◌≡◌, ◌++◌, ◌∷◌, [], IfOk, OnOk};
+ghost use Rattle.std.specs.Prelude.{◌≡◌, ◌++◌, ◌∷◌, [], IfOk, OnOk, map};
 ghost use Rattle.vol_layout.specs.Geometry.{Fits};
 ghost use Rattle.vol_dir.specs.Entries.{IsDirectory};
-ghost use Rattle.vol_archive.specs.Walking.{is_plain, path_below, entry_below, pending_below, entries_below};
+ghost use Rattle.vol_archive.specs.Walking.{is_plain, path_below, entry_below, pending_below, entries_below, lost_entry};
 
 use crate::pending::Pending;
 use pdp_words::{Bytes, Image};
@@ -74,6 +74,33 @@ fn path_below(alloc: Global, path: &[u8], name: &[u8]) -> Result<Bytes, AllocErr
     }
     bytes.extend_from_slice(name)?;
     Ok(Bytes::from_vec(bytes))
+}
+
+/// The path of the directory of lost i-nodes.
+pub(crate) const LOST_FOUND: &[u8] = b"lost+found";
+
+/// The entries of lost i-nodes.
+pub(crate) fn lost_entries(alloc: Global, lost: &[u16]) -> Result<Vec<Pending>, AllocError>
+    ensures { IfOk result (λ entries. entries.items ≡ map lost_entry lost.now) }
+{
+    let mut entries = Vec::new(alloc);
+    'lost: for inode in lost {
+        entries.push(lost_entry(alloc, *inode)?)?;
+    }
+    Ok(entries)
+}
+
+/// The entry of a lost i-node.
+#[tactic(auto, unfolding(crate::specs::Walking::lost_entry))]
+fn lost_entry(alloc: Global, inode: u16) -> Result<Pending, AllocError>
+    ensures { IfOk result (λ entry. entry ≡ lost_entry inode) }
+{
+    let path = format!(in alloc; "lost+found/#{inode}")?;
+    Ok(Pending {
+        path: Bytes::from_vec(path.into_bytes()),
+        inode,
+        is_plain: true,
+    })
 }
 
 /// The path of a directory as its member has it, with a slash at its end.

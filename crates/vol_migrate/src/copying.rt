@@ -7,7 +7,7 @@ ghost use Rattle.vol_migrate.specs.Stages.{MayMigrate, HasStage, CarriesTo};
 use crate::counting::{is_file, whole_blocks};
 use crate::slots::raised_slots;
 use pdp_words::{BLOCK, Image};
-use vol_file::{block_at, next_block, write};
+use vol_file::{BlockNumbers, block_at, write};
 use vol_layout::i_list::{kind, size};
 use vol_layout::{Geometry, Kind};
 
@@ -32,10 +32,11 @@ fn copy_file(image: &mut Image, to: &Geometry, old: &Image, from: &Geometry, i: 
     ensures { CarriesTo from.now to.now old.now image.old i 0 image.new (i + 1) 0 }
 {
     let end = whole_blocks(size(old, from, i));
-    let mut b = next_block(old, from, i, 0, end);
+    let mut numbers = BlockNumbers::of(old, from, i);
+    let mut b = numbers.next_block(old, from, 0, end);
     while b < end {
         copy_block(image, to, old, from, i, b);
-        b = next_block(old, from, i, b + 1, end);
+        b = numbers.next_block(old, from, b + 1, end);
     }
 }
 

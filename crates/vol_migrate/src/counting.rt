@@ -13,7 +13,7 @@ ghost use Rattle.vol_migrate.specs.Refusing.{places_needed};
 ghost use Rattle.vol_migrate.specs.Stages.{ComesAfter, file_need, is_new};
 
 use pdp_words::{BLOCK, Image};
-use vol_file::next_block;
+use vol_file::BlockNumbers;
 use vol_layout::i_list::{kind, size};
 use vol_layout::{Edition, Form, Geometry, Kind};
 
@@ -78,11 +78,12 @@ fn places_of_file(old: &Image, from: &Geometry, i: u16) -> u32
     let end = whole_blocks(size(old, from, i));
     let mut places = 0;
     let mut passed = 0;
-    let mut b = next_block(old, from, i, 0, end);
+    let mut numbers = BlockNumbers::of(old, from, i);
+    let mut b = numbers.next_block(old, from, 0, end);
     while b < end {
         places += new_places(b, passed);
         passed = b + 1;
-        b = next_block(old, from, i, passed, end);
+        b = numbers.next_block(old, from, passed, end);
     }
     places
 }

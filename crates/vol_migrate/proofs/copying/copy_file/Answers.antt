@@ -1,7 +1,10 @@
 -- Holes are carried as they are, and each block that there is is carried.
 use Rattle.std.proofs.Common.{◌≡◌, ◌∙◌, ap, subst, ◌+◌, arith}
+use Rattle.vol_layout.specs.Names.{form_at}
 use Rattle.vol_file.specs.Changes.{whole_blocks}
+use Rattle.vol_file.specs.Holes.{IsNextStored}
 use Rattle.vol_file.specs.Rules.{size_of}
+use Rattle.vol_file.specs.Runs.{LooksUp}
 use Rattle.vol_migrate.specs.Stages.{IsStage}
 use Rattle.vol_migrate.proofs.FileShapes.{names_hole}
 use Rattle.vol_migrate.proofs.StageLaws.{file_is_used, stage_holes, stage_next}
@@ -9,8 +12,12 @@ use Rattle.vol_migrate.proofs.copying.copy_file.Goals as goal
 
 pub loop-b-init : goal.loop-b-init
 loop-b-init c =
-    let next = c.next_block-b.ensures in
+    let inode = c.of-numbers.ensures.inode in
+    let own = subst (λ j. LooksUp c.args.from.now c.args.old.now j c.next_block-b.new.self) inode c.next_block-b.ensures.own in
+    let next = subst (λ j. IsNextStored c.args.from.now c.args.old.now j (form_at c.args.from.now c.args.old.now j) 0 c.whole_blocks-end.result c.next_block-b.result)
+    inode c.next_block-b.ensures.next in
     record {
+      numbers = own;
       within = next.within;
       some = λ low none. next.some low none;
       carries = λ now stage.
@@ -25,8 +32,12 @@ copy_block-requires-clause-stage c =
 
 pub loop-b-preserved : goal.loop-b-preserved
 loop-b-preserved c =
-    let next = c.next_block-b-in-loop-b.ensures in
+    let inode = c.loop-b.invariant.numbers.inode in
+    let own = subst (λ j. LooksUp c.args.from.now c.args.old.now j c.next_block-b-in-loop-b.new.self) inode c.next_block-b-in-loop-b.ensures.own in
+    let next = subst (λ j. IsNextStored c.args.from.now c.args.old.now j (form_at c.args.from.now c.args.old.now j) (c.loop-b.b + 1) c.whole_blocks-end.result
+    c.next_block-b-in-loop-b.result) inode c.next_block-b-in-loop-b.ensures.next in
     record {
+      numbers = own;
       within = next.within;
       some = λ low none. next.some low none;
       carries = λ now stage.

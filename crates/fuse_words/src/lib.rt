@@ -12,8 +12,6 @@ mod pushing;
 pub mod reply;
 pub mod reply_buffer;
 pub mod request;
-#[cfg(test)]
-mod tests;
 
 pub use attribute_changes::{AttributeChanges, NewTime};
 pub use directory::{EntryKind, push_entry};

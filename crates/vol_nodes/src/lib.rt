@@ -6,8 +6,6 @@ pub mod fault;
 pub mod laws;
 pub mod names;
 pub mod nodes;
-#[cfg(test)]
-mod tests;
 
 pub use bytes::read;
 pub use fault::NodeFault;

@@ -12,12 +12,8 @@ pub mod node_numbers;
 pub mod node_replies;
 mod served;
 pub mod serving;
-#[cfg(test)]
-mod session;
 pub mod statistics;
 pub mod streams;
-#[cfg(test)]
-mod tests;
 
 pub use messages::{Replies, Requests};
 pub use serving::{ServeFault, serve};

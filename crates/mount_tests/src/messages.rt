@@ -1,4 +1,5 @@
-use crate::{
+//! Requests that a kernel sent, and replies that it took, field by field.
+use fuse_words::{
     AttributeChanges, Entry, EntryKind, NewTime, Operation, ReplyBuffer, Settings, Statistics,
     push_entry, read_request,
 };
@@ -24,18 +25,18 @@ const CHOWN: [u8; 128] =
 \x06\0\0\0\0\0\0\0\0\0\0\0\0\0\0\0\0\0\0\0\0\0\0\0\0\0\0\0\0\0\0\0\0\0\0\0\0\0\0\0\0\0\0\0\0\0\0\0\
 \0\0\0\0\0\0\0\0\0\0\0\0\0\0\0\0\0\0\0\0\0\0\0\0\0\0\0\0\x03\0\0\0\x04\0\0\0\0\0\0\0";
 
-/// SETATTR, as Linux 6.18 sent it for `touch`: both times are to be now.
+/// SETATTR, as Linux 6.18 sent it for `touch`: it sets both times to now.
 const TOUCH: [u8; 128] =
     *b"\x80\0\0\0\x04\0\0\0\x52\0\0\0\0\0\0\0\x02\0\0\0\0\0\0\0\0\0\0\0\0\0\0\0\x79\x65\0\0\0\0\0\0\
 \xb0\x01\0\0\0\0\0\0\0\0\0\0\0\0\0\0\0\0\0\0\0\0\0\0\0\0\0\0\0\0\0\0\x7c\x1c\x09\x6b\0\0\0\0\x7c\x1c\x09\x6b\0\0\0\0\
 \0\0\0\0\0\0\0\0\0\0\0\0\0\0\0\0\0\0\0\0\0\0\0\0\0\0\0\0\0\0\0\0\0\0\0\0\0\0\0\0";
 
-/// RENAME2 of `a` to `c`, not to replace anything, as Linux 6.18 sent it for `mv`.
+/// RENAME2 of `a` to `c`, without replacing anything, as Linux 6.18 sent it for `mv`.
 const RENAME2: [u8; 60] =
     *b"\x3c\0\0\0\x2d\0\0\0\x78\0\0\0\0\0\0\0\x01\0\0\0\0\0\0\0\0\0\0\0\0\0\0\0\x7b\x65\0\0\0\0\0\0\
 \x01\0\0\0\0\0\0\0\x01\0\0\0\0\0\0\0a\0c\0";
 
-/// A reply to READDIR, of which `ls` of Linux 6.18 listed both entries.
+/// A reply to READDIR; from it `ls` of Linux 6.18 listed both entries.
 const LISTED: [u8; 80] = *b"\x50\0\0\0\0\0\0\0\x0c\0\0\0\0\0\0\0\
 \x01\0\0\0\0\0\0\0\x01\0\0\0\0\0\0\0\x01\0\0\0\x04\0\0\0.\0\0\0\0\0\0\0\
 \x05\0\0\0\0\0\0\0\x02\0\0\0\0\0\0\0\x03\0\0\0\x08\0\0\0etc\0\0\0\0\0";

@@ -1,38 +1,13 @@
 //! Requests that a kernel sent, and the replies to them.
+use crate::fixtures::image;
 use crate::session::SESSION;
-use crate::{Replies, ReplyWriter, RequestReader, Requests, ServeFault, serve};
-use pdp_words::Image;
 use pdp_words::testing::{ScriptedReader, ScriptedWriter};
-use pdp_words::words::put_bytes;
 use std::alloc::Global;
-use std::process::Abort;
 use std::test::Fail;
 use vol_layout::{Edition, Geometry};
+use vol_serve::{Replies, ReplyWriter, RequestReader, Requests, ServeFault, serve};
 
-/// A volume of the seventh edition, of ten blocks. I-node 2 is the root, 3 the file `hello`, 4 the block special file `disk`.
-static PIECES: [(usize, &[u8]); 8] = [
-    (512, b"\x04\0\0\0\x0a\0"),
-    (1088, b"\xed\x41\x02\0\0\0\0\0\0\0\x50\0\0\x04\0"),
-    (1152, b"\xa4\x81\x01\0\x03\0\x05\0\0\0\x06\0\0\x05\0"),
-    (1216, b"\x80\x61\x01\0\0\0\0\0\0\0\0\0\0\x07\x01"),
-    (2048, b"\x02\0."),
-    (2080, b"\x03\0hello"),
-    (2096, b"\x04\0disk"),
-    (2560, b"hello\n"),
-];
-
-/// The image of that volume.
-fn image(rt: &impl Abort, alloc: Global) -> Image {
-    let mut bytes = vec![in alloc; 0; 5120].expect(rt, "memory for the image");
-    for (at, piece) in PIECES {
-        if at.saturating_add(piece.len()) <= bytes.len() {
-            put_bytes(&mut bytes, at, piece);
-        }
-    }
-    Image::from_bytes(bytes)
-}
-
-/// The requests of the session, one after the other.
+/// The requests of the session, in order.
 #[derive(Drop)]
 struct Listed {
     next: usize,
@@ -96,7 +71,7 @@ const LOOKUP: [u8; 44] =
 
 #[test]
 fn a_missing_name(rt: HostRuntime) -> Result<(), Fail> {
-    let image = image(&rt, rt.alloc());
+    let image = image(&rt, rt.alloc(), None);
     let geometry = Geometry::read(Edition::V7, &image).expect(&rt, "a geometry");
     let mut requests = RequestReader::new(ScriptedReader::new(&LOOKUP, 44));
     let mut writer = ScriptedWriter::new(rt.alloc(), 1000);
@@ -112,7 +87,7 @@ fn a_missing_name(rt: HostRuntime) -> Result<(), Fail> {
 
 #[test]
 fn a_session(rt: HostRuntime) -> Result<(), Fail> {
-    let image = image(&rt, rt.alloc());
+    let image = image(&rt, rt.alloc(), None);
     let geometry = Geometry::read(Edition::V7, &image).expect(&rt, "a geometry");
     let mut requests = Listed {
         next: 0,
@@ -141,7 +116,7 @@ fn a_session(rt: HostRuntime) -> Result<(), Fail> {
 
 #[test]
 fn a_reply_that_is_not_taken(rt: HostRuntime) -> Result<(), Fail> {
-    let image = image(&rt, rt.alloc());
+    let image = image(&rt, rt.alloc(), None);
     let geometry = Geometry::read(Edition::V7, &image).expect(&rt, "a geometry");
     let mut requests = Listed {
         next: 0,

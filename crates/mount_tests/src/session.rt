@@ -1,6 +1,6 @@
-//! Requests as a Linux kernel lays them out, and the replies to them, of the volume in `tests`: made field by field from fuse.h.
+//! Requests as a Linux kernel lays them out, made field by field from fuse.h, and the replies to them for the volume in `fixtures`.
 
-/// Requests with their replies, in their order; an empty reply is none.
+/// Requests and their replies, in order; an empty reply means that none is sent.
 pub(crate) static SESSION: [(&[u8], &[u8]); 16] = [
     // INIT
     (
@@ -29,7 +29,7 @@ pub(crate) static SESSION: [(&[u8], &[u8]); 16] = [
         \0\0\0\0\0\0\0\0\0\0\0\0\0\0\0\0\0\0\0\0\0\0\0\0\0\0\0\0\0\0\0\0\0\0\0\0\0\0\0\0\x80a\0\0\x01\0\0\0\0\0\0\0\0\0\
         \0\0\x07\x01\0\0\0\x02\0\0\0\0\0\0",
     ),
-    // GETATTR of a number that the root hasn't
+    // GETATTR of a number that isn't used for the root
     (
         b"8\0\0\0\x03\0\0\0\n\0\0\0\0\0\0\0\x02\0\x01\0\0\0\0\0\0\0\0\0\0\0\0\0\x01\0\0\0\0\0\0\0\0\0\0\0\0\0\0\0\0\0\0\0\
         \0\0\0\0",

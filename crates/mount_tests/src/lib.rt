@@ -1,0 +1,13 @@
+//! Tests of a mounted volume: requests and replies field by field, nodes by their i-numbers, and a session with the server.
+#![tactic(auto)]
+
+#[cfg(test)]
+mod fixtures;
+#[cfg(test)]
+mod messages;
+#[cfg(test)]
+mod nodes;
+#[cfg(test)]
+mod served;
+#[cfg(test)]
+mod session;

@@ -596,7 +596,7 @@ Example:
 Each line of a script is NOW UID GID, and then one of these, with single spaces between all words:
   create PATH PERM        mkdir PATH PERM        link FROM TO          unlink PATH        rmdir PATH
   write PATH OFFSET HEX   truncate PATH LENGTH   chmod PATH PERM       chown PATH UID GID
-  stat PATH               read PATH OFFSET LEN   list PATH             cut
+  times PATH ATIME MTIME  stat PATH              read PATH OFFSET LEN  list PATH          cut
 PERM is octal; HEX has two hexadecimal digits for each byte, or is `-` for none. A script whose first line is `view`
 reads without waiting for the others: its other lines are stat, read or list. There may be 16 of them.
 

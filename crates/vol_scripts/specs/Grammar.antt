@@ -24,6 +24,7 @@ command_word commands.Write = codes "write"
 command_word commands.Truncate = codes "truncate"
 command_word commands.Chmod = codes "chmod"
 command_word commands.Chown = codes "chown"
+command_word commands.Times = codes "times"
 command_word commands.Stat = codes "stat"
 command_word commands.Read = codes "read"
 command_word commands.List = codes "list"
@@ -32,7 +33,7 @@ command_word commands.Cut = codes "cut"
 -- all commands (this project)
 abbrev pub all_commands : List Command
 all_commands = commands.Create ∷ commands.Mkdir ∷ commands.Link ∷ commands.Unlink ∷ commands.Rmdir ∷ commands.Write
-    ∷ commands.Truncate ∷ commands.Chmod ∷ commands.Chown ∷ commands.Stat ∷ commands.Read ∷ commands.List ∷ commands.Cut ∷ []
+    ∷ commands.Truncate ∷ commands.Chmod ∷ commands.Chown ∷ commands.Times ∷ commands.Stat ∷ commands.Read ∷ commands.List ∷ commands.Cut ∷ []
 
 -- the command of a word (this project)
 abbrev pub command_named : List ℕ → Option Command
@@ -99,15 +100,15 @@ path_and_bytes words = do
   bytes ← bytes_in given.2
   Some (given.0, offset, bytes)
 
--- `PATH OFFSET LEN` (this project)
-abbrev pub path_and_range : List (List ℕ) → Option (List ℕ × ℕ × ℕ)
-path_and_range words = do
+-- `PATH OFFSET LEN`, or `PATH ATIME MTIME` (this project)
+abbrev pub path_and_numbers : List (List ℕ) → Option (List ℕ × ℕ × ℕ)
+path_and_numbers words = do
   given ← three_of words
-  offset ← long_in given.1
-  number ← long_in given.2
-  Some (given.0, offset, number)
+  first ← long_in given.1
+  second ← long_in given.2
+  Some (given.0, first, second)
 
--- what a command asks for with the words after it: `create PATH PERM`, `mkdir PATH PERM`, `link FROM TO`, `unlink PATH`, `rmdir PATH`, `write PATH OFFSET HEX`, `truncate PATH LENGTH`, `chmod PATH PERM`, `chown PATH UID GID`, `stat PATH`, `read PATH OFFSET LEN`, `list PATH`, `cut` (this project)
+-- what a command asks for with the words after it: `create PATH PERM`, `mkdir PATH PERM`, `link FROM TO`, `unlink PATH`, `rmdir PATH`, `write PATH OFFSET HEX`, `truncate PATH LENGTH`, `chmod PATH PERM`, `chown PATH UID GID`, `times PATH ATIME MTIME`, `stat PATH`, `read PATH OFFSET LEN`, `list PATH`, `cut` (this project)
 abbrev pub asked_by : Command → Cred → ℕ → List (List ℕ) → Option Step
 asked_by commands.Create cred now words =
     option_map (λ given. steps.Change (calls.Create cred now given.0 given.1)) (path_and_permissions words)
@@ -124,9 +125,11 @@ asked_by commands.Chmod cred now words =
     option_map (λ given. steps.Change (calls.Chmod cred now given.0 given.1)) (path_and_permissions words)
 asked_by commands.Chown cred now words =
     option_map (λ given. steps.Change (calls.Chown cred now given.0 given.1.uid given.1.gid)) (path_and_owner words)
+asked_by commands.Times cred now words =
+    option_map (λ given. steps.Change (calls.Times cred now given.0 given.1 given.2)) (path_and_numbers words)
 asked_by commands.Stat cred now words = option_map (λ path. steps.Question (queries.Stat cred path)) (one_of words)
 asked_by commands.Read cred now words =
-    option_map (λ given. steps.Question (queries.Read cred given.0 given.1 given.2)) (path_and_range words)
+    option_map (λ given. steps.Question (queries.Read cred given.0 given.1 given.2)) (path_and_numbers words)
 asked_by commands.List cred now words = option_map (λ path. steps.Question (queries.List cred path)) (one_of words)
 asked_by commands.Cut cred now words = option_map (λ nothing. steps.Cut) (none_of words)
 

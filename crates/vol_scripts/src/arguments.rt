@@ -1,6 +1,6 @@
 //! The words after the command: how many there are, and what they write.
 ghost use Rattle.std.specs.Prelude.{◌≡◌, Some, None, MatchOption, IfOk};
-ghost use Rattle.vol_scripts.specs.Grammar.{one_of, two_of, three_of, none_of, cred_in, path_and_permissions, path_and_length, path_and_owner, path_and_bytes, path_and_range};
+ghost use Rattle.vol_scripts.specs.Grammar.{one_of, two_of, three_of, none_of, cred_in, path_and_permissions, path_and_length, path_and_owner, path_and_bytes, path_and_numbers};
 ghost use Rattle.vol_scripts.specs.Reading.{Reads};
 
 use crate::lines::LineFault;
@@ -120,15 +120,15 @@ pub(crate) fn path_and_bytes(
     Ok((Bytes::from_slice(alloc, path)?, offset, bytes))
 }
 
-/// `PATH OFFSET LEN`.
-pub(crate) fn path_and_range(
+/// `PATH OFFSET LEN`, or `PATH ATIME MTIME`.
+pub(crate) fn path_and_numbers(
     alloc: Global,
     words: Pieces<'_>,
 ) -> Result<(Bytes, u32, u32), LineFault>
-    ensures { Reads (path_and_range words.entry) result }
+    ensures { Reads (path_and_numbers words.entry) result }
 {
-    let (path, offset, len) = three_of(words).ok_or(LineFault::Unreadable)?;
-    let offset = long_in(offset).ok_or(LineFault::Unreadable)?;
-    let len = long_in(len).ok_or(LineFault::Unreadable)?;
-    Ok((Bytes::from_slice(alloc, path)?, offset, len))
+    let (path, first, second) = three_of(words).ok_or(LineFault::Unreadable)?;
+    let first = long_in(first).ok_or(LineFault::Unreadable)?;
+    let second = long_in(second).ok_or(LineFault::Unreadable)?;
+    Ok((Bytes::from_slice(alloc, path)?, first, second))
 }

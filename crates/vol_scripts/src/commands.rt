@@ -14,6 +14,7 @@ pub(crate) enum Command {
     Truncate,
     Chmod,
     Chown,
+    Times,
     Stat,
     Read,
     List,
@@ -21,7 +22,7 @@ pub(crate) enum Command {
 }
 
 /// All commands.
-static COMMANDS: [Command; 13] = [
+static COMMANDS: [Command; 14] = [
     Command::Create,
     Command::Mkdir,
     Command::Link,
@@ -31,6 +32,7 @@ static COMMANDS: [Command; 13] = [
     Command::Truncate,
     Command::Chmod,
     Command::Chown,
+    Command::Times,
     Command::Stat,
     Command::Read,
     Command::List,
@@ -52,6 +54,7 @@ impl Command {
             Command::Truncate => "truncate",
             Command::Chmod => "chmod",
             Command::Chown => "chown",
+            Command::Times => "times",
             Command::Stat => "stat",
             Command::Read => "read",
             Command::List => "list",

@@ -4,8 +4,8 @@ ghost use Rattle.vol_scripts.specs.Grammar.{asked_by, step_by, step_in};
 ghost use Rattle.vol_scripts.specs.Reading.{Reads};
 
 use crate::arguments::{
-    cred_in, none_of, path_alone, path_and_bytes, path_and_length, path_and_owner,
-    path_and_permissions, path_and_range, two_paths,
+    cred_in, none_of, path_alone, path_and_bytes, path_and_length, path_and_numbers,
+    path_and_owner, path_and_permissions, two_paths,
 };
 use crate::commands::Command;
 use crate::numbers::long_in;
@@ -121,6 +121,7 @@ fn asked_by(
         Command::Truncate => truncate(alloc, cred, now, words),
         Command::Chmod => chmod(alloc, cred, now, words),
         Command::Chown => chown(alloc, cred, now, words),
+        Command::Times => times(alloc, cred, now, words),
         Command::Stat => stat(alloc, cred, words),
         Command::Read => read(alloc, cred, words),
         Command::List => list(alloc, cred, words),
@@ -240,6 +241,20 @@ fn chown(alloc: Global, cred: Cred, now: u32, words: Pieces<'_>) -> Result<Step,
     }))
 }
 
+/// `times`.
+fn times(alloc: Global, cred: Cred, now: u32, words: Pieces<'_>) -> Result<Step, LineFault>
+    ensures { Reads (asked_by Command.Times cred now words.entry) result }
+{
+    let (path, atime, mtime) = path_and_numbers(alloc, words)?;
+    Ok(Step::Change(Call::Times {
+        cred,
+        now,
+        path,
+        atime,
+        mtime,
+    }))
+}
+
 /// `stat`.
 fn stat(alloc: Global, cred: Cred, words: Pieces<'_>) -> Result<Step, LineFault>
     ensures { (now : ℕ) → Reads (asked_by Command.Stat cred now words.entry) result }
@@ -252,7 +267,7 @@ fn stat(alloc: Global, cred: Cred, words: Pieces<'_>) -> Result<Step, LineFault>
 fn read(alloc: Global, cred: Cred, words: Pieces<'_>) -> Result<Step, LineFault>
     ensures { (now : ℕ) → Reads (asked_by Command.Read cred now words.entry) result }
 {
-    let (path, offset, len) = path_and_range(alloc, words)?;
+    let (path, offset, len) = path_and_numbers(alloc, words)?;
     Ok(Step::Question(Query::Read {
         cred,
         path,

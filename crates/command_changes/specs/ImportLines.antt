@@ -63,6 +63,7 @@ path_of (calls.Write cred now path offset bytes) = path
 path_of (calls.Truncate cred now path size) = path
 path_of (calls.Chmod cred now path perm) = path
 path_of (calls.Chown cred now path uid gid) = path
+path_of (calls.Times cred now path atime mtime) = path
 
 -- the line of a refused call: that of the refusal, with the call's path (this project)
 abbrev pub call_line : Refusal → Call → List ℕ

@@ -138,6 +138,6 @@ fn path_of(call: &Call) -> &Bytes
         Call::Link { target, .. } => target,
         Call::Unlink { path, .. } | Call::Rmdir { path, .. } => path,
         Call::Write { path, .. } | Call::Truncate { path, .. } => path,
-        Call::Chmod { path, .. } | Call::Chown { path, .. } => path,
+        Call::Chmod { path, .. } | Call::Chown { path, .. } | Call::Times { path, .. } => path,
     }
 }

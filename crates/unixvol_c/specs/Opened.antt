@@ -3,7 +3,7 @@ use Rattle.std.specs.Prelude.{◌≡◌, ℕ, ◌+◌, ◌^◌, ◌<◌, ◌≤�
 use Rattle.std.specs.List.{sum_by}
 use Rattle.vol_volume.specs.Volume.{Mounted, after_cut}
 use Rattle.vol_volume.specs.declared.calls.Call.{Call}
-use Rattle.vol_volume.specs.declared.calls.Call.TheVariants.{Create, Mkdir, Link, Unlink, Rmdir, Write, Truncate, Chmod, Chown}
+use Rattle.vol_volume.specs.declared.calls.Call.TheVariants.{Create, Mkdir, Link, Unlink, Rmdir, Write, Truncate, Chmod, Chown, Times}
 use Rattle.vol_volume.specs.declared.calls.Record.{Record}
 
 -- what an open handle holds: a volume, and the answer of unknown length that was asked for last (this project)
@@ -26,6 +26,7 @@ call_bytes (Write cred now path offset bytes) = 128 + length path + length bytes
 call_bytes (Truncate cred now path size) = 128 + length path
 call_bytes (Chmod cred now path perm) = 128 + length path
 call_bytes (Chown cred now path uid gid) = 128 + length path
+call_bytes (Times cred now path atime mtime) = 128 + length path
 
 -- how many bytes a journal is counted as (this project)
 abbrev pub journal_bytes : List Record → ℕ

@@ -37,12 +37,14 @@ enum Asked<'a> {
     Chmod(&'a [u8], u16),
     /// Sets this user and group.
     Chown(&'a [u8], u16, u16),
+    /// Sets these times of the last reading and of the last change.
+    Times(&'a [u8], u32, u32),
 }
 
-use Asked::{Chmod, Chown, Create, Link, Mkdir, Rmdir, Truncate, Unlink, Write};
+use Asked::{Chmod, Chown, Create, Link, Mkdir, Rmdir, Times, Truncate, Unlink, Write};
 
 /// Calls that a new volume accepts in this order.
-static RUN: [Asked; 14] = [
+static RUN: [Asked; 15] = [
     Create(b"/a", 0o644),
     Mkdir(b"/d", 0o755),
     Write(b"/a", 0, b"hello"),
@@ -52,6 +54,7 @@ static RUN: [Asked; 14] = [
     Unlink(b"/a"),
     Mkdir(b"/d/e", 0o700),
     Chown(b"/d/c", 3, 5),
+    Times(b"/d", 0xFFFF_FFFF, 5),
     Truncate(b"/d/c", 2),
     Rmdir(b"/d/e"),
     Create(b"/d/f", 0o600),
@@ -135,6 +138,16 @@ fn call_of(rt: &impl Abort, alloc: Global, asked: Asked) -> Call {
                 path,
                 uid,
                 gid,
+            }
+        }
+        Times(path, atime, mtime) => {
+            let path = of(path);
+            Call::Times {
+                cred,
+                now,
+                path,
+                atime,
+                mtime,
             }
         }
     }

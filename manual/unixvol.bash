@@ -28,7 +28,7 @@ _unixvol() {
     while [[ ${before[0]:-} == -* ]]; do before=("${before[@]:1}"); done
     command=${before[0]:-}
     if [ -z "$command" ]; then
-        mapfile -t COMPREPLY < <(compgen -W 'cat ls get export inode super map check icheck dcheck ncheck mkfs put import rm rmdir mkdir ln mv chmod chown salvage play migrate serve help --explain -h --help -V --version' -- "$current")
+        mapfile -t COMPREPLY < <(compgen -W 'cat ls get export inode super map check icheck dcheck ncheck mkfs put import rm rmdir mkdir ln mv chmod chown touch salvage play migrate serve help --explain -h --help -V --version' -- "$current")
         return
     fi
     case $command in
@@ -53,6 +53,7 @@ _unixvol() {
         mv) kinds='edition file path path any' options='--explain -h --help' ;;
         chmod) kinds='edition file path any any' options='--explain -h --help' ;;
         chown) kinds='edition file path any any any' options='--explain -h --help' ;;
+        touch) kinds='edition file path any' options='--explain -h --help' ;;
         salvage) kinds='edition file' options='--explain -h --help' ;;
         play) kinds='edition file file...' options='--explain -h --help' ;;
         migrate) kinds='file file any any any' options='--new --explain -h --help' ;;

@@ -57,6 +57,7 @@ commands=(
     'old: mkdir 7 image /d1/d 5'
     'old: ln 7 image /d1/file /d2/other 5'
     'old: chmod 7 image /d1/file 600 5'
+    'old: touch 7 image /d1/file 5'
     'old: mkfs 7 image 6000 50 0 0 5'
     'old: mkfs 6 image 6000 50 0 0 5'
     'old: ls -l -R 7 image'

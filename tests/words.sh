@@ -89,6 +89,8 @@ rm -r 7 disk /d 8 | 8 | 14 /to
 import 7 disk | clock | 14 /to 16 /t
 mkdir 7 disk /d 9 | 9 | 14 /to 15 /d 16 /t
 import 7 disk /d 8 | 8 | 13 /d/t 14 /to 15 /d 16 /t
+touch 7 disk /d/ 6 | 6 | 13 /d/t 14 /to 15 /d 16 /t
+touch 7 disk d/e 5 | 5 | 12 /d/e 13 /d/t 14 /to 15 /d 16 /t
 END
 begins
 cp disk before
@@ -359,6 +361,7 @@ chmod 6 worked /none 0 168496141 | 2 NoEntry
 chown 6 worked /hello 256 0 168496141 | 104 BadId
 chown 6 worked /none 0 256 168496141 | 104 BadId
 chown 6 worked /hello/a 0 0 168496141 | 20 NotDirectory
+touch 6 worked /hello/a 168496141 | 20 NotDirectory
 get 6 worked /tty | 102 NotRegular
 migrate worked new 100 5 5 | 105 HasDevice
 migrate worked new 7 5 5 | bounds
@@ -397,7 +400,7 @@ rm 6 worked /new 168496141 | 1 . 1 .. 2 again
 END
 prints bye get 6 worked /again
 
-# Permissions and owners: where the i-node stands, and its first bytes after each call.
+# Permissions, owners and times: where they stand in the i-node, and the bytes from there on after each call.
 cp before worked
 while IFS='|' read -r words at wanted; do
     wanted=${wanted// /}
@@ -411,6 +414,7 @@ chmod 6 worked /hello 0 168496141 | 1056 | 00 80 01 FF 11 00 05 00
 chmod 6 worked /d/. 7777 168496141 | 1088 | FF CF 02 00 00
 chown 6 worked /tty 7 8 168496141 | 1120 | A4 A1 01 07 08
 chmod 6 worked / 700 168496141 | 1024 | C0 C1 03 00 00
+touch 6 worked /tty 168496141 | 1144 | 0B 0A 0D 0C 0B 0A 0D 0C
 END
 prints hello get 6 worked /hello
 

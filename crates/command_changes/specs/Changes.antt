@@ -21,6 +21,7 @@ use Rattle.command_changes.specs.Mv.{HasMoved, move_calls}
 use Rattle.command_changes.specs.Put.{put_calls}
 use Rattle.command_changes.specs.Rm.{RemovesTree}
 use Rattle.command_changes.specs.Salvage.{SalvagesVolume}
+use Rattle.command_changes.specs.Touch.{touch_call}
 use Rattle.command_changes.specs.declared.changes.Change.{Change}
 use Rattle.command_changes.specs.declared.changes.Change.TheVariants as changes
 
@@ -77,4 +78,6 @@ Changes edition image given streams answer (changes.Chmod path perm now) =
     Calls edition image streams answer (calls.Chmod user now path.now perm ∷ [])
 Changes edition image given streams answer (changes.Chown path uid gid now) =
     Calls edition image streams answer (calls.Chown user now path.now uid gid ∷ [])
+Changes edition image given streams answer (changes.Touch path now) =
+    Calls edition image streams answer (touch_call (reads_as edition image).tree now path.now ∷ [])
 Changes edition image given streams answer changes.Salvage = Salvages edition image streams answer

@@ -23,3 +23,4 @@ pub mod Mv
 pub mod Put
 pub mod Rm
 pub mod Salvage
+pub mod Touch

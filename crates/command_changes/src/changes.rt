@@ -65,6 +65,11 @@ pub enum Change<'a> {
         gid: u16,
         now: u32,
     },
+    /// Give a file or directory the moment as its times, or make an empty file.
+    Touch {
+        path: &'a str,
+        now: u32,
+    },
     /// Make the free list anew, where it alone is wrong.
     Salvage,
 }

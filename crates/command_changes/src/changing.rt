@@ -15,6 +15,7 @@ use crate::put::put;
 use crate::rm::{rm_all, unlink_call};
 use crate::rmdir::rmdir_call;
 use crate::salvage::salvage;
+use crate::touch::touch;
 use command_faults::Answer;
 use command_faults::answer::tell;
 use pdp_words::Sink;
@@ -62,6 +63,7 @@ pub fn perform(
         Change::RmAll { path, now } => return rm_all(alloc, edition, image, path, now),
         Change::MkdirAll { path, now } => return mkdir_all(alloc, edition, image, path, now),
         Change::Mv { from, to, now } => return mv(alloc, edition, image, from, to, now),
+        Change::Touch { path, now } => return touch(alloc, edition, image, path, now),
         Change::Salvage => return salvage(alloc, edition, image),
         Change::Rm { path, now } => unlink_call(alloc, path, now),
         Change::Rmdir { path, now } => rmdir_call(alloc, path, now),

@@ -18,6 +18,7 @@ pub mod put;
 mod rm;
 mod rmdir;
 mod salvage;
+mod touch;
 
 pub use changes::Change;
 pub use changing::do_change;

@@ -31,7 +31,7 @@ use vol_layout::slot::NAME;
 use vol_volume::{Bytes, Call, Query, Volume};
 
 /// Permissions of a new file.
-const FILE_PERMISSIONS: u16 = 0o644;
+pub(crate) const FILE_PERMISSIONS: u16 = 0o644;
 
 /// A file that is put into a directory of a volume.
 #[derive(Debug, Drop)]

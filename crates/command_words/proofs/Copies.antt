@@ -75,6 +75,7 @@ gets clock given (invocations.Change volume (changes.Ln from to now)) got is = a
 gets clock given (invocations.Change volume (changes.Mv from to now)) got is = absurd (true≢false (sym got))
 gets clock given (invocations.Change volume (changes.Chmod p perm now)) got is = absurd (true≢false (sym got))
 gets clock given (invocations.Change volume (changes.Chown p uid gid now)) got is = absurd (true≢false (sym got))
+gets clock given (invocations.Change volume (changes.Touch p now)) got is = absurd (true≢false (sym got))
 gets clock given (invocations.Change volume changes.Salvage) got is = absurd (true≢false (sym got))
 gets clock given (invocations.Copy volume copying) got is = absurd (true≢false (sym got))
 gets clock given (invocations.Work volume (works.Check checkers.Blocks workers)) got is = absurd (true≢false (sym got))

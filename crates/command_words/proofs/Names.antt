@@ -29,9 +29,10 @@ named text =
     (cond (bytes_eq text (codes "mv")) verbs.Mv
     (cond (bytes_eq text (codes "chmod")) verbs.Chmod
     (cond (bytes_eq text (codes "chown")) verbs.Chown
+    (cond (bytes_eq text (codes "touch")) verbs.Touch
     (cond (bytes_eq text (codes "salvage")) verbs.Salvage
     (cond (bytes_eq text (codes "play")) verbs.Play
-    (cond (bytes_eq text (codes "migrate")) verbs.Migrate verbs.Serve)))))))))))))))))))))))
+    (cond (bytes_eq text (codes "migrate")) verbs.Migrate verbs.Serve))))))))))))))))))))))))
 
 -- a command is found by its name
 named_by_its_name : (verb : Verb) → named (verb_name verb) ≡ verb
@@ -56,6 +57,7 @@ named_by_its_name verbs.Ln = refl
 named_by_its_name verbs.Mv = refl
 named_by_its_name verbs.Chmod = refl
 named_by_its_name verbs.Chown = refl
+named_by_its_name verbs.Touch = refl
 named_by_its_name verbs.Salvage = refl
 named_by_its_name verbs.Play = refl
 named_by_its_name verbs.Migrate = refl

@@ -139,6 +139,7 @@ change_verb (changes.Ln from to now) = verbs.Ln
 change_verb (changes.Mv from to now) = verbs.Mv
 change_verb (changes.Chmod path perm now) = verbs.Chmod
 change_verb (changes.Chown path uid gid now) = verbs.Chown
+change_verb (changes.Touch path now) = verbs.Touch
 change_verb changes.Salvage = verbs.Salvage
 
 -- the command of what is looked at (this project)
@@ -220,6 +221,8 @@ IsChangeGiven clock given (changes.Chmod path perm now) = (path.now ≡ the_word
 IsChangeGiven clock given (changes.Chown path uid gid now) = (path.now ≡ the_word given (codes "PATH"))
     × IsNumberGiven 65535 (the_word given (codes "UID")) uid × IsNumberGiven 65535 (the_word given (codes "GID")) gid
     × IsMomentGiven clock (given (codes "NOW")) now
+IsChangeGiven clock given (changes.Touch path now) =
+    (path.now ≡ the_word given (codes "PATH")) × IsMomentGiven clock (given (codes "NOW")) now
 IsChangeGiven clock given changes.Salvage = Unit {0}
 
 -- the words ask for a report of this form: JSON where they say so (this project)

@@ -97,6 +97,7 @@ verb_name verbs.Ln = codes "ln"
 verb_name verbs.Mv = codes "mv"
 verb_name verbs.Chmod = codes "chmod"
 verb_name verbs.Chown = codes "chown"
+verb_name verbs.Touch = codes "touch"
 verb_name verbs.Salvage = codes "salvage"
 verb_name verbs.Play = codes "play"
 verb_name verbs.Migrate = codes "migrate"
@@ -129,6 +130,7 @@ arguments_of verbs.Ln = on_volume (word (codes "FROM") ∷ word (codes "TO") ∷
 arguments_of verbs.Mv = on_volume (word (codes "FROM") ∷ word (codes "TO") ∷ moment ∷ [])
 arguments_of verbs.Chmod = on_volume (word (codes "PATH") ∷ (codes "PERM", kinds.Permissions, needs.Once) ∷ moment ∷ [])
 arguments_of verbs.Chown = on_volume (word (codes "PATH") ∷ number (codes "UID") ∷ number (codes "GID") ∷ moment ∷ [])
+arguments_of verbs.Touch = on_volume (word (codes "PATH") ∷ moment ∷ [])
 arguments_of verbs.Salvage = on_volume []
 arguments_of verbs.Play = on_volume ((codes "SCRIPT", kinds.Scripts, needs.Several) ∷ [])
 arguments_of verbs.Migrate =
@@ -140,7 +142,7 @@ abbrev pub all_verbs : List Verb
 all_verbs =
     verbs.Cat ∷ verbs.Ls ∷ verbs.Get ∷ verbs.Export ∷ verbs.Inode ∷ verbs.Super ∷ verbs.Map ∷ verbs.Check ∷ verbs.Icheck ∷ verbs.Dcheck
     ∷ verbs.Ncheck ∷ verbs.Mkfs ∷ verbs.Put ∷ verbs.Import ∷ verbs.Rm ∷ verbs.Rmdir ∷ verbs.Mkdir ∷ verbs.Ln ∷ verbs.Mv ∷ verbs.Chmod
-    ∷ verbs.Chown ∷ verbs.Salvage ∷ verbs.Play ∷ verbs.Migrate ∷ verbs.Serve ∷ []
+    ∷ verbs.Chown ∷ verbs.Touch ∷ verbs.Salvage ∷ verbs.Play ∷ verbs.Migrate ∷ verbs.Serve ∷ []
 
 -- the word names no command (this project)
 abbrev pub IsNoCommand : List ℕ → Type 0

@@ -222,6 +222,13 @@ const OWNED: Parameter = Parameter {
     help: texts::OWNED,
 };
 
+const TOUCHED: Parameter = Parameter {
+    name: "PATH",
+    kind: Kind::Text,
+    need: Need::Once,
+    help: texts::touch::PATH,
+};
+
 const FIRST_PUT: Parameter = Parameter {
     name: "PATH",
     kind: Kind::Text,
@@ -441,6 +448,9 @@ pub static CHMOD_WORDS: [Parameter; 5] = [EDITION, IMAGE, OWNED, PERM, CALL_NOW]
 
 /// The words of `chown`.
 pub static CHOWN_WORDS: [Parameter; 6] = [EDITION, IMAGE, OWNED, NEW_UID, NEW_GID, CALL_NOW];
+
+/// The words of `touch`.
+pub static TOUCH_WORDS: [Parameter; 4] = [EDITION, IMAGE, TOUCHED, CALL_NOW];
 
 /// The words of `salvage` and `check`.
 pub static VOLUME_WORDS: [Parameter; 2] = [EDITION, IMAGE];

@@ -57,6 +57,7 @@ pub fn read<'a, G: Given<'a>>(
         Verb::Mv => read_mv(given, clock),
         Verb::Chmod => read_chmod(given, clock),
         Verb::Chown => read_chown(given, clock),
+        Verb::Touch => read_touch(given, clock),
         Verb::Salvage => read_salvage(given),
         Verb::Play => read_play(alloc, given),
         Verb::Migrate => read_migrate(given, clock),
@@ -439,6 +440,20 @@ fn read_chown<'a, G: Given<'a>>(given: &G, clock: Option<u32>) -> Result<Invocat
             gid,
             now,
         },
+    })
+}
+
+/// Reads the words of `touch`.
+fn read_touch<'a, G: Given<'a>>(given: &G, clock: Option<u32>) -> Result<Invocation<'a>, Fault<'a>>
+    ensures read { IfOk result (AsksFor clock verbs.Touch (G.words given.now)) }
+    ensures refused { IfErr result (TellsOf (IsOneWrong clock (G.words given.now) (arguments_of verbs.Touch))) }
+{
+    let volume = volume_in(given)?;
+    let path = text_in(given, "PATH");
+    let now = moment_in(given, clock)?;
+    Ok(Invocation::Change {
+        volume,
+        change: Change::Touch { path, now },
     })
 }
 

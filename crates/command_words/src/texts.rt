@@ -1,5 +1,7 @@
 //! The texts of the help.
 
+pub mod touch;
+
 pub const ABOUT: &str = "Works on disk images of Sixth and Seventh Edition Unix.";
 
 pub const STATUSES: &str = "\

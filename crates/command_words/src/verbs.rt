@@ -6,7 +6,7 @@ use crate::parameters::{
     CAT_WORDS, CHECKER_WORDS, CHMOD_WORDS, CHOWN_WORDS, EXPORT_WORDS, GET_WORDS, IMPORT_WORDS,
     INODE_WORDS, LS_WORDS, MAP_WORDS, MIGRATE_WORDS, MKDIR_WORDS, MKFS_WORDS, NAMES_WORDS,
     PLAY_WORDS, PUT_WORDS, Parameter, RM_WORDS, RMDIR_WORDS, SERVE_WORDS, SUPER_WORDS,
-    VOLUME_WORDS,
+    TOUCH_WORDS, VOLUME_WORDS,
 };
 use crate::texts;
 
@@ -34,6 +34,7 @@ pub enum Verb {
     Mv,
     Chmod,
     Chown,
+    Touch,
     Salvage,
     Play,
     Migrate,
@@ -41,7 +42,7 @@ pub enum Verb {
 }
 
 /// All commands, in the order in which the help lists them.
-pub static VERBS: [Verb; 25] = [
+pub static VERBS: [Verb; 26] = [
     Verb::Cat,
     Verb::Ls,
     Verb::Get,
@@ -63,6 +64,7 @@ pub static VERBS: [Verb; 25] = [
     Verb::Mv,
     Verb::Chmod,
     Verb::Chown,
+    Verb::Touch,
     Verb::Salvage,
     Verb::Play,
     Verb::Migrate,
@@ -96,6 +98,7 @@ impl Verb {
             Verb::Mv => "mv",
             Verb::Chmod => "chmod",
             Verb::Chown => "chown",
+            Verb::Touch => "touch",
             Verb::Salvage => "salvage",
             Verb::Play => "play",
             Verb::Migrate => "migrate",
@@ -134,6 +137,7 @@ impl Verb {
             Verb::Ln | Verb::Mv => &NAMES_WORDS,
             Verb::Chmod => &CHMOD_WORDS,
             Verb::Chown => &CHOWN_WORDS,
+            Verb::Touch => &TOUCH_WORDS,
             Verb::Play => &PLAY_WORDS,
             Verb::Migrate => &MIGRATE_WORDS,
             Verb::Serve => &SERVE_WORDS,
@@ -182,6 +186,7 @@ impl Verb {
             Verb::Mv => texts::MV_ABOUT,
             Verb::Chmod => texts::CHMOD_ABOUT,
             Verb::Chown => texts::CHOWN_ABOUT,
+            Verb::Touch => texts::touch::ABOUT,
             Verb::Salvage => texts::SALVAGE_ABOUT,
             Verb::Play => texts::PLAY_ABOUT,
             Verb::Migrate => texts::MIGRATE_ABOUT,
@@ -213,6 +218,7 @@ impl Verb {
             Verb::Mv => texts::MV_MORE,
             Verb::Chmod => texts::CHMOD_MORE,
             Verb::Chown => texts::CHOWN_MORE,
+            Verb::Touch => texts::touch::MORE,
             Verb::Salvage => texts::SALVAGE_MORE,
             Verb::Play => texts::PLAY_MORE,
             Verb::Migrate => texts::MIGRATE_MORE,

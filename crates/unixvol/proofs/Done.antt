@@ -71,6 +71,8 @@ ends_change edition image given streams taken answer status (changes.Chmod path 
     ends_concluded _ _ streams taken answer status does.0 does.1 does.2 saved
 ends_change edition image given streams taken answer status (changes.Chown path uid gid now) does saved =
     ends_concluded _ _ streams taken answer status does.0 does.1 does.2 saved
+ends_change edition image given streams taken answer status (changes.Touch path now) does saved =
+    ends_concluded _ _ streams taken answer status does.0 does.1 does.2 saved
 ends_change edition image given streams taken answer status changes.Salvage does saved =
     ends_concluded _ _ streams taken answer status does.0 does.1 does.2 saved
 
@@ -88,4 +90,5 @@ ends_ungiven remaining heard streams status (changes.Ln from to now) ungiven kep
 ends_ungiven remaining heard streams status (changes.Mv from to now) ungiven kept = absurd ungiven
 ends_ungiven remaining heard streams status (changes.Chmod path perm now) ungiven kept = absurd ungiven
 ends_ungiven remaining heard streams status (changes.Chown path uid gid now) ungiven kept = absurd ungiven
+ends_ungiven remaining heard streams status (changes.Touch path now) ungiven kept = absurd ungiven
 ends_ungiven remaining heard streams status changes.Salvage ungiven kept = absurd ungiven

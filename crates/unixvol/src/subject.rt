@@ -114,6 +114,7 @@ impl<'a> Subject<'a> {
             Change::Mv { from, to, .. } => (Verb::Mv, About::Names { from, to }),
             Change::Chmod { path, .. } => (Verb::Chmod, About::Path(path)),
             Change::Chown { path, .. } => (Verb::Chown, About::Path(path)),
+            Change::Touch { path, .. } => (Verb::Touch, About::Path(path)),
             Change::Salvage => (Verb::Salvage, About::Image),
         };
         Subject::new(volume, verb, about)

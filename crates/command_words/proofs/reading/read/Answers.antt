@@ -82,6 +82,10 @@ pub returns-in-Chown-clause-refused : goal.returns-in-Chown-clause-refused
 returns-in-Chown-clause-refused g c =
     rw c.in-Chown.is (refuses_value c.args.clock verbs.Chown (g.G.Given.words c.args.given.now) c.read_chown.result c.read_chown.ensures.refused)
 
+pub returns-in-Touch-clause-refused : goal.returns-in-Touch-clause-refused
+returns-in-Touch-clause-refused g c =
+    rw c.in-Touch.is (refuses_value c.args.clock verbs.Touch (g.G.Given.words c.args.given.now) c.read_touch.result c.read_touch.ensures.refused)
+
 pub returns-in-Salvage-clause-refused : goal.returns-in-Salvage-clause-refused
 returns-in-Salvage-clause-refused g c =
     rw c.in-Salvage.is (refuses_value c.args.clock verbs.Salvage (g.G.Given.words c.args.given.now) c.read_salvage.result c.read_salvage.ensures.refused)

@@ -11,7 +11,7 @@ use Rattle.command_words.specs.declared.verbs.Verb.TheVariants as verbs
 use Rattle.command_words.proofs.verbs.Verb.of.Goals as goal
 
 -- what holds of each command in the list holds of each command
-each : (text : List ℕ) → AllWithin (λ (verb : Verb). text ≢ verb_name verb) all_verbs 0 25 → (verb : Verb) → text ≢ verb_name verb
+each : (text : List ℕ) → AllWithin (λ (verb : Verb). text ≢ verb_name verb) all_verbs 0 26 → (verb : Verb) → text ≢ verb_name verb
 each text none verbs.Cat = none 0 verbs.Cat (omega arith) (omega arith)
 each text none verbs.Ls = none 1 verbs.Cat (omega arith) (omega arith)
 each text none verbs.Get = none 2 verbs.Cat (omega arith) (omega arith)
@@ -33,10 +33,11 @@ each text none verbs.Ln = none 17 verbs.Cat (omega arith) (omega arith)
 each text none verbs.Mv = none 18 verbs.Cat (omega arith) (omega arith)
 each text none verbs.Chmod = none 19 verbs.Cat (omega arith) (omega arith)
 each text none verbs.Chown = none 20 verbs.Cat (omega arith) (omega arith)
-each text none verbs.Salvage = none 21 verbs.Cat (omega arith) (omega arith)
-each text none verbs.Play = none 22 verbs.Cat (omega arith) (omega arith)
-each text none verbs.Migrate = none 23 verbs.Cat (omega arith) (omega arith)
-each text none verbs.Serve = none 24 verbs.Cat (omega arith) (omega arith)
+each text none verbs.Touch = none 21 verbs.Cat (omega arith) (omega arith)
+each text none verbs.Salvage = none 22 verbs.Cat (omega arith) (omega arith)
+each text none verbs.Play = none 23 verbs.Cat (omega arith) (omega arith)
+each text none verbs.Migrate = none 24 verbs.Cat (omega arith) (omega arith)
+each text none verbs.Serve = none 25 verbs.Cat (omega arith) (omega arith)
 
 pub returns-clause-none : goal.returns-clause-none
 returns-clause-none c none =

@@ -196,6 +196,10 @@ int32_t unixvol_chmod(unixvol *volume, uint16_t uid, uint16_t gid, uint32_t now,
 int32_t unixvol_chown(unixvol *volume, uint16_t uid, uint16_t gid, uint32_t now, const void *path,
                       size_t path_count, uint16_t owner, uint16_t group);
 
+/* Gives a node other times, of its last reading and of the last change of what it holds. */
+int32_t unixvol_times(unixvol *volume, uint16_t uid, uint16_t gid, uint32_t now, const void *path,
+                      size_t path_count, uint32_t accessed, uint32_t modified);
+
 /* Cuts the journal now, and frees the bytes of its records. Needs no memory. */
 int32_t unixvol_cut(unixvol *volume);
 

@@ -83,11 +83,15 @@ static void test_calls(void)
     has("truncate", UNIXVOL_DONE, unixvol_truncate(&volume, 0, 0, MOMENT, UNIXVOL_TEXT("/motd"), 3));
     has("chmod", UNIXVOL_DONE, unixvol_chmod(&volume, 0, 0, MOMENT, UNIXVOL_TEXT("/motd"), 04711));
     has("chown", UNIXVOL_DONE, unixvol_chown(&volume, 0, 0, MOMENT, UNIXVOL_TEXT("/motd"), 7, 3));
+    has("times", UNIXVOL_DONE, unixvol_times(&volume, 7, 3, MOMENT, UNIXVOL_TEXT("/motd"), 5, 0xffffffff));
     has("stat", UNIXVOL_DONE, unixvol_stat(&volume, 7, 3, UNIXVOL_TEXT("/motd"), &node));
     has("size", 3, node.size);
     has("permissions", 04711, node.permissions);
     has("owner", 7, node.uid);
     has("group", 3, node.gid);
+    has("accessed", 5, node.accessed);
+    has("modified", 0xffffffff, node.modified);
+    has("changed", MOMENT, node.changed);
     has("no access", UNIXVOL_ACCESS, unixvol_unlink(&volume, 7, 3, MOMENT, UNIXVOL_TEXT("/etc/motd")));
     has("unlink", UNIXVOL_DONE, unixvol_unlink(&volume, 0, 0, MOMENT, UNIXVOL_TEXT("/etc/motd")));
     has("rmdir", UNIXVOL_DONE, unixvol_rmdir(&volume, 0, 0, MOMENT, UNIXVOL_TEXT("/etc")));

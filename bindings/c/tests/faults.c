@@ -159,6 +159,11 @@ static int32_t call_chown(unixvol *volume, outcome *made)
     (void)made;
     return unixvol_chown(volume, AT_ROOT, PATH, 7, 3);
 }
+static int32_t call_times(unixvol *volume, outcome *made)
+{
+    (void)made;
+    return unixvol_times(volume, AT_ROOT, PATH, 7, 3);
+}
 static int32_t call_cut(unixvol *volume, outcome *made)
 {
     (void)made;
@@ -212,6 +217,7 @@ static const struct {
     {"truncate", call_truncate, true},
     {"chmod", call_chmod, true},
     {"chown", call_chown, true},
+    {"times", call_times, true},
     {"cut", call_cut, false},
     {"icheck", call_icheck, true},
     {"dcheck", call_dcheck, true},

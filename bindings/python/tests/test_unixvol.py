@@ -133,6 +133,18 @@ class Files(unittest.TestCase):
             with made() as other, self.assertRaises(ValueError):
                 (other / "motd").hardlink_to(volume / "motd")
 
+    def test_times(self):
+        with made() as volume:
+            volume.now = moment = datetime(1990, 1, 1, tzinfo=timezone.utc)
+            path = volume / "etc/motd"
+            path.utime((datetime(1979, 1, 1, tzinfo=timezone.utc), 5))
+            found = path.stat()
+            self.assertEqual(found.accessed, datetime(1979, 1, 1, tzinfo=timezone.utc))
+            self.assertEqual((found.modified.timestamp(), found.changed), (5, moment))
+            path.utime()
+            self.assertEqual((path.stat().accessed, path.stat().modified), (moment, moment))
+            self.assertRaises(OverflowError, path.utime, (1 << 32, 5))
+
 
 class Faults(unittest.TestCase):
     def test_kinds(self):

@@ -4,8 +4,13 @@ from __future__ import annotations
 
 import ctypes
 import os
+import time
 from ctypes import POINTER, Structure, c_bool, c_char_p, c_int32, c_size_t, c_uint8, c_uint16, c_uint32, c_void_p
+from datetime import datetime
 from typing import Any
+
+# A moment: with its time zone, in seconds since the beginning of 1970, or None for that of the clock.
+Moment = datetime | int | None
 
 
 class Handle(Structure):
@@ -80,6 +85,7 @@ FUNCTIONS: dict[str, list[Any]] = {
     "truncate": [*_call, c_uint32],
     "chmod": [*_call, c_uint16],
     "chown": [*_call, c_uint16, c_uint16],
+    "times": [*_call, c_uint32, c_uint32],
     "cut": [_handle],
     "report": [_handle, c_uint8],
     "export": [_handle, *_given, _count],
@@ -113,6 +119,13 @@ def word(value: int, bits: int, what: str) -> int:
     if not 0 <= value < 1 << bits:
         raise OverflowError(f"{what} is {value}, and has to be 0 to {(1 << bits) - 1}")
     return value
+
+
+def seconds(moment: Moment) -> int:
+    """Returns a moment in seconds since the beginning of 1970."""
+    if isinstance(moment, datetime):
+        moment = int(moment.timestamp())
+    return word(int(time.time()) if moment is None else moment, 32, "the moment in seconds")
 
 
 def room(count: int) -> Any:

@@ -15,7 +15,7 @@ from pathlib import PurePosixPath
 from typing import TYPE_CHECKING, Any, Literal
 
 from ._faults import Exists, NoEntry, NotDirectory
-from ._library import Entry, Node, room, word
+from ._library import Entry, Moment, Node, room, seconds, word
 
 if TYPE_CHECKING:
     from ._volume import Volume
@@ -224,6 +224,11 @@ class VolumePath:
     def chown(self, uid: int, gid: int) -> None:
         """Gives the node to another user and group."""
         self._call("chown", word(uid, 16, "uid"), word(gid, 16, "gid"))
+
+    def utime(self, times: tuple[Moment, Moment] | None = None) -> None:
+        """Gives the node other times, of its last reading and of its last change; without them the volume's moment."""
+        accessed, modified = times or (self.volume.now, self.volume.now)
+        self._call("times", seconds(accessed), seconds(modified))
 
     # What these have in common
 

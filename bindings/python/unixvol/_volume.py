@@ -8,21 +8,16 @@ import os
 import secrets
 import stat
 import threading
-import time
 from contextlib import suppress
 from dataclasses import dataclass
-from datetime import datetime
 from typing import Any, Literal
 
 from ._faults import NoReport, Unsound, check
-from ._library import Handle, Sizes, function, room, word
+from ._library import Handle, Moment, Sizes, function, room, seconds, word
 from ._paths import VolumePath
 
 # A file's name, or an image's bytes.
 Source = str | os.PathLike[str] | bytes | bytearray | memoryview
-
-# A moment: with its time zone, in seconds since the beginning of 1970, or None for that of the clock.
-Moment = datetime | int | None
 
 Checker = Literal["icheck", "dcheck", "ncheck"]
 
@@ -135,7 +130,7 @@ class Volume:
             check(function(name)(self._handle, uid, gid, raw, len(raw), *more), path)
 
     def _change(self, name: str, path: str, *more: Any) -> None:
-        raw, now = os.fsencode(path), _seconds(self.now)
+        raw, now = os.fsencode(path), seconds(self.now)
         uid, gid = word(self.uid, 16, "uid"), word(self.gid, 16, "gid")
         with self._lock:
             check(function(name)(self._handle, uid, gid, now, raw, len(raw), *more), path)
@@ -175,7 +170,7 @@ def mkfs(edition: int, blocks: int, list_blocks: int, *, uid: int = 0, gid: int 
         word(list_blocks, 16, "list_blocks"),
         word(uid, 16, "uid"),
         word(gid, 16, "gid"),
-        _seconds(now),
+        seconds(now),
     )
     check(number)
     return Volume(handle, now=now)
@@ -214,12 +209,6 @@ def _data(source: Source) -> bytes:
         return bytes(source)
     with builtins.open(source, "rb") as file:
         return file.read()
-
-
-def _seconds(now: Moment) -> int:
-    if isinstance(now, datetime):
-        now = int(now.timestamp())
-    return word(int(time.time()) if now is None else now, 32, "the moment in seconds")
 
 
 def _replace(name: str, data: bytes) -> None:

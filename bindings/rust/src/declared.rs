@@ -68,6 +68,7 @@ extern "C" {
     pub fn unixvol_truncate(volume: &mut Handle, uid: u16, gid: u16, now: u32, path: *const u8, path_count: usize, length: u32) -> i32;
     pub fn unixvol_chmod(volume: &mut Handle, uid: u16, gid: u16, now: u32, path: *const u8, path_count: usize, permissions: u16) -> i32;
     pub fn unixvol_chown(volume: &mut Handle, uid: u16, gid: u16, now: u32, path: *const u8, path_count: usize, owner: u16, group: u16) -> i32;
+    pub fn unixvol_times(volume: &mut Handle, uid: u16, gid: u16, now: u32, path: *const u8, path_count: usize, accessed: u32, modified: u32) -> i32;
     pub fn unixvol_cut(volume: &mut Handle) -> i32;
     pub fn unixvol_report(volume: &mut Handle, letter: u8) -> i32;
     pub fn unixvol_export(volume: &mut Handle, path: *const u8, path_count: usize, left_out: &mut usize) -> i32;

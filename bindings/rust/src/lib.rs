@@ -204,6 +204,12 @@ impl Volume {
         done(unsafe { unixvol_chown(&mut self.0, by.uid, by.gid, by.now, path, count, owner, group) }, ())
     }
 
+    /// Gives a node other times, of its last reading and of the last change of what it holds.
+    pub fn times(&mut self, by: Caller, path: &[u8], accessed: u32, modified: u32) -> Result<(), Error> {
+        let (path, count) = (path.as_ptr(), path.len());
+        done(unsafe { unixvol_times(&mut self.0, by.uid, by.gid, by.now, path, count, accessed, modified) }, ())
+    }
+
     /// Frees the memory of the calls that were made. It is freed by itself once it is more than the image.
     pub fn cut(&mut self) -> Result<(), Error> {
         done(unsafe { unixvol_cut(&mut self.0) }, ())

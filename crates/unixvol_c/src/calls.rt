@@ -310,6 +310,41 @@ pub extern "C" fn unixvol_chown(
     make(alloc, handle, call)
 }
 
+/// Gives a node other times, of its last reading and of the last change of what it holds.
+#[unsafe(no_mangle)]
+pub extern "C" fn unixvol_times(
+    alloc: Global,
+    handle: &mut Handle,
+    uid: u16,
+    gid: u16,
+    now: u32,
+    path: &[u8],
+    accessed: u32,
+    modified: u32,
+) -> i32
+    ensures made { result ≡ DONE → (done : Done) × Makes handle.old.sealed.held handle.new.sealed.held (called.Times (record { uid = uid; gid = gid }) now path.now accessed modified) done }
+    ensures refused { result ≢ DONE → result ≢ NO_MEMORY → result ≢ CLOSED → RefusesCall handle.old.sealed.held
+        (called.Times (record { uid = uid; gid = gid }) now path.now accessed modified) result }
+    ensures closed { result ≡ CLOSED ↔ handle.old.sealed.held ≡ None }
+    ensures unchanged { result ≢ DONE → handle.new.sealed.held ≡ handle.old.sealed.held }
+{
+    if !handle.is_open() {
+        return CLOSED;
+    }
+    let Ok(path) = Bytes::from_slice(alloc, path) else {
+        return NO_MEMORY;
+    };
+    let cred = Cred { uid, gid };
+    let call = Call::Times {
+        cred,
+        now,
+        path,
+        atime: accessed,
+        mtime: modified,
+    };
+    make(alloc, handle, call)
+}
+
 /// Cuts the journal: the image becomes what the next calls start from. The bytes of the records are freed; room for as
 /// many stays. Each call does so by itself once the journal is counted as more bytes than the image has. Takes no memory.
 #[unsafe(no_mangle)]

@@ -18,7 +18,7 @@ mod told;
 pub use answers::{unixvol_answer, unixvol_answer_size, unixvol_export, unixvol_report};
 pub use calls::{
     unixvol_chmod, unixvol_chown, unixvol_create, unixvol_cut, unixvol_link, unixvol_mkdir,
-    unixvol_rmdir, unixvol_truncate, unixvol_unlink, unixvol_write,
+    unixvol_rmdir, unixvol_times, unixvol_truncate, unixvol_unlink, unixvol_write,
 };
 pub use handle::Handle;
 pub use naming::unixvol_name;

@@ -4,13 +4,13 @@ use crate::{
     unixvol_chmod, unixvol_chown, unixvol_close, unixvol_create, unixvol_cut, unixvol_explain,
     unixvol_export, unixvol_image, unixvol_judge, unixvol_link, unixvol_list, unixvol_mkdir,
     unixvol_mkfs, unixvol_name, unixvol_open, unixvol_read, unixvol_report, unixvol_rmdir,
-    unixvol_salvage, unixvol_size, unixvol_stat, unixvol_truncate, unixvol_unlink, unixvol_write,
+    unixvol_salvage, unixvol_size, unixvol_stat, unixvol_times, unixvol_truncate, unixvol_unlink, unixvol_write,
 };
 use std::alloc::Global;
 use std::process::Abort;
 
 /// Makes `/d/a` of 600 bytes with the second name `/b`, makes and removes `/e` and a name, and returns each answer.
-fn change(alloc: Global, handle: &mut Handle) -> [i32; 10] {
+fn change(alloc: Global, handle: &mut Handle) -> [i32; 11] {
     let mut inode = 0;
     [
         unixvol_mkdir(alloc, handle, 0, 0, 7, b"/d", 0o755, &mut inode),
@@ -23,6 +23,7 @@ fn change(alloc: Global, handle: &mut Handle) -> [i32; 10] {
         unixvol_unlink(alloc, handle, 0, 0, 7, b"/d/a"),
         unixvol_chmod(alloc, handle, 0, 0, 7, b"/b", 0o600),
         unixvol_chown(alloc, handle, 0, 0, 7, b"/b", 3, 4),
+        unixvol_times(alloc, handle, 0, 0, 7, b"/b", 8, 9),
     ]
 }
 
@@ -31,6 +32,7 @@ fn ask(rt: &impl Abort, alloc: Global, handle: &mut Handle) {
     let mut node = NO_NODE;
     assert_eq!(rt; unixvol_stat(alloc, handle, 0, 0, b"/b", &mut node), DONE);
     assert_eq!(rt; (node.size, node.uid, node.gid, node.links), (600, 3, 4, 1));
+    assert_eq!(rt; (node.accessed, node.modified, node.changed), (8, 9, 7));
     let mut bytes = [0; 100];
     let mut count = 0;
     assert_eq!(rt;

@@ -7,7 +7,9 @@ pub mod MemberOrder
 pub mod MetOnce
 pub mod NameOrder
 pub mod NamedEntries
+pub mod PlainPaths
 pub mod Outputs
+pub mod ProperPaths
 pub mod Rings
 pub mod Roles
 pub mod RoomyPaths

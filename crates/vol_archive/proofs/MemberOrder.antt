@@ -13,7 +13,7 @@ use Rattle.vol_dir.specs.Names.{Names, names_of, is_dots}
 use Rattle.vol_dir.specs.Walk.{components}
 use Rattle.vol_dir.proofs.NameMaps.{sorted}
 use Rattle.vol_archive.specs.Laws.{is_kept, members_of, MembersAscend, MembersDiffer}
-use Rattle.vol_archive.specs.Walking.{Walks, is_plain, path_below, pending_below, met, below, entries_below, role_of, first_met}
+use Rattle.vol_archive.specs.Walking.{Walks, is_plain, path_below, pending_below, met, below, entries_below, role_of, first_met, IsWalk}
 use Rattle.vol_archive.specs.declared.found.Found.{Found}
 use Rattle.vol_archive.specs.declared.found.Role.{Role}
 use Rattle.vol_archive.specs.declared.found.Role.TheVariants as roles
@@ -179,10 +179,13 @@ rest_ordered {g = g} {image = image} {start = start} (Walks.meets founds entry r
     before found (other ∷ others) h = (λ kept other_kept. (h kept).0 other_kept, before found others (λ kept. (h kept).1))
 
 -- members ascend
+pub walk_ordered : (g : Geometry) (image : List ℕ) (start : ℕ) (founds : List Found) → IsWalk g image start founds → Pairs AreInOrder founds
+walk_ordered g image start founds walks = subst (Pairs AreInOrder) (walk_is walks) (rest_ordered walks (entries_beside g image [] start))
+
 pub members_ascend : MembersAscend
 members_ascend g image start founds walks =
     all_pairs_kept (λ (found : Found). is_kept found.role) (λ (found other : Found). order (components found.path) (components other.path) ≡ Less) founds
-    (subst (Pairs AreInOrder) (walk_is walks) (rest_ordered walks (entries_beside g image [] start)))
+    (walk_ordered g image start founds walks)
 
 -- so no path is met twice
 pub members_differ : MembersDiffer

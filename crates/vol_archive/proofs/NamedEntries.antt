@@ -40,7 +40,7 @@ each_put P name i (e ∷ es) h hs =
     ]
 
 -- what holds of the name in each slot holds of those of the map
-each_name : (P : List ℕ → Type 0) (f : ℕ → Option (List ℕ × ℕ)) → ((s i : ℕ) (name : List ℕ) → f s ≡ Some (name, i) → P name) → (xs : List ℕ)
+pub each_name : (P : List ℕ → Type 0) (f : ℕ → Option (List ℕ × ℕ)) → ((s i : ℕ) (name : List ℕ) → f s ≡ Some (name, i) → P name) → (xs : List ℕ)
     → Each (λ (e : List ℕ × ℕ). P e.0) (names_of (map f xs))
 each_name P f h [] = tt
 each_name P f h (x ∷ xs) =

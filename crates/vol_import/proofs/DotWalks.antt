@@ -126,7 +126,7 @@ walk_steps t dots (name ∷ names) x i is = by (λ y is. walk_steps t dots names
     by on false e = on x (by_search (search t user x) refl e is)
 
 -- names that are their own only components
-abbrev AreSteps : List (List ℕ) → Type 0
+abbrev pub AreSteps : List (List ℕ) → Type 0
 AreSteps [] = Unit {0}
 AreSteps (step ∷ steps) = (components step ≡ step ∷ []) × AreSteps steps
 
@@ -172,12 +172,12 @@ steps_kept ((c ∷ p) ∷ ps) plain =
       | false ↦ steps_kept ps plain.1
     ]
 
-are_steps : (path : List ℕ) → AreSteps (steps_of path)
+pub are_steps : (path : List ℕ) → AreSteps (steps_of path)
 unfolding components
 are_steps path = steps_kept (pieces path) (plain_pieces path)
 
 -- the path of steps below another one
-joined_components : (steps : List (List ℕ)) (base : List ℕ) → AreSteps steps → components (base ++ joined steps) ≡ components base ++ steps
+pub joined_components : (steps : List (List ℕ)) (base : List ℕ) → AreSteps steps → components (base ++ joined steps) ≡ components base ++ steps
 joined_components [] base are = ap components (append-nil base) ∙ sym (append-nil (components base))
 joined_components (step ∷ steps) base are =
     ap components (sym (append_assoc base (47 ∷ step) (joined steps)))

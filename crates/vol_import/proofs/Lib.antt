@@ -1,3 +1,4 @@
+mod ApartSteps
 pub mod ArchiveFronts
 mod DotWalks
 mod DraftRuns
@@ -12,6 +13,7 @@ pub mod MadeNames
 pub mod MadePaths
 mod MemberCalls
 pub mod MemberRuns
+mod NodeNumbers
 pub mod PlanRuns
 pub mod RecordRuns
 mod SplitPaths

@@ -1,0 +1,14 @@
+-- Calls that are asked one after another.
+use Rattle.std.proofs.Common.{◌≡◌, ◌∙◌, sym, ap, ℕ, ◌+◌, ◌<◌, List, length, drop, get_or}
+use Rattle.std.proofs.lemmas.List.{drop_more}
+use Rattle.vol_dir.specs.Tree.{State}
+use Rattle.vol_volume.specs.Verdict.{verdict}
+use Rattle.vol_volume.specs.declared.calls.Call.{Call}
+use Rattle.vol_mounted.specs.Plans.{first_refused, or_refused}
+
+-- the calls from one on are asked by that one, and then by those after it
+pub next_asked : (state : State) (tests : List Call) (i : ℕ) (call : Call) → i < length tests → call ≡ get_or tests i call
+    → first_refused state (drop i tests) ≡ or_refused (verdict state call) (first_refused state (drop (i + 1) tests))
+next_asked state tests i call within is =
+    ap (first_refused state) (drop_more tests i call within)
+    ∙ ap (λ first. or_refused (verdict state first) (first_refused state (drop (i + 1) tests))) (sym is)

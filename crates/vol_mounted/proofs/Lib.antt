@@ -1,0 +1,5 @@
+pub mod Answered
+pub mod Asked
+pub mod Climbs
+pub mod Makings
+pub mod TurnLaws

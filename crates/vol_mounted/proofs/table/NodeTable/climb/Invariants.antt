@@ -1,0 +1,7 @@
+-- `climb` has gone up `step` directories.
+use Rattle.std.proofs.Common.{◌≡◌, ◌-◌, [], length}
+use Rattle.vol_mounted.specs.Paths.{climb}
+use Rattle.vol_mounted.proofs.table.NodeTable.climb.Given as goal
+
+abbrev pub invariant-steps : goal.invariant-steps
+invariant-steps l = climb l.self l.root (length l.self) l.i [] ≡ climb l.self l.root (length l.self - l.step) l.at l.path.items

@@ -1,0 +1,9 @@
+pub mod Errno
+pub mod Numbers
+pub mod Paths
+pub mod Plans
+pub mod Refusals
+pub mod Replies
+pub mod Scenes
+pub mod Servers
+pub mod Turns

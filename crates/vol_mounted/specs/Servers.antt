@@ -1,0 +1,46 @@
+-- The server of a mounted volume, as contracts see it.
+use Rattle.std.specs.Prelude.{◌≡◌, ◌≢◌, ◌⊎◌, ℕ, ◌==◌, if◌then◌else◌, List, [], Option, None, Some, Result, Ok, Err}
+use Rattle.vol_layout.specs.Geometry.{geometry_of}
+use Rattle.vol_dir.specs.declared.refusal.Refusal.{Refusal}
+use Rattle.vol_volume.specs.Volume.{Mounted}
+use Rattle.vol_volume.specs.declared.calls.Call.{Call}
+use Rattle.vol_import.specs.Making.{AreMade, AreStopped}
+use Rattle.vol_mounted.specs.Plans.{Sight}
+use Rattle.vol_mounted.specs.Refusals.{no_memory}
+use Rattle.vol_mounted.specs.declared.owner.Owner.{Owner}
+use Rattle.vol_mounted.specs.declared.refusal.MountedRefusal.{MountedRefusal}
+use Rattle.vol_mounted.specs.declared.refusal.MountedRefusal.TheVariants as mounted
+use Rattle.vol_mounted.specs.declared.server.MountedServer.{MountedServer}
+
+-- the volume that is served (this project)
+abbrev pub volume_in : MountedServer → Mounted
+volume_in server = server.volume
+
+-- the user that all nodes are shown as, if so (this project)
+abbrev pub owner_in : MountedServer → Option Owner
+owner_in server = server.owner
+
+-- what plans are made of at a moment (this project)
+abbrev pub sight_at : MountedServer → ℕ → Sight
+sight_at server now = record {
+  geometry = geometry_of server.volume.edition server.volume.image;
+  image = server.volume.image;
+  nodes = server.nodes;
+  owner = server.owner;
+  now = now;
+}
+
+-- the first of some calls were accepted, and then one was refused so (this project)
+abbrev pub IsStopped : Mounted → List Call → Mounted → MountedRefusal → Type 0
+IsStopped old calls new refusal =
+    (why : Refusal) × (stopped : Call) × (refusal ≡ mounted.Call why) × AreStopped old calls new why stopped
+
+-- all the calls that were planned were accepted (this project)
+abbrev pub Made : Mounted → Result (List Call) MountedRefusal → Mounted → Type 0
+Made old planned new = (calls : List Call) × (planned ≡ Ok calls) × AreMade old calls new
+
+-- a volume as it was, since nothing was planned for this reason or memory ran out; or one that refused one of the calls so, after those before it were made (this project)
+abbrev pub Unmade : Mounted → Result (List Call) MountedRefusal → Mounted → MountedRefusal → Type 0
+Unmade old planned new refusal =
+    ((new ≡ old) × (refusal ≢ no_memory → planned ≡ Err refusal))
+    ⊎ ((calls : List Call) × (planned ≡ Ok calls) × IsStopped old calls new refusal)

@@ -1,0 +1,117 @@
+//! The calls of SETATTR.
+use crate::calls::Calls;
+use crate::plan::{cred_of, permissions, short_number};
+use crate::refusal::MountedRefusal;
+use crate::scene::Scene;
+use fuse_words::AttributeChanges;
+use pdp_words::Bytes;
+use vol_dir::Cred;
+use vol_volume::{Call, Stat};
+
+impl Scene<'_> {
+    ghost use Rattle.std.specs.Prelude.{◌≡◌, Ok, Err};
+    ghost use Rattle.vol_mounted.specs.Plans.{attribute_calls, size_call, mode_call, owner_call, given_call};
+    ghost use Rattle.vol_mounted.specs.Refusals.{Gives};
+    ghost use Rattle.vol_mounted.specs.Scenes.{sight_of};
+
+    /// The calls of SETATTR of node `i`. What could refuse them is asked first.
+    pub(crate) fn set_attributes(
+        &self,
+        i: u16,
+        changes: &AttributeChanges,
+    ) -> Result<Calls, MountedRefusal>
+        ensures { Gives (attribute_calls (sight_of self.now) i changes.now) result }
+    {
+        let path = self.path(i)?;
+        let stat = self.stat(i)?;
+        let sized = self.size_call(&stat, path.as_slice(), changes.size)?;
+        let owned = self.owner_call(&stat, path.as_slice(), changes.uid, changes.gid)?;
+        let mut calls = Calls::none(self.alloc);
+        calls.extend(sized)?;
+        calls.extend(self.mode_call(path.as_slice(), changes.mode)?)?;
+        calls.extend(owned)?;
+        self.ask(calls.as_slice())?;
+        Ok(calls)
+    }
+
+    /// The call that gives a file another size: it is cut, or gets a zero at its end.
+    fn size_call(
+        &self,
+        stat: &Stat,
+        path: &[u8],
+        size: Option<u64>,
+    ) -> Result<Option<Call>, MountedRefusal>
+        ensures { Gives (size_call self.now.moment stat.now path.now size) result }
+    {
+        let Some(size) = size else {
+            return Ok(None);
+        };
+        let size = short_number(size)?;
+        let path = Bytes::from_slice(self.alloc, path)?;
+        if size <= stat.size {
+            return Ok(Some(Call::Truncate {
+                cred: Cred::ROOT,
+                now: self.moment,
+                path,
+                length: size,
+            }));
+        }
+        let bytes = Bytes::from_slice(self.alloc, &[0])?;
+        Ok(Some(Call::Write {
+            cred: Cred::ROOT,
+            now: self.moment,
+            path,
+            offset: size - 1,
+            bytes,
+        }))
+    }
+
+    /// The call that gives a node other permissions.
+    fn mode_call(&self, path: &[u8], mode: Option<u32>) -> Result<Option<Call>, MountedRefusal>
+        ensures { Gives (Ok (mode_call self.now.moment path.now mode)) result }
+    {
+        let Some(mode) = mode else {
+            return Ok(None);
+        };
+        Ok(Some(Call::Chmod {
+            cred: Cred::ROOT,
+            now: self.moment,
+            path: Bytes::from_slice(self.alloc, path)?,
+            perm: permissions(mode),
+        }))
+    }
+
+    /// The call that gives a node to a user and a group, if one is given.
+    fn owner_call(
+        &self,
+        stat: &Stat,
+        path: &[u8],
+        uid: Option<u32>,
+        gid: Option<u32>,
+    ) -> Result<Option<Call>, MountedRefusal>
+        ensures { Gives (owner_call (sight_of self.now) stat.now path.now uid gid) result }
+    {
+        if uid.is_none() && gid.is_none() {
+            return Ok(None);
+        }
+        if let Some(owner) = self.owner {
+            return if uid.unwrap_or(owner.uid) == owner.uid
+                && gid.unwrap_or(owner.gid) == owner.gid
+            {
+                Ok(None)
+            } else {
+                Err(MountedRefusal::NotPermitted)
+            };
+        }
+        let uid = uid.unwrap_or(u32::from(stat.uid));
+        let gid = gid.unwrap_or(u32::from(stat.gid));
+        let cred = cred_of(self.geometry.edition, uid, gid)?;
+        Ok(Some(Call::Chown {
+            cred: Cred::ROOT,
+            now: self.moment,
+            path: Bytes::from_slice(self.alloc, path)?,
+            uid: cred.uid,
+            gid: cred.gid,
+        }))
+    }
+}

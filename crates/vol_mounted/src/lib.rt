@@ -1,0 +1,31 @@
+//! A volume served to a Linux kernel over the FUSE protocol, with changes: each request makes the calls that it asks for, and its reply
+//! is of the tree as it stands then.
+#![tactic(auto)]
+
+mod answer;
+mod attribute_plan;
+pub mod calls;
+pub mod host;
+pub mod known;
+mod loss;
+mod orphan;
+mod orphan_answer;
+pub mod owner;
+mod plan;
+mod plan_of;
+pub mod refusal;
+mod rename;
+mod reply;
+mod scene;
+pub mod server;
+pub mod service;
+mod settle;
+pub mod table;
+
+pub use host::Host;
+pub use owner::Owner;
+pub use server::MountedServer;
+pub use service::{MountedFault, serve};
+
+#[cfg(test)]
+mod tests;

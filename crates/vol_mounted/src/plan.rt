@@ -1,0 +1,226 @@
+//! The calls that requests make.
+ghost use Rattle.std.specs.Prelude.{◌≡◌, ◌%◌};
+ghost use Rattle.vol_mounted.specs.Plans.{cred_of, is_regular, owner_of, short_number};
+
+use crate::calls::Calls;
+use crate::owner::Owner;
+use crate::refusal::MountedRefusal;
+use crate::scene::Scene;
+use fuse_words::Header;
+use pdp_words::Bytes;
+use std::alloc::AllocError;
+use vol_dir::{Cred, Refusal};
+use vol_layout::{Edition, is_bad_id};
+use vol_volume::Call;
+
+impl Scene<'_> {
+    ghost use Rattle.std.specs.Prelude.{◌≡◌, ◌∷◌, IfOk, None, Some, MatchResult};
+    ghost use Rattle.std.specs.Option.{option_map};
+    ghost use Rattle.vol_dir.specs.Access.{user};
+    ghost use Rattle.vol_dir.specs.Tree.{state};
+    ghost use Rattle.vol_volume.specs.Verdict.{verdict};
+    ghost use Rattle.vol_volume.specs.declared.calls.Call.TheVariants as calls;
+    ghost use Rattle.vol_mounted.specs.declared.refusal.MountedRefusal.TheVariants as mounted;
+    ghost use Rattle.vol_mounted.specs.Plans.{file_calls, directory_calls, given_to, unlink_calls, rmdir_calls, link_calls, write_calls, first_refused};
+    ghost use Rattle.vol_mounted.specs.Refusals.{Gives};
+    ghost use Rattle.vol_mounted.specs.Scenes.{sight_of};
+
+    /// The calls of MKNOD. Only regular files are made.
+    pub(crate) fn make_file(
+        &self,
+        header: &Header,
+        dir: u16,
+        name: &[u8],
+        mode: u32,
+    ) -> Result<Calls, MountedRefusal>
+        ensures { Gives (file_calls (sight_of self.now) header.now dir name.now mode) result }
+    {
+        if !is_regular(mode) {
+            return Err(MountedRefusal::NotPermitted);
+        }
+        let owner = owner_of(self.geometry.edition, self.owner, header)?;
+        let path = self.path_of_name(dir, name)?;
+        let again = Bytes::from_slice(self.alloc, path.as_slice())?;
+        let call = Call::Create {
+            cred: Cred::ROOT,
+            now: self.moment,
+            path,
+            perm: permissions(mode),
+        };
+        Ok(self.make_for(owner, call, again)?)
+    }
+
+    /// The calls of MKDIR.
+    pub(crate) fn make_directory(
+        &self,
+        header: &Header,
+        dir: u16,
+        name: &[u8],
+        mode: u32,
+    ) -> Result<Calls, MountedRefusal>
+        ensures { Gives (directory_calls (sight_of self.now) header.now dir name.now mode) result }
+    {
+        let owner = owner_of(self.geometry.edition, self.owner, header)?;
+        let path = self.path_of_name(dir, name)?;
+        let again = Bytes::from_slice(self.alloc, path.as_slice())?;
+        let call = Call::Mkdir {
+            cred: Cred::ROOT,
+            now: self.moment,
+            path,
+            perm: permissions(mode),
+        };
+        Ok(self.make_for(owner, call, again)?)
+    }
+
+    /// A call that makes a node with a path, and the one that gives it to its owner, if it isn't user 0.
+    fn make_for(&self, owner: Cred, call: Call, path: Bytes) -> Result<Calls, AllocError>
+        ensures { IfOk result (λ calls. calls ≡ call ∷ given_to owner self.now.moment path) }
+    {
+        let mut calls = Calls::one(self.alloc, call)?;
+        if owner.uid != 0 || owner.gid != 0 {
+            calls.push(Call::Chown {
+                cred: Cred::ROOT,
+                now: self.moment,
+                path,
+                uid: owner.uid,
+                gid: owner.gid,
+            })?;
+        }
+        Ok(calls)
+    }
+
+    /// The call of UNLINK.
+    pub(crate) fn unlink(&self, dir: u16, name: &[u8]) -> Result<Calls, MountedRefusal>
+        ensures { Gives (unlink_calls (sight_of self.now) dir name.now) result }
+    {
+        let path = self.path_of_name(dir, name)?;
+        Ok(Calls::one(self.alloc, self.call_unlink(path))?)
+    }
+
+    /// The call of RMDIR.
+    pub(crate) fn remove_directory(&self, dir: u16, name: &[u8]) -> Result<Calls, MountedRefusal>
+        ensures { Gives (rmdir_calls (sight_of self.now) dir name.now) result }
+    {
+        let path = self.path_of_name(dir, name)?;
+        let call = Call::Rmdir {
+            cred: Cred::ROOT,
+            now: self.moment,
+            path,
+        };
+        Ok(Calls::one(self.alloc, call)?)
+    }
+
+    /// The call of LINK of node `i`.
+    pub(crate) fn link(&self, i: u16, dir: u16, name: &[u8]) -> Result<Calls, MountedRefusal>
+        ensures { Gives (link_calls (sight_of self.now) i dir name.now) result }
+    {
+        let source = self.path(i)?;
+        let target = self.path_of_name(dir, name)?;
+        Ok(Calls::one(self.alloc, self.call_link(source, target))?)
+    }
+
+    /// The call of WRITE into node `i`.
+    pub(crate) fn write(&self, i: u16, offset: u64, content: &[u8]) -> Result<Calls, MountedRefusal>
+        ensures { Gives (write_calls (sight_of self.now) i offset content.now) result }
+    {
+        let offset = short_number(offset)?;
+        let path = self.path(i)?;
+        let call = Call::Write {
+            cred: Cred::ROOT,
+            now: self.moment,
+            path,
+            offset,
+            bytes: Bytes::from_slice(self.alloc, content)?,
+        };
+        Ok(Calls::one(self.alloc, call)?)
+    }
+
+    /// The call that removes a name.
+    pub(crate) fn call_unlink(&self, path: Bytes) -> Call
+        ensures { result ≡ calls.Unlink user self.now.moment path }
+    {
+        Call::Unlink {
+            cred: Cred::ROOT,
+            now: self.moment,
+            path,
+        }
+    }
+
+    /// The call that gives what is no directory a further name.
+    pub(crate) fn call_link(&self, source: Bytes, target: Bytes) -> Call
+        ensures { result ≡ calls.Link user self.now.moment source target }
+    {
+        Call::Link {
+            cred: Cred::ROOT,
+            now: self.moment,
+            source,
+            target,
+        }
+    }
+
+    #[tactic(auto, using(crate::proofs::Asked::next_asked))]
+    /// Asks some calls, each as the volume stands: the first that would be refused is the refusal.
+    pub(crate) fn ask(&self, tests: &[Call]) -> Result<(), MountedRefusal>
+        ensures { MatchResult result
+            (λ _. first_refused (state self.now.geometry.now self.now.volume.now.image) tests.now ≡ None)
+            (λ refusal. option_map mounted.Call (first_refused (state self.now.geometry.now self.now.volume.now.image) tests.now) ≡ Some refusal) }
+    {
+        'tests: for call in tests {
+            if let Some(refusal) = self.refusal(call) {
+                return Err(MountedRefusal::Call(refusal));
+            }
+        }
+        Ok(())
+    }
+
+    /// What a call would be refused for as the volume stands, but for memory.
+    fn refusal(&self, call: &Call) -> Option<Refusal>
+        ensures { result ≡ verdict (state self.now.geometry.now self.now.volume.now.image) call.now }
+    {
+        self.volume.refusal(call)
+    }
+}
+
+/// True if a mode's type bits are a regular file's, or none.
+fn is_regular(mode: u32) -> bool
+    ensures { result ≡ is_regular mode }
+{
+    matches!(mode / 0o10000 % 16, 0 | 8)
+}
+
+/// The permission bits of a mode.
+pub(crate) fn permissions(mode: u32) -> u16
+    ensures { result ≡ mode % 4096 }
+{
+    (mode % 0o10000) as u16
+}
+
+/// A user and a group that the edition's i-nodes can hold. BadId if they can't.
+pub(crate) fn cred_of(edition: Edition, uid: u32, gid: u32) -> Result<Cred, MountedRefusal>
+    ensures { result ≡ cred_of edition uid gid }
+{
+    match (u16::try_from(uid), u16::try_from(gid)) {
+        (Ok(uid), Ok(gid)) if !is_bad_id(edition, uid, gid) => Ok(Cred { uid, gid }),
+        _ => Err(MountedRefusal::Call(Refusal::BadId)),
+    }
+}
+
+/// Whom a new node belongs to: user 0 if all nodes are shown as one user's, else the caller.
+fn owner_of(edition: Edition, owner: Option<Owner>, header: &Header) -> Result<Cred, MountedRefusal>
+    ensures { result ≡ owner_of edition owner header.now }
+{
+    match owner {
+        Some(_) => Ok(Cred::ROOT),
+        None => cred_of(edition, header.uid, header.gid),
+    }
+}
+
+/// A number of 32 bits. TooBig if it has more.
+pub(crate) fn short_number(n: u64) -> Result<u32, MountedRefusal>
+    ensures { result ≡ short_number n }
+{
+    match u32::try_from(n) {
+        Ok(n) => Ok(n),
+        Err(_) => Err(MountedRefusal::Call(Refusal::TooBig)),
+    }
+}

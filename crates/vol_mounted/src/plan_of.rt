@@ -1,0 +1,98 @@
+//! The calls of a request.
+use crate::calls::Calls;
+use crate::refusal::MountedRefusal;
+use crate::rename::Renaming;
+use crate::scene::Scene;
+use fuse_words::{Header, Operation};
+
+impl Scene<'_> {
+    ghost use Rattle.vol_mounted.specs.Refusals.{Gives};
+    ghost use Rattle.vol_mounted.specs.Replies.{calls_of, renamed};
+    ghost use Rattle.vol_mounted.specs.Scenes.{sight_of};
+
+    /// The calls that an operation makes; none if it changes nothing.
+    #[tactic(auto, unfolding(crate::specs::Replies::calls_of))]
+    pub(crate) fn plan(
+        &self,
+        header: &Header,
+        operation: &Operation<'_>,
+    ) -> Result<Calls, MountedRefusal>
+        ensures { Gives (calls_of (sight_of self.now) header.now operation.now) result }
+    {
+        match operation {
+            Operation::MkNod { mode, name, .. } => {
+                let dir = self.number(header.node)?;
+                self.make_file(header, dir, name.as_slice(), *mode)
+            }
+            Operation::MkDir { mode, name } => {
+                let dir = self.number(header.node)?;
+                self.make_directory(header, dir, name.as_slice(), *mode)
+            }
+            Operation::Unlink { name } => {
+                let dir = self.number(header.node)?;
+                self.unlink(dir, name.as_slice())
+            }
+            Operation::RmDir { name } => {
+                let dir = self.number(header.node)?;
+                self.remove_directory(dir, name.as_slice())
+            }
+            Operation::Link { node, name } => {
+                let dir = self.number(header.node)?;
+                let i = self.number(*node)?;
+                self.link(i, dir, name.as_slice())
+            }
+            Operation::Rename {
+                directory,
+                name,
+                new_name,
+            } => self.renamed(header, *directory, 0, name.as_slice(), new_name.as_slice()),
+            Operation::Rename2 {
+                directory,
+                flags,
+                name,
+                new_name,
+            } => self.renamed(
+                header,
+                *directory,
+                *flags,
+                name.as_slice(),
+                new_name.as_slice(),
+            ),
+            Operation::Write {
+                offset,
+                content,
+                ..
+            } => {
+                let i = self.number(header.node)?;
+                self.write(i, *offset, content.as_slice())
+            }
+            Operation::SetAttr { changes } => {
+                let i = self.number(header.node)?;
+                self.set_attributes(i, changes)
+            }
+            _ => Ok(Calls::none(self.alloc)),
+        }
+    }
+
+    /// The calls of a rename of a name in one directory to a name in another, both by their numbers.
+    fn renamed(
+        &self,
+        header: &Header,
+        directory: u64,
+        flags: u32,
+        name: &[u8],
+        new_name: &[u8],
+    ) -> Result<Calls, MountedRefusal>
+        ensures { Gives (renamed (sight_of self.now) header.now directory flags name.now new_name.now) result }
+    {
+        let dir = self.number(header.node)?;
+        let new_dir = self.number(directory)?;
+        self.rename(&Renaming {
+            dir,
+            name,
+            new_dir,
+            new_name,
+            flags,
+        })
+    }
+}

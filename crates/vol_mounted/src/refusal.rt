@@ -1,0 +1,124 @@
+//! Why a request is refused, and the number of the error that the kernel gets for it.
+ghost use Rattle.std.specs.Prelude.{◌≡◌, ◌<◌};
+ghost use Rattle.vol_mounted.specs.Errno.{call_errno, errno};
+
+use std::alloc::AllocError;
+use vol_dir::Refusal;
+use vol_nodes::NodeFault;
+use vol_serve::errno::RequestRefusal;
+
+/// Why a request is refused.
+#[derive(Clone, Copy, Debug, PartialEq, Eq)]
+pub enum MountedRefusal {
+    /// For the reason that it has where a volume is served for reading alone.
+    Request(RequestRefusal),
+    /// The volume refuses a call.
+    Call(Refusal),
+    /// Only regular files and directories can be made. Where all nodes are shown as one user's, none can be given to another.
+    NotPermitted,
+    /// A directory can't be renamed. The caller copies it.
+    IsDirectory,
+    /// A rename has flags that aren't served.
+    Flags,
+    /// The image couldn't be saved.
+    Unsaved,
+}
+
+impl MountedRefusal {
+    /// The refusal of a request about a node that isn't there any more.
+    pub(crate) const STALE: MountedRefusal = MountedRefusal::Request(RequestRefusal::Node(
+        NodeFault::Stale,
+    ));
+}
+
+impl From<NodeFault> for MountedRefusal {
+    ghost use Rattle.std.specs.Prelude.{◌≡◌};
+    ghost use Rattle.vol_mounted.specs.Refusals.{no_node};
+
+    ghost from_gives = { λ fault refusal. refusal ≡ no_node fault };
+
+    fn from(fault: NodeFault) -> MountedRefusal {
+        MountedRefusal::Request(RequestRefusal::Node(fault))
+    }
+}
+
+impl From<RequestRefusal> for MountedRefusal {
+    ghost use Rattle.std.specs.Prelude.{◌≡◌};
+    ghost use Rattle.vol_mounted.specs.declared.refusal.MountedRefusal.TheVariants.{Request};
+
+    ghost from_gives = { λ refused refusal. refusal ≡ Request refused };
+
+    fn from(refused: RequestRefusal) -> MountedRefusal {
+        MountedRefusal::Request(refused)
+    }
+}
+
+impl From<Refusal> for MountedRefusal {
+    ghost use Rattle.std.specs.Prelude.{◌≡◌};
+    ghost use Rattle.vol_mounted.specs.declared.refusal.MountedRefusal.TheVariants.{Call};
+
+    ghost from_gives = { λ refused refusal. refusal ≡ Call refused };
+
+    fn from(refused: Refusal) -> MountedRefusal {
+        MountedRefusal::Call(refused)
+    }
+}
+
+impl From<AllocError> for MountedRefusal {
+    ghost use Rattle.std.specs.Prelude.{◌≡◌};
+    ghost use Rattle.vol_mounted.specs.Refusals.{no_memory};
+
+    ghost from_gives = { λ error refusal. refusal ≡ no_memory };
+
+    fn from(_error: AllocError) -> MountedRefusal {
+        MountedRefusal::Call(Refusal::NoMemory)
+    }
+}
+
+/// The number of a refused call's error, of Linux (errno.h).
+fn call_errno(refusal: Refusal) -> u32
+    ensures number { result ≡ call_errno refusal }
+    ensures bound { result < 512 }
+{
+    match refusal {
+        // ENOTEMPTY
+        Refusal::NotEmpty => 39,
+        // ENXIO
+        Refusal::NotRegular => 6,
+        // ENOSPC
+        Refusal::NoInode => 28,
+        // EINVAL
+        Refusal::BadId => 22,
+        // the numbers of the others are Linux's
+        Refusal::NotOwner => 1,
+        Refusal::NoEntry => 2,
+        Refusal::NoMemory => 12,
+        Refusal::Access => 13,
+        Refusal::Exists => 17,
+        Refusal::NotDirectory => 20,
+        Refusal::IsDirectory => 21,
+        Refusal::Invalid => 22,
+        Refusal::TooBig => 27,
+        Refusal::NoSpace => 28,
+        Refusal::TooManyLinks => 31,
+    }
+}
+
+/// The number of the error, of Linux (errno.h).
+pub fn errno(refusal: MountedRefusal) -> u32
+    ensures number { result ≡ errno refusal }
+    ensures bound { result < 512 }
+{
+    match refusal {
+        MountedRefusal::Request(refusal) => vol_serve::errno::errno(refusal),
+        MountedRefusal::Call(refusal) => call_errno(refusal),
+        // EPERM
+        MountedRefusal::NotPermitted => 1,
+        // EXDEV
+        MountedRefusal::IsDirectory => 18,
+        // EINVAL
+        MountedRefusal::Flags => 22,
+        // EIO
+        MountedRefusal::Unsaved => 5,
+    }
+}

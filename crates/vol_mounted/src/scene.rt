@@ -1,0 +1,113 @@
+//! The volume and what the kernel knows of it, at a moment.
+ghost use Rattle.std.specs.Prelude.{◌≡◌, ◌∷◌, ◌++◌, IfOk};
+ghost use Rattle.vol_layout.specs.Geometry.{Fits, geometry_of};
+
+use crate::owner::Owner;
+use crate::refusal::MountedRefusal;
+use crate::table::NodeTable;
+use pdp_words::Bytes;
+use std::alloc::{AllocError, Global};
+use vol_archive::is_plain;
+use vol_dir::{Cred, walk};
+use vol_layout::Geometry;
+use vol_layout::slot::NAME;
+use vol_nodes::{NodeFault, look_up, stat};
+use vol_serve::errno::RequestRefusal;
+use vol_volume::{Stat, Volume};
+
+/// The volume and what the kernel knows of it, at a moment: what calls are planned by, and what replies say.
+#[derive(Drop)]
+pub(crate) struct Scene<'a> {
+    /// Where memory is taken.
+    pub(crate) alloc: Global,
+    /// The volume as it stands.
+    pub(crate) volume: &'a Volume,
+    /// Its geometry.
+    pub(crate) geometry: &'a Geometry,
+    /// The nodes that the kernel knows.
+    pub(crate) nodes: &'a NodeTable,
+    /// The user that all nodes are shown as, if so.
+    pub(crate) owner: Option<Owner>,
+    /// The moment.
+    pub(crate) moment: u32,
+    pub(crate) ghost fits: { Fits geometry.now volume.now.image },
+    pub(crate) ghost sizes: { geometry.now ≡ geometry_of volume.now.edition volume.now.image },
+}
+
+impl Scene<'_> {
+    ghost use Rattle.vol_dir.specs.Tree.{tree};
+    ghost use Rattle.vol_nodes.specs.Nodes.{look_up};
+    ghost use Rattle.vol_mounted.specs.Plans.{path_at, name_at, stat_at};
+    ghost use Rattle.vol_mounted.specs.Refusals.{Gives, of_nodes};
+    ghost use Rattle.vol_mounted.specs.Replies.{number_at};
+    ghost use Rattle.vol_mounted.specs.Scenes.{sight_of};
+
+    /// The i-number of the node with a number. Stale if no node has it now.
+    pub(crate) fn number(&self, node: u64) -> Result<u16, MountedRefusal>
+        ensures { result ≡ number_at (sight_of self.now) node }
+    {
+        match self.nodes.i_number(self.geometry.edition, node) {
+            Some(i) => Ok(i),
+            None => Err(MountedRefusal::STALE),
+        }
+    }
+
+    /// The path of node `i`. Stale if the names that were last met don't lead there any more.
+    pub(crate) fn path(&self, i: u16) -> Result<Bytes, MountedRefusal>
+        ensures { Gives (path_at (sight_of self.now) i) result }
+    {
+        let root = self.geometry.edition.constants().root;
+        let Some(path) = self.nodes.climb(self.alloc, root, i)? else {
+            return Err(MountedRefusal::STALE);
+        };
+        match walk(
+            self.volume.image(),
+            self.geometry,
+            Cred::ROOT,
+            path.as_slice(),
+        ) {
+            Ok(found) if found == i => Ok(path),
+            _ => Err(MountedRefusal::STALE),
+        }
+    }
+
+    /// The path of a name in directory `dir`.
+    pub(crate) fn path_of_name(&self, dir: u16, name: &[u8]) -> Result<Bytes, MountedRefusal>
+        ensures { Gives (name_at (sight_of self.now) dir name.now) result }
+    {
+        if name.len() > NAME {
+            return Err(MountedRefusal::from(NodeFault::LongName));
+        }
+        if !is_plain(name) {
+            return Err(MountedRefusal::Request(RequestRefusal::Malformed));
+        }
+        Ok(with_name(self.path(dir)?, name)?)
+    }
+
+    /// The node that a name leads to in a directory.
+    pub(crate) fn find(&self, dir: u16, name: &[u8]) -> Result<u16, MountedRefusal>
+        ensures { result ≡ of_nodes (look_up (tree self.now.geometry.now self.now.volume.now.image) dir name.now) }
+    {
+        Ok(look_up(self.volume.image(), self.geometry, dir, name)?)
+    }
+
+    /// What node `i` is. Stale if no node has this number.
+    pub(crate) fn stat(&self, i: u16) -> Result<Stat, MountedRefusal>
+        ensures { result ≡ stat_at (sight_of self.now) i }
+    {
+        match stat(self.volume.image(), self.geometry, i) {
+            Some(stat) => Ok(stat),
+            None => Err(MountedRefusal::STALE),
+        }
+    }
+}
+
+/// A path with a name after it.
+fn with_name(path: Bytes, name: &[u8]) -> Result<Bytes, AllocError>
+    ensures { IfOk result (λ longer. longer ≡ path ++ 47 ∷ name.now) }
+{
+    let mut bytes = path.into_vec();
+    bytes.push(b'/')?;
+    bytes.extend_from_slice(name)?;
+    Ok(Bytes::from_vec(bytes))
+}

@@ -1,0 +1,149 @@
+//! The server of a mounted volume.
+ghost use Rattle.std.specs.Prelude.{◌≡◌};
+ghost use Rattle.vol_layout.specs.Geometry.{Fits, geometry_of};
+
+use crate::calls::Calls;
+use crate::host::Host;
+use crate::orphan::Orphans;
+use crate::owner::Owner;
+use crate::refusal::MountedRefusal;
+use crate::scene::Scene;
+use crate::table::NodeTable;
+use std::alloc::{AllocError, Global};
+use vol_import::making::make_all;
+use vol_layout::Geometry;
+use vol_volume::Volume;
+
+/// The journal is cut after so many bytes of requests.
+const MOST_WEIGHT: usize = 16 << 20;
+
+/// A mounted volume that is served.
+#[derive(Debug, Drop)]
+pub struct MountedServer {
+    /// The volume.
+    pub(crate) volume: Volume,
+    /// The nodes that the kernel knows.
+    pub(crate) nodes: NodeTable,
+    /// The files without a name that are still open.
+    pub(crate) orphans: Orphans,
+    /// The user that all nodes are shown as, if so.
+    pub(crate) owner: Option<Owner>,
+    /// True if a call was made since the volume was saved.
+    pub(crate) is_changed: bool,
+    /// Bytes of the requests whose calls are in the journal, about.
+    pub(crate) weight: usize,
+}
+
+impl MountedServer {
+    ghost use Rattle.std.specs.Prelude.{ℕ, List, IfOk, OnOk, IfErr};
+    ghost use Rattle.vol_serve.specs.Messages.{Grows};
+    ghost use Rattle.vol_mounted.specs.Turns.{IsSaved, IsCutOrNot};
+    ghost use Rattle.vol_import.specs.Making.{AreMade};
+    ghost use Rattle.vol_mounted.specs.Scenes.{sight_of};
+    ghost use Rattle.vol_mounted.specs.Servers.{volume_in, owner_in, sight_at, IsStopped};
+
+    /// Serves a volume. If there is an owner, all nodes are shown as his, and new ones belong to user 0 of the volume. Takes two MiB.
+    pub fn new(
+        alloc: Global,
+        volume: Volume,
+        owner: Option<Owner>,
+    ) -> Result<MountedServer, AllocError>
+        ensures volume { IfOk result (λ server. volume_in server ≡ volume) }
+        ensures owner { IfOk result (λ server. owner_in server ≡ owner) }
+    {
+        Ok(MountedServer {
+            volume,
+            nodes: NodeTable::new(alloc)?,
+            orphans: Orphans::new(alloc),
+            owner,
+            is_changed: false,
+            weight: 0,
+        })
+    }
+
+    /// The volume as it stands.
+    pub fn volume(&self) -> &Volume
+        ensures { result.now ≡ volume_in self.now }
+    {
+        &self.volume
+    }
+
+    /// The volume, given back.
+    pub fn into_volume(self) -> Volume
+        ensures { result ≡ volume_in self }
+    {
+        self.volume
+    }
+
+    /// What plans are made of at a moment.
+    pub(crate) fn scene<'a>(&'a self, alloc: Global, geometry: &'a Geometry, now: u32) -> Scene<'a>
+        requires fits { Fits geometry.now self.now.volume.image }
+        requires sizes { geometry.now ≡ geometry_of self.now.volume.edition self.now.volume.image }
+        ensures { sight_of result ≡ sight_at self.now now }
+    {
+        Scene {
+            alloc,
+            volume: &self.volume,
+            geometry,
+            nodes: &self.nodes,
+            owner: self.owner,
+            moment: now,
+        }
+    }
+
+    /// Makes calls, each in turn, up to the first that is refused.
+    pub(crate) fn make(&mut self, alloc: Global, calls: Calls) -> Result<(), MountedRefusal>
+        ensures made { OnOk result (AreMade self.old.volume calls self.new.volume) }
+        ensures stopped { IfErr result (IsStopped self.old.volume calls self.new.volume) }
+        ensures nodes { self.new.nodes ≡ self.old.nodes }
+        ensures owner { self.new.owner ≡ self.old.owner }
+    {
+        let calls = calls.into_vec();
+        if !calls.is_empty() {
+            self.is_changed = true;
+        }
+        match make_all(alloc, &mut self.volume, calls) {
+            Ok(()) => Ok(()),
+            Err((refusal, _)) => Err(MountedRefusal::Call(refusal)),
+        }
+    }
+
+    /// Saves the image, if it was changed since it was saved last; returns false if it couldn't be saved.
+    pub(crate) fn save<H: Host>(&mut self, host: &mut H) -> bool
+        ensures { (images : List (List ℕ)) × Grows (H.saved host.old) (H.saved host.new) images × IsSaved self.old self.new images result }
+    {
+        if !self.is_changed {
+            return true;
+        }
+        if !host.save(self.volume.image()) {
+            return false;
+        }
+        self.is_changed = false;
+        true
+    }
+
+    /// Cuts the journal after so many bytes of requests, of which `count` came now.
+    pub(crate) fn cut_if_heavy(&mut self, count: usize)
+        ensures { IsCutOrNot self.old.volume self.new.volume }
+    {
+        self.weight = self.weight.saturating_add(count);
+        if self.weight >= MOST_WEIGHT {
+            self.weight = 0;
+            // The numbers of the records don't reach 2^64.
+            let _ = self.volume.cut();
+        }
+    }
+}
+
+/// The geometry of a volume, which fits its image.
+#[tactic(auto, unfolding(vol_layout::specs::Geometry::geometry_read), using(vol_judge::proofs::Parts::sound_whole, vol_judge::proofs::Parts::sound_bounded))]
+pub(crate) fn geometry_in(volume: &Volume) -> Geometry
+    ensures sizes { result ≡ geometry_of volume.now.edition volume.now.image }
+    ensures fits { Fits result volume.now.image }
+{
+    volume.check();
+    match Geometry::read(volume.edition(), volume.image()) {
+        Ok(geometry) => geometry,
+        Err(_) => unreachable!(),
+    }
+}

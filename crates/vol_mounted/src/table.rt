@@ -1,0 +1,161 @@
+//! The nodes that a kernel knows by their numbers.
+ghost use Rattle.std.specs.Prelude.{◌≡◌, ◌∷◌, ◌++◌, OnOk};
+
+use crate::known::KnownNode;
+use fuse_words::ROOT;
+use pdp_words::Bytes;
+use std::alloc::{AllocError, Global};
+use std::marker::Model;
+use vol_layout::{Edition, Slot};
+
+/// I-numbers that there can be.
+const NODES: usize = 65_536;
+
+/// What is kept of each i-number. A contract sees it as the list of that.
+#[derive(Debug, Drop)]
+pub struct NodeTable {
+    nodes: Vec<KnownNode>,
+}
+
+impl Model for NodeTable {
+    ghost use Rattle.std.specs.Prelude.{List};
+    ghost use Rattle.vol_mounted.specs.declared.known.KnownNode.{KnownNode};
+
+    ghost Value = { List KnownNode };
+
+    ghost view = { λ table. table.nodes.items };
+}
+
+impl NodeTable {
+    ghost use Rattle.std.specs.Prelude.{◌≡◌, ◌≤◌, [], length, slice_get, IfSome, IfOk};
+    ghost use Rattle.vol_mounted.specs.Numbers.{node_number, i_number, with_known, met, born, opened, closed};
+    ghost use Rattle.vol_mounted.specs.Paths.{climb};
+
+    /// A table in which no node was met.
+    pub(crate) fn new(alloc: Global) -> Result<NodeTable, AllocError> {
+        let nodes = vec![in alloc; KnownNode::UNMET; NODES]?;
+        Ok(NodeTable { nodes })
+    }
+
+    /// How many i-numbers it has.
+    fn count(&self) -> usize
+        ensures { result ≡ length self.now }
+    {
+        self.nodes.as_slice().len()
+    }
+
+    /// What is kept of i-number `i`.
+    pub(crate) fn known(&self, i: u16) -> Option<KnownNode>
+        ensures { result ≡ slice_get self.now i }
+    {
+        self.nodes.get(usize::from(i)).copied()
+    }
+
+    /// The number by which the kernel knows the node with i-number `i`.
+    pub(crate) fn node_number(&self, edition: Edition, i: u16) -> u64
+        ensures { result ≡ node_number edition self.now i }
+    {
+        if i == edition.constants().root {
+            return ROOT;
+        }
+        let birth = match self.known(i) {
+            Some(known) => known.birth,
+            None => 0,
+        };
+        0x1_0000 * u64::from(birth) + u64::from(i)
+    }
+
+    /// The i-number of the node with number `node`; None if no node has it now.
+    pub(crate) fn i_number(&self, edition: Edition, node: u64) -> Option<u16>
+        ensures exact { result ≡ i_number edition self.now node }
+        ensures back { IfSome result (λ i. node_number edition self.now i ≡ node) }
+    {
+        if node == ROOT {
+            return Some(edition.constants().root);
+        }
+        let i = (node % 0x1_0000) as u16;
+        if self.node_number(edition, i) == node {
+            Some(i)
+        } else {
+            None
+        }
+    }
+
+    /// From now on i-number `i` is known by the name `name` in a directory.
+    pub(crate) fn meet(&mut self, i: u16, directory: u16, name: &[u8])
+        requires { length name.now ≤ 14 }
+        ensures { self.new ≡ met self.old i directory name.now }
+    {
+        if let Some(known) = self.nodes.get_mut(usize::from(i)) {
+            known.directory = directory;
+            known.slot = Slot::new(i, name);
+        }
+    }
+
+    /// I-number `i` was given out anew: no number that the kernel has leads to its node, which isn't open.
+    pub(crate) fn bear(&mut self, i: u16)
+        ensures { self.new ≡ with_known self.old i born }
+    {
+        if let Some(known) = self.nodes.get_mut(usize::from(i)) {
+            known.birth = known.birth.saturating_add(1);
+            known.opened = 0;
+        }
+    }
+
+    /// The file of i-number `i` was opened once more.
+    pub(crate) fn open(&mut self, i: u16)
+        ensures { self.new ≡ with_known self.old i opened }
+    {
+        if let Some(known) = self.nodes.get_mut(usize::from(i)) {
+            known.opened = known.opened.saturating_add(1);
+        }
+    }
+
+    /// The file of i-number `i` was closed once.
+    pub(crate) fn close(&mut self, i: u16)
+        ensures { self.new ≡ with_known self.old i closed }
+    {
+        if let Some(known) = self.nodes.get_mut(usize::from(i)) {
+            known.opened = known.opened.saturating_sub(1);
+        }
+    }
+
+    /// The path from the root to node `i`, by the names that were last met; None if they don't lead up to the root. The path is only
+    /// as good as the names: a walk has to test it.
+    pub(crate) fn climb(
+        &self,
+        alloc: Global,
+        root: u16,
+        i: u16,
+    ) -> Result<Option<Bytes>, AllocError>
+        ensures { IfOk result (λ path. path ≡ climb self.now root (length self.now) i []) }
+    {
+        let mut path = Vec::new(alloc);
+        let mut at = i;
+        'steps: for step in 0..self.count() {
+            if at == root {
+                return Ok(Some(Bytes::from_vec(path)));
+            }
+            let Some(known) = self.known(at) else {
+                return Ok(None);
+            };
+            if known.slot.inode == 0 {
+                return Ok(None);
+            }
+            put_in_front(&mut path, known.slot.name())?;
+            at = known.directory;
+        }
+        Ok(None)
+    }
+}
+
+/// Puts a slash and a name in front of a path.
+fn put_in_front(path: &mut Vec<u8>, name: &[u8]) -> Result<(), AllocError>
+    ensures { OnOk result (path.new.items ≡ 47 ∷ (name.now ++ path.old.items)) }
+{
+    let len = path.len();
+    path.push(b'/')?;
+    path.extend_from_slice(name)?;
+    path.rotate_left(len);
+    Ok(())
+}

@@ -1,6 +1,9 @@
-//! Tests of a mounted volume: requests and replies field by field, nodes by their i-numbers, and a session with the server.
+//! Tests of a mounted volume: requests and replies field by field, nodes by their i-numbers, and a session with each of
+//! the two servers.
 #![tactic(auto)]
 
+#[cfg(test)]
+mod changes;
 #[cfg(test)]
 mod fixtures;
 #[cfg(test)]

@@ -26,6 +26,3 @@ pub use host::Host;
 pub use owner::Owner;
 pub use server::MountedServer;
 pub use service::{MountedFault, serve};
-
-#[cfg(test)]
-mod tests;

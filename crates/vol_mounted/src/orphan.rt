@@ -55,6 +55,9 @@ impl Orphan {
 
     /// Writes bytes into it from byte `offset` on; the bytes between its end and the offset become zeros.
     pub(crate) fn write(&mut self, offset: u32, bytes: &[u8]) -> Result<(), AllocError> {
+        if bytes.is_empty() {
+            return Ok(());
+        }
         let start = offset as usize;
         let Some(end) = start.checked_add(bytes.len()) else {
             return Err(AllocError);

@@ -1,10 +1,10 @@
 //! Requests that change a volume.
-use crate::{Host, MountedServer, Owner, serve};
 use pdp_words::Image;
 use std::alloc::Global;
 use std::process::Abort;
 use std::test::Fail;
 use vol_layout::Edition;
+use vol_mounted::{Host, MountedServer, Owner, serve};
 use vol_serve::{Replies, Requests};
 use vol_volume::{Volume, mkfs};
 

@@ -6,4 +6,5 @@ pub mod Refusals
 pub mod Replies
 pub mod Scenes
 pub mod Servers
+pub mod Services
 pub mod Turns

@@ -1,8 +1,8 @@
 //! The answer to one request.
-ghost use Rattle.std.specs.Prelude.{◌≡◌};
+ghost use Rattle.std.specs.Prelude.{◌≡◌, Some, None, if◌then◌else◌};
 ghost use Rattle.fuse_words.specs.Replies.{status_message};
 ghost use Rattle.vol_mounted.specs.Errno.{errno};
-ghost use Rattle.vol_mounted.specs.Turns.{is_sync};
+ghost use Rattle.vol_mounted.specs.Turns.{is_sync, malformed_reply};
 
 use crate::host::Host;
 use crate::refusal::{MountedRefusal, errno};
@@ -13,11 +13,13 @@ use vol_serve::errno::RequestRefusal;
 use vol_serve::memory::Room;
 
 impl MountedServer {
-    ghost use Rattle.std.specs.Prelude.{◌≡◌, OnOk, IfErr};
+    ghost use Rattle.std.specs.Prelude.{◌≡◌, ℕ, List, Some, None, Ok, if◌then◌else◌, OnOk, IfErr};
+    ghost use Rattle.fuse_words.specs.Requests.{request_of};
+    ghost use Rattle.vol_serve.specs.Messages.{Grows};
     ghost use Rattle.vol_mounted.specs.Refusals.{Puts};
     ghost use Rattle.vol_mounted.specs.Replies.{calls_of, reply_of};
     ghost use Rattle.vol_mounted.specs.Servers.{sight_at, Made, Unmade};
-    ghost use Rattle.vol_mounted.specs.Turns.{IsAnswered, IsServed, put_by};
+    ghost use Rattle.vol_mounted.specs.Turns.{IsAnswered, IsServed, HasOutcome, Answers, put_by};
 
     /// Puts the reply to a request into `room`; returns false if none is sent.
     pub(crate) fn answer<H: Host>(
@@ -27,18 +29,15 @@ impl MountedServer {
         request: &[u8],
         room: &mut Room,
         host: &mut H,
-    ) -> bool {
+    ) -> bool
+        ensures { (images : List (List ℕ)) × Grows (H.saved host.old) (H.saved host.new) images
+            × Answers self.old self.new now (request_of request.now) (if result then Some room.new.reply else None) images }
+    {
         match read_request(request) {
             Ok(request) => self.answer_request(alloc, now, request, room, host),
             Err(RequestFault::NoHeader) => false,
-            Err(RequestFault::Length(header) | RequestFault::Body(header)) => {
-                refuse(
-                    &header,
-                    MountedRefusal::Request(RequestRefusal::Malformed),
-                    room,
-                );
-                header.wants_reply()
-            }
+            Err(RequestFault::Length(header)) => refuse_malformed(&header, room),
+            Err(RequestFault::Body(header)) => refuse_malformed(&header, room),
         }
     }
 
@@ -50,15 +49,21 @@ impl MountedServer {
         request: Request<'_>,
         room: &mut Room,
         host: &mut H,
-    ) -> bool {
+    ) -> bool
+        ensures { (images : List (List ℕ)) × Grows (H.saved host.old) (H.saved host.new) images
+            × Answers self.old self.new now (Ok request.entry) (if result then Some room.new.reply else None) images }
+    {
         let Request { header, operation } = request;
         if !header.wants_reply() {
             return false;
         }
-        if let Err(refusal) = self.answer_operation(alloc, now, &header, &operation, room, host) {
-            refuse(&header, refusal, room);
+        match self.answer_operation(alloc, now, &header, &operation, room, host) {
+            Ok(()) => true,
+            Err(refusal) => {
+                refuse(&header, refusal, room);
+                true
+            }
         }
-        true
     }
 
     /// Puts the reply to an operation into `room`, if it isn't refused. FSYNC and FSYNCDIR save the image first.
@@ -70,8 +75,14 @@ impl MountedServer {
         operation: &Operation<'_>,
         room: &mut Room,
         host: &mut H,
-    ) -> Result<(), MountedRefusal> {
-        if is_sync(operation) && !self.save(host) {
+    ) -> Result<(), MountedRefusal>
+        ensures { (images : List (List ℕ)) × Grows (H.saved host.old) (H.saved host.new) images
+            × HasOutcome self.old self.new now header.now operation.now (put_by result room.new.reply) images }
+    {
+        if !is_sync(operation) {
+            return self.answer_saved(alloc, now, header, operation, room);
+        }
+        if !self.save(host) {
             return Err(MountedRefusal::Unsaved);
         }
         self.answer_saved(alloc, now, header, operation, room)
@@ -162,6 +173,18 @@ fn refuse(header: &Header, refusal: MountedRefusal, room: &mut Room)
     ensures { room.new.reply ≡ status_message header.now.unique (errno refusal) }
 {
     room.reply.put_status(header.unique, errno(refusal));
+}
+
+/// Puts the reply to a request that isn't one into `room`; returns false if the kernel waits for none.
+fn refuse_malformed(header: &Header, room: &mut Room) -> bool
+    ensures { (if result then Some room.new.reply else None) ≡ malformed_reply header.now }
+{
+    refuse(
+        header,
+        MountedRefusal::Request(RequestRefusal::Malformed),
+        room,
+    );
+    header.wants_reply()
 }
 
 /// True if an operation asks for the image to be saved.

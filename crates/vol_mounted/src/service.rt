@@ -1,4 +1,8 @@
 //! The loop over requests.
+ghost use Rattle.std.specs.Prelude.{◌≡◌, ◌≢◌, ◌∷◌, [], true, None, OnOk, MatchBool};
+ghost use Rattle.vol_serve.specs.Messages.{Grows};
+ghost use Rattle.vol_mounted.specs.Services.{Runs, Serves, replies_of};
+ghost use Rattle.vol_mounted.specs.Turns.{Turn, Turns};
 
 use crate::host::Host;
 use crate::server::MountedServer;
@@ -43,7 +47,11 @@ pub fn serve<Q: Requests, P: Replies, H: Host>(
     requests: &mut Q,
     replies: &mut P,
     host: &mut H,
-) -> Result<(), MountedFault> {
+) -> Result<(), MountedFault>
+    ensures turns { Serves server.old server.new (Q.taken requests.old) (Q.taken requests.new) (P.sent replies.old) (P.sent replies.new)
+        (H.saved host.old) (H.saved host.new) result }
+    ensures ended { OnOk result (Q.has_ended requests.new ≡ true) }
+{
     let ended = serve_requests(alloc, server, requests, replies, host);
     if !server.save(host) {
         return Err(MountedFault::Unsaved);
@@ -61,28 +69,44 @@ fn serve_requests<Q: Requests, P: Replies, H: Host>(
     requests: &mut Q,
     replies: &mut P,
     host: &mut H,
-) -> Result<(), ServeFault> {
+) -> Result<(), ServeFault>
+    ensures turns { Runs server.old server.new (Q.taken requests.old) (Q.taken requests.new) (P.sent replies.old) (P.sent replies.new)
+        (H.saved host.old) (H.saved host.new) result }
+    ensures ended { OnOk result (Q.has_ended requests.new ≡ true) }
+{
     let Ok(mut memory) = Memory::new(alloc) else {
         return Err(ServeFault::NoMemory);
     };
-    run(alloc, server, &mut memory, requests, replies, host)
+    run(
+        alloc,
+        server,
+        &mut memory.request,
+        &mut memory.room,
+        requests,
+        replies,
+        host,
+    )
 }
 
 /// Answers requests until there are no more.
 fn run<Q: Requests, P: Replies, H: Host>(
     alloc: Global,
     server: &mut MountedServer,
-    memory: &mut Memory,
+    buffer: &mut [u8],
+    room: &mut Room,
     requests: &mut Q,
     replies: &mut P,
     host: &mut H,
-) -> Result<(), ServeFault> {
+) -> Result<(), ServeFault>
+    ensures turns { Runs server.old server.new (Q.taken requests.old) (Q.taken requests.new) (P.sent replies.old) (P.sent replies.new)
+        (H.saved host.old) (H.saved host.new) result }
+    ensures ended { OnOk result (Q.has_ended requests.new ≡ true) }
+{
     'requests: for turn in 0..u64::MAX {
-        let Some(count) = requests.take(&mut memory.request) else {
+        let Some(count) = requests.take(buffer) else {
             return Ok(());
         };
-        let request = &memory.request[..count];
-        if !take_turn(alloc, server, request, &mut memory.room, replies, host) {
+        if !take_turn(alloc, server, &buffer[..count], room, replies, host) {
             return Err(ServeFault::Send);
         }
     }
@@ -97,13 +121,17 @@ fn take_turn<P: Replies, H: Host>(
     room: &mut Room,
     replies: &mut P,
     host: &mut H,
-) -> bool {
+) -> bool
+    ensures { (turn : Turn) × (turn.request ≡ request.now) × Turns server.old server.new turn
+        × Grows (H.saved host.old) (H.saved host.new) turn.images
+        × MatchBool result (Grows (P.sent replies.old) (P.sent replies.new) (replies_of (turn ∷ [])))
+        (Grows (P.sent replies.old) (P.sent replies.new) [] × (turn.reply ≢ None)) }
+{
     let now = host.seconds();
-    let is_sent = if server.answer(alloc, now, request, room, host) {
-        replies.send(room.reply.as_slice())
-    } else {
-        true
-    };
+    if !server.answer(alloc, now, request, room, host) {
+        server.cut_if_heavy(request.len());
+        return true;
+    }
     server.cut_if_heavy(request.len());
-    is_sent
+    replies.send(room.reply.as_slice())
 }

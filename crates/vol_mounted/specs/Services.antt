@@ -1,0 +1,51 @@
+-- What serving brings about.
+use Rattle.std.specs.Prelude.{◌≡◌, ◌≢◌, ℕ, ◌-◌, ◌^◌, Bool, true, false, List, [], ◌∷◌, ◌++◌, length, map, Option, None, Result, Ok, Err}
+use Rattle.std.specs.List.{filter_map, flat_map}
+use Rattle.vol_serve.specs.Messages.{Grows}
+use Rattle.vol_serve.specs.declared.serving.ServeFault.{ServeFault}
+use Rattle.vol_serve.specs.declared.serving.ServeFault.TheVariants.{NoMemory, Send, Requests}
+use Rattle.vol_mounted.specs.Turns.{Turn, Follow, IsSaved}
+use Rattle.vol_mounted.specs.declared.server.MountedServer.{MountedServer}
+use Rattle.vol_mounted.specs.declared.service.MountedFault.{MountedFault}
+use Rattle.vol_mounted.specs.declared.service.MountedFault.TheVariants as mounted
+
+-- the requests of some turns (this project)
+abbrev pub requests_of : List Turn → List (List ℕ)
+requests_of turns = map (λ (turn : Turn). turn.request) turns
+
+-- the replies of some turns: one for each request whose reply the kernel waits for (this project)
+abbrev pub replies_of : List Turn → List (List ℕ)
+replies_of turns = filter_map (λ (turn : Turn). turn.reply) turns
+
+-- the images that were saved in some turns (this project)
+abbrev pub images_of : List Turn → List (List ℕ)
+images_of turns = flat_map (λ (turn : Turn). turn.images) turns
+
+-- the replies sent in a run that ended so: those of its turns, in their order. The last one's could not be sent where sending failed; too many were taken where there may be more (this project)
+abbrev pub AreSent : {X : Type 0} → List Turn → List (List ℕ) → Result X ServeFault → Type 0
+AreSent turns sent (Ok done) = sent ≡ replies_of turns
+AreSent turns sent (Err NoMemory) = (turns ≡ []) × (sent ≡ [])
+AreSent turns sent (Err Send) =
+    (before : List Turn) × (last : Turn) × (turns ≡ before ++ last ∷ []) × (last.reply ≢ None) × (sent ≡ replies_of before)
+AreSent turns sent (Err Requests) = (sent ≡ replies_of turns) × (length turns ≡ 2 ^ 64 - 1)
+
+-- a run: the requests taken, the replies sent and the images saved are those of some turns, which lead from one server to the other (this project)
+abbrev pub Runs : {X : Type 0} → MountedServer → MountedServer → Option (List (List ℕ)) → Option (List (List ℕ)) → Option (List (List ℕ))
+    → Option (List (List ℕ)) → Option (List (List ℕ)) → Option (List (List ℕ)) → Result X ServeFault → Type 0
+Runs old new taken taken' sent sent' saved saved' result =
+    (turns : List Turn) × (replies : List (List ℕ)) × Grows taken taken' (requests_of turns) × Grows sent sent' replies
+    × Grows saved saved' (images_of turns) × AreSent turns replies result × Follow old turns new
+
+-- how a run ended, and whether the image was saved after it (this project)
+abbrev pub IsEnd : {X : Type 0} → Result X ServeFault → Bool → Result X MountedFault → Type 0
+IsEnd ended saved (Ok done) = (saved ≡ true) × (ended ≡ Ok done)
+IsEnd ended saved (Err (mounted.Serve fault)) = (saved ≡ true) × (ended ≡ Err fault)
+IsEnd ended saved (Err mounted.Unsaved) = saved ≡ false
+
+-- a run, after which the image is saved, if it was changed since it was saved last (this project)
+abbrev pub Serves : {X : Type 0} → MountedServer → MountedServer → Option (List (List ℕ)) → Option (List (List ℕ)) → Option (List (List ℕ))
+    → Option (List (List ℕ)) → Option (List (List ℕ)) → Option (List (List ℕ)) → Result X MountedFault → Type 0
+Serves {X = X} old new taken taken' sent sent' saved saved' result =
+    (between : MountedServer) × (before : Option (List (List ℕ))) × (ended : Result X ServeFault) × (images : List (List ℕ)) × (is_saved : Bool)
+    × Runs old between taken taken' sent sent' saved before ended × Grows before saved' images × IsSaved between new images is_saved
+    × IsEnd ended is_saved result

@@ -1,4 +1,4 @@
-//! Bytes as a terminal can show them.
+//! Bytes as text that a terminal can show.
 #![tactic(auto)]
 
 ghost use Rattle.std.specs.Prelude.{◌≡◌, ◌++◌, OnOk};
@@ -6,8 +6,8 @@ ghost use Rattle.escaped_text.specs.Escaping.{escaped_byte, escaped};
 
 use std::alloc::AllocError;
 
-/// Appends bytes as a terminal can show them: printable ASCII as it is, but for a backslash, which is doubled; any other byte as
-/// a backslash and three octal digits.
+/// Appends bytes as text that a terminal can show: printable ASCII as it is, except a backslash, which is doubled; any other
+/// byte as a backslash and three octal digits.
 pub fn push_escaped(text: &mut Vec<u8>, bytes: &[u8]) -> Result<(), AllocError>
     ensures { OnOk result (text.new.items ≡ text.old.items ++ escaped bytes.now) }
 {
@@ -17,7 +17,7 @@ pub fn push_escaped(text: &mut Vec<u8>, bytes: &[u8]) -> Result<(), AllocError>
     Ok(())
 }
 
-/// Appends a byte as a terminal can show it.
+/// Appends one byte as [`push_escaped`] does.
 fn push_escaped_byte(text: &mut Vec<u8>, byte: u8) -> Result<(), AllocError>
     ensures { OnOk result (text.new.items ≡ text.old.items ++ escaped_byte byte) }
 {

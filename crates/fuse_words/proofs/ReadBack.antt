@@ -17,7 +17,7 @@ use Rattle.fuse_words.specs.declared.operation.Operation.TheVariants.{Init, Dest
 use Rattle.fuse_words.specs.declared.request.Header.{Header}
 use Rattle.fuse_words.proofs.Reading.{read_by}
 
--- a header by its numbers
+-- a header from its numbers
 header_as : (bytes : List ℕ) (header : Header) → nat_lt (length bytes) 40 ≡ false → number 4 0 bytes ≡ header.length → number 4 4 bytes ≡ header.opcode
     → number 8 8 bytes ≡ header.unique → number 8 16 bytes ≡ header.node → number 4 24 bytes ≡ header.uid → number 4 28 bytes ≡ header.gid
     → number 4 32 bytes ≡ header.pid → header_of bytes ≡ Some header
@@ -38,18 +38,18 @@ header_back header body h =
     (little_number-reads_back 4 header.gid (drop 32 all) h.gid)
     (little_number-reads_back 4 header.pid (drop 36 all) h.pid)
 
--- what an operation is that hasn't one name
+-- the operation in a body, unless it has one name
 abbrev operation_without : ℕ → List ℕ → Option Operation
 operation_without opcode body =
     if is_rename opcode then option_map (renamed opcode body) (names_of (drop (struct_size opcode) body))
     else if opcode == 16 then write_of body
     else Some (fields_of opcode body)
 
--- what an operation is, once its struct is there
+-- the operation in a body with its whole struct
 abbrev operation_with : ℕ → List ℕ → Option Operation
 operation_with opcode body = if is_named opcode then option_map (named opcode body) (name_of (drop (struct_size opcode) body)) else operation_without opcode body
 
--- an operation without a name, whose struct is there
+-- an operation without a name, with its whole struct
 sized : (opcode : ℕ) (body : List ℕ) (operation : Operation) → struct_size opcode ≤ length body → is_named opcode ≡ false → is_rename opcode ≡ false → (opcode == 16) ≡ false
     → fields_of opcode body ≡ operation → operation_of opcode body ≡ Some operation
 unfolding operation_of
@@ -70,7 +70,7 @@ read_fields handle offset size rest h o s = (
   little_number-reads_back 4 size rest s,
 )
 
--- the place of the NUL behind a name
+-- the place of the NUL after a name
 nul_at : (name more : List ℕ) → IsString name → position (λ b. b == 0) (name ++ 0 ∷ more) ≡ Some (length name)
 nul_at name more h =
     let first : position_or_len (λ b. b == 0) (name ++ 0 ∷ more) ≡ length name =
@@ -88,7 +88,7 @@ name_back name h =
     ap (name_before (string name)) (nul_at name [] h)
     ∙ simp (whole, eq-eqb (length name + 1) (length name + 1) refl, take-append_seam)
 
--- what follows the NUL behind a name
+-- the bytes after the NUL of a name
 behind_nul : (name more : List ℕ) → drop (length name + 1) (name ++ 0 ∷ more) ≡ more
 behind_nul name more = drop-append-add name (0 ∷ more) 1
 
@@ -102,7 +102,7 @@ names_back name new_name h h' =
     ∙ (ap (option_map (λ second. (take (length name) (name ++ 0 ∷ more), second))) (name_back new_name h')
     ∙ ap (λ first. Some (first, new_name)) (take-append_seam name (0 ∷ more)))))
 
--- an operation with one name, behind its struct
+-- an operation with one name, after its struct
 one_back : (opcode : ℕ) (front name : List ℕ) (operation : Operation) → length front ≡ struct_size opcode → is_named opcode ≡ true → IsString name
     → named opcode (front ++ string name) name ≡ operation → operation_of opcode (front ++ string name) ≡ Some operation
 unfolding operation_of
@@ -114,7 +114,7 @@ one_back opcode front name operation size one h is =
     ∙ (ap (λ xs. option_map (named opcode body) (name_of xs)) rest
     ∙ (ap (option_map (named opcode body)) (name_back name h) ∙ ap Some is)))
 
--- an operation with two names, behind its struct
+-- an operation with two names, after its struct
 two_back : (opcode : ℕ) (front name new_name : List ℕ) (operation : Operation) → length front ≡ struct_size opcode → is_named opcode ≡ false → is_rename opcode ≡ true
     → IsString name → IsString new_name → renamed opcode (front ++ (string name ++ string new_name)) (name, new_name) ≡ operation
     → operation_of opcode (front ++ (string name ++ string new_name)) ≡ Some operation

@@ -1,4 +1,4 @@
--- Statements of requests that are laid out in the order of fuse.h, and of the lengths of replies.
+-- Statements on requests laid out in the order of fuse.h, and on the lengths of replies.
 use Rattle.std.specs.Prelude.{◌≡◌, ℕ, ◌+◌, ◌%◌, ◌^◌, ◌<◌, ◌≤◌, List, [], ◌∷◌, ◌++◌, length, All, Ok, ⊤}
 use Rattle.byteorder.specs.Endian.{little_bytes}
 use Rattle.fuse_words.specs.Replies.{init_message, entry_message, attributes_message, open_message, data_message, written_message, statfs_message, status_message, dirent_bytes, dirent_size}
@@ -64,7 +64,7 @@ setattr_bytes fields =
     ++ little_bytes 4 fields.gid
     ++ little_bytes 4 fields.unused5
 
--- the body of SETATTR asks for these changes: its fields that are read have room in their bytes, and give them (fuse_setattr_in)
+-- a body of SETATTR with these fields makes these changes; the fields that are read fit their bytes (fuse_setattr_in)
 pub record IsSetAttr (changes : AttributeChanges) (body : List ℕ) (fields : SetAttrIn) : Type 0 where
   pub valid : fields.valid < 2 ^ 32
   pub size : fields.size < 2 ^ 64
@@ -76,7 +76,7 @@ pub record IsSetAttr (changes : AttributeChanges) (body : List ℕ) (fields : Se
   pub asked : changes ≡ changes_by fields.valid fields.size fields.atime fields.mtime fields.mode fields.uid fields.gid
   pub laid_out : body ≡ setattr_bytes fields
 
--- a name as a string of C (fuse.h)
+-- a name as a C string (fuse.h)
 abbrev pub string : List ℕ → List ℕ
 string name = name ++ 0 ∷ []
 
@@ -133,11 +133,11 @@ opcode_of BatchForget = 42
 opcode_of (Rename2 directory flags name new_name) = 45
 opcode_of (Other opcode) = opcode
 
--- the bytes of a name: none is NUL (fuse.h)
+-- a name has no NUL (fuse.h)
 abbrev pub IsString : List ℕ → Type 0
 IsString name = All (λ b. 0 < b) name
 
--- fields have room in their bytes, the rest of a struct is there, and no name has a NUL (fuse.h)
+-- the fields fit their bytes, the rest of the struct follows, and no name has a NUL (fuse.h)
 abbrev pub FitsBody : Operation → List ℕ → Type 0
 FitsBody (Lookup name) rest = IsString name × (rest ≡ [])
 FitsBody (SetAttr changes) rest = (fields : SetAttrIn) × IsSetAttr changes rest fields
@@ -163,7 +163,7 @@ FitsBody (FsyncDir handle) rest = (handle < 2 ^ 64) × (8 ≤ length rest)
 FitsBody (Other opcode) rest = ⊥
 FitsBody other rest = ⊤
 
--- the numbers of a header have room in their bytes (fuse_in_header)
+-- the numbers of a header fit their bytes (fuse_in_header)
 pub record FitsHeader (header : Header) : Type 0 where
   pub length : header.length < 2 ^ 32
   pub opcode : header.opcode < 2 ^ 32
@@ -177,14 +177,14 @@ pub record FitsHeader (header : Header) : Type 0 where
 abbrev pub request_bytes : Header → Operation → List ℕ → List ℕ
 request_bytes header operation rest = header_bytes header ++ body_bytes operation rest
 
--- a request that is laid out so, with an operation that has a name here, is read as what it is (fuse.h)
+-- a request laid out so is read as that request, if its operation is one of those named here (fuse.h)
 abbrev pub RequestsAreReadBack : Type 0
 RequestsAreReadBack =
     (header : Header) (operation : Operation) (rest : List ℕ) → FitsHeader header → FitsBody operation rest → header.opcode ≡ opcode_of operation
     → header.length ≡ length (request_bytes header operation rest)
     → request_of (request_bytes header operation rest) ≡ Ok (record { header = header; operation = operation })
 
--- replies have the lengths of their structs behind 16 bytes of header, which their headers say (fuse.h)
+-- replies have 16 bytes of header and their struct, and their headers give this length (fuse.h)
 abbrev pub RepliesHaveTheirLengths : Type 0
 RepliesHaveTheirLengths =
     (unique errno seconds handle flags size : ℕ) (settings : Settings) (entry : Entry) (attributes : Attributes) (sizes : Statistics) (content : List ℕ)
@@ -197,7 +197,7 @@ RepliesHaveTheirLengths =
     × (length (written_message unique size) ≡ 16 + 8)
     × (length (statfs_message unique sizes) ≡ 16 + 80)
 
--- entries of a directory have the size that they are said to have, and the next one begins at a multiple of 8 (FUSE_DIRENT_ALIGN)
+-- directory entries have the size that `dirent_size` gives, which is a multiple of 8 (FUSE_DIRENT_ALIGN)
 abbrev pub EntriesAreAligned : Type 0
 EntriesAreAligned =
     (ino next_offset : ℕ) (kind : EntryKind) (name : List ℕ)

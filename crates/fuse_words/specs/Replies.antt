@@ -1,4 +1,4 @@
--- Replies, field by field. (Linux, include/uapi/linux/fuse.h; numbers have the order of the processor, here the low byte first.)
+-- Replies, field by field. (Linux, include/uapi/linux/fuse.h; numbers have the processor's byte order, here the low byte first.)
 use Rattle.std.specs.Prelude.{ℕ, ◌+◌, ◌-◌, ◌%◌, ◌==◌, ◌^◌, if◌then◌else◌, List, ◌++◌, length}
 use Rattle.std.proofs.Math.ListN.{replicate}
 use Rattle.byteorder.specs.Endian.{little_bytes}
@@ -13,7 +13,7 @@ use Rattle.fuse_words.specs.declared.reply.Statistics.{Statistics}
 unfoldable pub reply_header : ℕ → ℕ → List ℕ
 reply_header size unique = little_bytes 4 (16 + size) ++ little_bytes 4 0 ++ little_bytes 8 unique
 
--- an error as a negative number of 32 bits; 0 is success (fuse_out_header)
+-- an error as a negative 32-bit number; 0 is success (fuse_out_header)
 abbrev pub negative : ℕ → ℕ
 negative errno = if errno == 0 then 0 else 2 ^ 32 - errno
 
@@ -37,7 +37,7 @@ init_message unique settings =
     ++ little_bytes 2 0  -- map_alignment
     ++ replicate 32 0  -- unused
 
--- bytes, and then the attributes of a node (fuse_attr, 88 bytes)
+-- bytes followed by the attributes of a node (fuse_attr, 88 bytes)
 unfoldable pub with_attributes : List ℕ → Attributes → List ℕ
 with_attributes front attributes =
     front
@@ -58,7 +58,7 @@ with_attributes front attributes =
     ++ little_bytes 4 attributes.block_size
     ++ little_bytes 4 0  -- flags
 
--- the attributes of no node (this project)
+-- the attributes in the reply for a missing name (this project)
 abbrev pub no_attributes : Attributes
 no_attributes = record {
   ino = 0;

@@ -1,4 +1,4 @@
--- Requests, field by field. (Linux, include/uapi/linux/fuse.h; numbers have the order of the processor, here the low byte first.)
+-- Requests, field by field. (Linux, include/uapi/linux/fuse.h; numbers have the processor's byte order, here the low byte first.)
 use Rattle.std.specs.Prelude.{ℕ, Bool, not, ◌+◌, ◌==◌, ◌||◌, nat_lt, bit_and, if◌then◌else◌, List, length, take, drop, Option, None, Some, Result, Ok, Err}
 use Rattle.std.specs.List.{position}
 use Rattle.std.specs.Option.{option_map}
@@ -17,7 +17,7 @@ use Rattle.fuse_words.specs.declared.request.RequestFault.TheVariants as faults
 abbrev pub number : ℕ → ℕ → List ℕ → ℕ
 number width at bytes = little_number width (drop at bytes)
 
--- the header that bytes begin with, if they are enough (fuse_in_header, 40 bytes; the last 4 are padding)
+-- the header at the beginning of bytes, if there are enough (fuse_in_header, 40 bytes; the last 4 are padding)
 unfoldable pub header_of : List ℕ → Option Header
 header_of bytes =
     if nat_lt (length bytes) 40 then None
@@ -35,7 +35,7 @@ header_of bytes =
 abbrev pub wants_reply : ℕ → Bool
 wants_reply opcode = not ((opcode == 2) || (opcode == 36) || (opcode == 41) || (opcode == 42))
 
--- bytes of the struct that the body begins with, of the operations whose struct is read: fuse_mkdir_in, fuse_rename_in, fuse_link_in and
+-- the size in bytes of the struct that a body begins with, for operations whose struct is read: fuse_mkdir_in, fuse_rename_in, fuse_link_in and
 -- fuse_open_in; fuse_getattr_in, fuse_mknod_in, fuse_fsync_in, the first form of fuse_init_in, and fuse_rename2_in; fuse_release_in and
 -- fuse_flush_in; fuse_read_in and fuse_write_in; fuse_setattr_in (fuse.h)
 abbrev pub struct_size : ℕ → ℕ
@@ -47,21 +47,21 @@ struct_size opcode =
     else if opcode == 4 then 88
     else 0
 
--- the bytes before a NUL, if it is the first one and nothing follows it (fuse.h: names are strings of C)
+-- the bytes before a NUL, if it is the first one and nothing follows it (fuse.h: names are C strings)
 abbrev pub name_before : List ℕ → Option ℕ → Option (List ℕ)
 name_before body None = None
 name_before body (Some end) = if end + 1 == length body then Some (take end body) else None
 
--- the name that a body is (fuse.h: names are strings of C)
+-- the name in a body (fuse.h: names are C strings)
 abbrev pub name_of : List ℕ → Option (List ℕ)
 name_of body = name_before body (position (λ b. b == 0) body)
 
--- the bytes before a NUL, and the name that the bytes after it are (fuse.h: names are strings of C)
+-- the bytes before a NUL, and the name after it (fuse.h: names are C strings)
 abbrev pub names_before : List ℕ → Option ℕ → Option (List ℕ × List ℕ)
 names_before body None = None
 names_before body (Some end) = option_map (λ second. (take end body, second)) (name_of (drop (end + 1) body))
 
--- the two names that a body is (fuse.h: names are strings of C)
+-- the two names in a body (fuse.h: names are C strings)
 abbrev pub names_of : List ℕ → Option (List ℕ × List ℕ)
 names_of body = names_before body (position (λ b. b == 0) body)
 
@@ -73,7 +73,7 @@ given valid flag value = if bit_and valid flag == 0 then None else Some value
 abbrev pub new_time : ℕ → ℕ → ℕ → NewTime
 new_time valid now seconds = if bit_and valid now == 0 then times.At seconds else times.Now
 
--- what SETATTR sets, by the flags and the values of its fields (FATTR_MODE, FATTR_UID, FATTR_GID, FATTR_SIZE; FATTR_ATIME and FATTR_MTIME, each with its _NOW)
+-- SETATTR's changes, by the flags and the values of its fields (FATTR_MODE, FATTR_UID, FATTR_GID, FATTR_SIZE; FATTR_ATIME and FATTR_MTIME, each with its _NOW)
 abbrev pub changes_by : ℕ → ℕ → ℕ → ℕ → ℕ → ℕ → ℕ → AttributeChanges
 changes_by valid size accessed modified mode uid gid = record {
   mode = given valid 1 mode;
@@ -84,11 +84,11 @@ changes_by valid size accessed modified mode uid gid = record {
   modified = given valid 32 (new_time valid 256 modified);
 }
 
--- what a body of SETATTR sets: valid, size, atime, mtime, mode, uid, gid (fuse_setattr_in)
+-- the changes in SETATTR's body: valid, size, atime, mtime, mode, uid, gid (fuse_setattr_in)
 unfoldable pub changes_of : List ℕ → AttributeChanges
 changes_of body = changes_by (number 4 0 body) (number 8 16 body) (number 8 32 body) (number 8 40 body) (number 4 68 body) (number 4 76 body) (number 4 80 body)
 
--- whether an operation has one name: LOOKUP, MKNOD, MKDIR, UNLINK, RMDIR, LINK (fuse_opcode)
+-- true if an operation has one name: LOOKUP, MKNOD, MKDIR, UNLINK, RMDIR, LINK (fuse_opcode)
 abbrev pub is_named : ℕ → Bool
 is_named opcode = (opcode == 1) || (opcode == 8) || (opcode == 9) || (opcode == 10) || (opcode == 11) || (opcode == 13)
 
@@ -102,7 +102,7 @@ named opcode body name =
     else if opcode == 13 then operations.Link (number 8 0 body) name
     else operations.Lookup name
 
--- whether an operation has two names: RENAME and RENAME2 (fuse_opcode)
+-- true if an operation has two names: RENAME and RENAME2 (fuse_opcode)
 abbrev pub is_rename : ℕ → Bool
 is_rename opcode = (opcode == 12) || (opcode == 45)
 
@@ -112,7 +112,7 @@ renamed opcode body names =
     if opcode == 12 then operations.Rename (number 8 0 body) names.0 names.1
     else operations.Rename2 (number 8 0 body) (number 4 8 body) names.0 names.1
 
--- WRITE, if it brings as many bytes as it says (fuse_write_in)
+-- WRITE, if the body has as many bytes as it says (fuse_write_in)
 abbrev pub write_of : List ℕ → Option Operation
 write_of body =
     if number 4 16 body == length (drop 40 body) then Some (operations.Write (number 8 0 body) (number 8 8 body) (drop 40 body)) else None
@@ -139,7 +139,7 @@ fields_of opcode body =
     else if opcode == 42 then operations.BatchForget
     else operations.Other opcode
 
--- the operation that a body asks for, if it has the operation's struct, its names and its bytes (fuse_opcode)
+-- the operation in a body, if it has the operation's struct, its names and its bytes (fuse_opcode)
 unfoldable pub operation_of : ℕ → List ℕ → Option Operation
 operation_of opcode body =
     if nat_lt (length body) (struct_size opcode) then None
@@ -153,13 +153,13 @@ abbrev pub with_operation : Header → Option Operation → Result Request Reque
 with_operation header None = Err (faults.Body header)
 with_operation header (Some operation) = Ok (record { header = header; operation = operation })
 
--- the request that bytes are, by the header that they begin with (one read(2) gives one whole request)
+-- the request in bytes with this header (one read(2) gives one whole request)
 abbrev pub request_by : List ℕ → Option Header → Result Request RequestFault
 request_by bytes None = Err faults.NoHeader
 request_by bytes (Some header) =
     if header.length == length bytes then with_operation header (operation_of header.opcode (drop 40 bytes))
     else Err (faults.Length header)
 
--- the request that bytes are (fuse.h)
+-- the request in bytes (fuse.h)
 abbrev pub request_of : List ℕ → Result Request RequestFault
 request_of bytes = request_by bytes (header_of bytes)

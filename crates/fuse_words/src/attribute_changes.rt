@@ -1,4 +1,4 @@
-//! What SETATTR sets.
+//! The changes that SETATTR makes.
 ghost use Rattle.std.specs.Prelude.{◌≡◌, ◌≤◌, length};
 ghost use Rattle.fuse_words.specs.Requests.{given, new_time, changes_of};
 
@@ -21,7 +21,7 @@ const ACCESSED_NOW: u32 = 128;
 
 const MODIFIED_NOW: u32 = 256;
 
-/// A time that is to be set.
+/// A time to set.
 #[derive(Clone, Copy, Debug, PartialEq, Eq, Drop)]
 pub enum NewTime {
     /// The time at which it is set.
@@ -30,10 +30,10 @@ pub enum NewTime {
     At(u64),
 }
 
-/// The attributes of a node that are to be set. Those that are `None` stay.
+/// The attributes of a node to set. Those that are `None` stay.
 #[derive(Clone, Copy, Debug, PartialEq, Eq)]
 pub struct AttributeChanges {
-    /// Kind and permissions, as stat(2) has them.
+    /// Kind and permissions, as in stat(2).
     pub mode: Option<u32>,
     /// The owner.
     pub uid: Option<u32>,
@@ -47,7 +47,7 @@ pub struct AttributeChanges {
     pub modified: Option<NewTime>,
 }
 
-/// What a body asks to set (`fuse_setattr_in`).
+/// Reads the changes in a body (`fuse_setattr_in`).
 #[tactic(auto, unfolding(crate::specs::Requests::changes_of))]
 pub(crate) fn read_changes(body: &[u8]) -> AttributeChanges
     requires { 88 ≤ length body.now }
@@ -72,14 +72,14 @@ pub(crate) fn read_changes(body: &[u8]) -> AttributeChanges
     }
 }
 
-/// The value of a field, if its flag is set.
+/// Returns the value of a field, if its flag is set.
 fn given<T: Drop>(valid: u32, flag: u32, value: T) -> Option<T>
     ensures { result ≡ given valid flag value }
 {
     if valid & flag == 0 { None } else { Some(value) }
 }
 
-/// The time of a field, or now, if that flag is set.
+/// Returns the time of a field, or `Now` if that flag is set.
 fn new_time(valid: u32, now: u32, seconds: u64) -> NewTime
     ensures { result ≡ new_time valid now seconds }
 {

@@ -1,17 +1,17 @@
-//! The entries of a directory, as READDIR's reply has them.
+//! Entries in READDIR's reply.
 ghost use Rattle.std.specs.Prelude.{◌≡◌, ◌+◌, ◌≤◌, ◌++◌, nat_le, if◌then◌else◌, length, vec_len, vec_capacity};
 ghost use Rattle.std.proofs.Math.ListN.{replicate};
 ghost use Rattle.fuse_words.specs.Replies.{kind_number, padding, dirent_bytes, dirent_size};
 
 use crate::pushing::{push, push_u32, push_u64};
 
-/// Bytes of an entry before its name (`fuse_dirent`).
+/// The number of bytes of an entry before its name (`fuse_dirent`).
 const FRONT: usize = 24;
 
 /// The kind of an entry.
 #[derive(Clone, Copy, Debug, PartialEq, Eq)]
 pub enum EntryKind {
-    /// It isn't known.
+    /// Unknown.
     Unknown,
     /// A character special file.
     Character,
@@ -24,7 +24,7 @@ pub enum EntryKind {
 }
 
 impl EntryKind {
-    /// The number of the kind.
+    /// Returns the number of the kind.
     fn number(self) -> u32
         ensures { result ≡ kind_number self }
     {
@@ -38,8 +38,9 @@ impl EntryKind {
     }
 }
 
-/// Appends an entry if `out` then has at most `size` bytes; returns true if it did. `next_offset` is the offset that asks for the
-/// entries after this one. The kernel refuses a name that is empty or has a slash.
+/// Appends an entry if `out` then has at most `size` bytes, and returns true if it did. `next_offset` is the
+/// offset at which the kernel reads on after this entry. The kernel refuses a name that is empty or has a
+/// slash.
 pub fn push_entry(
     out: &mut Vec<u8>,
     size: usize,

@@ -1,4 +1,4 @@
-//! Laws about messages. A call does nothing: what matters is the contract, which is proved.
+//! Laws of messages. Calling them does nothing; their contracts are proved.
 ghost use Rattle.fuse_words.specs.Laws.{RequestsAreReadBack, RepliesHaveTheirLengths, EntriesAreAligned};
 
 /// A request with its fields in the order of fuse.h is read as that request, whatever is in the fields that aren't read.
@@ -6,12 +6,12 @@ pub fn requests_are_read_back()
     ensures { RequestsAreReadBack }
 {}
 
-/// Each reply has the length that its header says, which is that of its struct and 16 more.
+/// Each reply has the length that its header gives: 16 bytes plus its struct.
 pub fn replies_have_their_lengths()
     ensures { RepliesHaveTheirLengths }
 {}
 
-/// An entry of a directory takes a multiple of 8 bytes.
+/// A directory entry takes a multiple of 8 bytes.
 pub fn entries_are_aligned()
     ensures { EntriesAreAligned }
 {}

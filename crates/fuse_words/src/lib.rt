@@ -1,5 +1,5 @@
-//! The messages of the Linux kernel's FUSE protocol, version 7.31, as a file server takes and sends them: requests are read, and
-//! replies are made. (Linux, include/uapi/linux/fuse.h.)
+//! Messages of the Linux kernel's FUSE protocol, version 7.31, for a file server: reads requests and makes replies. (Linux,
+//! include/uapi/linux/fuse.h.)
 #![tactic(auto)]
 
 pub mod attribute_changes;

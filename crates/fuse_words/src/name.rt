@@ -1,17 +1,17 @@
-//! The names and the bytes that a request brings.
+//! The names and the bytes in a request.
 ghost use Rattle.std.specs.Prelude.{◌≡◌, ◌==◌};
 ghost use Rattle.std.specs.List.{position};
 ghost use Rattle.fuse_words.specs.Requests.{name_of, names_of};
 
 use std::marker::Model;
 
-/// A name in a request, without the NUL at its end. A contract sees it as the list of its bytes.
+/// A name in a request, without its final NUL. Contracts see it as the list of its bytes.
 #[derive(Debug, Drop)]
 pub struct Name<'a> {
     bytes: &'a [u8],
 }
 
-/// The bytes that a request brings for a file. A contract sees them as their list.
+/// The bytes for a file in a request. Contracts see them as their list.
 #[derive(Debug, Drop)]
 pub struct Content<'a> {
     bytes: &'a [u8],
@@ -34,7 +34,7 @@ impl<'a> Model for Content<'a> {
 }
 
 impl<'a> Name<'a> {
-    /// The name that bytes are: one NUL, at their end.
+    /// Reads a name from bytes, which must have one NUL, at their end.
     pub(crate) fn read(bytes: &'a [u8]) -> Option<Name<'a>>
         ensures { result ≡ name_of bytes.now }
     {
@@ -48,7 +48,7 @@ impl<'a> Name<'a> {
         }
     }
 
-    /// The two names that bytes are, each with a NUL after it.
+    /// Reads two names, each followed by a NUL.
     pub(crate) fn read_two(bytes: &'a [u8]) -> Option<(Name<'a>, Name<'a>)>
         ensures { result ≡ names_of bytes.now }
     {
@@ -60,14 +60,14 @@ impl<'a> Name<'a> {
         Some((first, second))
     }
 
-    /// The bytes of the name, which stays.
+    /// Borrows the bytes of the name.
     pub fn as_slice(&self) -> &[u8]
         ensures { result.now ≡ self.now }
     {
         self.bytes
     }
 
-    /// The bytes of the name.
+    /// Returns the bytes of the name.
     pub fn into_slice(self) -> &'a [u8]
         ensures { result.now ≡ self.entry }
     {
@@ -76,21 +76,21 @@ impl<'a> Name<'a> {
 }
 
 impl<'a> Content<'a> {
-    /// These bytes.
+    /// Wraps these bytes.
     pub(crate) fn new(bytes: &'a [u8]) -> Content<'a>
         ensures { result ≡ bytes.now }
     {
         Content { bytes }
     }
 
-    /// The bytes, which stay.
+    /// Borrows the bytes.
     pub fn as_slice(&self) -> &[u8]
         ensures { result.now ≡ self.now }
     {
         self.bytes
     }
 
-    /// The bytes.
+    /// Returns the bytes.
     pub fn into_slice(self) -> &'a [u8]
         ensures { result.now ≡ self.entry }
     {
@@ -98,7 +98,7 @@ impl<'a> Content<'a> {
     }
 }
 
-/// The place of the first NUL.
+/// Returns the index of the first NUL.
 fn first_nul(bytes: &[u8]) -> Option<usize>
     ensures { result ≡ position (λ b. b == 0) bytes.now }
 {

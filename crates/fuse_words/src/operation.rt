@@ -1,4 +1,4 @@
-//! What a request asks for.
+//! Operations of requests.
 ghost use Rattle.std.specs.Prelude.{◌≡◌, ◌≤◌, true, false, length, Some};
 ghost use Rattle.fuse_words.specs.Requests.{number, struct_size, is_named, is_rename, named, renamed, write_of, fields_of, operation_of};
 
@@ -11,10 +11,10 @@ use crate::opcode::{
 };
 use crate::request::{u32_at, u64_at};
 
-/// Bytes in front of those that WRITE brings (`fuse_write_in`).
+/// The number of bytes before WRITE's content (`fuse_write_in`).
 const WRITE_FRONT: usize = 40;
 
-/// What a request asks for.
+/// The operation of a request.
 #[derive(Debug, Drop)]
 pub enum Operation<'a> {
     /// The first request of a mount.
@@ -23,14 +23,14 @@ pub enum Operation<'a> {
         major: u32,
         /// The kernel's minor version.
         minor: u32,
-        /// Bytes that the kernel reads ahead, at most.
+        /// The greatest number of bytes that the kernel reads ahead.
         max_readahead: u32,
-        /// What the kernel can do.
+        /// The kernel's capability flags.
         flags: u32,
     },
     /// The last request of a mount.
     Destroy,
-    /// Asks for the entry with a name in a directory.
+    /// Looks up a name in a directory.
     Lookup {
         /// The name.
         name: Name<'a>,
@@ -39,7 +39,7 @@ pub enum Operation<'a> {
     Forget,
     /// The kernel drops several nodes.
     BatchForget,
-    /// Asks for the attributes of a node.
+    /// Reads the attributes of a node.
     GetAttr,
     /// Sets attributes of a node.
     SetAttr {
@@ -48,7 +48,7 @@ pub enum Operation<'a> {
     },
     /// Makes a file, which may be a special file.
     MkNod {
-        /// Kind and permissions, as stat(2) has them.
+        /// Kind and permissions, as in stat(2).
         mode: u32,
         /// The device, if it is a special file.
         device: u32,
@@ -57,7 +57,7 @@ pub enum Operation<'a> {
     },
     /// Makes a directory.
     MkDir {
-        /// Permissions, as stat(2) has them.
+        /// Permissions, as in stat(2).
         mode: u32,
         /// The name.
         name: Name<'a>,
@@ -72,7 +72,7 @@ pub enum Operation<'a> {
         /// The name.
         name: Name<'a>,
     },
-    /// Renames a file or a directory. What has the new name is replaced.
+    /// Renames a file or a directory. A node with the new name is replaced.
     Rename {
         /// The node of the directory that gets the new name.
         directory: u64,
@@ -81,18 +81,18 @@ pub enum Operation<'a> {
         /// The new name.
         new_name: Name<'a>,
     },
-    /// Renames a file or a directory, as flags say.
+    /// Renames a file or a directory, with flags.
     Rename2 {
         /// The node of the directory that gets the new name.
         directory: u64,
-        /// As for renameat2(2).
+        /// The flags of renameat2(2).
         flags: u32,
         /// The old name.
         name: Name<'a>,
         /// The new name.
         new_name: Name<'a>,
     },
-    /// Gives a file one more name, in the directory that the request is about.
+    /// Adds a name for a file to the request's directory.
     Link {
         /// The file's node.
         node: u64,
@@ -101,14 +101,14 @@ pub enum Operation<'a> {
     },
     /// Opens a file.
     Open {
-        /// As for open(2).
+        /// The flags of open(2).
         flags: u32,
     },
-    /// Asks for bytes of a file.
+    /// Reads bytes of a file.
     Read {
         /// The file's handle.
         handle: u64,
-        /// The first byte.
+        /// The offset of the first byte.
         offset: u64,
         /// The greatest number of bytes.
         size: u32,
@@ -117,25 +117,25 @@ pub enum Operation<'a> {
     Write {
         /// The file's handle.
         handle: u64,
-        /// The place of the first byte.
+        /// The offset of the first byte.
         offset: u64,
         /// The bytes.
         content: Content<'a>,
     },
-    /// Closes a file: nothing uses its handle from now on.
+    /// Closes a file: its handle isn't used again.
     Release {
         /// The file's handle.
         handle: u64,
     },
-    /// Asks for the sizes of the file system.
+    /// Reads the sizes of the file system.
     StatFs,
     /// Opens a directory.
     OpenDir,
-    /// Asks for entries of a directory.
+    /// Reads entries of a directory.
     ReadDir {
         /// The directory's handle.
         handle: u64,
-        /// The offset that came with the last entry that the kernel has; 0 at first.
+        /// The `next_offset` of the last entry that the kernel has; 0 at first.
         offset: u64,
         /// The greatest number of bytes of entries.
         size: u32,
@@ -145,25 +145,25 @@ pub enum Operation<'a> {
         /// The directory's handle.
         handle: u64,
     },
-    /// Asks for what was written into a file to be kept.
+    /// Synchronises the bytes written into a file.
     Fsync {
         /// The file's handle.
         handle: u64,
     },
-    /// Asks for the changes of a directory to be kept.
+    /// Synchronises the changes of a directory.
     FsyncDir {
         /// The directory's handle.
         handle: u64,
     },
     /// A process closes a file that others may have open.
     Flush,
-    /// A caller gave up waiting for another request.
+    /// The caller of another request gave up waiting.
     Interrupt,
     /// Any other operation, by its number.
     Other(u32),
 }
 
-/// Bytes of the struct that an operation's body begins with.
+/// Returns the size in bytes of the struct that an operation's body begins with.
 fn struct_size(opcode: u32) -> usize
     ensures { result ≡ struct_size opcode }
 {
@@ -177,8 +177,8 @@ fn struct_size(opcode: u32) -> usize
     }
 }
 
-/// The operation that a body, behind the header, asks for. `None` if the body is too short, if it hasn't the names that are wanted, or
-/// if WRITE brings fewer or more bytes than it says.
+/// Reads the operation from the body, after the header. Returns `None` if the body is too short or hasn't the names that it needs, or
+/// if WRITE has fewer or more bytes than it says.
 #[tactic(auto, unfolding(crate::specs::Requests::operation_of))]
 pub(crate) fn read_operation(opcode: u32, body: &[u8]) -> Option<Operation<'_>>
     ensures { result ≡ operation_of opcode body.now }
@@ -201,7 +201,7 @@ pub(crate) fn read_operation(opcode: u32, body: &[u8]) -> Option<Operation<'_>>
     }
 }
 
-/// The operation with one name that a body asks for.
+/// Reads an operation that has one name.
 #[tactic(auto, unfolding(crate::specs::Requests::named))]
 fn read_named<'a>(opcode: u32, body: &[u8], name: Name<'a>) -> Operation<'a>
     requires { struct_size opcode ≤ length body.now }
@@ -227,7 +227,7 @@ fn read_named<'a>(opcode: u32, body: &[u8], name: Name<'a>) -> Operation<'a>
     }
 }
 
-/// The operation with two names that a body asks for (`fuse_rename_in`, `fuse_rename2_in`).
+/// Reads an operation that has two names (`fuse_rename_in`, `fuse_rename2_in`).
 #[tactic(auto, unfolding(crate::specs::Requests::renamed))]
 fn read_rename<'a>(opcode: u32, body: &[u8], name: Name<'a>, new_name: Name<'a>) -> Operation<'a>
     requires is_rename { is_rename opcode ≡ true }
@@ -251,7 +251,7 @@ fn read_rename<'a>(opcode: u32, body: &[u8], name: Name<'a>, new_name: Name<'a>)
     }
 }
 
-/// The WRITE that a body asks for, if it brings as many bytes as it says (`fuse_write_in`).
+/// Reads WRITE, or returns `None` if it has fewer or more bytes than it says (`fuse_write_in`).
 fn read_write(body: &[u8]) -> Option<Operation<'_>>
     requires { 40 ≤ length body.now }
     ensures { result ≡ write_of body.now }
@@ -267,7 +267,7 @@ fn read_write(body: &[u8]) -> Option<Operation<'_>>
     })
 }
 
-/// The operation without a name that a body asks for.
+/// Reads an operation that has no name.
 #[tactic(auto, unfolding(crate::specs::Requests::fields_of))]
 fn read_fields(opcode: u32, body: &[u8]) -> Operation<'_>
     requires { struct_size opcode ≤ length body.now }
@@ -326,7 +326,7 @@ fn read_fields(opcode: u32, body: &[u8]) -> Operation<'_>
     }
 }
 
-/// The handle, the offset and the size that READ and READDIR ask for (`fuse_read_in`).
+/// Returns the handle, the offset and the size of READ and READDIR (`fuse_read_in`).
 fn part(body: &[u8]) -> (u64, u64, u32)
     requires { 20 ≤ length body.now }
     ensures { result ≡ (number 8 0 body.now, number 8 8 body.now, number 4 16 body.now) }

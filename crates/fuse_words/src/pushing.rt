@@ -1,4 +1,4 @@
-//! Numbers and attributes appended to a list of bytes that has room for them.
+//! Appends numbers and attributes to a list of bytes that has room for them.
 ghost use Rattle.std.specs.Prelude.{◌≡◌, ◌+◌, ◌<◌, ◌≤◌, ◌^◌, ◌++◌, length, vec_len, vec_capacity};
 ghost use Rattle.byteorder.specs.Endian.{little_bytes};
 ghost use Rattle.fuse_words.specs.Replies.{reply_header, with_attributes};
@@ -6,7 +6,7 @@ ghost use Rattle.fuse_words.specs.Replies.{reply_header, with_attributes};
 use crate::reply::Attributes;
 use byteorder::{ByteOrder, LittleEndian};
 
-/// Makes a list the header of a successful reply, whose body has `size` bytes (`fuse_out_header`).
+/// Replaces a list by the header of a successful reply, whose body has `size` bytes (`fuse_out_header`).
 #[tactic(auto, unfolding(crate::specs::Replies::reply_header))]
 pub(crate) fn begin(out: &mut Vec<u8>, unique: u64, size: u32)
     requires size { size < 2 ^ 31 }
@@ -47,7 +47,7 @@ pub(crate) fn push_attributes(out: &mut Vec<u8>, attributes: &Attributes)
     push_u32(out, 0);
 }
 
-/// Appends a number of 16 bits.
+/// Appends a 16-bit number.
 pub(crate) fn push_u16(out: &mut Vec<u8>, number: u16)
     requires { vec_len out.old + 2 ≤ vec_capacity out.old }
     ensures items { out.new.items ≡ out.old.items ++ little_bytes 2 number }
@@ -59,7 +59,7 @@ pub(crate) fn push_u16(out: &mut Vec<u8>, number: u16)
     push(out, &bytes);
 }
 
-/// Appends a number of 32 bits.
+/// Appends a 32-bit number.
 pub(crate) fn push_u32(out: &mut Vec<u8>, number: u32)
     requires { vec_len out.old + 4 ≤ vec_capacity out.old }
     ensures items { out.new.items ≡ out.old.items ++ little_bytes 4 number }
@@ -71,7 +71,7 @@ pub(crate) fn push_u32(out: &mut Vec<u8>, number: u32)
     push(out, &bytes);
 }
 
-/// Appends a number of 64 bits.
+/// Appends a 64-bit number.
 pub(crate) fn push_u64(out: &mut Vec<u8>, number: u64)
     requires { vec_len out.old + 8 ≤ vec_capacity out.old }
     ensures items { out.new.items ≡ out.old.items ++ little_bytes 8 number }
@@ -90,6 +90,6 @@ pub(crate) fn push(out: &mut Vec<u8>, bytes: &[u8])
     ensures len { vec_len out.new ≡ vec_len out.old + length bytes.now }
     ensures capacity { vec_capacity out.old ≤ vec_capacity out.new }
 {
-    // There is room, so nothing is refused.
+    // There is room, so this cannot fail.
     let _ = out.extend_from_slice(bytes);
 }

@@ -1,35 +1,35 @@
-//! What replies say.
+//! The contents of replies.
 ghost use Rattle.std.specs.Prelude.{◌≡◌};
 ghost use Rattle.fuse_words.specs.Replies.{no_attributes};
 
 /// A flag of INIT: the kernel may read ahead.
 pub const ASYNC_READ: u32 = 1;
 
-/// A flag of INIT: a write may bring more than one page.
+/// A flag of INIT: a write may have more than one page.
 pub const BIG_WRITES: u32 = 32;
 
-/// A flag of an open file: what the kernel has of its bytes is still right.
+/// A flag of an open file: the kernel may keep the bytes that it has cached.
 pub const KEEP_CACHE: u32 = 2;
 
 /// A flag of an open directory: the kernel may keep its entries.
 pub const CACHE_DIRECTORY: u32 = 8;
 
-/// What the server can do, as INIT's reply says it. The version is 7.31.
+/// The server's settings in INIT's reply. The version is 7.31.
 #[derive(Clone, Copy, Debug, PartialEq, Eq)]
 pub struct Settings {
-    /// Bytes to read ahead, at most.
+    /// The greatest number of bytes to read ahead.
     pub max_readahead: u32,
-    /// Those of the kernel's flags that the server wants.
+    /// The kernel's flags that the server accepts.
     pub flags: u32,
-    /// Requests that the kernel sends without a waiting caller, at most.
+    /// The greatest number of background requests, which have no waiting caller.
     pub max_background: u16,
-    /// The number of these at which the mount counts as congested.
+    /// The number of background requests at which the mount counts as congested.
     pub congestion_threshold: u16,
-    /// Bytes of a write, at most.
+    /// The greatest number of bytes in a write.
     pub max_write: u32,
-    /// Nanoseconds from one time to the next: 1,000,000,000 for whole seconds.
+    /// Nanoseconds between two times: 1,000,000,000 for whole seconds.
     pub time_granularity: u32,
-    /// Pages of a request, at most. It counts only with a flag.
+    /// The greatest number of pages in a request. It counts only with a flag.
     pub max_pages: u16,
 }
 
@@ -40,15 +40,15 @@ pub struct Attributes {
     pub ino: u64,
     /// The size in bytes.
     pub size: u64,
-    /// Blocks of 512 bytes that it takes.
+    /// The number of 512-byte blocks that it takes.
     pub blocks: u64,
     /// The time of the last access.
     pub accessed: u64,
-    /// The time of the last change of its bytes.
+    /// The time of the last change of its contents.
     pub modified: u64,
     /// The time of the last change of its i-node.
     pub changed: u64,
-    /// Kind and permissions, as stat(2) has them.
+    /// The file type and the permissions, as in stat(2).
     pub mode: u32,
     /// The link count.
     pub links: u32,
@@ -56,22 +56,22 @@ pub struct Attributes {
     pub uid: u32,
     /// The owner's group.
     pub gid: u32,
-    /// The device that a special file is.
+    /// The device number of a special file.
     pub rdev: u32,
-    /// Bytes that are best read at once.
+    /// The best number of bytes to read at once.
     pub block_size: u32,
 }
 
-/// An entry of a directory, as LOOKUP's reply says it.
+/// A directory entry in LOOKUP's reply.
 #[derive(Clone, Copy, Debug, PartialEq, Eq)]
 pub struct Entry {
     /// The node, or 0 if there is no such entry.
     pub node: u64,
-    /// A node's number means another file only with another generation.
+    /// The node's generation. The same number with another generation is another file.
     pub generation: u64,
-    /// Seconds for which the kernel may keep the name.
+    /// The number of seconds for which the kernel may keep the name.
     pub name_seconds: u64,
-    /// Seconds for which the kernel may keep the attributes.
+    /// The number of seconds for which the kernel may keep the attributes.
     pub attribute_seconds: u64,
     /// The attributes of the node.
     pub attributes: Attributes,
@@ -80,26 +80,26 @@ pub struct Entry {
 /// The sizes of the file system.
 #[derive(Clone, Copy, Debug, PartialEq, Eq)]
 pub struct Statistics {
-    /// All fragments.
+    /// The number of fragments.
     pub blocks: u64,
-    /// Free fragments.
+    /// The number of free fragments.
     pub free_blocks: u64,
-    /// Free fragments that any user may take.
+    /// The number of free fragments that any user may take.
     pub available_blocks: u64,
-    /// All i-nodes.
+    /// The number of i-nodes.
     pub inodes: u64,
-    /// Free i-nodes.
+    /// The number of free i-nodes.
     pub free_inodes: u64,
-    /// Bytes that are best read at once.
+    /// The best number of bytes to read at once.
     pub block_size: u32,
-    /// Bytes of a name, at most.
+    /// The greatest number of bytes in a name.
     pub name_length: u32,
-    /// Bytes of a fragment.
+    /// The number of bytes in a fragment.
     pub fragment_size: u32,
 }
 
 impl Entry {
-    /// The entry that says that there is none, which the kernel may keep for some seconds.
+    /// Returns the entry that says that the name doesn't exist, which the kernel may keep for `seconds`.
     pub fn missing(seconds: u64) -> Entry
         ensures { result ≡ record { node = 0; generation = 0; name_seconds = seconds; attribute_seconds = 0; attributes = no_attributes } }
     {

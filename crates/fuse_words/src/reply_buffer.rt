@@ -1,4 +1,4 @@
-//! The buffer that replies are made in. Each is a whole message, to be written at once.
+//! The buffer in which replies are made. Each is a whole message, to be written at once.
 ghost use Rattle.std.specs.Prelude.{◌≤◌, vec_capacity};
 
 use crate::pushing::{begin, push, push_attributes, push_u16, push_u32, push_u64};
@@ -6,13 +6,14 @@ use crate::reply::{Attributes, Entry, Settings, Statistics};
 use std::alloc::{AllocError, Global};
 use std::marker::Model;
 
-/// Bytes of a reply's header (`fuse_out_header`).
+/// The number of bytes in a reply's header (`fuse_out_header`).
 const HEADER: usize = 16;
 
-/// Bytes of READ's and READDIR's replies behind the header, at most: 128 KiB.
+/// The greatest number of bytes after the header of READ's and READDIR's replies: 128 KiB.
 pub const MOST_DATA: usize = 131_072;
 
-/// A buffer with room for the longest reply, so that a reply takes no memory. A contract sees it as the list of its bytes.
+/// A buffer with room for the longest reply, so that a reply takes no memory. Contracts see it as the list of
+/// its bytes.
 #[derive(Debug, Drop)]
 pub struct ReplyBuffer {
     bytes: Vec<u8>,
@@ -39,14 +40,14 @@ impl ReplyBuffer {
         Ok(ReplyBuffer { bytes })
     }
 
-    /// The bytes of the reply.
+    /// Returns the bytes of the reply.
     pub fn as_slice(&self) -> &[u8]
         ensures { result.now ≡ self.now }
     {
         &self.bytes
     }
 
-    /// Makes the reply without a body: an error by its number, or 0 for success.
+    /// Makes a reply without a body: an error number, or 0 for success.
     pub fn put_status(&mut self, unique: u64, errno: u32)
         requires { errno < 512 }
         ensures { self.new ≡ status_message unique errno }
@@ -124,7 +125,7 @@ impl ReplyBuffer {
         push(&mut self.bytes, content);
     }
 
-    /// Makes the reply to WRITE, of which `size` bytes were written.
+    /// Makes the reply to WRITE: `size` bytes were written.
     #[tactic(auto, unfolding(crate::specs::Replies::written_message))]
     pub fn put_written(&mut self, unique: u64, size: u32)
         ensures { self.new ≡ written_message unique size }

@@ -9,19 +9,19 @@ use byteorder::{ByteOrder, LittleEndian};
 /// The node of the root directory.
 pub const ROOT: u64 = 1;
 
-/// Bytes of a request's header (`fuse_in_header`).
+/// The number of bytes in a request's header (`fuse_in_header`).
 pub const HEADER: usize = 40;
 
 /// The header of a request.
 #[derive(Clone, Copy, Debug, PartialEq, Eq)]
 pub struct Header {
-    /// Bytes of the request, with its header.
+    /// The number of bytes in the request, including its header.
     pub length: u32,
     /// The number of the operation.
     pub opcode: u32,
-    /// The number of the request, which its reply has too.
+    /// The number of the request, which is repeated in its reply.
     pub unique: u64,
-    /// The node that the request is about.
+    /// The node that the request is for.
     pub node: u64,
     /// The user.
     pub uid: u32,
@@ -36,18 +36,18 @@ pub struct Header {
 pub struct Request<'a> {
     /// Its header.
     pub header: Header,
-    /// What it asks for.
+    /// Its operation.
     pub operation: Operation<'a>,
 }
 
-/// Why bytes are no request.
+/// Why bytes aren't a request.
 #[derive(Clone, Copy, Debug, PartialEq, Eq)]
 pub enum RequestFault {
-    /// There are fewer bytes than a header has.
+    /// There are fewer bytes than in a header.
     NoHeader,
     /// There are fewer or more bytes than the header says.
     Length(Header),
-    /// The body is shorter than the operation's struct, or after it aren't the names that are wanted, each with a NUL after it, or not
+    /// The body is shorter than the operation's struct, or the struct isn't followed by the operation's names, each with a NUL, or by
     /// as many bytes as WRITE says.
     Body(Header),
 }
@@ -64,7 +64,8 @@ impl Header {
     }
 }
 
-/// Reads the header that bytes begin with, or returns `None` if they are fewer. They may go on past the request.
+/// Reads a request's header. Returns `None` if there are fewer bytes than a header has; bytes after the
+/// request don't matter.
 #[tactic(auto, unfolding(crate::specs::Requests::header_of))]
 pub fn read_header(bytes: &[u8]) -> Option<Header>
     ensures exact { result ≡ header_of bytes.now }
@@ -84,7 +85,7 @@ pub fn read_header(bytes: &[u8]) -> Option<Header>
     })
 }
 
-/// Reads the request that bytes are. Costs the length of its name.
+/// Reads a request, which takes up all the bytes. Costs the length of its name.
 pub fn read_request(bytes: &[u8]) -> Result<Request<'_>, RequestFault>
     ensures { result ≡ request_of bytes.now }
 {
@@ -100,7 +101,7 @@ pub fn read_request(bytes: &[u8]) -> Result<Request<'_>, RequestFault>
     }
 }
 
-/// The number of 32 bits at byte `at`.
+/// Returns the 32-bit number at byte `at`.
 pub(crate) fn u32_at(bytes: &[u8], at: usize) -> u32
     requires { at + 4 ≤ length bytes.now }
     ensures { result ≡ number 4 at bytes.now }
@@ -108,7 +109,7 @@ pub(crate) fn u32_at(bytes: &[u8], at: usize) -> u32
     LittleEndian::read_u32(&bytes[at..])
 }
 
-/// The number of 64 bits at byte `at`.
+/// Returns the 64-bit number at byte `at`.
 pub(crate) fn u64_at(bytes: &[u8], at: usize) -> u64
     requires { at + 8 ≤ length bytes.now }
     ensures { result ≡ number 8 at bytes.now }

@@ -1,4 +1,4 @@
--- Numbers that lie outside what a write has changed: below it, or above it.
+-- Numbers outside the bytes that a write has changed: below them, or above them.
 use Rattle.std.proofs.Common.{◌≡◌, ℕ, ◌+◌, ◌≤◌, List, slice_index, arith}
 use Rattle.pdp_words.specs.Words.{SameOutside, word, long, addr3}
 

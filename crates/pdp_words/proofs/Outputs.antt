@@ -1,4 +1,4 @@
--- What goes out of a list of bytes piece by piece.
+-- Writing a list of bytes piece by piece.
 use Rattle.std.specs.Prelude.{slice_range, Option}
 use Rattle.std.specs.Io.KnownBytes.{Appends}
 use Rattle.std.proofs.KnownBytes.{Appends-trans}
@@ -13,7 +13,7 @@ take_on bytes n count m h =
     let whole : m ≤ n + count - n = omega arith in
     take-add n m bytes ∙ ap (λ xs. take n bytes ++ xs) (sym (take-take m (n + count - n) (drop n bytes) whole))
 
--- where the first n bytes went out, and then the first m of the piece after them, the first n + m did
+-- if the first n bytes were written, and then the first m of the piece after them, the first n + m were
 pub Appends-more : (a b c : Option (List ℕ)) (bytes piece : List ℕ) (n count m : ℕ) → m ≤ count
     → piece ≡ slice_range bytes n (n + count) → Appends a b (take n bytes) → Appends b c (take m piece)
     → Appends a c (take (n + m) bytes)

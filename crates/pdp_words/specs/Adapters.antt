@@ -1,4 +1,4 @@
--- What stands in the devices that are made of a reader and of a writer.
+-- The contents of the devices that are made from a reader and from a writer.
 use Rattle.std.specs.Prelude.{Bool}
 use Rattle.pdp_words.specs.declared.from_read.FromRead.{FromRead}
 use Rattle.pdp_words.specs.declared.into_write.IntoWrite.{IntoWrite}
@@ -7,7 +7,7 @@ use Rattle.pdp_words.specs.declared.into_write.IntoWrite.{IntoWrite}
 abbrev pub reader_in : {R : Type 0} → FromRead R → R
 reader_in source = source.reader
 
--- whether one of its reads has answered an error (std::io)
+-- true if one of its reads has returned an error (std::io)
 abbrev pub has_read_failed : {R : Type 0} → FromRead R → Bool
 has_read_failed source = source.failed
 
@@ -15,6 +15,6 @@ has_read_failed source = source.failed
 abbrev pub writer_in : {W : Type 0} → IntoWrite W → W
 writer_in sink = sink.writer
 
--- whether one of its writes has answered an error (std::io)
+-- true if one of its writes has returned an error (std::io)
 abbrev pub has_write_failed : {W : Type 0} → IntoWrite W → Bool
 has_write_failed sink = sink.failed

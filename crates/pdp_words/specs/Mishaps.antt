@@ -1,19 +1,19 @@
--- What goes wrong at one call of a reader or writer for tests.
+-- The mishap of one call of a reader or writer for tests.
 use Rattle.std.specs.Prelude.{◌≡◌, ℕ, ◌==◌, None, Ok, Option, Result, IsErrAnd, if◌then◌else◌}
 use Rattle.std.specs.IoError.{error_kind}
 use Rattle.std.specs.declared.io.Error.{Error as IoError}
 use Rattle.pdp_words.specs.declared.testing.WriteMishap.{WriteMishap}
 use Rattle.pdp_words.specs.declared.testing.WriteMishap.TheVariants.{Error, TakesNone}
 
--- what goes wrong at this call, `kind` being what goes wrong after `left` more calls that do their work (for tests)
+-- the mishap at this call, where `kind` happens after `left` more calls that succeed (for tests)
 abbrev pub due : {T : Type 0} → ℕ → Option T → Option T
 due left kind = if left == 0 then kind else None
 
--- what goes wrong at a later call (for tests)
+-- the mishap at a later call (for tests)
 abbrev pub not_due : {T : Type 0} → ℕ → Option T → Option T
 not_due left kind = if left == 0 then None else kind
 
--- a write's answer, where that goes wrong (for tests)
+-- the result of a write with a mishap (for tests)
 abbrev pub IsWriteGoneWrong : WriteMishap → Result ℕ IoError → Type 0
 IsWriteGoneWrong (Error kind) result = IsErrAnd result (λ e. error_kind e ≡ kind)
 IsWriteGoneWrong TakesNone result = result ≡ Ok 0

@@ -1,4 +1,4 @@
-//! Bytes that are handed on as one value: a path, or a part of a file.
+//! Bytes that are passed on as one value: a path, or a part of a file.
 ghost use Rattle.std.specs.Prelude.{◌≡◌, ◌==◌, IfOk};
 ghost use Rattle.std.specs.Cmp.Lexicographic.{pointwise};
 ghost use Rattle.std.specs.Cmp.Rules.{comparing};
@@ -7,7 +7,7 @@ ghost use Rattle.std.proofs.Common.{rules};
 use std::alloc::{AllocError, Global};
 use std::marker::Model;
 
-/// Some bytes: a path, what is to be written, or what was read. A caller sees them as a list.
+/// Some bytes: a path, data to write, or data read. Contracts see them as a list.
 #[derive(Clone, Debug, Drop)]
 pub struct Bytes {
     bytes: Vec<u8>,
@@ -22,7 +22,7 @@ impl Model for Bytes {
 }
 
 impl Bytes {
-    /// Takes these bytes over, without a copy.
+    /// Wraps these bytes, without a copy.
     pub fn from_vec(bytes: Vec<u8>) -> Bytes
         ensures { result ≡ bytes.items }
     {
@@ -36,7 +36,7 @@ impl Bytes {
         Ok(Bytes::from_vec(Vec::from_slice(alloc, bytes)?))
     }
 
-    /// Gives the bytes back, without a copy.
+    /// Returns the bytes, without a copy.
     pub fn into_vec(self) -> Vec<u8>
         ensures { result.items ≡ self }
     {
@@ -56,7 +56,7 @@ impl PartialEq for Bytes {
 
     ghost laws = { Prim.search (comparing, rules) };
 
-    /// True if they are the same bytes.
+    /// True if both have the same bytes.
     fn eq(&self, other: &Bytes) -> bool {
         self.as_slice() == other.as_slice()
     }

@@ -1,4 +1,4 @@
-//! Devices: what the bytes of an image are loaded from and saved to.
+//! Devices that images are loaded from and saved to.
 ghost use Rattle.std.specs.Prelude.{◌≡◌, ◌≢◌, ℕ, ◌<◌, Bool, true, List, Option, length, IfOk, OnOk, IfErr, OnErr};
 ghost use Rattle.std.specs.IoError.{error_kind};
 ghost use Rattle.std.specs.Io.{ReadsAtMost, WritesAtMost};
@@ -6,17 +6,17 @@ ghost use Rattle.std.specs.Io.KnownBytes.{ReadConsumes, WriteAppends};
 
 use std::io::{self, ErrorKind};
 
-/// A device that gives bytes.
+/// A device that bytes are read from.
 pub trait Source {
-    // the bytes that reads will give from here on, where they are known
+    // the bytes that reads will return from here on, if they are known
     ghost remaining: { Self → Option (List ℕ) };
 
-    // whether a read has answered an error
+    // true if a read has returned an error
     ghost failed: { Self → Bool };
 
-    /// Reads bytes to the front of `buf`, as many as it likes, and answers how many. It gives none
-    /// only at its end, or where `buf` has no room. An error consumes nothing and makes `failed`
-    /// true; it is never `Interrupted`, after which a read is tried again.
+    /// Reads bytes to the front of `buf`, as many as it likes, and returns their number. It is 0 only at the end, or if
+    /// `buf` is empty. An error consumes nothing and makes `failed` true; it is never `Interrupted`, after which a read is
+    /// retried.
     fn read(&mut self, buf: &mut [u8]) -> io::Result<usize>
         ensures bound { ReadsAtMost result buf.new }
         ensures bytes { ReadConsumes (remaining self.old) (remaining self.new) result buf.new }
@@ -24,23 +24,22 @@ pub trait Source {
         ensures kept { OnOk result (failed self.new ≡ failed self.old) }
         ensures retried { IfErr result (λ e. error_kind e ≢ ErrorKind.Interrupted) };
 
-    /// Whether a read has answered an error.
+    /// True if a read has returned an error.
     fn failed(&self) -> bool
         ensures { result ≡ failed self.now };
 }
 
-/// A device that takes bytes. What it holds after several writes is their bytes in turn, so a
-/// `written` that a fault tells counts the bytes that the device took, from the first one of the call.
+/// A device that bytes are written to. Its contents after several writes are their bytes in turn, so the `written` of a
+/// fault counts the bytes that the device took, from the first one of the call.
 pub trait Sink {
-    // the bytes that the device holds, where they are known
+    // the bytes that the device holds, if they are known
     ghost contents: { Self → Option (List ℕ) };
 
-    // whether a write has answered an error
+    // true if a write has returned an error
     ghost failed: { Self → Bool };
 
-    /// Takes bytes from the front of `buf`, and answers how many: at least one, where `buf` has one.
-    /// An error takes nothing and makes `failed` true; it is never `Interrupted`, after which a
-    /// write is tried again.
+    /// Takes bytes from the front of `buf`, and returns their number: at least one, unless `buf` is empty. An error takes
+    /// nothing and makes `failed` true; it is never `Interrupted`, after which a write is retried.
     fn write(&mut self, buf: &[u8]) -> io::Result<usize>
         ensures bound { WritesAtMost result buf.now }
         ensures bytes { WriteAppends (contents self.old) (contents self.new) result buf.now }
@@ -49,7 +48,7 @@ pub trait Sink {
         ensures kept { OnOk result (failed self.new ≡ failed self.old) }
         ensures retried { IfErr result (λ e. error_kind e ≢ ErrorKind.Interrupted) };
 
-    /// Whether a write has answered an error.
+    /// True if a write has returned an error.
     fn failed(&self) -> bool
         ensures { result ≡ failed self.now };
 }

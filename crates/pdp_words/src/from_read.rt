@@ -1,4 +1,4 @@
-//! A source made of a reader of the standard library.
+//! A source made from a reader of the standard library.
 ghost use Rattle.std.specs.Prelude.{◌≡◌, ◌≢◌, false, IfErr};
 ghost use Rattle.std.specs.IoError.{error_kind};
 ghost use Rattle.std.specs.Io.{ReadsAtMost};
@@ -8,9 +8,8 @@ ghost use Rattle.pdp_words.specs.Adapters.{reader_in, has_read_failed};
 use crate::device::Source;
 use std::io::{self, Error, ErrorKind, Read};
 
-/// A source of a reader's bytes. A read that a signal interrupted is tried again; after 2^64 - 1
-/// interrupts the call answers `TimedOut`, so that every call ends. A reader that is only lent goes in
-/// as `FromRead::new(&mut reader)`.
+/// A source of a reader's bytes. A read that a signal interrupts is retried; after 2^64 - 1 interrupts the call returns
+/// `TimedOut`, so that every call ends. To lend a reader only, use `FromRead::new(&mut reader)`.
 #[derive(Debug, Drop)]
 pub struct FromRead<R> {
     reader: R,
@@ -18,7 +17,7 @@ pub struct FromRead<R> {
 }
 
 impl<R: Read> FromRead<R> {
-    /// A source of the bytes that `reader` has left. It has not failed.
+    /// Returns a source of the bytes that `reader` has left. It has not failed.
     pub fn new(reader: R) -> FromRead<R>
         ensures reader { reader_in result ≡ reader }
         ensures bytes { ⟦<FromRead<R> as Source>⟧.remaining result ≡ R.remaining reader }
@@ -30,7 +29,7 @@ impl<R: Read> FromRead<R> {
         }
     }
 
-    /// The reader, with the bytes that it has left.
+    /// Returns the reader, with the bytes that it has left.
     pub fn into_inner(self) -> R
         ensures reader { result ≡ reader_in self }
         ensures bytes { R.remaining result ≡ ⟦<FromRead<R> as Source>⟧.remaining self }
@@ -57,7 +56,7 @@ impl<R: Read> Source for FromRead<R> {
     }
 }
 
-// One read, tried again where a signal interrupts it.
+// Does one read, and retries it if a signal interrupts it.
 fn read_uninterrupted<R: Read>(reader: &mut R, buf: &mut [u8]) -> io::Result<usize>
     ensures bound { ReadsAtMost result buf.new }
     ensures bytes { ReadConsumes (R.remaining reader.old) (R.remaining reader.new) result buf.new }

@@ -1,14 +1,14 @@
-//! The image of a volume: its bytes, of which each 512 are a block.
+//! The image of a volume: its bytes, in blocks of 512.
 ghost use Rattle.std.specs.Prelude.{◌≡◌, ℕ, ◌+◌, ◌-◌, ◌*◌, ◌/◌, ◌^◌, ◌<◌, ◌≤◌, ◌==◌, min, length, slice_index, slice_range};
 ghost use Rattle.pdp_words.specs.Words.{word, long, addr3, block_of, SameOutside};
 
 use crate::words;
 use std::marker::Model;
 
-/// Bytes in a block.
+/// The number of bytes in a block.
 pub const BLOCK: usize = 512;
 
-/// The bytes of a volume, from byte 0. A caller sees it as the list of its bytes.
+/// The bytes of a volume, from byte 0. Contracts see it as the list of its bytes.
 #[derive(Debug, Drop)]
 pub struct Image {
     bytes: Vec<u8>,
@@ -23,57 +23,57 @@ impl Model for Image {
 }
 
 impl Image {
-    /// The image that has these bytes. Takes no memory.
+    /// Wraps these bytes as an image. Takes no memory.
     pub fn from_bytes(bytes: Vec<u8>) -> Image
         ensures { result ≡ bytes.items }
     {
         Image { bytes }
     }
 
-    /// The image's bytes. Takes no memory.
+    /// Returns the image's bytes. Takes no memory.
     pub fn into_bytes(self) -> Vec<u8>
         ensures { result.items ≡ self }
     {
         self.bytes
     }
 
-    /// How many bytes the image has.
+    /// Returns the number of bytes in the image.
     pub fn len(&self) -> usize
         ensures { result ≡ length self.now }
     {
         self.bytes.len()
     }
 
-    /// Does nothing, and tells a proof that the length is a `usize`: it sees the image as a list, and learns here
-    /// that no place within the image overflows.
+    /// Does nothing, and tells a proof that the length is a `usize`. A proof sees the image as a list; with this it knows
+    /// that no position in the image overflows.
     pub fn fits_in_memory(&self)
         ensures { length self.now < 2 ^ 64 }
     {
         let _ = self.len();
     }
 
-    /// Whether the image has no byte.
+    /// True if the image has no bytes.
     pub fn is_empty(&self) -> bool
         ensures { result ≡ (length self.now == 0) }
     {
         self.bytes.is_empty()
     }
 
-    /// All bytes of the image.
+    /// Returns all bytes of the image.
     pub fn as_bytes(&self) -> &[u8]
         ensures { result.now ≡ self.now }
     {
         self.bytes.as_slice()
     }
 
-    /// How many whole blocks the image has, of which at most 2^32 - 1 are counted.
+    /// Returns the number of whole blocks in the image, but at most 2^32 - 1.
     pub fn blocks(&self) -> u32
         ensures { result ≡ min (length self.now / 512) (2 ^ 32 - 1) }
     {
         (self.bytes.len() / BLOCK).min(u32::MAX as usize) as u32
     }
 
-    /// The 512 bytes of block `n`.
+    /// Returns the 512 bytes of block `n`.
     pub fn block(&self, n: u32) -> &[u8]
         requires { 512 * n + 512 ≤ length self.now }
         ensures bytes { result.now ≡ block_of self.now n }
@@ -83,7 +83,7 @@ impl Image {
         &self.bytes[start..start + BLOCK]
     }
 
-    /// Puts the 512 bytes of block `n`.
+    /// Writes the 512 bytes of block `n`.
     pub fn put_block(&mut self, n: u32, block: &[u8; BLOCK])
         requires { 512 * n + 512 ≤ length self.old }
         ensures put { block_of self.new n ≡ block.now }
@@ -93,7 +93,7 @@ impl Image {
         words::put_bytes(&mut self.bytes, start, block);
     }
 
-    /// The byte at `at`.
+    /// Returns the byte at `at`.
     pub fn byte(&self, at: usize) -> u8
         requires { at + 1 ≤ length self.now }
         ensures { result ≡ slice_index self.now at }
@@ -101,7 +101,7 @@ impl Image {
         self.bytes[at]
     }
 
-    /// The word at byte `at`.
+    /// Returns the word at byte `at`.
     pub fn word(&self, at: usize) -> u16
         requires { at + 2 ≤ length self.now }
         ensures { result ≡ word self.now at }
@@ -109,7 +109,7 @@ impl Image {
         words::word(&self.bytes, at)
     }
 
-    /// The long at byte `at`.
+    /// Returns the long at byte `at`.
     pub fn long(&self, at: usize) -> u32
         requires { at + 4 ≤ length self.now }
         ensures { result ≡ long self.now at }
@@ -117,7 +117,7 @@ impl Image {
         words::long(&self.bytes, at)
     }
 
-    /// The three-byte address at byte `at`, below 2^24.
+    /// Returns the three-byte address at byte `at`, below 2^24.
     pub fn addr3(&self, at: usize) -> u32
         requires { at + 3 ≤ length self.now }
         ensures value { result ≡ addr3 self.now at }
@@ -126,7 +126,7 @@ impl Image {
         words::addr3(&self.bytes, at)
     }
 
-    /// Puts the byte at `at`.
+    /// Writes the byte at `at`.
     pub fn put_byte(&mut self, at: usize, value: u8)
         requires { at + 1 ≤ length self.old }
         ensures put { slice_index self.new at ≡ value }
@@ -135,7 +135,7 @@ impl Image {
         words::put_byte(&mut self.bytes, at, value);
     }
 
-    /// Puts a word at byte `at`.
+    /// Writes a word at byte `at`.
     pub fn put_word(&mut self, at: usize, value: u16)
         requires { at + 2 ≤ length self.old }
         ensures put { word self.new at ≡ value }
@@ -144,7 +144,7 @@ impl Image {
         words::put_word(&mut self.bytes, at, value);
     }
 
-    /// Puts a long at byte `at`.
+    /// Writes a long at byte `at`.
     pub fn put_long(&mut self, at: usize, value: u32)
         requires { at + 4 ≤ length self.old }
         ensures put { long self.new at ≡ value }
@@ -153,7 +153,7 @@ impl Image {
         words::put_long(&mut self.bytes, at, value);
     }
 
-    /// Puts a three-byte address at byte `at`.
+    /// Writes a three-byte address at byte `at`.
     pub fn put_addr3(&mut self, at: usize, value: u32)
         requires room { at + 3 ≤ length self.old }
         requires range { value < 2 ^ 24 }
@@ -163,7 +163,7 @@ impl Image {
         words::put_addr3(&mut self.bytes, at, value);
     }
 
-    /// Puts bytes from byte `at` on. One copy.
+    /// Writes bytes from byte `at` on. One copy.
     pub fn put_bytes(&mut self, at: usize, bytes: &[u8])
         requires { at + length bytes.now ≤ length self.old }
         ensures put { slice_range self.new at (at + length bytes.now) ≡ bytes.now }
@@ -172,8 +172,7 @@ impl Image {
         words::put_bytes(&mut self.bytes, at, bytes);
     }
 
-    /// Copies the `count` bytes at byte `from` to byte `to`, as they were before: the two places may overlap.
-    /// One copy.
+    /// Copies the `count` bytes at byte `from` to byte `to`, as they were before; the two ranges may overlap. One copy.
     pub fn copy_within(&mut self, from: usize, count: usize, to: usize)
         requires from { from + count ≤ length self.old }
         requires to { to + count ≤ length self.old }
@@ -183,7 +182,7 @@ impl Image {
         words::copy_within(&mut self.bytes, from, count, to);
     }
 
-    /// Makes the bytes from `from` up to `to` zero.
+    /// Clears the bytes `from..to`.
     pub fn clear(&mut self, from: usize, to: usize)
         requires order { from ≤ to }
         requires room { to ≤ length self.old }

@@ -1,4 +1,4 @@
-//! A sink made of a writer of the standard library.
+//! A sink made from a writer of the standard library.
 ghost use Rattle.std.specs.Prelude.{◌≡◌, ◌≢◌, ◌<◌, false, length, IfOk, IfErr};
 ghost use Rattle.std.specs.IoError.{error_kind};
 ghost use Rattle.std.specs.Io.{WritesAtMost};
@@ -8,11 +8,10 @@ ghost use Rattle.pdp_words.specs.Adapters.{writer_in, has_write_failed};
 use crate::device::Sink;
 use std::io::{self, Error, ErrorKind, Write};
 
-/// A sink into a writer. A write that a signal interrupted is tried again; after 2^64 - 1 interrupts the
-/// call answers `TimedOut`, so that every call ends. A write that takes no byte of some is an error, as
-/// it would go on for ever. Nothing here flushes the writer: whoever owns it calls `Write::flush` after
-/// the last write, and sees to the error of that. A writer that is only lent goes in as
-/// `IntoWrite::new(&mut writer)`.
+/// A sink into a writer. A write that a signal interrupts is retried; after 2^64 - 1 interrupts the call returns
+/// `TimedOut`, so that every call ends. A write that takes none of some bytes is an error, since retrying it might never
+/// end. The writer isn't flushed: its owner calls `Write::flush` after the last write, and handles its error. To lend a
+/// writer only, use `IntoWrite::new(&mut writer)`.
 #[derive(Debug, Drop)]
 pub struct IntoWrite<W> {
     writer: W,
@@ -20,7 +19,7 @@ pub struct IntoWrite<W> {
 }
 
 impl<W: Write> IntoWrite<W> {
-    /// A sink into `writer`, after the bytes that it holds. It has not failed.
+    /// Returns a sink into `writer`, after the bytes that it holds. It has not failed.
     pub fn new(writer: W) -> IntoWrite<W>
         ensures writer { writer_in result ≡ writer }
         ensures bytes { ⟦<IntoWrite<W> as Sink>⟧.contents result ≡ W.contents writer }
@@ -32,7 +31,7 @@ impl<W: Write> IntoWrite<W> {
         }
     }
 
-    /// The writer, with the bytes that it holds.
+    /// Returns the writer, with the bytes that it holds.
     pub fn into_inner(self) -> W
         ensures writer { result ≡ writer_in self }
         ensures bytes { W.contents result ≡ ⟦<IntoWrite<W> as Sink>⟧.contents self }
@@ -59,7 +58,7 @@ impl<W: Write> Sink for IntoWrite<W> {
     }
 }
 
-// One write, tried again where a signal interrupts it. To take none of some bytes is an error.
+// Does one write, and retries it if a signal interrupts it. Taking none of some bytes is an error.
 fn write_uninterrupted<W: Write>(writer: &mut W, buf: &[u8]) -> io::Result<usize>
     ensures bound { WritesAtMost result buf.now }
     ensures bytes { WriteAppends (W.contents writer.old) (W.contents writer.new) result buf.now }

@@ -1,4 +1,4 @@
-//! Loads an image from a source.
+//! Loading an image from a source.
 ghost use Rattle.std.specs.Prelude.{◌≡◌, false, true, IfOk, OnOk, OnErr, IsErrOf};
 ghost use Rattle.pdp_words.specs.Devices.{IsReadWhole, LosesFront};
 
@@ -7,28 +7,26 @@ use crate::image::Image;
 use std::alloc::Global;
 use thiserror::Error;
 
-/// Why an image was not loaded.
+/// The reason why an image was not loaded.
 #[derive(Debug, Clone, Copy, PartialEq, Eq, Error)]
 pub enum LoadFault {
-    /// The source answered an error.
+    /// The source returned an error.
     #[error("the image could not be read")]
     Device,
-    /// An allocation was refused.
+    /// Memory ran out.
     #[error("out of memory")]
     NoMemory,
 }
 
-/// Bytes that one read asks for.
+/// The number of bytes that one read asks for.
 const PIECE: usize = 64 * 1024;
 
-/// Loads the image whose bytes are those of `source` up to its end. `Device` where the source
-/// failed, `NoMemory` where an allocation was refused; either way the source has lost the bytes read
-/// so far.
+/// Loads an image from the bytes of `source` up to its end. Returns `Device` if the source fails, and `NoMemory` if memory
+/// runs out; either way the source has lost the bytes read so far.
 ///
-/// Takes memory for the image alone. Its vector doubles as it grows, so that it has room for at most
-/// twice the image's bytes, of which those that were read are resident; where the allocator has to move
-/// it for that, the vector that it grew out of stands beside it meanwhile, so that at most twice the
-/// image is resident. A piece of 64 KiB is on the stack.
+/// Takes memory for the image alone. Its vector doubles as it grows, so its capacity is at most twice the image's bytes, of
+/// which those that were read are resident. If the allocator has to move it, the old vector exists next to the new one
+/// meanwhile, so at most twice the image is resident. A buffer of 64 KiB is on the stack.
 pub fn load<S: Source>(alloc: Global, source: &mut S) -> Result<Image, LoadFault>
     requires { S.failed source.old ≡ false }
     ensures ok { IfOk result (λ image. IsReadWhole (S.remaining source.old) (S.remaining source.new) image) }
@@ -40,9 +38,8 @@ pub fn load<S: Source>(alloc: Global, source: &mut S) -> Result<Image, LoadFault
     load_with_capacity(alloc, 0, source)
 }
 
-/// Loads an image as [`load`] does, into a vector that has room for `capacity` bytes from the start,
-/// so that a source of at most so many bytes makes it grow no more. `NoMemory` also where that room
-/// was refused.
+/// Loads an image as [`load`] does, into a vector with room for `capacity` bytes from the start, which doesn't grow if the
+/// source has no more. Returns `NoMemory` also if there is no memory for that room.
 pub fn load_with_capacity<S: Source>(
     alloc: Global,
     capacity: usize,

@@ -1,5 +1,5 @@
-//! Readers and writers for tests: they move their bytes in pieces, and one of their calls may go
-//! wrong. `FromRead` and `IntoWrite` make devices of them.
+//! Readers and writers for tests: they move their bytes in pieces, and one of their calls may fail. `FromRead` and
+//! `IntoWrite` make devices of them.
 ghost use Rattle.std.specs.Prelude.{◌≡◌, ◌-◌, ◌<◌, Some, None, Ok, [], min, length, take, IfSome, IsErrAnd, IsOk, MatchResult};
 ghost use Rattle.std.specs.IoError.{error_kind};
 ghost use Rattle.std.specs.Io.{ReadsAtMost, WritesAtMost};
@@ -9,7 +9,7 @@ ghost use Rattle.pdp_words.specs.Mishaps.{due, not_due};
 use std::alloc::Global;
 use std::io::{self, Error, ErrorKind, Read, Write};
 
-/// What goes wrong, and when: in place of one call, after `left` calls that do their work.
+/// A mishap that happens in place of one call, after `left` calls that succeed.
 #[derive(Debug, Clone, Copy)]
 pub struct Mishap<T> {
     pub left: u64,
@@ -17,7 +17,7 @@ pub struct Mishap<T> {
 }
 
 impl<T: Copy> Mishap<T> {
-    // What goes wrong at this call, if it does.
+    // Returns the mishap of this call, if there is one.
     fn at_this_call(&mut self) -> Option<T>
         ensures now { result ≡ due self.old.left self.old.kind }
         ensures later { self.new.kind ≡ not_due self.old.left self.old.kind }
@@ -31,20 +31,20 @@ impl<T: Copy> Mishap<T> {
     }
 }
 
-/// A reader that gives at most `piece` bytes a read.
+/// A reader that returns at most `piece` bytes per read.
 #[derive(Debug, Drop)]
 pub struct ScriptedReader<'a> {
     /// The bytes that it has left.
     pub rest: &'a [u8],
-    /// How many bytes it gives at most, one or more.
+    /// The greatest number of bytes per read, one or more.
     pub piece: usize,
-    /// The kind of the error that one read answers.
+    /// The kind of the error that one read returns.
     pub mishap: Mishap<ErrorKind>,
     pub ghost moves: { 0 < piece },
 }
 
 impl<'a> ScriptedReader<'a> {
-    /// A reader of `bytes`, all of whose reads do their work.
+    /// Returns a reader of `bytes`, all of whose reads succeed.
     pub fn new(bytes: &'a [u8], piece: usize) -> ScriptedReader<'a>
         requires { 0 < piece }
         ensures bytes { result.rest.now ≡ bytes.now }
@@ -61,7 +61,7 @@ impl<'a> ScriptedReader<'a> {
         }
     }
 
-    /// The same reader, whose read number `at`, counted from 0, answers an error of that kind.
+    /// Returns the same reader, except that read number `at`, counted from 0, returns an error of that kind.
     pub fn failing_at(self, at: u64, kind: ErrorKind) -> ScriptedReader<'a>
         ensures bytes { result.rest.now ≡ self.entry.rest.now }
         ensures piece { result.piece ≡ self.entry.piece }
@@ -103,30 +103,30 @@ impl<'a> Read for ScriptedReader<'a> {
     }
 }
 
-/// What goes wrong at one write.
+/// The mishap of one write.
 #[derive(Debug, Clone, Copy)]
 pub enum WriteMishap {
-    /// The write answers an error of this kind.
+    /// The write returns an error of this kind.
     Error(ErrorKind),
-    /// The write takes no byte, and says so.
+    /// The write takes no byte, and reports that.
     TakesNone,
 }
 
-/// A writer that takes at most `piece` bytes a write.
+/// A writer that takes at most `piece` bytes per write.
 #[derive(Debug, Drop)]
 pub struct ScriptedWriter {
     /// The bytes that it took.
     pub taken: Vec<u8>,
-    /// How many bytes it takes at most, one or more.
+    /// The greatest number of bytes per write, one or more.
     pub piece: usize,
-    /// What goes wrong at one write.
+    /// The mishap of one write.
     pub mishap: Mishap<WriteMishap>,
     pub ghost moves: { 0 < piece },
 }
 
 impl ScriptedWriter {
-    /// A writer that has taken nothing, all of whose writes do their work. It takes memory as it
-    /// writes; where that is refused, the write answers an error.
+    /// Returns a writer that has taken nothing, all of whose writes succeed. It takes memory as it writes; if memory runs
+    /// out, the write returns an error.
     pub fn new(alloc: Global, piece: usize) -> ScriptedWriter
         requires { 0 < piece }
         ensures taken { result.taken.items ≡ [] }
@@ -143,7 +143,7 @@ impl ScriptedWriter {
         }
     }
 
-    /// The same writer, at whose write number `at`, counted from 0, `kind` goes wrong.
+    /// Returns the same writer, except that write number `at`, counted from 0, has the mishap `kind`.
     pub fn failing_at(self, at: u64, kind: WriteMishap) -> ScriptedWriter
         ensures taken { result.taken ≡ self.taken }
         ensures piece { result.piece ≡ self.piece }

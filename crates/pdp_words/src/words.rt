@@ -5,7 +5,7 @@ ghost use Rattle.pdp_words.specs.Words.{word, long, addr3, SameOutside};
 
 use byteorder::{ByteOrder, LittleEndian};
 
-/// The word at byte `at`.
+/// Returns the word at byte `at`.
 pub fn word(bytes: &[u8], at: usize) -> u16
     requires { at + 2 ≤ length bytes.now }
     ensures { result ≡ word bytes.now at }
@@ -13,7 +13,7 @@ pub fn word(bytes: &[u8], at: usize) -> u16
     LittleEndian::read_u16(&bytes[at..at + 2])
 }
 
-/// Puts a word at byte `at`.
+/// Writes a word at byte `at`.
 pub fn put_word(bytes: &mut [u8], at: usize, value: u16)
     requires { at + 2 ≤ length bytes.old }
     ensures put { word bytes.new at ≡ value }
@@ -22,7 +22,7 @@ pub fn put_word(bytes: &mut [u8], at: usize, value: u16)
     LittleEndian::write_u16(&mut bytes[at..at + 2], value);
 }
 
-/// The long at byte `at`.
+/// Returns the long at byte `at`.
 pub fn long(bytes: &[u8], at: usize) -> u32
     requires { at + 4 ≤ length bytes.now }
     ensures { result ≡ long bytes.now at }
@@ -30,7 +30,7 @@ pub fn long(bytes: &[u8], at: usize) -> u32
     u32::from(word(bytes, at)) * 0x1_0000 + u32::from(word(bytes, at + 2))
 }
 
-/// Puts a long at byte `at`.
+/// Writes a long at byte `at`.
 pub fn put_long(bytes: &mut [u8], at: usize, value: u32)
     requires { at + 4 ≤ length bytes.old }
     ensures put { long bytes.new at ≡ value }
@@ -40,7 +40,7 @@ pub fn put_long(bytes: &mut [u8], at: usize, value: u32)
     put_word(bytes, at + 2, (value % 0x1_0000) as u16);
 }
 
-/// The three-byte address at byte `at`, below 2^24.
+/// Returns the three-byte address at byte `at`, below 2^24.
 pub fn addr3(bytes: &[u8], at: usize) -> u32
     requires { at + 3 ≤ length bytes.now }
     ensures value { result ≡ addr3 bytes.now at }
@@ -49,7 +49,7 @@ pub fn addr3(bytes: &[u8], at: usize) -> u32
     u32::from(bytes[at]) * 0x1_0000 + u32::from(word(bytes, at + 1))
 }
 
-/// Puts a three-byte address at byte `at`.
+/// Writes a three-byte address at byte `at`.
 pub fn put_addr3(bytes: &mut [u8], at: usize, value: u32)
     requires room { at + 3 ≤ length bytes.old }
     requires range { value < 2 ^ 24 }
@@ -60,7 +60,7 @@ pub fn put_addr3(bytes: &mut [u8], at: usize, value: u32)
     put_word(bytes, at + 1, (value % 0x1_0000) as u16);
 }
 
-/// Puts the byte at `at`.
+/// Writes the byte at `at`.
 pub fn put_byte(bytes: &mut [u8], at: usize, value: u8)
     requires { at + 1 ≤ length bytes.old }
     ensures put { slice_index bytes.new at ≡ value }
@@ -69,7 +69,7 @@ pub fn put_byte(bytes: &mut [u8], at: usize, value: u8)
     bytes[at] = value;
 }
 
-/// Puts bytes from byte `at` on. One copy.
+/// Writes bytes from byte `at` on. One copy.
 pub fn put_bytes(bytes: &mut [u8], at: usize, value: &[u8])
     requires { at + length value.now ≤ length bytes.old }
     ensures put { slice_range bytes.new at (at + length value.now) ≡ value.now }
@@ -78,7 +78,7 @@ pub fn put_bytes(bytes: &mut [u8], at: usize, value: &[u8])
     bytes[at..at + value.len()].copy_from_slice(value);
 }
 
-/// Copies the `count` bytes at byte `from` to byte `to`, as they were before: the two places may overlap. One copy.
+/// Copies the `count` bytes at byte `from` to byte `to`, as they were before; the two ranges may overlap. One copy.
 pub fn copy_within(bytes: &mut [u8], from: usize, count: usize, to: usize)
     requires from { from + count ≤ length bytes.old }
     requires to { to + count ≤ length bytes.old }
@@ -88,7 +88,7 @@ pub fn copy_within(bytes: &mut [u8], from: usize, count: usize, to: usize)
     bytes.copy_within(from..from + count, to);
 }
 
-/// Makes the bytes from `from` up to `to` zero.
+/// Clears the bytes `from..to`.
 pub fn clear(bytes: &mut [u8], from: usize, to: usize)
     requires order { from ≤ to }
     requires room { to ≤ length bytes.old }

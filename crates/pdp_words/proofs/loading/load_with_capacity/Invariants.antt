@@ -1,4 +1,4 @@
--- `load_with_capacity` holds what the source lost, and the source has not failed; no vector is longer than 2^64.
+-- `load_with_capacity` has the bytes that the source lost, and the source has not failed; no vector is longer than 2^64.
 use Rattle.std.proofs.Common.{◌≡◌, ◌-◌, ◌^◌, false, vec_len}
 use Rattle.std.specs.Io.KnownBytes.{Consumes}
 use Rattle.pdp_words.proofs.loading.load_with_capacity.Given as goal

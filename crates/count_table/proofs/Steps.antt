@@ -171,7 +171,7 @@ module _ (shape : TableShape) (s : State (Unit {0}) SeatView) (kept : Kept shape
       let h = shifts (λ x. total weight x.marks) w in let k = kept.marked weight in
       let p = ap (total weight) is ∙ total_append weight v.marks new in let c = total_append weight new kept.log in omega arith
 
-  -- so many marks on another word add nothing
+  -- marks on another word add nothing
   sums_else : (w i k : ℕ) → w ≢ i → sum_at w (replicate k (mark i 1) ++ kept.log) ≡ sum_at w kept.log
   sums_else w i k ne =
       let a = total_append (amount_at w) (replicate k (mark i 1)) kept.log in
@@ -179,7 +179,7 @@ module _ (shape : TableShape) (s : State (Unit {0}) SeatView) (kept : Kept shape
       let z = ap (λ x. k * x) (amount_else i w 1 ne) in
       let n : k * 0 ≡ 0 = grind arith in omega (arith, a, r, z, n)
 
-  -- 1 is added to a count word so many times, in one step
+  -- 1 is added to a count `k` times, in one step
   pub counts_times : (i k : ℕ) → 1 ≤ v.parts → 1 ≤ i → i < 1 + shape.counts
       → Kept shape (stepped s i ((slice_index s.words i + k) % 2 ^ 64) id [] (counted_view v i k) keeps)
   counts_times i k some-parts low high =
@@ -301,7 +301,7 @@ module _ (shape : TableShape) (s : State (Unit {0}) SeatView) (kept : Kept shape
         bounded = let a = first.bounded in let b = second.bounded in let t = total_append (past shape.pieces) v.draws w.draws in omega arith;
       }
 
-  -- the other seats weigh nothing where this one stands for all
+  -- the other seats weigh nothing if this one has all parts
   alone : v.parts ≡ shape.seats → (g : SeatView → ℕ) → g blank ≡ 0 → total g s.views ≡ g v
   alone all g none =
       let rest = set s.views id blank in
@@ -313,7 +313,7 @@ module _ (shape : TableShape) (s : State (Unit {0}) SeatView) (kept : Kept shape
       let is : x ≡ blank = (fit blank (blank_fits shape.pieces) j x e).empty (omega arith) in ap g is ∙ none) in
       let q = shifts g blank in omega arith
 
-  -- the words by the marks of a seat that stands for all
+  -- the words are given by the marks of a seat that has all parts
   pub sums : v.parts ≡ shape.seats → IsSummed shape v s.words
   sums all = record {
     wide = kept.wide;

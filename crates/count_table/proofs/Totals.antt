@@ -12,18 +12,18 @@ module _ {A : Type 0} (weight : A → ℕ) where
   unfolding total
   total_nil = refl
 
-  -- a first member weighs beside the others
+  -- the weight of a first member is added to that of the others
   pub total_cons : (x : A) (xs : List A) → total weight (x ∷ xs) ≡ weight x + total weight xs
   unfolding total
   total_cons x xs = refl
 
-  -- two lists weigh what both do
+  -- two lists weigh as much as both together
   pub total_append : (xs ys : List A) → total weight (xs ++ ys) ≡ total weight xs + total weight ys
   unfolding total
   total_append [] ys = omega arith
   total_append (x ∷ xs) ys = let h = total_append xs ys in omega arith
 
-  -- a last member weighs beside the others
+  -- the weight of a last member is added to that of the others
   pub total_push : (xs : List A) (x : A) → total weight (xs ++ x ∷ []) ≡ total weight xs + weight x
   total_push xs x = let h = total_append xs (x ∷ []) in let e = total_cons x [] in let n = total_nil in omega arith
 
@@ -34,14 +34,14 @@ module _ {A : Type 0} (weight : A → ℕ) where
   total_set (z ∷ xs) zero x y e = let s = ap weight (some-injective z x e) in omega arith
   total_set (z ∷ xs) (suc i) x y e = let h = total_set xs i x y e in omega arith
 
-  -- a member weighs at most what all do
+  -- a member weighs at most as much as all do
   pub total_part : (xs : List A) (i : ℕ) (x : A) → get_elem? xs i ≡ some x → weight x ≤ total weight xs
   unfolding total
   total_part [] i x e = absurd (some-ne-none x (sym e))
   total_part (z ∷ xs) zero x e = let s = ap weight (some-injective z x e) in omega arith
   total_part (z ∷ xs) (suc i) x e = let h = total_part xs i x e in omega arith
 
-  -- where no member weighs, all weigh nothing
+  -- if no member weighs, all weigh nothing
   pub total_none : (xs : List A) → ((i : ℕ) (x : A) → get_elem? xs i ≡ some x → weight x ≡ 0) → total weight xs ≡ 0
   unfolding total
   total_none [] each = refl
@@ -198,13 +198,13 @@ read_at [] i x e = absurd (some-ne-none x (sym e))
 read_at (y ∷ xs) zero x e = sym (some-injective y x e)
 read_at (y ∷ xs) (suc i) x e = read_at xs i x e
 
--- so many members that are the same
+-- a list of n equal members
 pub total_replicate : {A : Type 0} (weight : A → ℕ) (n : ℕ) (x : A) → total weight (replicate n x) ≡ n * weight x
 unfolding total
 total_replicate weight zero x = grind arith
 total_replicate weight (suc n) x = let h = total_replicate weight n x in let t : suc n * weight x ≡ n * weight x + weight x = grind arith in omega arith
 
--- the least after so many marks of one value on another word, and on the word
+-- the minimum after n marks of one value on another word, and on the word
 pub least_elses : (v w k n : ℕ) (ms : List Mark) → w ≢ v → least_at w (replicate n (mark v k) ++ ms) ≡ least_at w ms
 least_elses v w k zero ms ne = refl
 least_elses v w k (suc n) ms ne = least_else v w k (replicate n (mark v k) ++ ms) ne ∙ least_elses v w k n ms ne

@@ -1,4 +1,4 @@
--- What holds between any two steps, and at the end.
+-- The invariant of the table, and its words at the end.
 use Rattle.std.specs.Prelude.{◌≡◌, ℕ, ◌+◌, ◌^◌, ◌%◌, ◌<◌, ◌≤◌, List, length, slice_index}
 use mathlib.Core.Option.{some}
 use lib.ListN.{get_elem?}
@@ -9,12 +9,12 @@ use Rattle.count_table.specs.declared.rule.TableShape.{TableShape}
 use Rattle.count_table.specs.Sums.{total, below, late, sum_at, least_at}
 use Rattle.count_table.specs.Views.{blank}
 
--- a seat that stands for nothing is blank; one has at most as many draws past the pieces as it stands for (this project)
+-- a seat without parts is blank; any other has at most as many draws past the pieces as it has parts (this project)
 pub record IsWithinParts (pieces : ℕ) (v : SeatView) : Type 0 where
   pub empty : v.parts ≡ 0 → v ≡ blank
   pub bounded : late pieces v.draws ≤ v.parts
 
--- the draws of all seats are the numbers below word 0, each once; each count word is the sum of its marks in all views, modulo 2^64, and each least word the least of 2^64 - 1 and its marks; the log has the marks of all seats in the order of the steps (this project)
+-- the draws of all seats are the numbers below word 0, each once; each count is the sum of its marks in all views, modulo 2^64, and each minimum is the least of 2^64 - 1 and its marks; the log has the marks of all seats in the order of the steps (this project)
 pub record Kept (shape : TableShape) (s : State (Unit {0}) SeatView) : Type 0 where
   pub log : List Mark
   pub wide : length s.words ≡ 1 + (shape.counts + shape.leasts)
@@ -26,7 +26,7 @@ pub record Kept (shape : TableShape) (s : State (Unit {0}) SeatView) : Type 0 wh
   pub lowest : (w : ℕ) → 1 + shape.counts ≤ w → w < 1 + (shape.counts + shape.leasts) → slice_index s.words w ≡ least_at w log
   pub each : (id : ℕ) (v : SeatView) → get_elem? s.views id ≡ some v → IsWithinParts shape.pieces v
 
--- the words once one seat has the draws and marks of all (this project)
+-- the words when one seat has the draws and marks of all (this project)
 pub record IsSummed (shape : TableShape) (v : SeatView) (words : List ℕ) : Type 0 where
   pub wide : length words ≡ 1 + (shape.counts + shape.leasts)
   pub drawn : (weight : ℕ → ℕ) → total weight v.draws ≡ below weight (slice_index words 0)

@@ -16,11 +16,11 @@ below weight (suc n) = below weight n + weight n
 abbrev pub past : ℕ → ℕ → ℕ
 past bound n = if nat_le bound n then 1 else 0
 
--- how many draws aren't below the number of pieces (this project)
+-- the number of draws that aren't below the number of pieces (this project)
 abbrev pub late : ℕ → List ℕ → ℕ
 late pieces draws = total (past pieces) draws
 
--- the amount of a mark on a word, and 0 of a mark on another (this project)
+-- the amount of a mark on a word, or 0 for a mark on another (this project)
 abbrev pub amount_at : ℕ → Mark → ℕ
 amount_at word mark = if mark.word == word then mark.amount else 0
 

@@ -1,4 +1,4 @@
--- Which seat is of which table, and its words at the end.
+-- Seats of a table, and the table's words at the end.
 use Rattle.std.specs.Prelude.{◌≡◌, ℕ, List, []}
 use Rattle.std.specs.Slots.{slots_items}
 use Rattle.atomic_table.specs.declared.shared.Seat.{Seat}
@@ -11,7 +11,7 @@ use Rattle.count_table.specs.declared.words.Summed.{Summed}
 abbrev pub table_shape : Tally → TableShape
 table_shape t = t.table.shared.key
 
--- the seat is of this table, and holds no slot (this project)
+-- the seat belongs to this table, and holds no slot (this project)
 abbrev pub IsSeatAt : Tally → Seat (Unit {0}) SeatView → Type 0
 IsSeatAt t seat = (seat.table_id ≡ t.table.shared.table_id) × (seat.me.1 ≡ [])
 

@@ -1,7 +1,7 @@
-//! A table of counts that threads add to without a lock, and what its words are at the end.
+//! A table of counts that threads add to without a lock.
 //!
-//! Word 0 is the number of the next piece of work. Then come words that only grow by sums, and words that
-//! only fall to the least value given.
+//! Word 0 is the number of the next piece of work. After it come words that only grow by sums, and words that keep the least
+//! value given.
 #![tactic(auto)]
 
 mod rule;

@@ -1,30 +1,30 @@
-//! What a seat knows, what holds between any two steps, and what each step tells.
+//! The record of what a seat has done, the invariant of the table, and the effect of each step.
 ghost use Rattle.count_table.specs.Views.{Drew, Marked, MarkedTimes, MarkedAgain, kept_half, given_half, joined, blank, first_view};
 ghost use Rattle.count_table.specs.Rule.{Kept};
 
 use atomic_table::{Join, Play, Seat, Split, TableRule};
 use std::collections::LinkedList;
 
-/// What one step added to a word, or gave as its least value.
+/// The amount that a step added to a word, or gave as a possible least value.
 #[derive(Clone, Copy, Debug, PartialEq, Eq)]
 pub struct Mark {
     pub word: u64,
     pub amount: u64,
 }
 
-/// What a seat knows. No value of it is made.
+/// The record of what a seat has done. Only proofs use it.
 pub struct SeatView {
-    /// How many of the first seats it stands for.
+    /// The number of parts of the table's work that it holds.
     pub parts: u64,
     /// The numbers that it drew, in order.
     pub draws: LinkedList<u64>,
     /// The marks that it made, in order.
     pub marks: LinkedList<Mark>,
-    /// How many marks of 1 its last step made, where that was one for several; else 1.
+    /// The number of marks of 1 that its last step made, if that made several; else 1.
     pub times: u64,
 }
 
-/// How many pieces there are, words of each kind, and seats.
+/// The number of pieces, of words of each kind, and of seats.
 #[derive(Clone, Copy, Debug, PartialEq, Eq)]
 pub struct TableShape {
     pub pieces: u64,
@@ -36,7 +36,7 @@ pub struct TableShape {
 /// A thread's place at the table.
 pub type TallySeat = Seat<(), SeatView>;
 
-/// The rule of the table.
+/// The invariant of the table.
 pub struct AllCounted;
 
 impl TableRule<(), SeatView, TableShape> for AllCounted {
@@ -45,35 +45,35 @@ impl TableRule<(), SeatView, TableShape> for AllCounted {
     ghost first = { first_view };
 }
 
-/// A piece was drawn.
+/// A step that draws a piece.
 pub(crate) struct Claim;
 
 impl Play<(), SeatView> for Claim {
     ghost then = { Drew };
 }
 
-/// A mark was made.
+/// A step that makes a mark.
 pub(crate) struct MarkMade;
 
 impl Play<(), SeatView> for MarkMade {
     ghost then = { Marked };
 }
 
-/// So many marks of 1 were made in one step.
+/// A step that makes several marks of 1.
 pub(crate) struct MarksMade;
 
 impl Play<(), SeatView> for MarksMade {
     ghost then = { MarkedTimes };
 }
 
-/// As many marks of one value were made in one step as the step before made.
+/// A step that makes as many marks of one value as the step before did.
 pub(crate) struct MarksRepeated;
 
 impl Play<(), SeatView> for MarksRepeated {
     ghost then = { MarkedAgain };
 }
 
-/// One part of a seat that did nothing yet is cut off.
+/// Splitting one part off a seat that has done nothing yet.
 pub(crate) struct Give;
 
 impl Split<SeatView> for Give {
@@ -82,7 +82,7 @@ impl Split<SeatView> for Give {
     ghost right = { given_half };
 }
 
-/// Two seats become one.
+/// Joining two seats.
 pub(crate) struct Gather;
 
 impl Join<SeatView> for Gather {

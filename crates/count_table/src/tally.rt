@@ -11,7 +11,7 @@ use atomic_table::Table;
 use std::alloc::{AllocError, Global};
 
 impl Tally {
-    /// A table of this shape, all of whose counts are 0 and whose leasts are 2^64 - 1, with one seat for all.
+    /// Returns a table of this shape, whose counts are 0 and whose minimums are 2^64 - 1, and one seat for all its parts.
     ///
     /// Takes eight bytes for each word.
     pub fn new(alloc: Global, shape: TableShape) -> Result<(Tally, TallySeat), AllocError>
@@ -26,7 +26,7 @@ impl Tally {
         Ok((Tally { table }, seat))
     }
 
-    /// Cuts one part off a seat that did nothing yet.
+    /// Splits one part off a seat that has done nothing yet.
     pub fn split(&self, seat: &mut TallySeat) -> TallySeat
         requires own { IsSeatAt self.now seat.old }
         requires parts { 1 ≤ seat.old.me.0.parts }
@@ -39,7 +39,7 @@ impl Tally {
         self.table.shared.split_seat::<Give>(seat)
     }
 
-    /// Makes one seat of two.
+    /// Joins two seats.
     pub fn join(&self, seat: &mut TallySeat, other: TallySeat)
         requires own { IsSeatAt self.now seat.old × IsSeatAt self.now other }
         ensures own { IsSeatAt self.now seat.new }
@@ -48,7 +48,7 @@ impl Tally {
         self.table.shared.join_seat::<Gather>(seat, other);
     }
 
-    /// Draws the next number.
+    /// Draws the next number and returns it.
     pub fn claim(&self, seat: &mut TallySeat) -> u64
         requires own { IsSeatAt self.now seat.old }
         requires early { late (table_shape self.now).pieces seat.old.me.0.draws < seat.old.me.0.parts }
@@ -59,7 +59,7 @@ impl Tally {
         self.table.shared.fetch_add::<Claim>(seat, 0, 1)
     }
 
-    /// Adds an amount to a count word.
+    /// Adds an amount to a count.
     pub fn count(&self, seat: &mut TallySeat, word: usize, amount: u64)
         requires own { IsSeatAt self.now seat.old }
         requires parts { 1 ≤ seat.old.me.0.parts }
@@ -71,7 +71,7 @@ impl Tally {
         let _found = self.table.shared.fetch_add::<MarkMade>(seat, word, amount);
     }
 
-    /// Adds 1 to a count word so many times, in one step.
+    /// Adds 1 to a count `times` times, in one step.
     pub fn count_times(&self, seat: &mut TallySeat, word: usize, times: u64)
         requires own { IsSeatAt self.now seat.old }
         requires parts { 1 ≤ seat.old.me.0.parts }
@@ -83,7 +83,7 @@ impl Tally {
         let _found = self.table.shared.fetch_add::<MarksMade>(seat, word, times);
     }
 
-    /// Lowers a least word to a value, if that is less, in one step for as many places as the step before counted.
+    /// Lowers a minimum to a value, if that is less, in one step that counts as often as the step before.
     pub fn lower_times(&self, seat: &mut TallySeat, word: usize, value: u64)
         requires own { IsSeatAt self.now seat.old }
         requires parts { 1 ≤ seat.old.me.0.parts }
@@ -99,7 +99,7 @@ impl Tally {
             .fetch_min::<MarksRepeated>(seat, word, value);
     }
 
-    /// Lowers a least word to a value, if that is less.
+    /// Lowers a minimum to a value, if that is less.
     pub fn lower(&self, seat: &mut TallySeat, word: usize, value: u64)
         requires own { IsSeatAt self.now seat.old }
         requires parts { 1 ≤ seat.old.me.0.parts }
@@ -111,7 +111,7 @@ impl Tally {
         let _found = self.table.shared.fetch_min::<MarkMade>(seat, word, value);
     }
 
-    /// The words at the end, where this seat stands for all.
+    /// Returns the final words; this seat holds all parts.
     pub fn close(self, seat: TallySeat) -> Summed
         requires own { IsSeatAt self seat }
         requires whole { seat.me.0.parts ≡ (table_shape self).seats }
@@ -124,7 +124,7 @@ impl Tally {
     }
 }
 
-/// Word 0 and the counts are 0, the leasts are 2^64 - 1.
+/// Returns the words at the start: 0 for word 0 and the counts, 2^64 - 1 for the minimums.
 fn first_words(alloc: Global, shape: TableShape) -> Result<Vec<u64>, AllocError>
     requires words { shape.counts + shape.leasts < 2 ^ 48 }
     ensures { IfOk result (λ words. IsStart shape words.items) }

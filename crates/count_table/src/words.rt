@@ -1,4 +1,4 @@
-//! The table, and its words once no thread shares it any more.
+//! The table, and its words once threads no longer share it.
 ghost use Rattle.std.specs.Prelude.{◌≡◌, ◌+◌};
 ghost use Rattle.std.specs.Slots.{slots_len, IsFull};
 
@@ -14,7 +14,7 @@ pub struct Tally {
     ghost bare: { table.shared.table_id.slots ≡ 0 },
 }
 
-/// The words at the end.
+/// The final words of a table.
 pub struct Summed {
     pub(crate) closed: Closed<(), Global>,
     ghost full: { IsFull closed.words },

@@ -1,4 +1,4 @@
--- What putting one address, the size or the mode of an i-node leaves alone.
+-- The bytes that writing one address, the size or the mode of an i-node keeps.
 use Rattle.std.proofs.Common.{◌≡◌, ◌≢◌, ℕ, ◌+◌, ◌*◌, ◌<◌, ◌≤◌, List, refl, arith, inl, inr, if◌then◌else◌, true, false, ltb}
 use Rattle.std.proofs.lemmas.Bool.{cases_lt, ltb-true}
 use Rattle.pdp_words.specs.Words.{word, SameOutside}
@@ -13,14 +13,14 @@ use Rattle.vol_layout.specs.declared.geometry.Geometry.{Geometry}
 use Rattle.pdp_words.proofs.Outside.{widen}
 use Rattle.vol_layout.proofs.InodeLaws.{KeepsInode, inode_apart, place_from, place_room}
 
--- an address of the sixth edition stays where its word does
+-- an address of the sixth edition stays if its word does
 word_address : (old new : List ℕ) (at j : ℕ) → (j < 8 → word new (at + 8 + 2 * j) ≡ word old (at + 8 + 2 * j))
     → address_at V6 new at j ≡ address_at V6 old at j
 word_address old new at j same =
     elim (ltb j 8) as (λ t. ltb j 8 ≡ t → (if t then word new (at + 8 + 2 * j) else 0) ≡ (if t then word old (at + 8 + 2 * j) else 0))
     [ true ↦ λ t. same (ltb-true j 8 t) | false ↦ λ t. refl ] refl
 
--- a write behind an address leaves it
+-- a write after an address leaves it
 pub address_below : (edition : Edition) {old new : List ℕ} {from to : ℕ} → SameOutside old new from to → (at j : ℕ)
     → at + address_offset edition + address_bytes edition * (j + 1) ≤ from → address_at edition new at j ≡ address_at edition old at j
 address_below V6 {old} {new} same at j h = word_address old new at j (λ low. word_below same (at + 8 + 2 * j) (omega arith))
@@ -41,21 +41,21 @@ address_others V7 old new i k j same other =
       | inr more ↦ addr3_above same (inode_place V7 i + 12 + 3 * j) (omega arith)
     ]
 
--- an address stands within its i-node, behind the mode and the size
+-- an address is within its i-node, after the mode and the size
 pub address_within : (edition : Edition) (i k : ℕ) → k < address_count edition
     → (inode_place edition i + address_offset edition ≤ address_place edition i k)
     × (address_place edition i k + address_bytes edition ≤ inode_place edition i + (constants edition).inode_bytes)
 address_within V6 i k h = (omega arith, omega arith)
 address_within V7 i k h = (omega arith, omega arith)
 
--- the size stands within its i-node, behind the mode and right before the addresses
+-- the size is within its i-node, after the mode and right before the addresses
 pub size_within : (edition : Edition) (i : ℕ) → (inode_place edition i + 2 ≤ size_place edition i)
     × (size_place edition i + size_bytes edition ≡ inode_place edition i + address_offset edition)
     × (inode_place edition i + address_offset edition ≤ inode_place edition i + (constants edition).inode_bytes)
 size_within V6 i = (omega arith, omega arith, omega arith)
 size_within V7 i = (omega arith, omega arith, omega arith)
 
--- the addresses stand behind the mode
+-- the addresses are after the mode
 pub mode_within : (edition : Edition) (i : ℕ) → (inode_place edition i + 2 ≤ inode_place edition i + address_offset edition)
     × (inode_place edition i + 2 ≤ inode_place edition i + (constants edition).inode_bytes)
 mode_within V6 i = (omega arith, omega arith)
@@ -69,12 +69,12 @@ addresses_before V6 old new i from to j same h =
     word_address old new (inode_place V6 i) j (λ low. word_above same (inode_place V6 i + 8 + 2 * j) (omega arith))
 addresses_before V7 old new i from to j same h = addr3_above same (inode_place V7 i + 12 + 3 * j) (omega arith)
 
--- a write behind the mode leaves it
+-- a write after the mode leaves it
 pub mode_behind : (geometry : Geometry) (old new : List ℕ) (i from to : ℕ) → SameOutside old new from to
     → inode_place geometry.edition i + 2 ≤ from → mode_of geometry new i ≡ mode_of geometry old i
 mode_behind geometry old new i from to same h = word_below same (inode_place geometry.edition i) h
 
--- a write behind the size leaves it
+-- a write after the size leaves it
 pub size_behind : (edition : Edition) (old new : List ℕ) (i from to : ℕ) → SameOutside old new from to
     → inode_place edition i + address_offset edition ≤ from
     → size_at edition new (inode_place edition i) ≡ size_at edition old (inode_place edition i)

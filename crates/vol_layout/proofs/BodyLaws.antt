@@ -33,7 +33,7 @@ same_body geometry old new i size bytes =
     (λ n h. let low : n < body_size geometry old i = omega arith in let low_new : n < body_size geometry new i = omega arith in
     get_or-body geometry new i n low_new ∙ (bytes n low ∙ sym (get_or-body geometry old i n low)))
 
--- a slice is as long as its bounds say, where it lies within the list
+-- a slice is as long as its bounds say, if it is within the list
 pub length-slice_range : (xs : List ℕ) (from n : ℕ) → from + n ≤ length xs → length (slice_range xs from (from + n)) ≡ n
 length-slice_range xs from n h =
     let room : from + n - from ≤ length (drop from xs) = omega (arith, length-drop from xs) in
@@ -46,7 +46,7 @@ get_or-slice_range xs from n r h =
     let low : r < from + n - from = omega arith in
     get_or-take (from + n - from) (drop from xs) r 0 low ∙ get_or-drop from xs r 0
 
--- byte r of the body's block b, of which k is the stored number
+-- byte r of the body's block b, whose stored number is k
 pub body_byte_at : (geometry : Geometry) (image : List ℕ) (i b r : ℕ) → r < 512
     → body_byte geometry image i (512 * b + r) ≡ zone_byte geometry image (stored geometry image i (form_at geometry image i) b) r
 unfolding body_byte
@@ -86,7 +86,7 @@ length-zone_bytes geometry image k at r n fits e h =
       | false ↦ λ z. length-replicate n 0
     ] refl
 
--- n bytes of the body from byte r of block b on are those bytes of the data block k that is stored for b, and zeros where none is
+-- n bytes of the body from byte r of block b on are those bytes of the data block k that is stored for b, and zeros if none is
 pub body_part : (geometry : Geometry) (image : List ℕ) (i b r n k from at : ℕ) → Fits geometry image → r + n ≤ 512
     → 512 * b + r ≡ from → 512 * k + r ≡ at → from + n ≤ body_size geometry image i
     → stored geometry image i (form_at geometry image i) b ≡ k
@@ -106,7 +106,7 @@ body_part geometry image i b r n k from at fits h e f room is_stored =
     ∙ (body_byte_at geometry image i b (r + j) (omega arith)
     ∙ (ap (λ m. zone_byte geometry image m (r + j)) is_stored ∙ sym (zone_bytes geometry image k at r n j f below))))))
 
--- the first n bytes of block b of the body are those of the data block k that is stored for b, and zeros where none is
+-- the first n bytes of block b of the body are those of the data block k that is stored for b, and zeros if none is
 pub body_piece : (geometry : Geometry) (image : List ℕ) (i b n k : ℕ) → Fits geometry image → n ≤ 512 → 512 * b + n ≤ body_size geometry image i
     → stored geometry image i (form_at geometry image i) b ≡ k
     → slice_range (body geometry image i) (512 * b) (512 * b + n)
@@ -119,7 +119,7 @@ pub zone_byte_in : (geometry : Geometry) (image : List ℕ) (m r : ℕ) → in_z
 unfolding zone_byte
 zone_byte_in geometry image m r z = rw z
 
--- what is no data block reads as zeros
+-- a block that is no data block reads as zeros
 pub zone_byte_out : (geometry : Geometry) (image : List ℕ) (m r : ℕ) → in_zone geometry m ≡ false → zone_byte geometry image m r ≡ 0
 unfolding zone_byte
 zone_byte_out geometry image m r z = rw z

@@ -1,4 +1,4 @@
--- Laws of bytes that one image has from another: what a write leaves alone, and what is moved.
+-- Laws of bytes that one image has from another: those that a write keeps, and those that are moved.
 use Rattle.std.proofs.Common.{◌≡◌, ◌≢◌, ℕ, ◌+◌, ◌*◌, ◌<◌, ◌≤◌, ◌∙◌, sym, ap, List, get_or, refl, arith, inl, inr}
 use Rattle.std.proofs.lemmas.Bool.{cases_lt}
 use Rattle.pdp_words.specs.Words.{word, long, addr3, SameOutside}

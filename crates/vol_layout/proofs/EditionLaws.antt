@@ -20,7 +20,7 @@ pub dots_fit : (edition : Edition) → 32 ≤ (constants edition).greatest
 dots_fit V6 = omega arith
 dots_fit V7 = omega arith
 
--- the parts of the super-block stand one behind another
+-- the parts of the super-block follow one another
 pub super_order : (edition : Edition) → (free_head edition + 202 ≡ cache_head edition) × (free_head edition + 404 ≤ time_place edition)
     × (720 ≤ time_place edition) × (time_place edition + 4 ≤ 1024)
 super_order V6 = (omega arith, omega arith, omega arith, omega arith)

@@ -1,4 +1,4 @@
--- What a write leaves alone of the names and the bodies of the files.
+-- The names and the bodies of files that a write keeps.
 use Rattle.std.proofs.Common.{◌≡◌, ◌≢◌, ℕ, ◌+◌, ◌*◌, ◌/◌, ◌%◌, ◌<◌, ◌≤◌, ◌∙◌, sym, ap, List, [], ◌∷◌, get_or, refl, arith, inl, inr, Some, None, if◌then◌else◌, true, false}
 use Rattle.std.specs.Option.{option_map_or}
 use Rattle.pdp_words.specs.Words.{SameOutside}
@@ -69,7 +69,7 @@ pub places_kept : (geometry : Geometry) (old new : List ℕ) (i : ℕ) → Keeps
 places_kept geometry old new i kept =
     record { form = form_kept geometry old new i kept; addresses = λ k h. address_kept geometry old new i k kept h }
 
--- entry j of block m stays where its number does, if m is a data block at all
+-- entry j of block m stays if its number does, if m is a data block at all
 pub entry_kept : (geometry : Geometry) (old new : List ℕ) (m j : ℕ)
     → (in_zone geometry m ≡ true → number geometry.edition new (512 * m) j ≡ number geometry.edition old (512 * m) j)
     → pointer_in geometry new m j ≡ pointer_in geometry old m j
@@ -79,7 +79,7 @@ entry_kept geometry old new m j same =
     → (if z then number geometry.edition new (512 * m) j else 0) ≡ (if z then number geometry.edition old (512 * m) j else 0))
     [ true ↦ λ z. same z | false ↦ λ z. refl ] refl
 
--- what a place names stays where the address stays, and on the way the entry in each data block
+-- the name of a place stays if the address stays, and the entry in each data block on the way
 pub named_kept : (geometry : Geometry) (old new : List ℕ) (i : ℕ) (p : List ℕ)
     → ((k : ℕ) → IsFront (k ∷ []) p → address_at geometry.edition new (inode_place geometry.edition i) k ≡ address_at geometry.edition old (inode_place geometry.edition i) k)
     → ((j a : ℕ) (q : List ℕ) → IsFront (j ∷ (a ∷ q)) p → in_zone geometry (named geometry old i (a ∷ q)) ≡ true
@@ -91,7 +91,7 @@ named_kept geometry old new i (j ∷ (a ∷ p)) addresses entries =
     ap (λ m. pointer_in geometry new m j) (named_kept geometry old new i (a ∷ p) (λ k front. addresses k (inr front)) (λ h b q front. entries h b q (inr front)))
     ∙ entry_kept geometry old new (named geometry old i (a ∷ p)) j (entries j a p (inl refl))
 
--- what place p names stays where the addresses and the form are kept, and each data block on the way to it
+-- the name of place p stays if the addresses and the form stay, and each data block on the way to it
 pub named_frame : (geometry : Geometry) (old new : List ℕ) (i : ℕ) (p : List ℕ) → KeepsPlaces geometry old new i → IsPlace (form_at geometry old i) p
     → ((j a : ℕ) (q : List ℕ) → IsFront (j ∷ (a ∷ q)) p → in_zone geometry (named geometry old i (a ∷ q)) ≡ true
     → IsCopy old new (512 * named geometry old i (a ∷ q)) (512 * named geometry old i (a ∷ q)) 512)
@@ -109,7 +109,7 @@ named_frame geometry old new i p kept place blocks =
     number_copied geometry.edition old new (512 * named geometry old i (a ∷ q)) (512 * named geometry old i (a ∷ q)) 512 j (blocks j a q front zone)
     (number_room geometry.edition j within))
 
--- a write of block k leaves what the places name, where k is no indirect block of the file
+-- a write of block k keeps the names of the places, if k is no indirect block of the file
 pub named_apart : (geometry : Geometry) (old new : List ℕ) (i k : ℕ) (p : List ℕ) → KeepsPlaces geometry old new i
     → SameOutside old new (512 * k) (512 * k + 512)
     → ((q : List ℕ) → IsPlace (form_at geometry old i) q → 1 ≤ levels_below (form_at geometry old i) q → named geometry old i q ≢ k)
@@ -120,7 +120,7 @@ named_apart geometry old new i k p kept same apart place =
     let here : IsPlace (form_at geometry old i) (j ∷ (a ∷ q)) = place_front (form_at geometry old i) p (j ∷ (a ∷ q)) place front in
     copy_block old new (named geometry old i (a ∷ q)) k same (apart (a ∷ q) here.2 here.1))
 
--- the number stored for a logical block stays where what its last place names does
+-- the number stored for a logical block stays if the name of its last place does
 pub stored_kept : (geometry : Geometry) (old new : List ℕ) (i : ℕ) (form : Form) (b : ℕ)
     → ((p : List ℕ) → last_place form b ≡ Some p → named geometry new i p ≡ named geometry old i p)
     → stored geometry new i form b ≡ stored geometry old i form b
@@ -128,7 +128,7 @@ stored_kept geometry old new i form b same =
     elim (last_place form b) as (λ o. last_place form b ≡ o → option_map_or (named geometry new i) o 0 ≡ option_map_or (named geometry old i) o 0)
     [ None ↦ λ e. refl | Some p ↦ λ e. same p e ] refl
 
--- a write of block k leaves the numbers stored for logical blocks, where k is no indirect block of the file
+-- a write of block k keeps the numbers stored for logical blocks, if k is no indirect block of the file
 pub stored_apart : (geometry : Geometry) (old new : List ℕ) (i k b : ℕ) → KeepsPlaces geometry old new i
     → SameOutside old new (512 * k) (512 * k + 512)
     → ((q : List ℕ) → IsPlace (form_at geometry old i) q → 1 ≤ levels_below (form_at geometry old i) q → named geometry old i q ≢ k)
@@ -138,7 +138,7 @@ stored_apart geometry old new i k b kept same apart =
     ∙ stored_kept geometry old new i (form_at geometry old i) b
     (λ p e. named_apart geometry old new i k p kept same apart (last_leaf (form_at geometry old i) b p e).place)
 
--- byte r of data block m stays where that byte of the image does
+-- byte r of data block m stays if that byte of the image does
 pub zone_byte_kept : (geometry : Geometry) (old new : List ℕ) (m r : ℕ)
     → (in_zone geometry m ≡ true → get_or new (512 * m + r) 0 ≡ get_or old (512 * m + r) 0) → zone_byte geometry new m r ≡ zone_byte geometry old m r
 unfolding zone_byte
@@ -146,7 +146,7 @@ zone_byte_kept geometry old new m r same =
     elim (in_zone geometry m) as (λ z. in_zone geometry m ≡ z → (if z then get_or new (512 * m + r) 0 else 0) ≡ (if z then get_or old (512 * m + r) 0 else 0))
     [ true ↦ λ z. same z | false ↦ λ z. refl ] refl
 
--- the body stays where places and size are kept, and for each of its logical blocks the number stored and that data block
+-- the body stays if places and size are kept, and for each of its logical blocks the number stored and that data block
 pub body_frame : (geometry : Geometry) (old new : List ℕ) (i : ℕ) → KeepsPlaces geometry old new i
     → body_size geometry new i ≡ body_size geometry old i
     → ((b : ℕ) → 512 * b < body_size geometry old i
@@ -188,7 +188,7 @@ body_apart geometry old new i k fits kept same apart =
     body_ways_kept geometry old new i k fits kept same
     (λ b p q low e front. apart q (place_front (form_at geometry old i) p q (last_leaf (form_at geometry old i) b p e).place front))
 
--- after a write of data block k, no indirect block of the file, its bytes of a logical block that k stands for are k's new ones
+-- after a write of data block k, no indirect block of the file, a logical block stored in k has its new bytes
 pub body_byte_there : (geometry : Geometry) (old new : List ℕ) (i k n : ℕ) → KeepsPlaces geometry old new i
     → SameOutside old new (512 * k) (512 * k + 512) → in_zone geometry k ≡ true
     → ((q : List ℕ) → IsPlace (form_at geometry old i) q → 1 ≤ levels_below (form_at geometry old i) q → named geometry old i q ≢ k)
@@ -218,7 +218,7 @@ zone_kept geometry old new from to m same below zone =
     let bounds : (geometry.zone_start ≤ m) × (m < geometry.zone_end) = zone_bounds geometry m zone in
     copy_above old new from to (512 * m) 512 same (omega arith)
 
--- a write below the data zone, as of an i-node, leaves what the places of a file name whose own addresses stay
+-- a write below the data zone, as of an i-node, keeps the names of a file's places if the file's own addresses stay
 pub named_list_kept : (geometry : Geometry) (old new : List ℕ) (from to i : ℕ) (p : List ℕ) → KeepsPlaces geometry old new i
     → SameOutside old new from to → to ≤ 512 * geometry.zone_start → IsPlace (form_at geometry old i) p
     → named geometry new i p ≡ named geometry old i p

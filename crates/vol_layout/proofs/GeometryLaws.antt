@@ -6,7 +6,7 @@ use Rattle.vol_layout.specs.declared.edition.Edition.{Edition}
 use Rattle.vol_layout.specs.declared.geometry.Geometry.{Geometry}
 use Rattle.vol_layout.specs.declared.geometry.GeometryFault.TheVariants.{Short, Bounds}
 
--- what is read as the geometry is what the super-block states
+-- the geometry that is read is the one that the super-block states
 read_by : (rules bounded : Bool) (geometry other : Geometry)
     → (if rules then (if bounded then Ok geometry else Err Bounds) else Err Short) ≡ Ok other → geometry ≡ other
 read_by true true geometry other e = cc

@@ -1,4 +1,4 @@
--- Laws of the i-nodes: their fields, where they stand, and what keeps them.
+-- Laws of the i-nodes: their fields, their positions, and the writes that keep them.
 use Rattle.std.specs.List.{range_with_len}
 use Rattle.std.proofs.Common.{◌≡◌, ◌≢◌, ℕ, ◌+◌, ◌-◌, ◌*◌, ◌<◌, ◌≤◌, ◌∙◌, sym, ap, subst, List, map, length, get_or, refl, arith, inl, inr, Some, None, if◌then◌else◌, true, false, ltb, min}
 use Rattle.std.proofs.lemmas.List.FromFn.{length-map-range_with_len, get_or-map-range_with_len}
@@ -61,7 +61,7 @@ pub place_manual : (edition : Edition) (i : ℕ) → 1 ≤ i → inode_place edi
 place_manual V6 i h = omega arith
 place_manual V7 i h = omega arith
 
--- the i-nodes stand behind blocks 0 and 1
+-- the i-nodes are after blocks 0 and 1
 pub place_from : (edition : Edition) (i : ℕ) → 1024 ≤ inode_place edition i
 place_from edition i = omega arith
 

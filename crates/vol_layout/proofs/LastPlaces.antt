@@ -1,4 +1,4 @@
--- The last place of each logical block, where its range is known.
+-- The last place of each logical block whose range is known.
 use Rattle.std.proofs.Common.{◌≡◌, ℕ, ◌-◌, ◌/◌, ◌%◌, ◌<◌, ◌≤◌, [], ◌∷◌, refl, arith, Some}
 use Rattle.std.proofs.lemmas.Bool.{lt-ltb, le-ltb}
 use Rattle.vol_layout.specs.Places.{last_place}

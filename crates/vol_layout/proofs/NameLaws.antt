@@ -1,4 +1,4 @@
--- Laws of what the places of a file name.
+-- Laws of the names of a file's places.
 use Rattle.std.proofs.Common.{◌≡◌, ◌≢◌, ℕ, ◌*◌, ◌<◌, ◌≤◌, ◌∙◌, sym, ap, subst, List, [], ◌∷◌, true, false, refl, arith, inl, inr, Some, None}
 use Rattle.vol_layout.specs.Edition.{number}
 use Rattle.vol_layout.specs.Geometry.{in_zone, Fits}
@@ -10,7 +10,7 @@ use Rattle.vol_layout.specs.Laws.{IsFront}
 use Rattle.vol_layout.specs.declared.geometry.Geometry.{Geometry}
 use Rattle.vol_layout.proofs.BodyLaws.{zone_bounds}
 
--- an entry of a data block is the number that stands there
+-- an entry of a data block is the number stored there
 pub entry_in : (geometry : Geometry) (image : List ℕ) (m j : ℕ) → in_zone geometry m ≡ true
     → pointer_in geometry image m j ≡ number geometry.edition image (512 * m) j
 unfolding pointer_in
@@ -32,7 +32,7 @@ pub named_stops : (geometry : Geometry) (image : List ℕ) (i j a : ℕ) (p : Li
     → named geometry image i (j ∷ (a ∷ p)) ≡ 0
 named_stops geometry image i j a p z = entry_out geometry image (named geometry image i (a ∷ p)) j z
 
--- a longer place names 0 where a front of it names no data block
+-- a longer place names 0 if a front of it names no data block
 pub named_past : (geometry : Geometry) (image : List ℕ) (i j : ℕ) (p q : List ℕ) → Fits geometry image → IsFront q p
     → in_zone geometry (named geometry image i q) ≡ false → named geometry image i (j ∷ p) ≡ 0
 named_past geometry image i j [] q fits front z = absurd front
@@ -44,7 +44,7 @@ named_past geometry image i j (a ∷ p) q fits front z =
           named_stops geometry image i j a p (ap (in_zone geometry) zero ∙ zero_out geometry image fits)
     ]
 
--- what a place holds by the rules is what it names, and not 0
+-- the number that a place holds by the rules is its name, and not 0
 pub holds_named : (geometry : Geometry) (image : List ℕ) (i : ℕ) (p : List ℕ) (k : ℕ) → Holds geometry image i p k
     → (named geometry image i p ≡ k) × (k ≢ 0)
 holds_named geometry image i p k (Holds.address a m some at) = (at, some)
@@ -57,7 +57,7 @@ pub zone_some : (geometry : Geometry) (image : List ℕ) (k : ℕ) → Fits geom
 zone_some geometry image k fits z e =
     let bounds : (geometry.zone_start ≤ k) × (k < geometry.zone_end) = zone_bounds geometry k z in omega arith
 
--- what a place names holds by the rules, unless it is 0
+-- the name of a place is the number that it holds by the rules, unless it is 0
 pub named_holds : (geometry : Geometry) (image : List ℕ) (i : ℕ) (p : List ℕ) (k : ℕ) → Fits geometry image → named geometry image i p ≡ k → k ≢ 0
     → Holds geometry image i p k
 named_holds geometry image i [] k fits e some = absurd (some (sym e))
@@ -70,7 +70,7 @@ named_holds geometry image i (j ∷ (a ∷ p)) k fits e some =
       | false ↦ λ z. absurd (some (sym e ∙ named_stops geometry image i j a p z))
     ] refl
 
--- the number stored for a logical block is what its last place names
+-- the number stored for a logical block is the name of its last place
 pub stored_is : (geometry : Geometry) (image : List ℕ) (i : ℕ) (form : Form) (b : ℕ) (p : List ℕ) → last_place form b ≡ Some p
     → stored geometry image i form b ≡ named geometry image i p
 stored_is geometry image i form b p e = ap (λ o. option_map_or (named geometry image i) o 0) e

@@ -14,7 +14,7 @@ use Rattle.vol_layout.specs.declared.mode.Mode.{Mode}
 pub zeros_at : (n k : ℕ) → get_or {A = ℕ} (replicate n 0) k 0 ≡ 0
 zeros_at n k = elim (cases_lt k n) [ inl low ↦ get_or-replicate n k 0 0 low | inr past ↦ grind (arith, common_steps) ]
 
--- its numbers fit their fields, where the links and the owner's numbers are within their limits
+-- its numbers fit their fields, if the links and the owner's numbers are within their limits
 pub new_storable : (edition : Edition) (bits : Mode) (count uid gid now : ℕ) → count ≤ (constants edition).link_limit
     → uid ≤ (constants edition).id_limit → gid ≤ (constants edition).id_limit → IsStorable edition (new_inode edition bits count uid gid now)
 new_storable V6 bits count uid gid now few user group =

@@ -28,12 +28,12 @@ pub record IsLeaf (form : Form) (b : ℕ) (p : List ℕ) : Type 0 where
   pub block : leaf_block form p ≡ b
   pub limit : b < block_limit form
 
--- what the last place of logical block b is like, if there is one
+-- the form of the last place of logical block b, if there is one
 abbrev EndsAt : Form → ℕ → Option (List ℕ) → Type 0
 EndsAt form b None = block_limit form ≤ b
 EndsAt form b (Some p) = IsLeaf form b p
 
--- a choice has what both of its sides have
+-- a property of both sides of a choice is one of the choice
 choose : {X : Type 0} (P : Option X → Type 0) (t : Bool) (x y : Option X) → (t ≡ true → P x) → (t ≡ false → P y) → P (if t then x else y)
 choose P t x y first other = elim t as (λ s. t ≡ s → P (if s then x else y)) [ true ↦ first | false ↦ other ] refl
 
@@ -167,7 +167,7 @@ front_to k entries d (suc n) h =
       | inr other ↦ inr (front_to k entries d n (omega arith))
     ]
 
--- what the first entries of the way of a logical block lead to is a place
+-- the first entries of the way of a logical block lead to a place
 pub way_place : (form : Form) (b : ℕ) (way : Way) (d : ℕ) → Some (end_of way) ≡ last_place form b → d ≤ way.depth
     → IsPlace form (place_to way.address way.entries d)
 way_place form b way d e h =

@@ -1,4 +1,4 @@
--- What the seventh edition makes of an allocated mode of the sixth.
+-- The seventh edition's form of an allocated mode of the sixth.
 use Rattle.std.proofs.Common.{◌≡◌, ◌≢◌, ◌∙◌, sym, ap, refl, eqb, ltb, false, ℕ, ◌+◌, ◌*◌, ◌/◌, ◌%◌, ◌≤◌, bit_and, ◌⊎◌, inl, inr, arith}
 use Rattle.std.proofs.lemmas.Bool.{cases_lt, ne_eqb, le-ltb}
 use Rattle.std.proofs.lemmas.Nat.{and_mask}
@@ -64,7 +64,7 @@ raised_permissions mode =
       | inr some ↦ let is = raised_other mode (λ none. omega arith) in omega (arith, is)
     ]
 
--- it is what the bits of the type, and those of the permissions, make it
+-- its bits are those of the type and those of the permissions
 pub raised_bits : (mode kind : ℕ) → ((bit_and mode 24576 ≡ 0) × (kind ≡ 32768)) ⊎ ((bit_and mode 24576 ≢ 0) × (kind ≡ bit_and mode 24576))
     → kind + bit_and mode 4095 ≡ raised_mode mode
 raised_bits mode kind (inl is) =

@@ -32,7 +32,7 @@ slot_copied old new from to copy room_old room_new =
     ap (slice_range new (to + 2)) stop ∙ (part_copied old new from to 16 2 14 copy (omega arith) room_old room_new ∙ sym (ap (slice_range old (from + 2)) end)) in
     rw (number, name)
 
--- where 16 bytes stand, the slot that they are stands
+-- if the 16 bytes of a slot are stored, so is the slot
 pub slot_stored : (image bytes : List ℕ) (at : ℕ) → length bytes ≡ 16 → at + 16 ≤ length image → slice_range image at (at + length bytes) ≡ bytes
     → slot_at image at ≡ slot_at bytes 0
 slot_stored image bytes at len room is =

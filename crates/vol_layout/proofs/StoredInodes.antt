@@ -69,7 +69,7 @@ no_more_v6 (in_v6 _ _ _ _ _ more _) = more
 pub unchanged_v6 : {node : Inode} → IsStorable V6 node → None ≡ node.changed
 unchanged_v6 (in_v6 _ _ _ _ _ _ none) = sym none
 
--- an option that holds something holds what it unwraps to
+-- an option with a value has the value that it unwraps to
 some_unwrapped : (changed : Option ℕ) → IsSome changed → Some (unwrap_or changed 0) ≡ changed
 some_unwrapped None some = absurd (search rules)
 some_unwrapped (Some time) some = refl

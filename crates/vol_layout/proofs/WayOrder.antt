@@ -66,7 +66,7 @@ run form f m x from (suc count) each =
     ∙ (ap (λ xs. xs ++ map Some (leaves_of form (flat_map f (range_with_len (from + 1) count)))) here
     ∙ (ap (λ xs. ends form x m ++ xs) rest ∙ sym (ap (ends form x) whole ∙ ends_more form x m (count * m))))
 
--- how many places with no level below them lie below one with d levels
+-- the number of places with no level below them that are below one with d levels
 abbrev spread : ℕ → ℕ → ℕ
 spread n zero = 1
 spread n (suc d) = n * spread n d
@@ -84,7 +84,7 @@ two_digits i n m b low small =
     ap (λ k. k * m) parts ∙ grind arith in
     omega (arith, whole)
 
--- what lies at and below a place has the last places of logical blocks in a row
+-- the places at and below a place are the last places of consecutive logical blocks
 under : (form : Form) (n a : ℕ) (p : List ℕ) (d x : ℕ) → levels_below form (a ∷ p) ≡ d
     → ((b : ℕ) → b < spread n d → last_place form (x + b) ≡ Some (numbered n (a ∷ p) d b))
     → map Some (leaves_of form (places_from n (a ∷ p) d)) ≡ ends form x (spread n d)
@@ -181,7 +181,7 @@ entries_of form j = places_from (pointer_count form) (j ∷ (7 ∷ [])) 1
 abbrev large_rest : Form → List (List ℕ)
 large_rest form = leaves_of form (flat_map (entries_of form) (range_with_len 121 135))
 
--- what lies at and below the last address of a large file
+-- the places at and below the last address of a large file
 large_last : (form : Form) → form ≡ Large
     → map Some (leaves_of form (places_from (pointer_count form) (7 ∷ []) (levels form 7)))
     ≡ ends form (0 + 7 * spread (pointer_count form) 1) (121 * spread (pointer_count form) 1) ++ map Some (large_rest form)

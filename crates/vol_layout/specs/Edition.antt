@@ -1,11 +1,11 @@
--- What differs between the two editions in number alone.
+-- The constants in which the two editions differ.
 use Rattle.std.specs.Prelude.{ℕ, ◌+◌, ◌*◌, List}
 use Rattle.pdp_words.specs.Words.{word, long}
 use Rattle.vol_layout.specs.declared.edition.Edition.{Edition}
 use Rattle.vol_layout.specs.declared.edition.Edition.TheVariants.{V6, V7}
 use Rattle.vol_layout.specs.declared.edition.Constants.{Constants}
 
--- the numbers of each edition (manual section 5, file system; filsys.h, ino.h, param.h)
+-- the constants of each edition (manual section 5, file system; filsys.h, ino.h, param.h)
 abbrev pub constants : Edition → Constants
 constants V6 = record {
   root = 1;

@@ -1,4 +1,4 @@
--- How a volume is divided into blocks, as its super-block says.
+-- The division of a volume into blocks, as its super-block says.
 use Rattle.std.specs.Prelude.{◌≡◌, ℕ, ◌+◌, ◌-◌, ◌*◌, ◌<◌, ◌≤◌, Bool, ◌&&◌, nat_lt, nat_le, if◌then◌else◌, List, length, Result, Ok, Err}
 use Rattle.pdp_words.specs.Words.{word, long}
 use Rattle.vol_layout.specs.Edition.{constants}
@@ -12,7 +12,7 @@ use Rattle.vol_layout.specs.declared.geometry.GeometryFault.TheVariants.{Short, 
 abbrev pub list_size : List ℕ → ℕ
 list_size image = word image 512
 
--- fsize of the super-block: how many blocks the volume has (filsys.h)
+-- fsize of the super-block: the volume's number of blocks (filsys.h)
 abbrev pub block_count : Edition → List ℕ → ℕ
 block_count V6 image = word image 514
 block_count V7 image = long image 514
@@ -21,7 +21,7 @@ block_count V7 image = long image 514
 abbrev pub is_whole : Edition → List ℕ → Bool
 is_whole edition image = nat_le 1024 (length image) && nat_le (512 * block_count edition image) (length image)
 
--- rule 2: the i-list and the data zone have a block each at least, and the sizes are within the edition's limits (this project)
+-- rule 2: the i-list and the data zone have at least one block each, and the sizes are within the edition's limits (this project)
 abbrev pub is_bounded : Edition → List ℕ → Bool
 is_bounded V6 image =
     nat_le 1 (list_size image) && (nat_le (list_size image) (constants V6).list_block_limit
@@ -30,7 +30,7 @@ is_bounded V7 image =
     nat_le 3 (list_size image) && (nat_le (list_size image) ((constants V7).list_block_limit + 2)
     && (nat_lt (list_size image) (block_count V7 image) && nat_le (block_count V7 image) (constants V7).block_limit))
 
--- the first block after the i-list: blocks 0 and 1, and then the i-list, stand before it (manual section 5, file system)
+-- the first block after the i-list; blocks 0 and 1 and the i-list are before it (manual section 5, file system)
 abbrev pub first_data_block : Edition → List ℕ → ℕ
 first_data_block V6 image = list_size image + 2
 first_data_block V7 image = list_size image
@@ -44,17 +44,17 @@ geometry_of edition image = record {
   last_inode = (constants edition).inodes_per_block * (first_data_block edition image - 2);
 }
 
--- what reading the geometry gives: rule 1 is asked before rule 2 (this project)
+-- the result of reading the geometry: rule 1 is checked before rule 2 (this project)
 unfoldable pub geometry_read : Edition → List ℕ → Result Geometry GeometryFault
 geometry_read edition image =
     if is_whole edition image then (if is_bounded edition image then Ok (geometry_of edition image) else Err Bounds) else Err Short
 
--- whether a number is that of a data block (icheck)
+-- true if a number is that of a data block (icheck)
 abbrev pub in_zone : Geometry → ℕ → Bool
 in_zone geometry k = nat_le geometry.zone_start k && nat_lt k geometry.zone_end
 
--- the image has the geometry's blocks, the i-list ends where the data zone begins, the data zone has a block, the root's i-number
--- is below the last, and each block's number is below what the edition can store (this project; rules 1 and 2 give all that)
+-- the image has the geometry's blocks, the i-list ends where the data zone begins, the data zone has a block, the root's
+-- i-number is below the last, and the edition can store each block number (this project; rules 1 and 2 imply all that)
 pub record Fits (geometry : Geometry) (image : List ℕ) : Type 0 where
   pub blocks : 512 * geometry.zone_end ≤ length image
   pub i_list : 1024 + (constants geometry.edition).inode_bytes * geometry.last_inode ≡ 512 * geometry.zone_start

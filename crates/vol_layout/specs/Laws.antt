@@ -1,4 +1,4 @@
--- Words and statements of the laws about places, names and bodies.
+-- The laws about places, names and bodies, as statements.
 use Rattle.std.specs.Prelude.{◌≡◌, ◌≢◌, ℕ, ◌+◌, ◌*◌, ◌/◌, ◌%◌, ◌<◌, ◌≤◌, true, List, [], ◌∷◌, ◌⊎◌, ◌↔◌, ◌++◌, ◌==◌, Some, map, filter, slice_range, replicate, if◌then◌else◌}
 use Rattle.std.specs.List.{range_with_len}
 use Rattle.pdp_words.specs.Words.{SameOutside}
@@ -14,12 +14,12 @@ use Rattle.vol_layout.specs.declared.geometry.Geometry.{Geometry}
 use Rattle.vol_layout.specs.declared.block_map.Form.{Form}
 use Rattle.vol_layout.specs.declared.block_map.Form.TheVariants.{Large}
 
--- q is a front of place p, or p itself: a place that the way to p goes through (Lions on bmap)
+-- q is a front of place p: a place on the way to p, or p itself (Lions on bmap)
 abbrev pub IsFront : List ℕ → List ℕ → Type 0
 IsFront q [] = ⊥
 IsFront q (j ∷ p) = (q ≡ j ∷ p) ⊎ IsFront q p
 
--- what a place holds by the rules, step by step, is what `named` gives for it, unless that is 0 (this project's law)
+-- the number that a place holds by the rules, step by step, is the one that `named` gives, unless that is 0 (this project's law)
 abbrev pub HoldsWhatIsNamed : Type 0
 HoldsWhatIsNamed = (geometry : Geometry) (image : List ℕ) (i : ℕ) (p : List ℕ) (k : ℕ) → Fits geometry image
     → (Holds geometry image i p k) ↔ ((named geometry image i p ≡ k) × (k ≢ 0))
@@ -40,14 +40,14 @@ EndsWaysApart = (form : Form) (b c : ℕ) (p : List ℕ) → last_place form b �
 abbrev pub leaves : Form → List (List ℕ)
 leaves form = filter (λ p. levels_below form p == 0) (places form)
 
--- logical block after logical block has the next place with no level below it as its last place: all of these are the last place
--- of a block, but of a large file only the first so many (this project's law)
+-- successive logical blocks have successive places with no level below them as their last places; each of these is the last
+-- place of a block, except that a large file has more of them than blocks (this project's law)
 abbrev pub OrdersWays : Type 0
 OrdersWays = (form : Form) → (rest : List (List ℕ))
     × (map Some (leaves form) ≡ map (last_place form) (range_with_len 0 (block_limit form)) ++ map Some rest)
     × ((form ≡ Large) ⊎ (rest ≡ []))
 
--- the byte where i-node i begins, by the block and the byte in it that the manual computes (manual section 5, file system; itod and itoo of param.h)
+-- the byte at which i-node i begins, by the block and the byte in it that the manual computes (manual section 5, file system; itod and itoo of param.h)
 abbrev pub manual_place : Edition → ℕ → ℕ
 manual_place V6 i = 512 * ((i + 31) / 16) + 32 * ((i + 31) % 16)
 manual_place V7 i = 512 * ((i + 15) / 8) + 64 * ((i + 15) % 8)
@@ -56,21 +56,21 @@ manual_place V7 i = 512 * ((i + 15) / 8) + 64 * ((i + 15) % 8)
 abbrev pub PlacesInodes : Type 0
 PlacesInodes = (edition : Edition) (i : ℕ) → 1 ≤ i → inode_place edition i ≡ manual_place edition i
 
--- the i-nodes of a volume stand between block 1 and the data zone, none over another (this project's law)
+-- the i-nodes of a volume are between block 1 and the data zone, and don't overlap (this project's law)
 abbrev pub PlacesInodesApart : Type 0
 PlacesInodesApart = (geometry : Geometry) (image : List ℕ) (i j : ℕ) → Fits geometry image → 1 ≤ i → i < j → j ≤ geometry.last_inode
     → (1024 ≤ inode_place geometry.edition i)
     × (inode_place geometry.edition i + (constants geometry.edition).inode_bytes ≤ inode_place geometry.edition j)
     × (inode_place geometry.edition j + (constants geometry.edition).inode_bytes ≤ 512 * geometry.zone_start)
 
--- a piece of a body within one logical block is those bytes of the data block stored for it, and zeros where none is (this project's law)
+-- a piece of a body within one logical block consists of the bytes of the data block stored for it, or of zeros if there is none (this project's law)
 abbrev pub ReadsBodyByBlocks : Type 0
 ReadsBodyByBlocks = (geometry : Geometry) (image : List ℕ) (i b n k : ℕ) → Fits geometry image → n ≤ 512
     → 512 * b + n ≤ body_size geometry image i → stored geometry image i (form_at geometry image i) b ≡ k
     → slice_range (body geometry image i) (512 * b) (512 * b + n)
     ≡ (if in_zone geometry k then slice_range image (512 * k) (512 * k + n) else replicate n 0)
 
--- a write of a data block that a file names by no place leaves the file's i-node and its body (this project's law)
+-- a write to a data block that no place of a file names keeps the file's i-node and its body (this project's law)
 abbrev pub LeavesOtherBodies : Type 0
 LeavesOtherBodies = (geometry : Geometry) (old new : List ℕ) (i k : ℕ) → Fits geometry old → IsFile geometry old i
     → in_zone geometry k ≡ true → SameOutside old new (512 * k) (512 * k + 512)

@@ -1,4 +1,4 @@
--- What the places of a file name.
+-- The blocks that the places of a file name.
 use Rattle.std.specs.Prelude.{◌≡◌, ◌≢◌, ℕ, ◌*◌, ◌≤◌, ◌==◌, true, if◌then◌else◌, List, [], ◌∷◌, Option, None, Some}
 use Rattle.std.specs.Option.{option_map_or}
 use Rattle.pdp_words.specs.Words.{word}
@@ -23,11 +23,11 @@ pub record IsFile (geometry : Geometry) (image : List ℕ) (i : ℕ) : Type 0 wh
   pub last : i ≤ geometry.last_inode
   pub kind : has_places (kind_of geometry.edition (mode_of geometry image i)) ≡ true
 
--- pointer j in block m, 0 where m is no data block: a number outside the zone names none (Lions on bmap; the zone's test is this project's)
+-- pointer j in block m, or 0 if m is no data block: a number outside the zone names none (Lions on bmap; the zone's test is this project's)
 unfoldable pub pointer_in : Geometry → List ℕ → ℕ → ℕ → ℕ
 pointer_in geometry image m j = if in_zone geometry m then number geometry.edition image (512 * m) j else 0
 
--- the number at a place of i-node i, 0 where it names nothing (manual section 5; Lions on bmap)
+-- the number at a place of i-node i, or 0 if it names nothing (manual section 5; Lions on bmap)
 abbrev pub named : Geometry → List ℕ → ℕ → List ℕ → ℕ
 named geometry image i [] = 0
 named geometry image i (k ∷ []) = address_at geometry.edition image (inode_place geometry.edition i) k
@@ -46,12 +46,12 @@ pub data Holds (geometry : Geometry) (image : List ℕ) (i : ℕ) : List ℕ →
       → in_zone geometry m ≡ true → number geometry.edition image (512 * m) j ≡ n
       → Holds geometry image i (j ∷ (a ∷ p)) n
 
--- file i names block number k by its place p (Lions on bmap; icheck)
+-- place p of file i names block k (Lions on bmap; icheck)
 pub record NamesBlock (geometry : Geometry) (image : List ℕ) (i : ℕ) (p : List ℕ) (k : ℕ) : Type 0 where
   pub place : IsPlaceOf geometry image i p
   pub holds : Holds geometry image i p k
 
--- the number at the last place of the way of logical block b, 0 where there is no way or nothing is named (Lions on bmap)
+-- the number at the last place of the way of logical block b, or 0 if there is no way or nothing is named (Lions on bmap)
 abbrev pub stored : Geometry → List ℕ → ℕ → Form → ℕ → ℕ
 stored geometry image i form b = option_map_or (named geometry image i) (last_place form b) 0
 

@@ -1,5 +1,5 @@
--- The places of a file, by which its blocks are named. A place is a list of indexes, the last one first: the manual's
--- order is the other way round. `k ∷ []` is address k of the i-node, and `j ∷ p` entry j of the block that place p names.
+-- The places of a file, which name its blocks. A place is a list of indexes, the last one first, so in the opposite order
+-- to the manual's. `k ∷ []` is address k of the i-node, and `j ∷ p` is entry j of the block that place p names.
 use Rattle.std.specs.Prelude.{Bool, true, false, ℕ, zero, suc, ◌-◌, ◌/◌, ◌%◌, ◌<◌, ◌≤◌, ◌==◌, nat_lt, if◌then◌else◌, List, [], ◌∷◌, slice_index, Option, None, Some}
 use Rattle.std.specs.Option.{option_map_or}
 use Rattle.std.specs.List.{flat_map, range_with_len}
@@ -13,7 +13,7 @@ use Rattle.vol_layout.specs.declared.block_map.Form.{Form}
 use Rattle.vol_layout.specs.declared.block_map.Way.{Way}
 use Rattle.vol_layout.specs.declared.block_map.Form.TheVariants.{Small, Large, Deep, Bare}
 
--- whether i-nodes of a kind have places: regular files and directories do (manual section 5, file system)
+-- true if i-nodes of a kind have places: regular files and directories do (manual section 5, file system)
 abbrev pub has_places : Kind → Bool
 has_places kinds.Regular = true
 has_places kinds.Directory = true
@@ -26,32 +26,32 @@ abbrev pub file_form : Edition → ℕ → Form
 file_form V6 mode = if is_large V6 mode then Large else Small
 file_form V7 mode = Deep
 
--- the form of an i-node with some mode; one that has no places is bare (manual section 5, file system)
+-- the form of an i-node with some mode; one without places is bare (manual section 5, file system)
 abbrev pub form_of : Edition → ℕ → Form
 form_of edition mode = if has_places (kind_of edition mode) then file_form edition mode else Bare
 
--- how many addresses of the i-node are places (manual section 5; ino.h)
+-- the number of addresses of the i-node that are places (manual section 5; ino.h)
 abbrev pub first_count : Form → ℕ
 first_count Small = 8
 first_count Large = 8
 first_count Deep = 13
 first_count Bare = 0
 
--- how many numbers an indirect block holds: as many as one of the form's edition (Lions on bmap; param.h)
+-- the number of block numbers in an indirect block of the form's edition (Lions on bmap; param.h)
 abbrev pub pointer_count : Form → ℕ
 pointer_count Small = (constants V6).pointers
 pointer_count Large = (constants V6).pointers
 pointer_count Deep = (constants V7).pointers
 pointer_count Bare = 0
 
--- how many levels of indirect blocks stand between an address and the data (Lions on bmap; ino.h)
+-- the number of levels of indirect blocks between an address and the data (Lions on bmap; ino.h)
 abbrev pub levels : Form → ℕ → ℕ
 levels Small k = 0
 levels Large k = if k == 7 then 2 else 1
 levels Deep k = k - 9
 levels Bare k = 0
 
--- how many levels lie below a place (Lions on bmap)
+-- the number of levels below a place (Lions on bmap)
 abbrev pub levels_below : Form → List ℕ → ℕ
 levels_below form [] = 0
 levels_below form (k ∷ []) = levels form k
@@ -63,7 +63,7 @@ IsPlace form [] = ⊥
 IsPlace form (k ∷ []) = k < first_count form
 IsPlace form (j ∷ (a ∷ p)) = (j < pointer_count form) × (1 ≤ levels_below form (a ∷ p)) × IsPlace form (a ∷ p)
 
--- how many logical blocks a file of the form can have (Lions on bmap; ino.h; the sixth edition's limit is this project's)
+-- the number of logical blocks that a file of the form can have (Lions on bmap; ino.h; the sixth edition's limit is this project's)
 abbrev pub block_limit : Form → ℕ
 block_limit Small = 8
 block_limit Large = 32768
@@ -84,29 +84,29 @@ last_place Deep b =
     then Some (((b - 16522) % 128) ∷ ((b - 16522) / 128 % 128) ∷ ((b - 16522) / 16384) ∷ 12 ∷ []) else None
 last_place Bare b = None
 
--- the place that n entries lead to from address k of the i-node, given from the i-node down (Lions on bmap)
+-- the place to which n entries lead from address k of the i-node, given from the i-node down (Lions on bmap)
 abbrev pub place_to : ℕ → List ℕ → ℕ → List ℕ
 place_to k entries zero = k ∷ []
 place_to k entries (suc n) = slice_index entries n ∷ place_to k entries n
 
--- the place that a way ends at (Lions on bmap)
+-- the place at which a way ends (Lions on bmap)
 abbrev pub end_of : Way → List ℕ
 end_of way = place_to way.address way.entries way.depth
 
--- the fronts of a place, itself among them, the longest first (Lions on bmap)
+-- the fronts of a place, including itself, the longest first (Lions on bmap)
 abbrev pub fronts : List ℕ → List (List ℕ)
 fronts [] = []
 fronts (j ∷ p) = (j ∷ p) ∷ fronts p
 
--- the way of logical block b: its last place with all fronts; nothing where b has no way (Lions on bmap)
+-- the way of logical block b: its last place with all fronts; none if b has no way (Lions on bmap)
 abbrev pub way : Form → ℕ → List (List ℕ)
 way form b = option_map_or fronts (last_place form b) []
 
--- a place, and the places below it in d more levels, in ascending order of their indexes, each before those below it (Lions on itrunc)
+-- a place, and the places below it in d more levels, in ascending order of their indexes, each followed by those below it (Lions on itrunc)
 abbrev pub places_from : ℕ → List ℕ → ℕ → List (List ℕ)
 places_from n p zero = p ∷ []
 places_from n p (suc d) = p ∷ flat_map (λ j. places_from n (j ∷ p) d) (range_with_len 0 n)
 
--- all places of a form, each once, in ascending order of their indexes, each before those below it (Lions on itrunc)
+-- all places of a form, each once, in ascending order of their indexes, each followed by those below it (Lions on itrunc)
 unfoldable pub places : Form → List (List ℕ)
 places form = flat_map (λ k. places_from (pointer_count form) (k ∷ []) (levels form k)) (range_with_len 0 (first_count form))

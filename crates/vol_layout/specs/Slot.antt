@@ -4,7 +4,7 @@ use Rattle.std.specs.List.{before_first}
 use Rattle.pdp_words.specs.Words.{word}
 use Rattle.vol_layout.specs.declared.slot.Slot.{Slot}
 
--- the slot at byte `at`: an i-number word, 0 where the slot is empty, and 14 bytes of name (manual section 5, directories)
+-- the slot at byte `at`: an i-number word, 0 if the slot is empty, and 14 bytes of name (manual section 5, directories)
 abbrev pub slot_at : List ℕ → ℕ → Slot
 slot_at bytes at = record { inode = word bytes at; name = slice_range bytes (at + 2) (at + 16) }
 

@@ -1,4 +1,4 @@
--- Where the fields of the super-block, in block 1, stand.
+-- The positions of the fields of the super-block, in block 1.
 use Rattle.std.specs.Prelude.{ℕ, ◌+◌}
 use Rattle.vol_layout.specs.declared.edition.Edition.{Edition}
 use Rattle.vol_layout.specs.declared.edition.Edition.TheVariants.{V6, V7}
@@ -15,7 +15,7 @@ abbrev pub cache_head : Edition → ℕ
 cache_head V6 = 718
 cache_head V7 = 720
 
--- how far a flag byte stands behind the first of them (filsys.h)
+-- the offset of a flag byte from the first of them (filsys.h)
 abbrev pub flag_offset : Flag → ℕ
 flag_offset flags.FreeLock = 0
 flag_offset flags.InodeLock = 1

@@ -1,11 +1,11 @@
-//! The block maps of both editions: the form of a file, and the way of each of its logical blocks.
+//! The block maps of both editions: the form of a file, and the way to each of its logical blocks.
 ghost use Rattle.std.specs.Prelude.{◌≡◌, ◌≤◌, IfSome};
 ghost use Rattle.std.specs.Option.{option_map};
 
 use crate::edition::Edition;
 use crate::mode::{Kind, Mode};
 
-/// How the addresses of an i-node lead to a file's blocks.
+/// The form of a block map: how the addresses of an i-node lead to a file's blocks.
 #[derive(Clone, Copy, Debug, PartialEq, Eq)]
 pub enum Form {
     /// Sixth edition, without the large flag: eight addresses of data blocks.
@@ -20,22 +20,21 @@ pub enum Form {
     Bare,
 }
 
-/// The way of a logical block, from the i-node down: an address, and an entry of each indirect block
-/// that it leads through.
+/// The way of a logical block, from the i-node down: an address, and an entry of each indirect block on the way.
 #[derive(Clone, Copy, Debug, PartialEq, Eq)]
 pub struct Way {
-    /// Which address of the i-node, from 0.
+    /// The index of an address of the i-node, from 0.
     pub address: usize,
-    /// Which entry of each indirect block, from 0; those from `depth` on are of none.
+    /// The index of an entry of each indirect block, from 0; those from `depth` on are unused.
     pub entries: [u32; 3],
-    /// How many indirect blocks there are.
+    /// The number of indirect blocks.
     pub depth: usize,
 }
 
 impl Form {
     ghost use Rattle.vol_layout.specs.Places.{form_of, block_limit, first_count, levels, last_place, end_of};
 
-    /// The form of an i-node with some mode.
+    /// Returns the form of an i-node with some mode.
     pub fn of(edition: Edition, mode: Mode) -> Form
         ensures { result ≡ form_of edition mode.bits }
     {
@@ -49,7 +48,7 @@ impl Form {
         }
     }
 
-    /// How many logical blocks a file of this form can have.
+    /// Returns the number of logical blocks that a file of this form can have.
     pub fn block_limit(self) -> u32
         ensures { result ≡ block_limit self }
     {
@@ -61,7 +60,7 @@ impl Form {
         }
     }
 
-    /// How many addresses of an i-node are places of a file of this form.
+    /// Returns the number of addresses of an i-node that are places of a file of this form.
     pub fn address_count(self) -> usize
         ensures { result ≡ first_count self }
     {
@@ -72,7 +71,7 @@ impl Form {
         }
     }
 
-    /// How many levels of indirect blocks stand between address `k` and the data. An i-node has at most 13
+    /// Returns the number of levels of indirect blocks between address `k` and the data. An i-node has at most 13
     /// addresses, counted from 0.
     pub fn levels(self, k: usize) -> u8
         requires { k ≤ 12 }
@@ -86,7 +85,7 @@ impl Form {
         }
     }
 
-    /// The way of a logical block; None past the blocks that a file of this form can have.
+    /// Returns the way of a logical block, or `None` past the blocks that a file of this form can have.
     #[tactic(auto, unfolding(crate::specs::Places::last_place))]
     pub fn way(self, block: u32) -> Option<Way>
         ensures end { option_map end_of result ≡ last_place self block }
@@ -114,7 +113,7 @@ impl Form {
 }
 
 impl Way {
-    /// The way from an address by the first `depth` of some entries.
+    /// Returns the way from an address over the first `depth` of some entries.
     fn new(address: u32, entries: [u32; 3], depth: usize) -> Way
         ensures address { result.address ≡ address }
         ensures entries { result.entries ≡ entries }

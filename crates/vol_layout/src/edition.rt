@@ -1,7 +1,7 @@
-//! The two editions, and the numbers in which they differ.
+//! The two editions, and the constants in which they differ.
 ghost use Rattle.std.specs.Prelude.{◌≡◌};
 
-/// An edition of Unix, whose layout a volume has.
+/// An edition of Unix, which has its own volume layout.
 #[derive(Clone, Copy, Debug, PartialEq, Eq)]
 pub enum Edition {
     /// The Sixth Edition, of 1975.
@@ -10,40 +10,40 @@ pub enum Edition {
     V7,
 }
 
-/// The numbers of an edition.
+/// The constants of an edition.
 #[derive(Clone, Copy, Debug, PartialEq, Eq)]
 pub struct Constants {
     /// The root's i-number.
     pub root: u16,
-    /// Bytes of an i-node.
+    /// The size of an i-node in bytes.
     pub inode_bytes: usize,
-    /// I-nodes in a block of the i-list.
+    /// The number of i-nodes in a block of the i-list.
     pub inodes_per_block: u16,
-    /// Numbers that the array of the free list holds, in the super-block and in a chain block.
+    /// The number of block numbers in the array of the free list, in the super-block and in a chain block.
     pub free_slots: u16,
-    /// Bytes of a block number in the free list and in indirect blocks.
+    /// The size in bytes of a block number in the free list and in indirect blocks.
     pub number_bytes: usize,
-    /// Block numbers in an indirect block.
+    /// The number of block numbers in an indirect block.
     pub pointers: u32,
     /// The greatest size of a file, in bytes.
     pub greatest: u32,
-    /// What each block number is below.
+    /// The bound below which all block numbers are.
     pub number_limit: u32,
     /// The highest link count.
     pub link_limit: u16,
     /// The highest user and group number.
     pub id_limit: u16,
-    /// The most blocks of an i-list: an i-number is a word, and each i-node has one.
+    /// The greatest number of blocks of an i-list: an i-number is a word, and each i-node has one.
     pub list_block_limit: u16,
-    /// The most blocks of a volume: the sixth edition counts them by a word, and in the seventh a block number
-    /// has 24 bits.
+    /// The greatest number of blocks of a volume: the sixth edition counts them in a word, and in the seventh a block
+    /// number has 24 bits.
     pub block_limit: u32,
 }
 
 impl Edition {
     ghost use Rattle.vol_layout.specs.Edition.{constants};
 
-    /// The numbers of this edition.
+    /// Returns the constants of this edition.
     pub fn constants(self) -> Constants
         ensures { result ≡ constants self }
     {

@@ -1,4 +1,4 @@
-//! How a volume is divided into blocks.
+//! The division of a volume into blocks.
 ghost use Rattle.std.specs.Prelude.{◌≡◌, ◌+◌, IfOk, ◌&&◌, nat_le, nat_lt};
 ghost use Rattle.vol_layout.specs.Edition.{constants};
 
@@ -10,17 +10,17 @@ use thiserror::Error;
 /// The sizes of a volume.
 #[derive(Clone, Copy, Debug, PartialEq, Eq)]
 pub struct Geometry {
-    /// The edition whose layout the volume has.
+    /// The volume's edition.
     pub edition: Edition,
     /// The first block of the data zone: the first after the i-list.
     pub zone_start: u32,
-    /// The first block after the data zone, which is the number of the volume's blocks.
+    /// The first block after the data zone, which is also the volume's number of blocks.
     pub zone_end: u32,
     /// The last i-number.
     pub last_inode: u16,
 }
 
-/// Why an image has no geometry.
+/// The reason why an image has no geometry.
 #[derive(Clone, Copy, Debug, PartialEq, Eq, Error)]
 pub enum GeometryFault {
     /// The image has fewer than 1024 bytes, or fewer blocks than its super-block says: rule 1.
@@ -65,7 +65,7 @@ impl Geometry {
         })
     }
 
-    /// Whether `k` is the number of a data block.
+    /// True if `k` is the number of a data block.
     pub fn in_zone(&self, k: u32) -> bool
         ensures { result ≡ in_zone self.now k }
     {
@@ -73,8 +73,8 @@ impl Geometry {
     }
 }
 
-/// Whether a volume can have its data zone there: the i-list, from block 2 on, and the zone have a block each
-/// at least, and the edition's limits hold.
+/// True if a volume's data zone can be at these blocks: the i-list, from block 2 on, and the zone have at least one
+/// block each, and the edition's limits hold.
 fn is_bounded(edition: Edition, zone_start: u32, zone_end: u32) -> bool
     ensures { result ≡ (nat_le 3 zone_start && (nat_le zone_start ((constants edition).list_block_limit + 2)
         && (nat_lt zone_start zone_end && nat_le zone_end (constants edition).block_limit))) }

@@ -1,4 +1,4 @@
-//! The i-list: the i-nodes, each at its place.
+//! The i-list: reading and writing i-nodes in the image.
 ghost use Rattle.std.specs.Prelude.{◌≡◌, ◌+◌, ◌*◌, ◌-◌, ◌≤◌, length, ℕ, ◌<◌, slice_index};
 ghost use Rattle.pdp_words.specs.Words.{SameOutside, word, long, addr3};
 ghost use Rattle.vol_layout.specs.Edition.{constants};
@@ -27,7 +27,7 @@ use crate::i_node::Inode;
 use crate::mode::{Kind, Mode};
 use pdp_words::Image;
 
-/// How many bytes behind the first of an i-node its fields stand. The mode stands first.
+/// The offsets of an i-node's fields from its first byte. The mode is at offset 0.
 #[derive(Clone, Copy)]
 struct Offsets {
     links: usize,
@@ -35,8 +35,8 @@ struct Offsets {
     gid: usize,
     size: usize,
     addresses: usize,
-    /// When the file was last read, last written and, in the seventh edition, when the i-node was last changed:
-    /// a long each.
+    /// The times of the file's last read, of its last write and, in the seventh edition, of the i-node's last change: a
+    /// long each.
     times: usize,
 }
 
@@ -60,7 +60,7 @@ const SEVENTH: Offsets = Offsets {
     times: 52,
 };
 
-/// The byte where i-node `i` begins.
+/// Returns the byte at which i-node `i` begins.
 fn place_of(edition: Edition, i: u16) -> usize
     requires { 1 ≤ i }
     ensures { result ≡ inode_place edition i }
@@ -68,7 +68,7 @@ fn place_of(edition: Edition, i: u16) -> usize
     1024 + edition.constants().inode_bytes * (i as usize - 1)
 }
 
-/// Address `k` of the i-node at byte `at`; of the 13 the sixth edition has the first 8.
+/// Returns address `k`, of 13, of the i-node at byte `at`; the sixth edition has the first 8.
 fn address_in(image: &Image, edition: Edition, at: usize, k: usize) -> u32
     requires room { at + (constants edition).inode_bytes ≤ length image.now }
     requires range { k < 13 }
@@ -84,7 +84,7 @@ fn address_in(image: &Image, edition: Edition, at: usize, k: usize) -> u32
     }
 }
 
-/// All addresses of the i-node at byte `at`.
+/// Returns all addresses of the i-node at byte `at`.
 #[tactic(auto, unfolding(crate::specs::Inode::addresses_at))]
 fn addresses(image: &Image, edition: Edition, at: usize) -> [u32; 13]
     requires { at + (constants edition).inode_bytes ≤ length image.now }
@@ -99,7 +99,7 @@ fn addresses(image: &Image, edition: Edition, at: usize) -> [u32; 13]
     all
 }
 
-/// The size in the i-node at byte `at`: 24 bits in the sixth edition, the high 8 first, and a long in the
+/// Returns the size in the i-node at byte `at`: 24 bits in the sixth edition, the high 8 first, and a long in the
 /// seventh.
 fn size_in(image: &Image, edition: Edition, at: usize) -> u32
     requires { at + (constants edition).inode_bytes ≤ length image.now }
@@ -116,7 +116,7 @@ fn size_in(image: &Image, edition: Edition, at: usize) -> u32
     }
 }
 
-/// Puts the size into the i-node at byte `at`: below 2^24 in the sixth edition.
+/// Writes the size of the i-node at byte `at`: below 2^24 in the sixth edition.
 fn put_size_in(image: &mut Image, edition: Edition, at: usize, size: u32)
     requires room { at + (constants edition).inode_bytes ≤ length image.old }
     requires range { edition ≡ Edition.V6 → size < 16777216 }
@@ -134,7 +134,7 @@ fn put_size_in(image: &mut Image, edition: Edition, at: usize, size: u32)
     }
 }
 
-/// Puts address `k` of the i-node at byte `at`: of 8 addresses in the sixth edition, of 13 in the seventh.
+/// Writes address `k` of the i-node at byte `at`: of 8 addresses in the sixth edition, of 13 in the seventh.
 fn put_address_in(image: &mut Image, edition: Edition, at: usize, k: usize, value: u32)
     requires room { at + (constants edition).inode_bytes ≤ length image.old }
     requires index { k < address_count edition }
@@ -150,7 +150,7 @@ fn put_address_in(image: &mut Image, edition: Edition, at: usize, k: usize, valu
     }
 }
 
-/// Puts the addresses of the i-node at byte `at`: the first 8 in the sixth edition, all 13 in the seventh.
+/// Writes the addresses of the i-node at byte `at`: the first 8 in the sixth edition, all 13 in the seventh.
 fn put_addresses(image: &mut Image, edition: Edition, at: usize, addresses: &[u32; 13])
     requires room { at + (constants edition).inode_bytes ≤ length image.old }
     requires range { (k : ℕ) → k < address_count edition → slice_index addresses.now k < (constants edition).number_limit }
@@ -167,7 +167,7 @@ fn put_addresses(image: &mut Image, edition: Edition, at: usize, addresses: &[u3
     }
 }
 
-/// I-node `i` of a volume, from 1 to the last. It can be put back, changed or not.
+/// Returns i-node `i` of a volume, from 1 to the last. [`put_inode`] can write it back, changed or not.
 #[tactic(auto, unfolding(crate::specs::Inode::inode_at))]
 pub fn inode(image: &Image, geometry: &Geometry, i: u16) -> Inode
     requires fits { Fits geometry.now image.now }
@@ -208,7 +208,7 @@ pub fn inode(image: &Image, geometry: &Geometry, i: u16) -> Inode
     }
 }
 
-/// The mode of i-node `i` of a volume, from 1 to the last.
+/// Returns the mode of i-node `i` of a volume, from 1 to the last.
 pub fn mode(image: &Image, geometry: &Geometry, i: u16) -> Mode
     requires fits { Fits geometry.now image.now }
     requires first { 1 ≤ i }
@@ -220,7 +220,7 @@ pub fn mode(image: &Image, geometry: &Geometry, i: u16) -> Mode
     }
 }
 
-/// What i-node `i` of a volume is, from 1 to the last, as its mode says.
+/// Returns the kind of i-node `i` of a volume, from 1 to the last, as its mode says.
 pub fn kind(image: &Image, geometry: &Geometry, i: u16) -> Kind
     requires fits { Fits geometry.now image.now }
     requires first { 1 ≤ i }
@@ -230,7 +230,7 @@ pub fn kind(image: &Image, geometry: &Geometry, i: u16) -> Kind
     mode(image, geometry, i).kind(geometry.edition)
 }
 
-/// The size of i-node `i` of a volume, from 1 to the last, in bytes.
+/// Returns the size of i-node `i` of a volume, from 1 to the last, in bytes.
 pub fn size(image: &Image, geometry: &Geometry, i: u16) -> u32
     requires fits { Fits geometry.now image.now }
     requires first { 1 ≤ i }
@@ -240,8 +240,7 @@ pub fn size(image: &Image, geometry: &Geometry, i: u16) -> u32
     size_in(image, geometry.edition, place_of(geometry.edition, i))
 }
 
-/// Address `k` of i-node `i` of a volume, from 1 to the last, of 13 addresses; those from 8 on are 0 in
-/// the sixth edition.
+/// Returns address `k`, of 13, of i-node `i` of a volume, from 1 to the last. The sixth edition has 8; the others are 0.
 pub fn address(image: &Image, geometry: &Geometry, i: u16, k: usize) -> u32
     requires fits { Fits geometry.now image.now }
     requires first { 1 ≤ i }
@@ -252,7 +251,7 @@ pub fn address(image: &Image, geometry: &Geometry, i: u16, k: usize) -> u32
     address_in(image, geometry.edition, place_of(geometry.edition, i), k)
 }
 
-/// Puts what stands before the addresses of a sixth edition i-node, its first 8 bytes.
+/// Writes the fields before the addresses of a sixth edition i-node, its first 8 bytes.
 fn put_head_v6(image: &mut Image, at: usize, node: &Inode)
     requires room { at + 32 ≤ length image.old }
     requires storable { IsStorable Edition.V6 node.now }
@@ -271,7 +270,7 @@ fn put_head_v6(image: &mut Image, at: usize, node: &Inode)
     put_size_in(image, Edition::V6, at, node.size);
 }
 
-/// Puts what stands before the addresses of a seventh edition i-node, its first 12 bytes.
+/// Writes the fields before the addresses of a seventh edition i-node, its first 12 bytes.
 fn put_head_v7(image: &mut Image, at: usize, node: &Inode)
     requires room { at + 64 ≤ length image.old }
     ensures mode { word image.new at ≡ node.now.mode.bits }
@@ -289,7 +288,7 @@ fn put_head_v7(image: &mut Image, at: usize, node: &Inode)
     put_size_in(image, Edition::V7, at, node.size);
 }
 
-/// Puts the times that both editions have, two longs from byte `at` on.
+/// Writes the times that both editions have, two longs from byte `at` on.
 fn put_times(image: &mut Image, at: usize, node: &Inode)
     requires room { at + 8 ≤ length image.old }
     ensures accessed { long image.new at ≡ node.now.accessed }
@@ -301,7 +300,7 @@ fn put_times(image: &mut Image, at: usize, node: &Inode)
     image.put_long(at + 4, node.modified);
 }
 
-/// Puts a sixth edition i-node at byte `at`.
+/// Writes a sixth edition i-node at byte `at`.
 fn put_v6(image: &mut Image, at: usize, node: &Inode)
     requires room { at + 32 ≤ length image.old }
     requires storable { IsStorable Edition.V6 node.now }
@@ -314,7 +313,7 @@ fn put_v6(image: &mut Image, at: usize, node: &Inode)
     put_times(image, at + SIXTH.times, node);
 }
 
-/// Puts a seventh edition i-node at byte `at`, but for its byte 51.
+/// Writes a seventh edition i-node at byte `at`, except its byte 51.
 fn put_v7(image: &mut Image, at: usize, node: &Inode)
     requires room { at + 64 ≤ length image.old }
     requires storable { IsStorable Edition.V7 node.now }
@@ -329,8 +328,8 @@ fn put_v7(image: &mut Image, at: usize, node: &Inode)
     image.put_long(at + SEVENTH.times + 8, node.changed.unwrap_or(0));
 }
 
-/// Puts i-node `i` of a volume, from 1 to the last, whose values fit the edition's fields: those that
-/// the edition lacks are zero, or none. Byte 51 of a seventh edition i-node stays.
+/// Writes i-node `i` of a volume, from 1 to the last. Its values must fit the edition's fields; those that the edition
+/// lacks are zero or `None`. Byte 51 of a seventh edition i-node stays.
 pub fn put_inode(image: &mut Image, geometry: &Geometry, i: u16, node: &Inode)
     requires fits { Fits geometry.now image.old }
     requires first { 1 ≤ i }
@@ -349,8 +348,8 @@ pub fn put_inode(image: &mut Image, geometry: &Geometry, i: u16, node: &Inode)
     }
 }
 
-/// Puts address `k` of i-node `i` of a volume, from 1 to the last: of 8 addresses in the sixth edition,
-/// of 13 in the seventh. No other byte changes.
+/// Writes address `k` of i-node `i` of a volume, from 1 to the last: of 8 addresses in the sixth edition, of 13 in the
+/// seventh. No other byte changes.
 pub fn put_address(image: &mut Image, geometry: &Geometry, i: u16, k: usize, value: u32)
     requires fits { Fits geometry.now image.old }
     requires first { 1 ≤ i }
@@ -380,7 +379,7 @@ pub fn copy_addresses(image: &mut Image, geometry: &Geometry, i: u16, to: usize)
     image.copy_within(place_of(geometry.edition, i) + SIXTH.addresses, 16, to);
 }
 
-/// Makes the eight addresses of sixth edition i-node `i` zero, from 1 to the last.
+/// Clears the eight addresses of sixth edition i-node `i`, from 1 to the last.
 pub fn clear_addresses(image: &mut Image, geometry: &Geometry, i: u16)
     requires edition { geometry.now.edition ≡ Edition.V6 }
     requires fits { Fits geometry.now image.old }
@@ -394,8 +393,8 @@ pub fn clear_addresses(image: &mut Image, geometry: &Geometry, i: u16)
     image.clear(at + SIXTH.addresses, at + SIXTH.times);
 }
 
-/// Puts the size of i-node `i` of a volume, from 1 to the last, in bytes: below 2^24 in the sixth
-/// edition. No other byte changes.
+/// Writes the size of i-node `i` of a volume, from 1 to the last, in bytes: below 2^24 in the sixth edition. No other
+/// byte changes.
 pub fn put_size(image: &mut Image, geometry: &Geometry, i: u16, size: u32)
     requires fits { Fits geometry.now image.old }
     requires first { 1 ≤ i }
@@ -409,7 +408,7 @@ pub fn put_size(image: &mut Image, geometry: &Geometry, i: u16, size: u32)
     put_size_in(image, geometry.edition, at, size);
 }
 
-/// Puts the mode of i-node `i` of a volume, from 1 to the last. No other byte changes.
+/// Writes the mode of i-node `i` of a volume, from 1 to the last. No other byte changes.
 pub fn put_mode(image: &mut Image, geometry: &Geometry, i: u16, mode: Mode)
     requires fits { Fits geometry.now image.old }
     requires first { 1 ≤ i }
@@ -421,7 +420,7 @@ pub fn put_mode(image: &mut Image, geometry: &Geometry, i: u16, mode: Mode)
     image.put_word(place_of(geometry.edition, i), mode.bits);
 }
 
-/// Makes all bytes of i-node `i` zero, from 1 to the last: the i-node is free then.
+/// Clears all bytes of i-node `i`, from 1 to the last, which frees it.
 pub fn clear_inode(image: &mut Image, geometry: &Geometry, i: u16)
     requires fits { Fits geometry.now image.old }
     requires first { 1 ≤ i }

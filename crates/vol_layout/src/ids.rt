@@ -1,10 +1,10 @@
-//! The user and group numbers of an edition.
+//! User and group numbers of an edition.
 ghost use Rattle.std.specs.Prelude.{◌≡◌};
 ghost use Rattle.vol_layout.specs.Ids.{is_bad_id};
 
 use crate::edition::Edition;
 
-/// Returns true if the user or group number is above the edition's highest.
+/// True if the user or group number is above the edition's limit.
 pub fn is_bad_id(edition: Edition, uid: u16, gid: u16) -> bool
     ensures { result ≡ is_bad_id edition uid gid }
 {

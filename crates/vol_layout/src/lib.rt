@@ -1,5 +1,5 @@
-//! The layout of a volume, in both editions: its geometry, the super-block, i-nodes and directory
-//! slots, each read from its place in the image and put there.
+//! The layout of a volume in both editions: its geometry, the super-block, i-nodes and directory slots, read from the
+//! image and written to it.
 #![tactic(auto)]
 
 pub mod block_map;

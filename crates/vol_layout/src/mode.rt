@@ -3,7 +3,7 @@ ghost use Rattle.std.specs.Prelude.{◌≡◌, ◌≤◌, ◌+◌, ◌*◌, ◌/
 
 use crate::edition::Edition;
 
-/// What an i-node is.
+/// The kind of an i-node.
 #[derive(Clone, Copy, Debug, PartialEq, Eq)]
 pub enum Kind {
     /// The mode is 0.
@@ -14,7 +14,7 @@ pub enum Kind {
     Directory,
     /// A character or block special file, or in the seventh edition one of the two multiplexor types.
     Special,
-    /// The mode is none of the edition's.
+    /// The mode is not one of the edition's.
     Odd,
 }
 
@@ -25,16 +25,16 @@ pub struct Mode {
     pub bits: u16,
 }
 
-/// The bit by which the sixth edition marks an i-node as allocated.
+/// The bit with which the sixth edition marks an i-node as allocated.
 const ALLOCATED: u16 = 0o100000;
 
-/// The bit by which the sixth edition marks a large file.
+/// The bit with which the sixth edition marks a large file.
 const LARGE: u16 = 0o010000;
 
-/// The bits of an allocated i-node's type in the sixth edition.
+/// The type bits of an allocated i-node in the sixth edition.
 const SIXTH_TYPE: u16 = 0o060000;
 
-/// The bits of the type in the seventh edition.
+/// The type bits in the seventh edition.
 const SEVENTH_TYPE: u16 = 0o170000;
 
 /// The permission bits, with set-uid, set-gid and sticky.
@@ -43,7 +43,7 @@ const PERMISSIONS: u16 = 0o7777;
 impl Mode {
     ghost use Rattle.vol_layout.specs.Inode.{kind_of, permissions_of, is_large, with_large, raised_mode};
 
-    /// What an i-node with this mode is.
+    /// Returns the kind of an i-node with this mode.
     #[tactic(auto, using(crate::proofs::BitLaws::type_v6, crate::proofs::BitLaws::allocated_bit), unfolding(crate::specs::Inode::kind_of))]
     pub fn kind(self, edition: Edition) -> Kind
         ensures { result ≡ kind_of edition self.bits }
@@ -67,14 +67,14 @@ impl Mode {
         }
     }
 
-    /// The permission bits, with set-uid, set-gid and sticky: those under octal 7777.
+    /// Returns the permission bits, with set-uid, set-gid and sticky: those in octal 7777.
     pub fn permissions(self) -> u16
         ensures { result ≡ permissions_of self.bits }
     {
         self.bits & PERMISSIONS
     }
 
-    /// Whether the sixth edition's large flag is set; false in the seventh edition.
+    /// True if the sixth edition's large flag is set; false in the seventh edition.
     #[tactic(auto, using(crate::proofs::BitLaws::large_bit))]
     pub fn is_large(self, edition: Edition) -> bool
         ensures { result ≡ is_large edition self.bits }
@@ -85,7 +85,7 @@ impl Mode {
         }
     }
 
-    /// The mode of a new regular file with these permission bits, of which those under octal 7777 count.
+    /// Returns the mode of a new regular file with the permission bits in octal 7777.
     #[tactic(auto, unfolding(crate::specs::Inode::kind_of))]
     pub fn regular(edition: Edition, permissions: u16) -> Mode
         ensures kind { kind_of edition result.bits ≡ Kind.Regular }
@@ -98,7 +98,7 @@ impl Mode {
         }
     }
 
-    /// The mode of a new directory with these permission bits, of which those under octal 7777 count.
+    /// Returns the mode of a new directory with the permission bits in octal 7777.
     #[tactic(auto, unfolding(crate::specs::Inode::kind_of))]
     pub fn directory(edition: Edition, permissions: u16) -> Mode
         ensures kind { kind_of edition result.bits ≡ Kind.Directory }
@@ -114,8 +114,7 @@ impl Mode {
         }
     }
 
-    /// This mode with other permission bits, of which those under octal 7777 count. What it stands for
-    /// stays, and the large flag.
+    /// Returns this mode with other permission bits, those in octal 7777. The kind and the large flag stay.
     #[tactic(auto, using(crate::proofs::BitLaws::permissions_put))]
     pub fn with_permissions(self, permissions: u16) -> Mode
         ensures { result.bits ≡ self.bits / 4096 * 4096 + permissions % 4096 }
@@ -125,7 +124,7 @@ impl Mode {
         }
     }
 
-    /// This mode with or without the sixth edition's large flag. An allocated i-node's kind stays.
+    /// Returns this mode with or without the sixth edition's large flag. An allocated i-node's kind stays.
     #[tactic(auto, using(crate::proofs::BitLaws::large_set, crate::proofs::BitLaws::large_cleared), unfolding(crate::specs::Inode::kind_of))]
     pub fn with_large(self, large: bool) -> Mode
         ensures bits { result.bits ≡ with_large self.bits large }
@@ -142,8 +141,8 @@ impl Mode {
         }
     }
 
-    /// The seventh edition's mode for this allocated one of the sixth: the kind, a special file's type and the
-    /// permission bits stay. The large flag goes.
+    /// Returns the seventh edition's form of this allocated mode of the sixth: the kind, a special file's type and the
+    /// permission bits stay. The large flag is cleared.
     pub fn raised(self) -> Mode
         requires allocated { 32768 ≤ self.bits }
         ensures bits { result.bits ≡ raised_mode self.bits }

@@ -6,25 +6,25 @@ ghost use Rattle.vol_layout.specs.Slot.{padded_name};
 
 use pdp_words::words;
 
-/// Bytes in a slot.
+/// The number of bytes in a slot.
 pub const SLOT: usize = 16;
 
-/// Bytes in the name of a slot.
+/// The number of bytes in the name of a slot.
 pub const NAME: usize = 14;
 
-/// A slot of a directory: an i-number, 0 where the slot is empty, and 14 bytes of name.
+/// A slot of a directory: an i-number, 0 if the slot is empty, and 14 bytes of name.
 #[derive(Clone, Copy, Debug, PartialEq, Eq)]
 pub struct Slot {
-    /// The i-number that the entry names; 0 where the slot is empty.
+    /// The i-number that the entry names, or 0 if the slot is empty.
     pub inode: u16,
-    /// The name, with zero bytes behind it where it is shorter.
+    /// The name, followed by zero bytes if it is shorter.
     pub name: [u8; NAME],
 }
 
 impl Slot {
     ghost use Rattle.vol_layout.specs.Slot.{slot_at, name_of};
 
-    /// The slot in the 16 bytes from `at` on.
+    /// Returns the slot in the 16 bytes from `at` on.
     pub fn read(bytes: &[u8], at: usize) -> Slot
         requires { at + 16 ≤ length bytes.now }
         ensures { result ≡ slot_at bytes.now at }
@@ -37,7 +37,7 @@ impl Slot {
         }
     }
 
-    /// Puts the slot into the 16 bytes from `at` on.
+    /// Writes the slot to the 16 bytes from `at` on.
     pub fn put(&self, bytes: &mut [u8], at: usize)
         requires { at + 16 ≤ length bytes.old }
         ensures put { slot_at bytes.new at ≡ self.now }
@@ -48,7 +48,7 @@ impl Slot {
         words::put_bytes(bytes, at + 2, &self.name);
     }
 
-    /// The 16 bytes of the slot.
+    /// Returns the 16 bytes of the slot.
     pub fn to_bytes(&self) -> [u8; SLOT]
         ensures bytes { result ≡ (self.now.inode % 256) ∷ (self.now.inode / 256) ∷ self.now.name }
         ensures slot { slot_at result 0 ≡ self.now }
@@ -58,7 +58,7 @@ impl Slot {
         bytes
     }
 
-    /// A slot that gives a name of at most 14 bytes to an i-number.
+    /// Returns a slot with a name of at most 14 bytes for an i-number.
     pub fn new(inode: u16, name: &[u8]) -> Slot
         requires { length name.now ≤ 14 }
         ensures inode { result.inode ≡ inode }
@@ -72,7 +72,7 @@ impl Slot {
         }
     }
 
-    /// The name: the bytes before the first zero byte.
+    /// Returns the name: the bytes before the first zero byte.
     pub fn name(&self) -> &[u8]
         ensures { result.now ≡ name_of self.now.name }
     {
@@ -80,7 +80,7 @@ impl Slot {
     }
 }
 
-/// Where the first zero byte stands, or the length where there is none.
+/// Returns the position of the first zero byte, or the length if there is none.
 #[tactic(auto, using(std::proofs::lemmas::List::Sums::position_or_len_is))]
 fn first_zero(bytes: &[u8]) -> usize
     ensures place { result ≡ position_or_len (λ c. c == 0) bytes.now }

@@ -7,7 +7,7 @@ use crate::edition::Edition;
 use crate::numbers::{number, put_number};
 use pdp_words::Image;
 
-/// A byte of the super-block by which a mounted volume was guarded.
+/// A flag byte of the super-block, from when the volume was mounted by the system.
 #[derive(Clone, Copy, Debug, PartialEq, Eq)]
 pub enum Flag {
     /// `s_flock`: the free list was in use.
@@ -23,7 +23,7 @@ pub enum Flag {
 impl Flag {
     ghost use Rattle.vol_layout.specs.Super.{flag_offset};
 
-    /// How far the byte stands behind the first of the flags.
+    /// Returns the offset of the byte from the first of the flags.
     fn offset(self) -> usize
         ensures { result ≡ flag_offset self }
     {
@@ -36,18 +36,18 @@ impl Flag {
     }
 }
 
-/// The byte where the super-block begins, which has 512.
+/// The byte at which the super-block begins; it has 512 bytes.
 pub const SUPER: usize = 512;
 
-/// Bytes of a count and its array, of which the free list has one in the super-block and one in each chain
-/// block: 2, and then 100 words in the sixth edition or 50 longs in the seventh.
+/// The number of bytes of a count and its array. The free list has one in the super-block and one in each chain block: 2
+/// bytes, and then 100 words in the sixth edition or 50 longs in the seventh.
 pub const HEAD_BYTES: usize = 202;
 
-/// The super-block of an image of an edition: each method reads or puts one field, of an image of at
-/// least 1024 bytes.
+/// The super-block of an image of some edition: each method reads or writes one field, in an image of at least 1024
+/// bytes.
 #[derive(Clone, Copy, Debug, PartialEq, Eq)]
 pub struct Super {
-    /// The edition whose layout the super-block has.
+    /// The edition, which gives the super-block's layout.
     pub edition: Edition,
 }
 
@@ -55,8 +55,7 @@ impl Super {
     ghost use Rattle.vol_layout.specs.Geometry.{list_size, block_count};
     ghost use Rattle.vol_layout.specs.Super.{free_head, cache_head, flag_place, time_place};
 
-    /// `s_isize`: in the sixth edition how many blocks the i-list has, in the seventh the first block
-    /// after it.
+    /// Returns `s_isize`: the number of blocks of the i-list in the sixth edition, the first block after it in the seventh.
     pub fn list_size(self, image: &Image) -> u16
         requires { 1024 ≤ length image.now }
         ensures { result ≡ list_size image.now }
@@ -64,7 +63,7 @@ impl Super {
         image.word(SUPER)
     }
 
-    /// Puts `s_isize`.
+    /// Writes `s_isize`.
     pub fn put_list_size(self, image: &mut Image, value: u16)
         requires { 1024 ≤ length image.old }
         ensures put { list_size image.new ≡ value }
@@ -73,7 +72,7 @@ impl Super {
         image.put_word(SUPER, value);
     }
 
-    /// `s_fsize`: how many blocks the volume has.
+    /// Returns `s_fsize`: the number of blocks of the volume.
     pub fn block_count(self, image: &Image) -> u32
         requires { 1024 ≤ length image.now }
         ensures value { result ≡ block_count self.edition image.now }
@@ -85,7 +84,7 @@ impl Super {
         }
     }
 
-    /// Puts `s_fsize`, which is a word in the sixth edition.
+    /// Writes `s_fsize`, which is a word in the sixth edition.
     pub fn put_block_count(self, image: &mut Image, value: u32)
         requires room { 1024 ≤ length image.old }
         requires range { self.edition ≡ Edition.V6 → value < 65536 }
@@ -98,7 +97,7 @@ impl Super {
         }
     }
 
-    /// The byte where the free list begins: its count, and then its array. A chain block begins so too.
+    /// Returns the byte at which the free list begins: its count, and then its array. A chain block begins in the same way.
     pub fn free_head(self) -> usize
         ensures { result ≡ free_head self.edition }
     {
@@ -108,7 +107,7 @@ impl Super {
         }
     }
 
-    /// `s_nfree`: how many numbers of the free array are in use.
+    /// Returns `s_nfree`: the number of block numbers in use in the free array.
     pub fn free_count(self, image: &Image) -> u16
         requires { 1024 ≤ length image.now }
         ensures { result ≡ word image.now (free_head self.edition) }
@@ -116,7 +115,7 @@ impl Super {
         image.word(self.free_head())
     }
 
-    /// Puts `s_nfree`.
+    /// Writes `s_nfree`.
     pub fn put_free_count(self, image: &mut Image, value: u16)
         requires { 1024 ≤ length image.old }
         ensures put { word image.new (free_head self.edition) ≡ value }
@@ -125,7 +124,7 @@ impl Super {
         image.put_word(self.free_head(), value);
     }
 
-    /// `s_free`: number `j` of the free array, which has 100 in the sixth edition and 50 in the seventh.
+    /// Returns number `j` of `s_free`, the free array, which has 100 in the sixth edition and 50 in the seventh.
     pub fn free(self, image: &Image, j: usize) -> u32
         requires room { 1024 ≤ length image.now }
         requires range { j < (constants self.edition).free_slots }
@@ -134,7 +133,7 @@ impl Super {
         number(image, self.edition, self.free_head() + 2, j)
     }
 
-    /// Puts number `j` of the free array: a word in the sixth edition, a long in the seventh.
+    /// Writes number `j` of the free array: a word in the sixth edition, a long in the seventh.
     pub fn put_free(self, image: &mut Image, j: usize, value: u32)
         requires room { 1024 ≤ length image.old }
         requires index { j < (constants self.edition).free_slots }
@@ -147,7 +146,7 @@ impl Super {
         put_number(image, self.edition, self.free_head() + 2, j, value);
     }
 
-    /// The byte where the i-number cache begins: its count, and then its array of 100 words.
+    /// Returns the byte at which the i-number cache begins: its count, and then its array of 100 words.
     pub fn cache_head(self) -> usize
         ensures { result ≡ cache_head self.edition }
     {
@@ -157,7 +156,7 @@ impl Super {
         }
     }
 
-    /// `s_ninode`: how many i-numbers of the cache are in use.
+    /// Returns `s_ninode`: the number of i-numbers in use in the cache.
     pub fn cache_count(self, image: &Image) -> u16
         requires { 1024 ≤ length image.now }
         ensures { result ≡ word image.now (cache_head self.edition) }
@@ -165,7 +164,7 @@ impl Super {
         image.word(self.cache_head())
     }
 
-    /// Puts `s_ninode`.
+    /// Writes `s_ninode`.
     pub fn put_cache_count(self, image: &mut Image, value: u16)
         requires { 1024 ≤ length image.old }
         ensures put { word image.new (cache_head self.edition) ≡ value }
@@ -174,7 +173,7 @@ impl Super {
         image.put_word(self.cache_head(), value);
     }
 
-    /// `s_inode`: i-number `j` of the cache, below 100.
+    /// Returns i-number `j` of `s_inode`, the cache; `j` is below 100.
     pub fn cached(self, image: &Image, j: usize) -> u16
         requires room { 1024 ≤ length image.now }
         requires range { j < 100 }
@@ -183,7 +182,7 @@ impl Super {
         image.word(self.cache_head() + 2 + 2 * j)
     }
 
-    /// Puts i-number `j` of the cache, below 100.
+    /// Writes i-number `j` of the cache; `j` is below 100.
     pub fn put_cached(self, image: &mut Image, j: usize, value: u16)
         requires room { 1024 ≤ length image.old }
         requires range { j < 100 }
@@ -194,7 +193,7 @@ impl Super {
         image.put_word(self.cache_head() + 2 + 2 * j, value);
     }
 
-    /// A flag byte, as it is stored.
+    /// Returns a flag byte, as it is stored.
     pub fn flag(self, image: &Image, flag: Flag) -> u8
         requires { 1024 ≤ length image.now }
         ensures { result ≡ slice_index image.now (flag_place self.edition flag) }
@@ -202,7 +201,7 @@ impl Super {
         image.byte(self.flag_place(flag))
     }
 
-    /// Puts a flag byte.
+    /// Writes a flag byte.
     pub fn put_flag(self, image: &mut Image, flag: Flag, value: u8)
         requires { 1024 ≤ length image.old }
         ensures put { slice_index image.new (flag_place self.edition flag) ≡ value }
@@ -212,7 +211,7 @@ impl Super {
         image.put_byte(self.flag_place(flag), value);
     }
 
-    /// The byte of a flag.
+    /// Returns the position of a flag byte.
     fn flag_place(self, flag: Flag) -> usize
         ensures place { result ≡ flag_place self.edition flag }
         ensures within { result < 1024 }
@@ -223,7 +222,7 @@ impl Super {
         }
     }
 
-    /// `s_time`: when the volume was last changed, in seconds.
+    /// Returns `s_time`: the time of the volume's last change, in seconds.
     pub fn time(self, image: &Image) -> u32
         requires { 1024 ≤ length image.now }
         ensures { result ≡ long image.now (time_place self.edition) }
@@ -231,7 +230,7 @@ impl Super {
         image.long(self.time_place())
     }
 
-    /// Puts `s_time`.
+    /// Writes `s_time`.
     pub fn put_time(self, image: &mut Image, value: u32)
         requires { 1024 ≤ length image.old }
         ensures put { long image.new (time_place self.edition) ≡ value }
@@ -240,7 +239,7 @@ impl Super {
         image.put_long(self.time_place(), value);
     }
 
-    /// The byte of the time.
+    /// Returns the position of the time.
     fn time_place(self) -> usize
         ensures { result ≡ time_place self.edition }
     {

@@ -1,11 +1,11 @@
--- Bytes that stand at another place, or in another image, and the numbers that they make.
+-- Bytes copied to another position, or to another image, and the numbers that they form.
 use Rattle.std.proofs.Common.{◌≡◌, ℕ, ◌+◌, ◌*◌, ◌<◌, ◌≤◌, List, slice_index, arith, ◌∙◌}
 use Rattle.pdp_words.specs.Words.{word, long, SameOutside}
 use Rattle.vol_layout.specs.Edition.{constants, number}
 use Rattle.vol_layout.specs.declared.edition.Edition.{Edition}
 use Rattle.vol_layout.specs.declared.edition.Edition.TheVariants.{V6, V7}
 
--- the bytes of `old` from `from` on stand in `new` from `to` on, as many as `size`
+-- `size` bytes of `old` from `from` on are in `new` from `to` on
 pub record IsCopy (old new : List ℕ) (from to size : ℕ) : Type 0 where
   pub bytes : (k : ℕ) → k < size → slice_index new (to + k) ≡ slice_index old (from + k)
 
@@ -26,22 +26,22 @@ pub long_copied : {old new : List ℕ} {from to size : ℕ} → IsCopy old new f
 long_copied c p q k e f h =
     rw (word_copied c p q k e f (omega arith), word_copied c (p + 2) (q + 2) (k + 2) (omega arith) (omega arith) (omega arith))
 
--- a part of what is copied is copied
+-- a part of copied bytes is copied
 pub copied_part : {old new : List ℕ} {from to size : ℕ} → IsCopy old new from to size → (p q skip part : ℕ) → p ≡ to + skip
     → q ≡ from + skip → skip + part ≤ size → IsCopy old new q p part
 copied_part c p q skip part e f h =
     record { bytes = λ k below. byte_copied c (p + k) (q + k) (skip + k) (omega arith) (omega arith) (omega arith) }
 
--- what is copied twice is copied
+-- bytes copied twice are copied
 pub copied_twice : {a b c : List ℕ} {p q r size : ℕ} → IsCopy a b p q size → IsCopy b c q r size → IsCopy a c p r size
 copied_twice s t = record { bytes = λ k h. t.bytes k h ∙ s.bytes k h }
 
--- what lies below a write is copied to its own place
+-- bytes below a write are copied to their own position
 pub copied_below : {old new : List ℕ} {from to : ℕ} → SameOutside old new from to → (at size : ℕ) → at + size ≤ from
     → IsCopy old new at at size
 copied_below s at size h = record { bytes = λ k below. s.below (at + k) (omega arith) }
 
--- what lies above a write is copied to its own place
+-- bytes above a write are copied to their own position
 pub copied_above : {old new : List ℕ} {from to : ℕ} → SameOutside old new from to → (at size : ℕ) → to ≤ at
     → IsCopy old new at at size
 copied_above s at size h = record { bytes = λ k below. s.above (at + k) (omega arith) }

@@ -25,7 +25,7 @@ pub left_within : {geometry : Geometry} {image blocks : List ℕ} {at n total : 
     → IsLeft geometry image at n total blocks → total ≤ geometry.zone_end - geometry.zone_start
 left_within free left = omega (arith, free_within free, left.sum)
 
--- what the head is chained to has the others
+-- the block that the head is chained to has the others
 pub left_next : {geometry : Geometry} {image blocks : List ℕ} {at n total : ℕ} → (b : ℕ) → IsLeft geometry image at n total blocks → 1 ≤ n
     → b ≡ number geometry.edition image (at + 2) 0 → (b ≡ 0 → ⊥) → CountsNext geometry image n total b blocks
 left_next {geometry = geometry} {image = image} {at = at} {n = n} b left some is more =
@@ -37,13 +37,13 @@ left_next {geometry = geometry} {image = image} {at = at} {n = n} b left some is
       left = record { rest = next.rest; stack = next.stack; sum = omega (arith, left.sum, next.sum) };
     })
 
--- where number 0 is 0, the other numbers are the last free blocks
+-- if number 0 is 0, the other numbers are the last free blocks
 pub left_last : {geometry : Geometry} {image blocks : List ℕ} {at n total : ℕ} → (b : ℕ) → IsLeft geometry image at n total blocks → 1 ≤ n
     → 1 ≤ geometry.zone_start → b ≡ number geometry.edition image (at + 2) 0 → b ≡ 0 → length blocks + 1 ≡ total + n
 left_last {geometry = geometry} {image = image} {at = at} {n = n} b left some low is zero =
     omega (arith, left.sum, stack_last geometry image at n left.rest some low (sym is ∙ zero) left.stack)
 
--- where no number is left, all are counted
+-- if no number is left, all are counted
 pub left_none : {geometry : Geometry} {image blocks : List ℕ} {at n total : ℕ} → IsLeft geometry image at n total blocks → n ≡ 0
     → 1 ≤ geometry.zone_start → total ≡ length blocks
 left_none {geometry = geometry} {image = image} {at = at} {n = n} left none low =

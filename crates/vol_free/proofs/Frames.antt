@@ -16,7 +16,7 @@ pub free_zone : {geometry : Geometry} {image blocks : List ℕ} → IsFree geome
 free_zone {geometry = geometry} {image = image} {blocks = blocks} free b i =
     stack_zoned geometry image (free_head geometry.edition) (word image (free_head geometry.edition)) blocks free.stack b i
 
--- no free block stands before the data zone
+-- no free block is before the data zone
 pub free_from : {geometry : Geometry} {image blocks : List ℕ} → IsFree geometry image blocks → (b : ℕ) → IsIn b blocks
     → geometry.zone_start ≤ b
 free_from {geometry = geometry} free b i = zone_from geometry b (free_zone free b i)
@@ -34,7 +34,7 @@ IsFree-kept {geometry = geometry} {old = old} {new = new} {blocks = blocks} head
       once = free.once;
     }
 
--- a write behind the head in the super-block and outside each free block keeps the free blocks
+-- a write after the head in the super-block and outside each free block keeps the free blocks
 pub IsFree-behind : {geometry : Geometry} {old new blocks : List ℕ} {from to : ℕ} → SameOutside old new from to
     → free_head geometry.edition + 202 ≤ from → ((b : ℕ) → IsIn b blocks → (512 * b + 512 ≤ from) ⊎ (to ≤ 512 * b))
     → IsFree geometry old blocks → IsFree geometry new blocks
@@ -42,7 +42,7 @@ IsFree-behind {geometry = geometry} s h apart free =
     IsFree-kept (copied_below s (free_head geometry.edition) 202 (omega arith))
     (λ b i. elim (apart b i) [ inl below ↦ copied_below s (512 * b) 202 (omega arith) | inr above ↦ copied_above s (512 * b) 202 above ]) free
 
--- a write from byte 720 on, where no edition has its free list, and outside each free block keeps the free blocks
+-- a write from byte 720 on, past the free list of each edition, and outside each free block keeps the free blocks
 pub IsFree-outside : {geometry : Geometry} {old new blocks : List ℕ} {from to : ℕ} → SameOutside old new from to
     → 720 ≤ from → ((b : ℕ) → IsIn b blocks → (512 * b + 512 ≤ from) ⊎ (to ≤ 512 * b)) → IsFree geometry old blocks
     → IsFree geometry new blocks
@@ -55,12 +55,12 @@ pub IsFree-before_zone : {geometry : Geometry} {old new blocks : List ℕ} {from
 IsFree-before_zone s h t free =
     IsFree-outside s h (λ b i. inr (omega (arith, free_from free b i))) free
 
--- where the super-block has no number, no block is free
+-- if the super-block has no number, no block is free
 pub IsFree-none : (geometry : Geometry) (image : List ℕ) → word image (free_head geometry.edition) ≡ 0 → IsFree geometry image []
 unfolding IsStack Once
 IsFree-none geometry image none = record { count = omega arith; stack = inl none; once = tt }
 
--- two blocks that differ stand apart
+-- two different blocks don't overlap
 pub apart_blocks : (b c : ℕ) → (b ≡ c → ⊥) → (512 * b + 512 ≤ 512 * c) ⊎ (512 * c + 512 ≤ 512 * b)
 apart_blocks b c differ =
     elim (cases_lt c b) [
@@ -76,7 +76,7 @@ IsFree-within {blocks = blocks} {from = from} {to = to} s b two low high fresh f
     IsFree-outside s (omega arith)
     (λ c i. elim (apart_blocks c b (λ same. fresh (rw (← same) i))) [ inl below ↦ inl (omega arith) | inr above ↦ inr (omega arith) ]) free
 
--- what is written outside the head in the super-block, and outside block b, keeps the first bytes of the other blocks
+-- a write outside the head in the super-block, and outside block b, keeps the first bytes of the other blocks
 pub kept_apart : {geometry : Geometry} {old new : List ℕ} {b size : ℕ} → StaysBut geometry old new b size → size ≤ 512 → (c : ℕ)
     → 2 ≤ c → (b ≡ c → ⊥) → IsCopy old new (512 * c) (512 * c) 202
 kept_apart {geometry = geometry} {b = b} s small c two differ =

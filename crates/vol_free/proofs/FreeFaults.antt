@@ -1,4 +1,4 @@
--- A walk over the free list comes to its end without a fault exactly where the list is a stack.
+-- A walk over the free list ends without a fault if and only if the list is a stack.
 use Rattle.std.proofs.Common.{◌≡◌, ◌≢◌, ℕ, zero, suc, ◌+◌, ◌-◌, ◌*◌, ◌<◌, ◌≤◌, ◌∙◌, ◌==◌, ◌||◌, ◌⊎◌, inl, inr, sym, ap, subst, true, false, List, [], ◌∷◌, ◌++◌, length, reverse, None, Some, refl, arith, eq-eqb, append_assoc, append-nil}
 use mathlib.Core.List.{reverse_aux}
 use Rattle.std.proofs.lemmas.Bool.{cases_eq, cases_lt, cases_Bool, ne_eqb}
@@ -57,7 +57,7 @@ no_fault {fault = fault} some none = none-some fault (sym (ap (λ (k : Walked). 
 a_fault : {walk : Walked} {fault : FreeFault × ℕ} {met : List ℕ} → walk.fault ≡ None → walk ≡ record { met = met; fault = Some fault } → ⊥
 a_fault {fault = fault} none some = none-some fault (sym none ∙ ap (λ (k : Walked). k.fault) some)
 
--- whether the next number is 0 at the array's bottom
+-- the cases of the next number at the array's bottom: 0 or not
 data Next (count b : ℕ) : Type 0 where
   is_none : count ≡ 0 → Next count b
   is_end : count ≢ 0 → count ≡ 1 → b ≡ 0 → Next count b
@@ -76,7 +76,7 @@ next count b = elim (cases_eq count 0) [
 ]
 
 module _ (g : Geometry) (image : List ℕ) where
-  -- from a head on, where a walk of so many steps ends in a fault, there is no stack of blocks that weren't met
+  -- from a head at which a walk of this many steps ends in a fault, there is no stack of blocks that weren't met
   abbrev Refutes : ℕ → Type 0
   Refutes fuel = (head count : ℕ) (met : List ℕ) (fault : FreeFault × ℕ) → (walk_rest g image fuel head count met).fault ≡ Some fault
       → count ≤ (constants g.edition).free_slots → (blocks : List ℕ) → IsStack g image head count blocks → Once blocks
@@ -110,7 +110,7 @@ module _ (g : Geometry) (image : List ℕ) where
         ]
       ]
 
-  -- where a walk ends in a fault, there is no stack
+  -- if a walk ends in a fault, there is no stack
   refutes : (fuel : ℕ) → Refutes fuel
   unfolding walk_rest
   refutes zero head count met fault e few blocks s once apart = none-some fault e
@@ -131,7 +131,7 @@ module _ (g : Geometry) (image : List ℕ) where
     once : Once blocks
     apart : (k : ℕ) → IsIn k met → IsIn k blocks → ⊥
 
-  -- from a head on, where a walk of so many steps, which are enough, ends in no fault, there is one
+  -- from a head at which a walk of enough steps ends in no fault, there is one
   abbrev Stacks : ℕ → Type 0
   Stacks fuel = (head count : ℕ) (met : List ℕ) → Once met → ((b : ℕ) → IsIn b met → in_zone g b ≡ true)
       → g.zone_end - g.zone_start < fuel + length met → (walk_rest g image fuel head count met).fault ≡ None
@@ -194,7 +194,7 @@ module _ (g : Geometry) (image : List ℕ) where
         ]
       ]
 
-  -- where a walk of enough steps ends in no fault, there is a stack
+  -- if a walk of enough steps ends in no fault, there is a stack
   stacks : (fuel : ℕ) → Stacks fuel
   unfolding IsStack
   stacks zero head count met once zoned room e =
@@ -214,14 +214,14 @@ module _ (g : Geometry) (image : List ℕ) where
         ]
       ]
 
-  -- where the walk ends in a fault, the volume has no stack
+  -- if the walk ends in a fault, the volume has no stack
   pub fault_breaks : {fault : FreeFault × ℕ} → (free_walk g image).fault ≡ Some fault → HasStack g image → ⊥
   unfolding IsIn
   fault_breaks {fault = fault} e has =
       refutes (g.zone_end - g.zone_start + 1) (free_head g.edition) (word image (free_head g.edition)) [] fault e
       has.free.count has.blocks has.free.stack has.free.once (λ k i j. i)
 
-  -- where it ends in none, the blocks that it met are the free ones
+  -- if it ends in none, the blocks that it met are the free ones
   pub no_fault_free : (blocks : List ℕ) → (free_walk g image).fault ≡ None → reverse blocks ≡ (free_walk g image).met → IsFree g image blocks
   unfolding Once IsIn
   no_fault_free blocks e met =
@@ -238,7 +238,7 @@ module _ (g : Geometry) (image : List ℕ) where
     free = no_fault_free (reverse (free_walk g image).met) e (reverse-reverse (free_walk g image).met);
   }
 
-  -- where the volume has a stack, the walk ends in no fault
+  -- if the volume has a stack, the walk ends in no fault
   pub stack_no_fault : HasStack g image → (free_walk g image).fault ≡ None
   stack_no_fault has =
       elim (free_walk g image).fault as (λ o. (free_walk g image).fault ≡ o → (free_walk g image).fault ≡ None) [

@@ -1,4 +1,4 @@
--- What giving a block to the free list does to its stack.
+-- The stack of the free list after a block is given to it.
 use Rattle.std.proofs.Common.{◌≡◌, ℕ, ◌+◌, ◌*◌, ◌<◌, ◌≤◌, inl, inr, true, List, [], ◌∷◌, slice_index, refl, ◌∙◌, arith}
 use Rattle.std.proofs.lemmas.Bool.Decides.{nat_tests}
 use Rattle.pdp_words.specs.Words.{word, SameOutside}
@@ -13,14 +13,14 @@ use Rattle.vol_free.proofs.Copies.{IsCopy, word_copied, number_copied, copied_tw
 use Rattle.vol_free.proofs.Stacks.{IsStack-moved, IsFree_unique, array_copied, stack_none, stack_above, stack_chained, stack_zero, zone_from, head_end}
 use Rattle.vol_free.proofs.Frames.{free_from, kept_apart}
 
--- the free blocks keep their first bytes where one that isn't free is written
+-- the free blocks keep their first bytes if one that isn't free is written
 pub others_kept : {geometry : Geometry} {old new : List ℕ} {b size : ℕ} {blocks : List ℕ} → IsFree geometry old blocks → 2 ≤ geometry.zone_start
     → StaysBut geometry old new b size → size ≤ 512 → (IsIn b blocks → ⊥) → (c : ℕ) → IsIn c blocks → IsCopy old new (512 * c) (512 * c) 202
 others_kept free low s small fresh c i =
     let from = free_from free c i in
     kept_apart s small c (omega arith) (λ same. fresh (rw same i))
 
--- one more number comes once
+-- adding a number that isn't there keeps the numbers different
 pub more_once : (b : ℕ) (blocks : List ℕ) → (IsIn b blocks → ⊥) → Once blocks → Once (b ∷ blocks)
 unfolding Once
 more_once b blocks fresh once = (fresh, once)
@@ -93,7 +93,7 @@ pushed_chained geometry old mid new b blocks low zone fresh free stays copy outs
       once = more_once b blocks fresh free.once;
     }
 
--- a write within the head leaves alone what lies outside it, and all but the head and block b
+-- a write within the head keeps everything outside it, except the head and block b
 pub head_stays : {geometry : Geometry} {old new : List ℕ} {b size : ℕ} → 2 ≤ b
     → SameOutside old new (free_head geometry.edition) (free_head geometry.edition + 202) → StaysBut geometry old new b size
 head_stays {geometry = geometry} two s =
@@ -121,7 +121,7 @@ given_full V7 = refl
 pub given_above : (edition : Edition) (n : ℕ) → (n ≡ 0 → ⊥) → (n ≡ (constants edition).free_slots → ⊥) → count_given edition n ≡ n + 1
 given_above edition n some room = grind (arith, nat_tests)
 
--- the count and array after a giving, where there were n numbers and are m
+-- the count and array after a block is given, with n numbers before and m after
 pub head_given : (edition : Edition) (old new : List ℕ) (n m : ℕ) → word old (free_head edition) ≡ n → count_given edition n ≡ m
     → word new (free_head edition) ≡ m
     → ((k : ℕ) → free_head edition + 2 + (constants edition).number_bytes * m ≤ k → k < free_head edition + 202 → slice_index new k ≡ slice_index old k)
@@ -136,7 +136,7 @@ none_free {blocks = blocks} low none free b i =
     let same : blocks ≡ [] = IsFree_unique low free none in
     let there = rw same at i in absurd there
 
--- where no free block stands before b, none does once b is given
+-- if no free block is before b, none does once b is given
 pub given_from : {geometry : Geometry} {old new : List ℕ} (b : ℕ) → 1 ≤ geometry.zone_start → HasStack geometry old
     → ((blocks : List ℕ) → IsFree geometry old blocks → IsFree geometry new (b ∷ blocks))
     → ((blocks : List ℕ) → IsFree geometry old blocks → (c : ℕ) → IsIn c blocks → b ≤ c)

@@ -1,4 +1,4 @@
--- The i-list beside the cache of i-numbers.
+-- The i-list and the cache of i-numbers.
 use Rattle.std.proofs.Common.{◌≡◌, ℕ, ◌+◌, ◌*◌, ◌<◌, List, arith}
 use Rattle.vol_layout.specs.Edition.{constants}
 use Rattle.vol_layout.specs.Geometry.{Fits}

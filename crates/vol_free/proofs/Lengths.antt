@@ -1,4 +1,4 @@
--- How many free blocks there can be.
+-- The greatest number of free blocks.
 use Rattle.std.proofs.Common.{◌≡◌, ℕ, ◌-◌, ◌<◌, ◌≤◌, inl, inr, true, false, List, [], ◌∷◌, length, refl, arith, eqb}
 use Rattle.std.specs.List.{IsDistinct, AllByRecursion, list_any}
 use Rattle.std.proofs.lemmas.Bool.Decides.{nat_tests}
@@ -25,7 +25,7 @@ shifted_apart start b (c ∷ rest) low fresh all =
     let differ : b ≡ c → ⊥ = λ same. fresh (inl same) in
     (grind (arith, nat_tests), shifted_apart start b rest low (λ i. fresh (inr i)) (λ d i. all d (inr i)))
 
--- numbers of which none comes twice are distinct, also less `start`
+-- different numbers stay different when `start` is subtracted
 shifted_distinct : (start : ℕ) (xs : List ℕ) → Once xs → ((b : ℕ) → IsIn b xs → start ≤ b) → IsDistinct eqb (shifted start xs)
 unfolding IsIn Once IsDistinct
 shifted_distinct start [] once all = tt

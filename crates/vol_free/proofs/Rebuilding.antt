@@ -1,4 +1,4 @@
--- What making the free list anew leaves, block by block.
+-- Rebuilding the free list, block by block.
 use Rattle.std.proofs.Common.{◌≡◌, ℕ, zero, suc, ◌+◌, ◌-◌, ◌<◌, ◌≤◌, inl, inr, Bool, true, false, not, List, [], ◌∷◌, get_or, refl, ◌∙◌, arith}
 use Rattle.std.specs.List.{filter, range_with_len}
 use Rattle.std.proofs.lemmas.Bool.{both_ways, cases_Bool, cases_eq}
@@ -10,7 +10,7 @@ use Rattle.vol_free.specs.Rebuilding.{unused_from, KeepsUsed}
 use Rattle.vol_free.proofs.Stacks.{head_end}
 use Rattle.vol_free.proofs.Frames.{apart_blocks}
 
--- a block without a mark comes first
+-- a block without a mark is the first
 pub unused_given : (geometry : Geometry) (used : List Bool) (b c : ℕ) → b + 1 ≡ c → c ≤ geometry.zone_end → get_or used b false ≡ false
     → unused_from geometry used b ≡ b ∷ unused_from geometry used c
 unfolding unused_from
@@ -26,13 +26,13 @@ unused_kept geometry used b c next within set =
     let count : geometry.zone_end - b ≡ suc (geometry.zone_end - c) = omega arith in
     rw (count, set, next) refl
 
--- no block comes after the last
+-- no block follows the last
 pub unused_end : (geometry : Geometry) (used : List Bool) (b : ℕ) → b ≡ geometry.zone_end → unused_from geometry used b ≡ []
 unfolding unused_from
 unused_end geometry used b end =
     let none : geometry.zone_end - b ≡ 0 = omega arith in rw none refl
 
--- what is kept of some numbers passes the test, and is one of them
+-- the numbers that a filter keeps pass the test, and are among the numbers
 kept_in : (used : List Bool) (a n b : ℕ) → IsIn b (filter (λ k. not (get_or used k false)) (range_with_len a n))
     → (a ≤ b) × (b < a + n) × (get_or used b false ≡ false)
 unfolding IsIn
@@ -53,7 +53,7 @@ unfolding unused_from
 unused_in geometry used b c within i =
     let all = kept_in used b (geometry.zone_end - b) c i in (all.0, omega (arith, all.1), all.2)
 
--- what passes the test is kept
+-- a number that passes the test is kept
 kept_from : (used : List Bool) (a n b : ℕ) → a ≤ b → b < a + n → get_or used b false ≡ false
     → IsIn b (filter (λ k. not (get_or used k false)) (range_with_len a n))
 unfolding IsIn

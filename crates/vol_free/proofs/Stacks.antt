@@ -11,11 +11,11 @@ use Rattle.vol_layout.specs.declared.geometry.Geometry.{Geometry}
 use Rattle.vol_free.specs.Stack.{IsIn, IsStack, IsFree}
 use Rattle.vol_free.proofs.Copies.{IsCopy, word_copied, number_copied, copied_part}
 
--- a data block stands within the data zone
+-- a data block is within the data zone
 pub zone_from : (geometry : Geometry) (b : ℕ) → in_zone geometry b ≡ true → geometry.zone_start ≤ b
 zone_from geometry b z = grind (arith, nat_tests)
 
--- a data block stands before the data zone's end
+-- a data block is before the data zone's end
 pub zone_below : (geometry : Geometry) (b : ℕ) → in_zone geometry b ≡ true → b < geometry.zone_end
 zone_below geometry b z = grind (arith, nat_tests)
 
@@ -24,7 +24,7 @@ pub head_end : (edition : Edition) → free_head edition + 202 ≤ 720
 head_end V6 = omega arith
 head_end V7 = omega arith
 
--- the data zone begins behind the super-block
+-- the data zone begins after the super-block
 pub zone_behind : {geometry : Geometry} {image : List ℕ} → Fits geometry image → 2 ≤ geometry.zone_start
 zone_behind fits = omega (arith, fits.i_list)
 
@@ -41,7 +41,7 @@ limit_below {geometry = geometry} fits = limit_by geometry.edition geometry.zone
 pub array_copied : {old new : List ℕ} {from to : ℕ} → IsCopy old new from to 202 → IsCopy old new (from + 2) (to + 2) 200
 array_copied {from = from} {to = to} c = copied_part c (to + 2) (from + 2) 2 200 (omega arith) (omega arith) (omega arith)
 
--- the stack stands wherever its numbers stand, if its blocks keep their first bytes
+-- the stack moves with its numbers, if its blocks keep their first bytes
 pub IsStack-moved : (geometry : Geometry) (old new : List ℕ) (from to n : ℕ) (blocks : List ℕ)
     → ((j : ℕ) → j < n → number geometry.edition new (to + 2) j ≡ number geometry.edition old (from + 2) j)
     → ((b : ℕ) → IsIn b blocks → IsCopy old new (512 * b) (512 * b) 202)
@@ -77,7 +77,7 @@ stack_zoned geometry image at n (c ∷ rest) (e, z, inl (two, s)) b (inr i) = st
 stack_zoned geometry image at n (c ∷ rest) (e, z, inr (one, few, s)) b (inr i) =
     stack_zoned geometry image (512 * c) (word image (512 * c)) rest s b i
 
--- where no number is left, or the next one is 0, the stack is empty
+-- if no number is left, or the next one is 0, the stack is empty
 pub stack_none : (geometry : Geometry) (image : List ℕ) (at n : ℕ) (blocks : List ℕ) → 1 ≤ geometry.zone_start
     → IsStack geometry image at n blocks → (n ≡ 0) ⊎ (number geometry.edition image (at + 2) (n - 1) ≡ 0) → blocks ≡ []
 unfolding IsStack
@@ -87,7 +87,7 @@ stack_none geometry image at n (b ∷ rest) low (e, z, inr (one, few, s)) (inl h
 stack_none geometry image at n (b ∷ rest) low (e, z, t) (inr h) =
     let from : geometry.zone_start ≤ b = zone_from geometry b z in absurd (omega arith)
 
--- what the stack is empty for has no first block
+-- an empty stack has no first block
 pub stack_not_none : (geometry : Geometry) (image : List ℕ) (at n : ℕ) (b : ℕ) (rest : List ℕ) → 1 ≤ geometry.zone_start
     → IsStack geometry image at n (b ∷ rest) → (n ≡ 0) ⊎ (number geometry.edition image (at + 2) (n - 1) ≡ 0) → ⊥
 stack_not_none geometry image at n b rest low s h =
@@ -147,7 +147,7 @@ pub stack_zero : (geometry : Geometry) (image : List ℕ) (at : ℕ) → number 
 unfolding IsStack
 stack_zero geometry image at z = inr (refl, z)
 
--- what follows number 0 of a head: the block that it is, and the stack that the block begins with
+-- the stack after number 0 of a head: the block that this is, and the stack with which the block begins
 pub record IsChained (geometry : Geometry) (image : List ℕ) (at n : ℕ) (blocks : List ℕ) : Type 0 where
   pub block : ℕ
   pub rest : List ℕ

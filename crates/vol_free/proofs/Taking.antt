@@ -1,4 +1,4 @@
--- What taking a block from the free list does to its stack.
+-- The stack of the free list after a block is taken from it.
 use Rattle.std.proofs.Common.{◌≡◌, ℕ, ◌+◌, ◌-◌, ◌*◌, ◌<◌, ◌≤◌, ◌⊎◌, inl, inr, true, List, [], ◌∷◌, Option, None, Some, slice_index, refl, sym, ◌∙◌, arith}
 use Rattle.pdp_words.specs.Words.{word, SameOutside}
 use Rattle.pdp_words.proofs.Below.{word_below}
@@ -11,7 +11,7 @@ use Rattle.vol_free.proofs.Copies.{IsCopy, word_copied, number_copied, copied_tw
 use Rattle.vol_free.proofs.Stacks.{IsStack-moved, array_copied, stack_not_none, head_end, zone_behind}
 use Rattle.vol_free.proofs.Frames.{free_from, kept_apart}
 
--- where the super-block has no number left, or its next one is 0, there is nothing to take
+-- if the super-block has no number left, or its next one is 0, there is nothing to take
 pub pops_none : (geometry : Geometry) (image : List ℕ) (blocks : List ℕ) → Fits geometry image → IsFree geometry image blocks
     → (word image (free_head geometry.edition) ≡ 0)
     ⊎ (number geometry.edition image (free_head geometry.edition + 2) (word image (free_head geometry.edition) - 1) ≡ 0)
@@ -44,7 +44,7 @@ pub record IsTaken (geometry : Geometry) (old mid new : List ℕ) (b : ℕ) : Ty
   pub block : SameOutside mid new (512 * b) (512 * b + 512)
   pub zero : (k : ℕ) → 512 * b ≤ k → k < 512 * b + 512 → slice_index new k ≡ 0
 
--- what taking leaves alone
+-- the bytes that taking keeps
 pub taken_stays : {geometry : Geometry} {old mid new : List ℕ} {b : ℕ} → IsTaken geometry old mid new b → 2 ≤ b → StaysBut geometry old new b 512
 taken_stays {geometry = geometry} taken two =
     let end : free_head geometry.edition + 202 ≤ 720 = head_end geometry.edition in
@@ -55,12 +55,12 @@ taken_stays {geometry = geometry} taken two =
       above = λ k h. taken.block.above k h ∙ taken.head.above k (omega arith);
     }
 
--- the first of the free blocks stands behind the super-block
+-- the first of the free blocks is after the super-block
 pub first_from : {geometry : Geometry} {image : List ℕ} {b : ℕ} {rest : List ℕ} → IsFree geometry image (b ∷ rest) → geometry.zone_start ≤ b
 unfolding IsIn
 first_from {b = b} free = free_from free b (inl refl)
 
--- the other free blocks keep their first bytes where the first one is written
+-- the other free blocks keep their first bytes if the first one is written
 pub rest_kept : {geometry : Geometry} {old new : List ℕ} {b size : ℕ} {rest : List ℕ} → IsFree geometry old (b ∷ rest) → 2 ≤ geometry.zone_start
     → StaysBut geometry old new b size → size ≤ 512 → (c : ℕ) → IsIn c rest → IsCopy old new (512 * c) (512 * c) 202
 unfolding IsIn Once
@@ -87,7 +87,7 @@ unfolding IsStack
 stack_inside geometry image at n b rest (e, z, inl (two, s)) one = absurd (omega arith)
 stack_inside geometry image at n b rest (e, z, inr (_, few, s)) one = (few, s)
 
--- the blocks below the one taken are free, where the count was lowered
+-- the blocks below the one taken are free, if the count was lowered
 lowered_free : (geometry : Geometry) (old mid new : List ℕ) (b : ℕ) (rest : List ℕ) → 2 ≤ geometry.zone_start → IsTaken geometry old mid new b
     → IsFree geometry old (b ∷ rest) → (word old (free_head geometry.edition) ≡ 1 → ⊥)
     → word mid (free_head geometry.edition) ≡ word old (free_head geometry.edition) - 1
@@ -109,7 +109,7 @@ lowered_free geometry old mid new b rest low taken free more less s =
       once = rest_once b rest free.once;
     }
 
--- the blocks below the one taken are free, where the head was refilled from it
+-- the blocks below the one taken are free, if the head was refilled from it
 refilled_free : (geometry : Geometry) (old mid new : List ℕ) (b : ℕ) (rest : List ℕ) → 2 ≤ geometry.zone_start → IsTaken geometry old mid new b
     → IsFree geometry old (b ∷ rest) → word old (free_head geometry.edition) ≡ 1
     → IsCopy old mid (512 * b) (free_head geometry.edition) 202 → IsFree geometry new rest
@@ -130,7 +130,7 @@ refilled_free geometry old mid new b rest low taken free one copy =
       once = rest_once b rest free.once;
     }
 
--- the stack has a first block where a number is left and the next isn't 0
+-- the stack has a first block if a number is left and the next isn't 0
 stack_some : (geometry : Geometry) (image : List ℕ) (at n b : ℕ) → IsStack geometry image at n [] → (n ≡ 0 → ⊥)
     → number geometry.edition image (at + 2) (n - 1) ≡ b → (b ≡ 0 → ⊥) → ⊥
 unfolding IsStack
@@ -145,7 +145,7 @@ stack_is : (geometry : Geometry) (image : List ℕ) (at n b c : ℕ) (rest : Lis
 unfolding IsStack
 stack_is geometry image at n b c rest (e, _, _) is = sym is ∙ e
 
--- taking lowers the count where a number is left behind
+-- taking lowers the count if a number is left after
 pub pops_lowered : (geometry : Geometry) (old mid new : List ℕ) (b : ℕ) (blocks : List ℕ) → Fits geometry old → IsTaken geometry old mid new b
     → (word old (free_head geometry.edition) ≡ 0 → ⊥) → (word old (free_head geometry.edition) ≡ 1 → ⊥)
     → number geometry.edition old (free_head geometry.edition + 2) (word old (free_head geometry.edition) - 1) ≡ b → (b ≡ 0 → ⊥)
@@ -168,7 +168,7 @@ pops_lowered geometry old mid new b (c ∷ rest) fits taken some more is nonzero
       },
     )
 
--- taking refills the head from the block where no number is left behind
+-- taking refills the head from the block if no number is left after
 pub pops_refilled : (geometry : Geometry) (old mid new : List ℕ) (b : ℕ) (blocks : List ℕ) → Fits geometry old → IsTaken geometry old mid new b
     → word old (free_head geometry.edition) ≡ 1
     → number geometry.edition old (free_head geometry.edition + 2) (word old (free_head geometry.edition) - 1) ≡ b → (b ≡ 0 → ⊥)
@@ -196,7 +196,7 @@ pub pops_left : (geometry : Geometry) (old new : List ℕ) (blocks : List ℕ) (
 pops_left geometry old new [] result free (none, same) = rw same (record { blocks = []; free = free })
 pops_left geometry old new (b ∷ rest) result free (some, popped) = record { blocks = rest; free = popped.free }
 
--- the count and array once block b is taken, where the count was lowered
+-- the count and array after block b is taken, if the count was lowered
 pub head_lowered : (geometry : Geometry) (old mid new : List ℕ) (b : ℕ) → 2 ≤ b → IsTaken geometry old mid new b
     → (word old (free_head geometry.edition) ≡ 1 → ⊥)
     → word mid (free_head geometry.edition) ≡ word old (free_head geometry.edition) - 1
@@ -209,7 +209,7 @@ head_lowered geometry old mid new b two taken more less s =
       refilled = λ one. absurd (more one);
     }
 
--- the count and array once block b is taken, where the head was refilled from it
+-- the count and array after block b is taken, if the head was refilled from it
 pub head_refilled : (geometry : Geometry) (old mid new : List ℕ) (b : ℕ) → 2 ≤ b → IsTaken geometry old mid new b
     → word old (free_head geometry.edition) ≡ 1 → IsCopy old mid (512 * b) (free_head geometry.edition) 202 → HeadTaken geometry.edition old new b
 head_refilled geometry old mid new b two taken one copy =

@@ -49,7 +49,7 @@ module _ (g : Geometry) (image : List ℕ) (fuel head count : ℕ) (met : List �
       unfolding walk_rest
       walk_chain fresh one = rw is (rw zone (rw fresh (grind (arith, some, few, more, one))))
 
-      -- another comes before the next
+      -- another one precedes the next
       pub walk_on : list_any (λ k. k == b) met ≡ false → count ≢ 1
           → walk_rest g image (suc fuel) head count met ≡ walk_rest g image fuel head (count - 1) (b ∷ met)
       unfolding walk_rest

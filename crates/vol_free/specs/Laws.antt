@@ -9,11 +9,11 @@ use Rattle.vol_free.specs.Stack.{IsFree, HasStack}
 abbrev pub HasOneList : Type 0
 HasOneList = (geometry : Geometry) (image xs ys : List ℕ) → Fits geometry image → IsFree geometry image xs → IsFree geometry image ys → xs ≡ ys
 
--- the walk over the free list ends without a fault exactly if the volume has a stack of free blocks (icheck; rule 6)
+-- the walk over the free list ends without a fault if and only if the volume has a stack of free blocks (icheck; rule 6)
 abbrev pub EndsAtStack : Type 0
 EndsAtStack = (geometry : Geometry) (image : List ℕ) → ((free_walk geometry image).fault ≡ None) ↔ HasStack geometry image
 
--- the blocks that it met are those of the stack then, the last first (icheck)
+-- the blocks that such a walk met are those of the stack, the last first (icheck)
 abbrev pub MeetsFree : Type 0
 MeetsFree = (geometry : Geometry) (image blocks : List ℕ) → Fits geometry image → IsFree geometry image blocks
     → (free_walk geometry image).met ≡ reverse blocks

@@ -1,18 +1,18 @@
--- Making the free list anew, of the data blocks that aren't used.
+-- Rebuilding the free list from the unused data blocks.
 use Rattle.std.specs.Prelude.{◌≡◌, ℕ, ◌+◌, ◌-◌, ◌*◌, ◌<◌, ◌≤◌, Bool, true, false, not, List, length, slice_index, slice_index_or}
 use Rattle.std.specs.List.{filter, range_with_len}
 use Rattle.vol_layout.specs.Super.{free_head}
 use Rattle.vol_layout.specs.declared.geometry.Geometry.{Geometry}
 
--- the blocks from number b to the volume's last that have no mark, ascending (icheck)
+-- the blocks from number b to the volume's last that have no mark, in ascending order (icheck)
 unfoldable pub unused_from : Geometry → List Bool → ℕ → List ℕ
 unused_from geometry used b = filter (λ k. not (slice_index_or used k false)) (range_with_len b (geometry.zone_end - b))
 
--- the data blocks that have no mark, ascending (icheck)
+-- the data blocks that have no mark, in ascending order (icheck)
 abbrev pub unused : Geometry → List Bool → List ℕ
 unused geometry used = unused_from geometry used geometry.zone_start
 
--- the same bytes outside the count and array of the super-block, and in each block but the data blocks that have no mark (a frame)
+-- the bytes outside the super-block's count and array stay, except in the data blocks that have no mark (a frame)
 pub record KeepsUsed (geometry : Geometry) (used : List Bool) (old new : List ℕ) : Type 0 where
   pub len : length new ≡ length old
   pub below : (k : ℕ) → k < free_head geometry.edition → slice_index new k ≡ slice_index old k

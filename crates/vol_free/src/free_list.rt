@@ -1,5 +1,5 @@
-//! The free list: a stack of block numbers. The super-block has a count and an array, and number 0 of
-//! the array is the block that begins with the next count and array, or 0 where there is none.
+//! The free list: a stack of block numbers. The super-block has a count and an array. Number 0 of the array is the block
+//! that begins with the next count and array, or 0 if there is none.
 ghost use Rattle.std.specs.Prelude.{◌≡◌, ℕ, ◌+◌, ◌*◌, ◌<◌, ◌≤◌, true, List, ◌∷◌, length, slice_index, IfSome};
 ghost use Rattle.pdp_words.specs.Words.{SameOutside, word};
 ghost use Rattle.vol_layout.specs.Edition.{constants, number};
@@ -12,9 +12,9 @@ use pdp_words::{BLOCK, Image};
 use vol_layout::super_block::HEAD_BYTES;
 use vol_layout::{Geometry, Super, number};
 
-/// Takes the first block of the free list, and hands it out zeroed. None where no block is free, and
-/// then the image stays as it was. The number taken stays in the array, past the count; where it was
-/// number 0, count and array are those that the block began with. Takes no memory.
+/// Takes the first block of the free list, clears it, and returns it. If no block is free, returns `None` and leaves the
+/// image as it was. The number taken stays in the array, past the count; if it was number 0, the count and array become
+/// those with which the block began. Takes no memory.
 pub fn take(image: &mut Image, geometry: &Geometry) -> Option<u32>
     requires fits { Fits geometry.now image.old }
     requires stack { HasStack geometry.now image.old }
@@ -45,9 +45,8 @@ pub fn take(image: &mut Image, geometry: &Geometry) -> Option<u32>
     Some(taken)
 }
 
-/// Gives data block `b` to the free list, of which it becomes the first. Where the array of the
-/// super-block is full, block `b` begins with its count and array then; else the block isn't written.
-/// What stands in the array past the count stays. Takes no memory.
+/// Puts data block `b` at the front of the free list. If the super-block's array is full, block `b` then begins with its
+/// count and array; else the block isn't written. The numbers in the array past the count stay. Takes no memory.
 pub fn give(image: &mut Image, geometry: &Geometry, b: u32)
     requires fits { Fits geometry.now image.old }
     requires stack { HasStack geometry.now image.old }
@@ -78,8 +77,7 @@ pub fn give(image: &mut Image, geometry: &Geometry, b: u32)
     }
 }
 
-/// How many blocks are free. Reads the super-block and each block that the list is chained by, once.
-/// Takes no memory.
+/// Returns the number of free blocks. Reads the super-block and each chain block once. Takes no memory.
 pub fn free_count(image: &Image, geometry: &Geometry) -> u32
     requires fits { Fits geometry.now image.now }
     requires stack { HasStack geometry.now image.now }
@@ -104,10 +102,9 @@ pub fn free_count(image: &Image, geometry: &Geometry) -> u32
     total
 }
 
-/// Makes the free list anew, of the data blocks that aren't used, ascending. There is a mark for each block of
-/// the volume; those of blocks before the data zone don't matter. What the list was before doesn't matter
-/// either: as icheck did with `-s`, an empty list is given each of these blocks, from the highest down. Takes
-/// no memory.
+/// Rebuilds the free list from the unused data blocks, in ascending order. `used` has a mark for each block of the volume;
+/// those of blocks before the data zone don't matter, nor does the old list. Like icheck `-s`, it starts with an empty list
+/// and adds these blocks from the highest down. Takes no memory.
 pub fn rebuild(image: &mut Image, geometry: &Geometry, used: &[bool])
     requires fits { Fits geometry.now image.old }
     requires marks { length used.now ≡ geometry.now.zone_end }
@@ -126,7 +123,7 @@ pub fn rebuild(image: &mut Image, geometry: &Geometry, used: &[bool])
     }
 }
 
-/// Puts `b` as number `count` of the array in the super-block, which has one more then.
+/// Writes `b` as number `count` of the array in the super-block, and adds one to its count.
 fn push(image: &mut Image, super_block: Super, count: u16, b: u32)
     requires room { 1024 ≤ length image.old }
     requires slots { count < (constants super_block.edition).free_slots }

@@ -9,21 +9,21 @@ use pdp_words::{BLOCK, Image};
 use std::alloc::{AllocError, Global};
 use vol_layout::{Geometry, Super, number};
 
-/// Why a walk over the free list ended before its end.
+/// The fault that ends a walk over the free list before its end.
 #[derive(Clone, Copy, Debug, PartialEq, Eq)]
 pub enum FreeFault {
     /// A count above the size of the array.
     TooMany,
-    /// A number that is no data block's.
+    /// A number that is not that of a data block.
     OutOfZone,
-    /// A block that was met before.
+    /// A block that the walk has already met.
     Repeat,
 }
 
 impl FreeFault {
     ghost use Rattle.vol_free.specs.FreeWalk.{fault_word};
 
-    /// The words for it in a report.
+    /// Returns its words in a report.
     pub fn word(self) -> &'static str
         ensures { result.now ≡ fault_word self }
     {
@@ -38,9 +38,9 @@ impl FreeFault {
 /// The blocks that a walk over the free list met.
 #[derive(Debug, Drop)]
 pub struct FreeBlocks {
-    /// The blocks in their order: the next to be taken first.
+    /// The blocks in order: the next to be taken first.
     pub met: Vec<u32>,
-    /// Why the walk ended before its end, with the count or number at fault.
+    /// The fault that ended the walk, if any, with the count or number at fault.
     pub fault: Option<(FreeFault, u32)>,
 }
 
@@ -48,9 +48,9 @@ pub struct FreeBlocks {
 /// first fault ends it.
 #[derive(Clone, Copy, Debug)]
 pub struct FreeWalk {
-    /// The byte of the count before the array that the walk is in.
+    /// The byte of the count before the walk's current array.
     head: usize,
-    /// The number of entries of that array that are left. If it is 1, the next block holds the next count and array.
+    /// The number of entries left in that array. If it is 1, the next block holds the next count and array.
     pub count: u16,
     /// The number of blocks met.
     pub met: u32,
@@ -59,7 +59,7 @@ pub struct FreeWalk {
 impl FreeWalk {
     ghost use Rattle.vol_free.specs.Walking.{HasMet, StepFinds};
 
-    /// A walk that has met no block yet. No mark is set.
+    /// Returns a walk that has met no block yet. No mark is set.
     pub fn new(image: &Image, geometry: &Geometry) -> FreeWalk
         requires { Fits geometry.now image.now }
         ensures { (marks : List Bool) → length marks ≡ geometry.now.zone_end
@@ -75,8 +75,8 @@ impl FreeWalk {
         }
     }
 
-    /// Returns the next block, and marks it; or the fault that ends the walk, with its count or number; or `None` at
-    /// the end of the list. There is a mark for each block of the volume. Takes no memory.
+    /// Returns the next block and marks it, or the fault that ends the walk, with its count or number, or `None` at the end
+    /// of the list. There is a mark for each block of the volume. Takes no memory.
     pub fn next(
         &mut self,
         image: &Image,
@@ -114,7 +114,7 @@ impl FreeWalk {
         Some(Ok(b))
     }
 
-    /// Moves past data block `b`, the last of the numbers left.
+    /// Moves past data block `b`, the last of the entries left.
     fn pass(&mut self, image: &Image, b: u32)
         requires room { 512 * b + 2 ≤ length image.now }
         requires some { 1 ≤ self.old.count }
@@ -135,7 +135,8 @@ impl FreeWalk {
 
 /// Collects the blocks of the free list, up to its first fault.
 ///
-/// Reads the free list, and no block of it twice. Takes a byte for each block of the volume, and four for each block that is met.
+/// Reads each block of the free list at most once. Takes a byte for each block of the volume, and four for each block that
+/// is met.
 pub fn walk_free(
     alloc: Global,
     image: &Image,

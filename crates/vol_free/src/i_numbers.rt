@@ -1,5 +1,5 @@
-//! Free i-numbers, and the cache of up to 100 of them in the super-block, which only speeds things up:
-//! whether an i-number is free stands in its i-node.
+//! Free i-numbers, and the cache of up to 100 of them in the super-block. The cache only saves time: the mode of an i-node
+//! says if its i-number is free.
 ghost use Rattle.std.specs.Prelude.{◌≡◌, ℕ, ◌+◌, ◌<◌, ◌≤◌, IsTrue, ◌↔◌, IfSome, None, length};
 ghost use Rattle.pdp_words.specs.Words.{SameOutside};
 ghost use Rattle.vol_layout.specs.Edition.{constants};
@@ -11,13 +11,13 @@ use pdp_words::Image;
 use vol_layout::i_list::mode;
 use vol_layout::{Edition, Geometry, Super};
 
-/// I-numbers that the cache holds at most.
+/// The number of i-numbers that the cache can hold.
 const CACHE_SLOTS: u16 = 100;
 
-/// Takes a free i-number above the root's: from the cache, the last first, or where the cache is empty
-/// from the i-list, by which the cache is filled. What the cache holds and isn't free is thrown away when
-/// it is met. None exactly where no such i-number is free; the cache may have lost entries then. The
-/// i-number is free until its i-node is put. Takes no memory.
+/// Takes a free i-number above the root's: the last one in the cache, or, if the cache is empty, one from the i-list, which
+/// also fills the cache. Entries of the cache that aren't free are dropped on the way. Returns `None` if and only if no
+/// such i-number is free; the cache may have lost entries then. The i-number is free until its i-node is written. Takes no
+/// memory.
 pub fn take_inode(image: &mut Image, geometry: &Geometry) -> Option<u16>
     requires { Fits geometry.now image.old }
     ensures free { IfSome result (λ i. IsFreeNumber geometry.now image.old i) }
@@ -31,8 +31,8 @@ pub fn take_inode(image: &mut Image, geometry: &Geometry) -> Option<u16>
     }
 }
 
-/// The i-number that [`take_inode`] would take, which nothing changes for: the last of the cache that is free, or if
-/// none of it is, the last of the first hundred that are free in the i-list. None exactly if none is free.
+/// Returns the i-number that [`take_inode`] would take, and changes nothing: the last free one in the cache, or, if none of
+/// these is free, the last of the first hundred free ones in the i-list. Returns `None` if and only if none is free.
 pub fn next_inode(image: &Image, geometry: &Geometry) -> Option<u16>
     requires { Fits geometry.now image.now }
     ensures free { IfSome result (λ i. IsFreeNumber geometry.now image.now i) }
@@ -44,7 +44,7 @@ pub fn next_inode(image: &Image, geometry: &Geometry) -> Option<u16>
     }
 }
 
-/// Gives i-number `i` to the cache, if it has room; else nothing changes. Takes no memory.
+/// Puts i-number `i` in the cache if it has room; else changes nothing. Takes no memory.
 pub fn give_inode(image: &mut Image, geometry: &Geometry, i: u16)
     requires { Fits geometry.now image.old }
     ensures cached { cache_len geometry.now.edition image.old < 100
@@ -61,7 +61,7 @@ pub fn give_inode(image: &mut Image, geometry: &Geometry, i: u16)
     }
 }
 
-/// Takes i-numbers from the cache, the last first, up to one that is free. None where none of them is.
+/// Takes i-numbers from the cache, the last first, until one is free. Returns `None` if none of them is.
 fn take_cached(image: &mut Image, geometry: &Geometry) -> Option<u16>
     requires { Fits geometry.now image.old }
     ensures free { IfSome result (λ i. IsFreeNumber geometry.now image.old i) }
@@ -81,8 +81,8 @@ fn take_cached(image: &mut Image, geometry: &Geometry) -> Option<u16>
     None
 }
 
-/// Fills the cache with the first free i-numbers of the i-list, ascending, and takes the last of them.
-/// None where none is free.
+/// Fills the cache with the first free i-numbers of the i-list, in ascending order, and takes the last of them. Returns
+/// `None` if none is free.
 fn take_listed(image: &mut Image, geometry: &Geometry) -> Option<u16>
     requires { Fits geometry.now image.old }
     ensures free { IfSome result (λ i. IsFreeNumber geometry.now image.old i) }
@@ -110,7 +110,7 @@ fn take_listed(image: &mut Image, geometry: &Geometry) -> Option<u16>
     last_found
 }
 
-/// The last i-number of the cache that is free. None where none of them is.
+/// Returns the last free i-number of the cache, or `None` if none of them is free.
 fn next_cached(image: &Image, geometry: &Geometry) -> Option<u16>
     requires { Fits geometry.now image.now }
     ensures { IfSome result (λ i. IsFreeNumber geometry.now image.now i) }
@@ -127,7 +127,7 @@ fn next_cached(image: &Image, geometry: &Geometry) -> Option<u16>
     None
 }
 
-/// The last of the first hundred i-numbers that are free in the i-list. None where none is.
+/// Returns the last of the first hundred free i-numbers in the i-list, or `None` if none is free.
 fn next_listed(image: &Image, geometry: &Geometry) -> Option<u16>
     requires { Fits geometry.now image.now }
     ensures free { IfSome result (λ i. IsFreeNumber geometry.now image.now i) }
@@ -148,7 +148,7 @@ fn next_listed(image: &Image, geometry: &Geometry) -> Option<u16>
     last_found
 }
 
-/// How many i-numbers the cache holds; a count above 100 is as 0.
+/// Returns the number of i-numbers in the cache; a count above 100 reads as 0.
 fn cache_len(image: &Image, edition: Edition) -> u16
     requires { 1024 ≤ length image.now }
     ensures value { result ≡ cache_len edition image.now }
@@ -158,7 +158,7 @@ fn cache_len(image: &Image, edition: Edition) -> u16
     if count > CACHE_SLOTS { 0 } else { count }
 }
 
-/// Whether i-number `i`, which may be any, is above the root's, of the volume and free.
+/// True if i-number `i`, which may be any number, is above the root's, on the volume and free.
 pub fn is_free_inode(image: &Image, geometry: &Geometry, i: u16) -> bool
     requires { Fits geometry.now image.now }
     ensures { IsTrue result ↔ IsFreeNumber geometry.now image.now i }

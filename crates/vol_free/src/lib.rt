@@ -1,4 +1,4 @@
-//! What is free on a volume: its free blocks, and its free i-numbers.
+//! Free blocks and free i-numbers of a volume.
 #![tactic(auto)]
 
 pub mod free_list;

@@ -4,7 +4,7 @@ use Rattle.vol_free.specs.Stack.{IsFree}
 use Rattle.vol_free.proofs.Counting.{IsLeft}
 use Rattle.vol_free.proofs.free_list.free_count.Given as goal
 
--- a head stands at `head`, and the blocks that aren't counted are its stack
+-- a head is at `head`, and the blocks not yet counted are its stack
 abbrev pub invariant-loop-count : goal.invariant-loop-count
 invariant-loop-count l = record {
   few : l.count ≤ (constants l.geometry.edition).free_slots;

@@ -2,7 +2,7 @@ use Rattle.std.proofs.Common.{◌-◌, reverse}
 use Rattle.vol_free.specs.Walking.{HasMet, AreZoned}
 use Rattle.vol_free.proofs.free_walk.walk_free.Given as goal
 
--- what was met so far
+-- the blocks met so far
 abbrev pub invariant-walk : goal.invariant-walk
 invariant-walk l = record {
   walking : HasMet l.geometry l.image l.marks.items l.walk (reverse l.met.items);

@@ -1,4 +1,4 @@
--- What stays of the other files, where all bytes that aren't one file's stay.
+-- The other files, if all bytes outside one file stay.
 use Rattle.std.proofs.Common.{◌≡◌, ◌≢◌, ℕ, ◌+◌, ◌*◌, ◌<◌, ◌≤◌, ◌∙◌, sym, subst, List, ◌∷◌, length, refl, arith, inl, inr, Some, None, true}
 use Rattle.std.specs.Option.{option_map_or}
 use Rattle.std.proofs.lemmas.Bool.{cases_lt}
@@ -71,7 +71,7 @@ elsewhere_before geometry old new i j p fits stays one other place =
     place_kept geometry new old j p
     (copy_back old new (inode_place geometry.edition j) (constants geometry.edition).inode_bytes kept) place
 
--- the places of the other files name what they did
+-- the places of the other files name the same blocks as before
 pub elsewhere_named : (geometry : Geometry) (old new : List ℕ) (i j : ℕ) (p : List ℕ) → Fits geometry old → StaysElsewhere geometry old new i
     → 1 ≤ i → j ≢ i → IsPlaceOf geometry old j p → named geometry new j p ≡ named geometry old j p
 elsewhere_named geometry old new i j p fits stays one other place =
@@ -107,7 +107,7 @@ elsewhere_body geometry old new i j fits stays one other file =
     (record { file = file; place = (last_leaf (form_at geometry old j) b p e).place })))
     (λ b low zone. elsewhere_stored geometry old new i j b fits stays other file zone)
 
--- nothing changes where nothing is done
+-- nothing changes if nothing is done
 pub elsewhere_self : (geometry : Geometry) (image : List ℕ) (i : ℕ) → StaysElsewhere geometry image image i
 elsewhere_self geometry image i = record {
   len = refl;
@@ -146,7 +146,7 @@ elsewhere_then geometry old mid new i fits one s t = record {
   behind = λ k h. t.behind k h ∙ s.behind k h;
 }
 
--- what all other bytes' staying says of the other files
+-- the effect on the other files if all other bytes stay
 pub elsewhere_changes : (geometry : Geometry) (old new : List ℕ) (i : ℕ) → Fits geometry old → 1 ≤ i → StaysElsewhere geometry old new i
     → ChangesFileAlone geometry old new i
 elsewhere_changes geometry old new i fits one s = record {

@@ -53,7 +53,7 @@ at_same geometry old new i p ps e f =
     ap (λ xs. cond (not (named geometry new i p == 0)) (named geometry new i p ∷ xs) xs) f
     ∙ ap (λ k. cond (not (k == 0)) (k ∷ rest) rest) e
 
--- a place stands before those below it
+-- a place is before those below it
 pub from_below : (n : ℕ) (p : List ℕ) (d : ℕ) → places_from n p d ≡ p ∷ places_below n p d
 from_below n p zero = refl
 from_below n p (suc d) = refl
@@ -68,7 +68,7 @@ flat_none geometry image i f from (suc count) none =
     at_append geometry image i (f from) rest
     ∙ (ap (λ xs. xs ++ blocks_at geometry image i rest) (none from) ∙ flat_none geometry image i f (from + 1) count none)
 
--- where nothing is named at or under a place, the places from it on name no blocks
+-- if nothing is named at or under a place, the places from it on name no blocks
 pub from_none : (geometry : Geometry) (image : List ℕ) (i n d a : ℕ) (p : List ℕ)
     → ((q : List ℕ) → IsFront (a ∷ p) q → named geometry image i q ≡ 0) → blocks_at geometry image i (places_from n (a ∷ p) d) ≡ []
 from_none geometry image i n zero a p none = at_zero geometry image i (a ∷ p) [] (none (a ∷ p) (inl refl)) ∙ at_nil geometry image i

@@ -27,7 +27,7 @@ use Rattle.vol_file.proofs.Naming.{kinds_kept, sizes_kept, modes_kept, place_sam
 use Rattle.vol_file.proofs.Taking.{zone_two}
 use Rattle.vol_file.specs.Changes.{StaysElsewhere}
 
--- each place of the new image was one, and names what it did
+-- each place of the new image was one before, and names the same block
 pub same_names : (geometry : Geometry) (old new : List ℕ) (i j : ℕ) (p : List ℕ) → Fits geometry old → 1 ≤ i → StaysElsewhere geometry old new i
     → mode_of geometry new i ≡ mode_of geometry old i
     → ((q : List ℕ) → IsPlaceOf geometry old i q → named geometry new i q ≡ named geometry old i q)
@@ -45,7 +45,7 @@ same_names geometry old new i j p fits one stays mode names place =
           (before, elsewhere_named geometry old new i j p fits stays one other before)
     ]
 
--- the rules hold where the names, the kinds, the sizes and the free blocks stay
+-- the rules hold if the names, the kinds, the sizes and the free blocks stay
 pub same_sound : (geometry : Geometry) (old new blocks : List ℕ) (i : ℕ) → Rules3To7With geometry old blocks → 1 ≤ i → StaysElsewhere geometry old new i
     → mode_of geometry new i ≡ mode_of geometry old i → size_of geometry new i ≡ size_of geometry old i
     → ((q : List ℕ) → IsPlaceOf geometry old i q → named geometry new i q ≡ named geometry old i q)
@@ -66,7 +66,7 @@ same_sound geometry old new blocks i sound one stays mode size names free =
       outside = λ j p place within. let s = same j p place in sound.outside j p s.0 (subst (λ k. IsIn k blocks) s.1 within);
     }
 
--- each data block stays free or named where the names stay
+-- each data block stays free or named if the names stay
 pub same_covered : (geometry : Geometry) (old new blocks : List ℕ) (i : ℕ) → Rules3To7With geometry old blocks → 1 ≤ i → StaysElsewhere geometry old new i
     → mode_of geometry new i ≡ mode_of geometry old i
     → ((q : List ℕ) → IsPlaceOf geometry old i q → named geometry new i q ≡ named geometry old i q)
@@ -169,7 +169,7 @@ rewrites_block geometry old new blocks i b k s e p content sound file last is zo
           (copy_block old new m k wide (λ e. sound.outside i p place (subst (λ x. IsIn x blocks) (e ∙ sym is) within))).bytes r low;
     }
 
--- nothing is written where the bytes are the wanted ones
+-- nothing is written if the bytes are the wanted ones
 pub rewrites_none : (geometry : Geometry) (image blocks : List ℕ) (i lo hi : ℕ) (content : ℕ → ℕ) → Rules3To7With geometry image blocks
     → ((n : ℕ) → lo ≤ n → n < hi → body_byte geometry image i n ≡ content n) → Rewrites geometry image image i lo hi content blocks
 rewrites_none geometry image blocks i lo hi content sound bytes = record {
@@ -247,7 +247,7 @@ stored_zone geometry image blocks i b sound file =
       | Some p ↦ λ e some. sound.zoned i p (record { file = file; place = (last_leaf (form_at geometry image i) b p e).place }) some
     ] refl
 
--- what is stored stays where the names do
+-- stored numbers stay if the names do
 pub stored_same : (geometry : Geometry) (old new blocks : List ℕ) (i lo hi b : ℕ) (form : Form) (content : ℕ → ℕ) → IsFile geometry old i
     → form ≡ form_at geometry old i → Rewrites geometry old new i lo hi content blocks → stored geometry new i form b ≡ stored geometry old i form b
 stored_same geometry old new blocks i lo hi b form content file is r =

@@ -1,4 +1,4 @@
--- What storing a number in an address of an i-node, or in an entry of an indirect block, does to what places name.
+-- The names of places after a number is stored in an address of an i-node, or in an entry of an indirect block.
 use Rattle.std.proofs.Common.{◌≡◌, ◌≢◌, ℕ, ◌+◌, ◌*◌, ◌<◌, ◌≤◌, ◌⊎◌, ◌∙◌, sym, ap, subst, List, [], ◌∷◌, arith, inl, inr, true}
 use Rattle.std.proofs.lemmas.Bool.{cases_lt, cases_eq}
 use Rattle.std.proofs.lemmas.Bool.Decides.{nat_tests}
@@ -29,7 +29,7 @@ use Rattle.vol_file.specs.Changes.{StaysElsewhere, is_kept_byte}
 use Rattle.vol_file.proofs.Stores.{Stores}
 use Rattle.vol_file.proofs.Fronts.{front_longer}
 
--- another number of an array stays where one is written
+-- another number of an array stays if one is written
 pub number_other : (edition : Edition) (old new : List ℕ) (at j h : ℕ)
     → SameOutside old new (at + (constants edition).number_bytes * j) (at + (constants edition).number_bytes * (j + 1))
     → h ≢ j → number edition new at h ≡ number edition old at h
@@ -44,7 +44,7 @@ pub number_above : (edition : Edition) (old new : List ℕ) (m h from to : ℕ) 
 number_above V6 old new m h from to same high = word_above same (512 * m + 2 * h) (omega arith)
 number_above V7 old new m h from to same high = long_above same (512 * m + 4 * h) (omega arith)
 
--- a byte of an i-node that a write of a file keeps stands apart from each of its addresses
+-- a byte of an i-node that a write of a file keeps is outside each of its addresses
 kept_apart : (edition : Edition) (i k r : ℕ) → is_kept_byte edition r ≡ true → k < address_count edition
     → (inode_place edition i + r < address_place edition i k)
     ⊎ (address_place edition i k + address_bytes edition ≤ inode_place edition i + r)
@@ -53,7 +53,7 @@ kept_apart V6 i k r kept h =
 kept_apart V7 i k r kept h =
     elim (cases_lt r 12) [ inl less ↦ inl (omega arith) | inr more ↦ let high : 51 ≤ r = grind (arith, nat_tests) in inr (omega arith) ]
 
--- a block that a file names by the rules is a data block, where the rules hold
+-- a block that a file names by the rules is a data block, if the rules hold
 pub names_zoned : (geometry : Geometry) (image : List ℕ) (blocks : List ℕ) (j : ℕ) (p : List ℕ) (k : ℕ) → Rules3To7With geometry image blocks
     → NamesBlock geometry image j p k → in_zone geometry k ≡ true
 names_zoned geometry image blocks j p k sound names =
@@ -86,7 +86,7 @@ address_elsewhere geometry old new blocks i k sound file h same =
       behind = λ x b. same.above x (omega (arith, room.1, zone));
     }
 
--- a number put in address k of file i is what that address names, and places that don't begin with it name what they did
+-- a number put in address k of file i becomes the name of that address, and places that don't begin with it keep theirs
 pub stores_address : (geometry : Geometry) (old new blocks : List ℕ) (i k v : ℕ) → Rules3To7With geometry old blocks → IsFile geometry old i
     → k < address_count geometry.edition
     → SameOutside old new (address_place geometry.edition i k) (address_place geometry.edition i k + address_bytes geometry.edition)
@@ -121,7 +121,7 @@ pub kept_within : (edition : Edition) (r : ℕ) → is_kept_byte edition r ≡ t
 kept_within V6 r kept = grind (arith, nat_tests)
 kept_within V7 r kept = grind (arith, nat_tests)
 
--- where an entry ends
+-- the end of an entry
 pub entry_end : (at size j : ℕ) → size * j + size ≤ 512 → at + size * (j + 1) ≤ at + 512
 entry_end at size j h = let more : size * (j + 1) ≡ size * j + size = grind arith in omega arith
 
@@ -148,8 +148,8 @@ block_elsewhere geometry old new blocks i m q sound place is zone same =
       behind = λ x b. same.above x (omega (arith, bounds.1));
     }
 
--- a number put in entry j of the block that a place of file i names is what that entry names, and places that don't go
--- through it name what they did
+-- a number put in entry j of the block that a place of file i names becomes the name of that entry, and places that don't pass
+-- through it keep theirs
 pub stores_entry : (geometry : Geometry) (old new blocks : List ℕ) (i m j a v : ℕ) (p : List ℕ) → Rules3To7With geometry old blocks
     → IsPlaceOf geometry old i (j ∷ (a ∷ p)) → named geometry old i (a ∷ p) ≡ m → in_zone geometry m ≡ true
     → SameOutside old new (512 * m + (constants geometry.edition).number_bytes * j) (512 * m + (constants geometry.edition).number_bytes * (j + 1))

@@ -18,7 +18,7 @@ use Rattle.vol_file.proofs.Fronts.{front_zero, front_under, under_front, under_l
 use Rattle.vol_file.proofs.Naming.{place_same}
 use Rattle.vol_file.proofs.Taking.{rest_within}
 
--- where places name nothing already, nothing is done to clear them
+-- if places name nothing already, nothing is done to clear them
 pub clears_none : (geometry : Geometry) (image : List ℕ) (i : ℕ) (Cleared : List ℕ → Type 0) (blocks : List ℕ) → Rules3To7With geometry image blocks
     → ((q : List ℕ) → IsPlaceOf geometry image i q → Cleared q → named geometry image i q ≡ 0)
     → Clears geometry image image i Cleared [] blocks
@@ -35,7 +35,7 @@ clears_none geometry image i Cleared blocks sound none = record {
   unused = λ k r within low. refl;
 }
 
--- two steps one after the other clear what each clears
+-- two steps one after the other clear the places that each clears
 pub clears_then : (geometry : Geometry) (old mid new : List ℕ) (i : ℕ) (First Second Both : List ℕ → Type 0) (given more blocks : List ℕ)
     → Fits geometry old → 1 ≤ i
     → ((q : List ℕ) → Both q → First q ⊎ Second q) → ((q : List ℕ) → First q → Both q) → ((q : List ℕ) → Second q → Both q)
@@ -89,8 +89,8 @@ clears_as geometry old new i Cleared Other given same blocks e split other s = r
   unused = s.unused;
 }
 
--- the entries of place p from entry j on are cleared, of `count` entries, below each of which so many more levels lie,
--- where they are past the kept blocks
+-- of `count` entries of place p, those from entry j on are cleared, if they are past the kept blocks; each has `level` more
+-- levels below it
 abbrev pub ClearsFrom : Geometry → List ℕ → List ℕ → ℕ → (List ℕ → Bool) → ℕ → (ℕ → ℕ) → List ℕ → ℕ → ℕ → List ℕ → Type 0
 ClearsFrom geometry old new i past n level p count j blocks =
     Clears geometry old new i (IsPastUnder past p j) (past_at geometry old i past (places_among n level p j (count - j))) blocks
@@ -135,7 +135,7 @@ from_none_on geometry old new i past n level p count j k blocks next few fits pl
     ])
     (λ q under. (under_more p q j k (omega arith) under.0, under.1)) s
 
--- an entry that names a block is cleared once what lies below it is, and then the entry itself
+-- an entry that names a block is cleared once the places below it are, and then the entry itself
 pub from_some_on : (geometry : Geometry) (old mid low new : List ℕ) (i : ℕ) (past : List ℕ → Bool) (n b : ℕ) (level : ℕ → ℕ) (p : List ℕ) (count j k : ℕ) (blocks : List ℕ)
     → k ≡ j + 1 → k ≤ count → Fits geometry old → IsPlaceOf geometry old i (j ∷ p)
     → n ≤ pointer_count (form_at geometry old i) → level j ≤ levels_below (form_at geometry old i) (j ∷ p) → IsNamedAt geometry mid i (j ∷ p) b
@@ -169,7 +169,7 @@ from_some_on geometry old mid low new i past n b level p count j k blocks next f
     (λ q front. (under_here p q j front, all q front)) s rest in
     subst (λ xs. Clears geometry old new i (IsPastUnder past p j) xs blocks) list whole
 
--- an entry below which kept blocks lie is cleared once what lies behind them is
+-- an entry with kept blocks below it is cleared once the places after them are
 pub from_part_on : (geometry : Geometry) (old mid new : List ℕ) (i : ℕ) (past : List ℕ → Bool) (n : ℕ) (level : ℕ → ℕ) (p : List ℕ) (count j k : ℕ) (blocks : List ℕ)
     → k ≡ j + 1 → k ≤ count → Fits geometry old → IsPlaceOf geometry old i (j ∷ p)
     → n ≤ pointer_count (form_at geometry old i) → level j ≤ levels_below (form_at geometry old i) (j ∷ p) → past (j ∷ p) ≡ false
@@ -223,7 +223,7 @@ from_kept_on geometry old new i past n level p count j k blocks next few place m
     ])
     (λ q under. (under_more p q j k (omega arith) under.0, under.1)) s
 
--- what is known of an entry before its step: its block still names what it did
+-- an entry before its step: its block still names what it did
 pub from_above : (geometry : Geometry) (old new : List ℕ) (i : ℕ) (past : List ℕ → Bool) (n m : ℕ) (level : ℕ → ℕ) (p : List ℕ) (count k : ℕ) (blocks : List ℕ)
     → IsNamedAt geometry old i p m → ClearsFrom geometry old new i past n level p count k blocks → IsNamedAt geometry new i p m
 from_above geometry old new i past n m level p count k blocks is s = record {
@@ -237,7 +237,7 @@ pub entry_place : (geometry : Geometry) (image : List ℕ) (i j a : ℕ) (p : Li
     → 1 ≤ levels_below (form_at geometry image i) (a ∷ p) → j < pointer_count (form_at geometry image i) → IsPlaceOf geometry image i (j ∷ (a ∷ p))
 entry_place geometry image i j a p place deep low = record { file = place.file; place = (low, deep, place.place) }
 
--- the number at an entry of a block that a place names is what the entry names
+-- the number at an entry of a block that a place names is the entry's name
 pub entry_named : (geometry : Geometry) (image blocks : List ℕ) (i j a m : ℕ) (p : List ℕ) → Rules3To7With geometry image blocks
     → IsNamedAt geometry image i (a ∷ p) m → named geometry image i (j ∷ (a ∷ p)) ≡ number geometry.edition image (512 * m) j
 entry_named geometry image blocks i j a m p sound is =
@@ -246,7 +246,7 @@ entry_named geometry image blocks i j a m p sound is =
     subst (λ x. named geometry image i (j ∷ (a ∷ p)) ≡ number geometry.edition image (512 * x) j) is.names
     (entry_in geometry image (named geometry image i (a ∷ p)) j (ap (in_zone geometry) is.names ∙ zone))
 
--- a place names its block still once what lies below it is cleared
+-- a place still names its block once the places below it are cleared
 pub below_named : (geometry : Geometry) (old new : List ℕ) (i : ℕ) (past : List ℕ → Bool) (b : ℕ) (q given blocks : List ℕ) → IsNamedAt geometry old i q b
     → Clears geometry old new i (IsPastUnder past q 0) given blocks → IsNamedAt geometry new i q b
 below_named geometry old new i past b q given blocks is s = record {

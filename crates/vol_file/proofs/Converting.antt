@@ -27,7 +27,7 @@ use Rattle.vol_layout.proofs.LastPlaces.{last_small, last_large}
 use Rattle.vol_file.proofs.Taking.{first_unnamed, first_zoned, first_once, rest_in}
 use Rattle.vol_file.specs.Changes.{StaysElsewhere}
 
--- what was done to file i, by the free block b: its addresses are moved down into it, and it is large
+-- the change to file i, with the free block b: its addresses are moved down into b, and it is large
 pub record Moves (geometry : Geometry) (old new : List ℕ) (i b : ℕ) (rest : List ℕ) : Type 0 where
   pub alone : StaysElsewhere geometry old new i
   pub free : IsFree geometry new rest
@@ -42,8 +42,8 @@ pub record Moves (geometry : Geometry) (old new : List ℕ) (i b : ℕ) (rest : 
   pub empty : (j : ℕ) → 8 ≤ j → j < 256 → named geometry new i (j ∷ (0 ∷ [])) ≡ 0
   pub bytes : (k r : ℕ) → in_zone geometry k ≡ true → k ≢ b → r < 512 → get_or new (512 * k + r) 0 ≡ get_or old (512 * k + r) 0
 
--- what a place of the large file, or of another file, names: the block taken, what the address that was moved down to it
--- named, what it named before, or nothing
+-- the block that a place of the large file, or of another file, names: the block taken, the one that the address moved down to
+-- it named, the one that it named before, or none
 data Origin (geometry : Geometry) (old new : List ℕ) (i b j : ℕ) (p : List ℕ) : Type 0 where
   fresh : j ≡ i → p ≡ 0 ∷ [] → named geometry new j p ≡ b → Origin geometry old new i b j p
   moved : (x : ℕ) → j ≡ i → x < 8 → p ≡ x ∷ (0 ∷ []) → named geometry new j p ≡ named geometry old i (x ∷ []) → Origin geometry old new i b j p
@@ -69,7 +69,7 @@ deep_absurd l j k h q place =
     let few : levels_below Large (h ∷ q) ≤ 2 = few_levels h q in
     let deep : 1 ≤ levels_below Large (h ∷ q) - 1 - 1 = place.1 in omega (arith, few, deep)
 
--- a place with three indexes or more names nothing, since only what the last address leads to has as many
+-- a place with three indexes or more names nothing, since only those below the last address have as many
 deep_none : (geometry : Geometry) (old new : List ℕ) (i b : ℕ) (rest : List ℕ) (l j k : ℕ) (q : List ℕ) → Fits geometry new → Moves geometry old new i b rest
     → IsPlace Large (l ∷ (j ∷ (k ∷ q))) → named geometry new i (l ∷ (j ∷ (k ∷ q))) ≡ 0
 deep_none geometry old new i b rest l j k [] fits moves place =
@@ -242,11 +242,11 @@ small_place [] place = absurd place
 small_place (k ∷ []) place = record { index = k; low = place; is = refl }
 small_place (j ∷ (a ∷ p)) place = let none : levels_below Small (a ∷ p) ≡ 0 = small_levels (a ∷ p) in let deep = place.1 in absurd (omega (arith, none, deep))
 
--- the place to which an address is moved down
+-- the place to which an address moves down
 moved_place : (x : ℕ) → x < 8 → IsPlace Large (x ∷ (0 ∷ []))
 moved_place x h = (omega arith, omega arith, omega arith)
 
--- each data block is free or named, where it was
+-- each data block is free or named, if it was before
 large_covered : (geometry : Geometry) (old new : List ℕ) (i b : ℕ) (rest : List ℕ) → Rules3To7With geometry old (b ∷ rest) → IsFile geometry old i
     → Moves geometry old new i b rest → IsFile geometry new i → IsCovered geometry old (b ∷ rest) → IsCovered geometry new rest
 unfolding IsIn
@@ -308,7 +308,7 @@ large_names geometry old new i b rest fits some moves (j ∷ (k ∷ [])) place =
 large_names geometry old new i b rest fits some moves (l ∷ (j ∷ (k ∷ q))) place =
     unnamed_false geometry new i (l ∷ (j ∷ (k ∷ q))) (deep_none geometry old new i b rest l j k q fits moves place)
 
--- the first eight logical blocks stand in the first indirect block
+-- the first eight logical blocks are in the first indirect block
 first_leaf : (c : ℕ) → c < 8 → (c % 256) ∷ ((c / 256) ∷ []) ≡ c ∷ (0 ∷ [])
 first_leaf c h =
     let rest : c % 256 ≡ c = omega arith in

@@ -58,7 +58,7 @@ stored_unnamed geometry old mid blocks i b q sound is store =
       ];
     }
 
--- what the two steps leave: file i's place and those under it name nothing, and its other places what they did
+-- the result of the two steps: file i's place and those below it name nothing, and its other places keep their names
 record Dropped (geometry : Geometry) (old new : List ℕ) (i : ℕ) (q : List ℕ) : Type 0 where
   alone : StaysElsewhere geometry old new i
   mode : mode_of geometry new i ≡ mode_of geometry old i

@@ -23,7 +23,7 @@ use Rattle.vol_file.proofs.Truncated.{addresses_file}
 use Rattle.vol_file.proofs.PlaceLists.{front_first}
 use Rattle.vol_file.proofs.Naming.{root_first}
 
--- the size, the links and the addresses of an i-node are 0 where its bytes behind the mode are
+-- the size, the links and the addresses of an i-node are 0 if its bytes after the mode are
 size_zero : (edition : Edition) (image : List ℕ) (at : ℕ)
     → ((r : ℕ) → 2 ≤ r → r < (constants edition).inode_bytes → get_or image (at + r) 0 ≡ 0) → size_at edition image at ≡ 0
 size_zero V6 image at zero =
@@ -96,7 +96,7 @@ bare_after geometry old new x one same bare = record {
       byte ∙ bare.bytes j first last r low high;
 }
 
--- where the i-list is zeros each i-node has nothing
+-- if the i-list is zeros each i-node has nothing
 pub bare_zeros : (geometry : Geometry) (image : List ℕ) → Fits geometry image
     → ((k : ℕ) → 1024 ≤ k → k < 512 * geometry.zone_start → get_or image k 0 ≡ 0) → HasBareInodes geometry image
 bare_zeros geometry image fits zero = record {
@@ -116,7 +116,7 @@ bare_named geometry image j p fits bare place =
     (address_zero geometry.edition image (inode_place geometry.edition j) base.0 (bare.bytes j place.file.first place.file.last) (omega (arith, base.1, few)))
     base.2
 
--- the rules hold where each i-node has nothing but a mode, and the kinds are as they must be
+-- the rules hold if each i-node has nothing but a mode, and the kinds are as they must be
 pub bare_sound : (geometry : Geometry) (image blocks : List ℕ) → Fits geometry image → HasBareInodes geometry image → HasKinds geometry image
     → IsFree geometry image blocks → Rules3To7With geometry image blocks
 bare_sound geometry image blocks fits bare kinds free =
@@ -139,7 +139,7 @@ bare_sound geometry image blocks fits bare kinds free =
           (bare_named geometry image j p fits bare place);
     }
 
--- the kinds where an i-list of zeros has got a root and a file
+-- the kinds of an i-list of zeros with a root and a file
 kinds_put : (geometry : Geometry) (old mid new : List ℕ) (i : ℕ) → Fits geometry old
     → ((k : ℕ) → 1024 ≤ k → k < 512 * geometry.zone_start → get_or old k 0 ≡ 0)
     → SameOutside old mid (inode_place geometry.edition (constants geometry.edition).root) (inode_place geometry.edition (constants geometry.edition).root + 2)

@@ -1,4 +1,4 @@
--- What the writes that make a small file large do to its names.
+-- The names of a small file's places after the writes that make it large.
 use Rattle.std.proofs.Common.{◌≡◌, ℕ, ◌+◌, ◌*◌, ◌<◌, ◌≤◌, ◌⊎◌, ◌∙◌, sym, ap, List, [], ◌∷◌, get_or, refl, arith, inl, inr, true, false, if◌then◌else◌, ltb}
 use Rattle.std.proofs.lemmas.Bool.{cases_lt, lt-ltb, ltb-true}
 use Rattle.std.proofs.lemmas.Bool.Decides.{nat_tests}
@@ -60,7 +60,7 @@ first_place : (edition : Edition) (i : ℕ) → edition ≡ V6
 first_place V6 i v6 = (omega arith, omega arith, refl, refl, refl)
 first_place V7 i v6 = absurd (cc)
 
--- the kept bytes of the sixth edition stand between the mode and the addresses, or behind these
+-- the kept bytes of the sixth edition are between the mode and the addresses, or after these
 kept_between : (edition : Edition) (r : ℕ) → edition ≡ V6 → is_kept_byte edition r ≡ true → (2 ≤ r) × ((r < 8) ⊎ (24 ≤ r)) × (r < 32)
 kept_between V6 r v6 kept =
     (grind (arith, nat_tests), elim (cases_lt r 8) [ inl less ↦ inl less | inr more ↦ inr (grind (arith, nat_tests)) ], grind (arith, nat_tests))
@@ -97,7 +97,7 @@ word_cleared V6 two i k v6 zero =
     ] refl
 word_cleared V7 two i k v6 zero = absurd (cc)
 
--- behind the addresses the block is zero
+-- after the addresses the block is zero
 word_empty : (edition : Edition) (one : List ℕ) (b j : ℕ) → edition ≡ V6 → 8 ≤ j → j < 256
     → ((r : ℕ) → 16 ≤ r → r < 512 → get_or one (512 * b + r) 0 ≡ 0) → number edition one (512 * b) j ≡ 0
 word_empty V6 one b j v6 low high zero =

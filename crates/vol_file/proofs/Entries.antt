@@ -18,7 +18,7 @@ use Rattle.vol_file.proofs.Stores.{Stores}
 use Rattle.vol_file.specs.Clears.{IsNamedAt}
 use Rattle.vol_file.proofs.Cells.{entry_end, stores_entry, stores_address}
 
--- what a place names is a data block
+-- a block that a place names is a data block
 pub named_zone : (geometry : Geometry) (image blocks : List ℕ) (i b : ℕ) (q : List ℕ) → Rules3To7With geometry image blocks
     → IsNamedAt geometry image i q b → in_zone geometry b ≡ true
 named_zone geometry image blocks i b q sound is =

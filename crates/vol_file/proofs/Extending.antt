@@ -52,7 +52,7 @@ number_zero V7 image b x zero h =
     let four : get_or image (512 * b + 4 * x + 2 + 1) 0 ≡ 0 = byte_at image (512 * b + 4 * x + 2 + 1) (512 * b + (4 * x + 3)) (omega arith) (zero (4 * x + 3) (omega arith)) in
     omega (arith, one, two, three, four)
 
--- the bytes of a body stay where those of each last place's block do
+-- the bytes of a body stay if those of each last place's block do
 pub body_same : (geometry : Geometry) (old new : List ℕ) (i : ℕ) → Fits geometry old → form_at geometry new i ≡ form_at geometry old i
     → ((b : ℕ) (p : List ℕ) (r : ℕ) → last_place (form_at geometry old i) b ≡ Some p → r < 512
     → zone_byte geometry new (named geometry new i p) r ≡ zone_byte geometry old (named geometry old i p) r)
@@ -66,7 +66,7 @@ body_same geometry old new i fits form same n =
       | Some p ↦ λ e. same (n / 512) p (n % 512) e (omega arith)
     ] refl ∙ sym (body_byte_is geometry old i n)))
 
--- where all places of a list but one are counted as before, and that comes once, one less is counted
+-- if all places of a list except one are counted as before, and that one occurs once, one fewer is counted
 pub count_less : (f g : List ℕ → Bool) (q : List ℕ) (qs : List (List ℕ)) (n : ℕ) → count_by (bytes_eq q) qs ≡ n → f q ≡ true → g q ≡ false
     → ((p : List ℕ) → IsAmong p qs → p ≢ q → g p ≡ f p) → count_by g qs + n ≡ count_by f qs
 count_less f g q [] n once here gone others = omega (arith, once)
@@ -109,7 +109,7 @@ lacking_less geometry old new i q wanted form place want before after others =
     (λ p among differ. ap (λ t. wanted p && not t)
     (others p (record { file = place.file; place = among_places (form_at geometry old i) p among }) differ))
 
--- the bytes of file i stay where a zeroed block is put at one of its places
+-- the bytes of file i stay if a zeroed block is put at one of its places
 extends_bytes : (geometry : Geometry) (old mid new : List ℕ) (i b : ℕ) (q rest : List ℕ) → Rules3To7With geometry old (b ∷ rest) → IsFile geometry old i
     → IsPlaceOf geometry old i q → named geometry old i q ≡ 0 → Popped geometry old mid b rest → Rules3To7With geometry mid rest
     → mode_of geometry mid i ≡ mode_of geometry old i
@@ -150,7 +150,7 @@ extends_bytes geometry old mid new i b q rest sound file place none popped after
           (zone_two geometry old (named geometry old i p) sound.fits zone) (unnamed i p place_p)).bytes r low)
     ])
 
--- each data block is free or named, where it was and the first free block is named now
+-- each data block is free or named, if it was before and the first free block is now named
 extends_covered : (geometry : Geometry) (old new : List ℕ) (i b : ℕ) (q rest : List ℕ) → Rules3To7With geometry old (b ∷ rest) → IsFile geometry old i
     → IsPlaceOf geometry old i q → named geometry old i q ≡ 0 → StaysElsewhere geometry old new i → mode_of geometry new i ≡ mode_of geometry old i
     → named geometry new i q ≡ b → b ≢ 0
@@ -195,7 +195,7 @@ extends_names geometry old new i b q none here some only p place =
           same ∙ sym (ap (λ t. is_named geometry old i p || t) (other_place p q differ) ∙ or-false (is_named geometry old i p))
     ]
 
--- the blocks that stay free keep their bytes where the first was taken and put at a place
+-- the blocks that stay free keep their bytes if the first was taken and put at a place
 keeps_stored : (geometry : Geometry) (old mid new : List ℕ) (i b : ℕ) (q rest : List ℕ) → Rules3To7With geometry old (b ∷ rest)
     → Popped geometry old mid b rest → Rules3To7With geometry mid rest → Stores geometry mid new i q b rest → KeepsBlocks old new rest
 keeps_stored geometry old mid new i b q rest sound popped after_take stores k r within low =

@@ -28,7 +28,7 @@ use Rattle.vol_file.proofs.Taking.{rest_within}
 use Rattle.vol_file.proofs.Ranges.{missing_all_same}
 use Rattle.vol_file.proofs.Lasts.{or_true}
 
--- a test that holds of what is there
+-- a test on the places that exist
 and_gone : (x y : Bool) → (x && not (y || x)) ≡ false
 and_gone true true = refl
 and_gone true false = refl
@@ -47,7 +47,7 @@ lacking_none geometry old new i wanted file mode names =
     ap (λ t. wanted p && not t) (names p (record { file = file; place = place })) ∙ and_gone (wanted p) (is_named geometry old i p))
     ∙ count_none (λ p. false) (places (form_at geometry new i)) (λ p. refl)
 
--- what is lacking on some ways is what is missing there
+-- the places lacking on some ways are those missing there
 lacking_missing : (geometry : Geometry) (image : List ℕ) (i : ℕ) (form : Form) (names : List ℕ → Bool) (touches : List ℕ)
     → form_at geometry image i ≡ form → ((p : List ℕ) → IsPlace form p → is_named geometry image i p ≡ names p)
     → lacking geometry image i (is_on_ways form touches) ≡ missing_count form names touches
@@ -71,20 +71,20 @@ grows_few Large last e small = absurd (cc)
 grows_few Deep last e small = absurd (cc)
 grows_few Bare last e small = absurd (cc)
 
--- the need where the file keeps its form
+-- the need if the file keeps its form
 need_plain : (form : Form) (names : List ℕ → Bool) (touches : List ℕ) → grows_large form touches ≡ false
     → need_of form names touches ≡ missing_count form names touches
 unfolding need_of
 need_plain form names touches grows =
     rw grows (omega arith)
 
--- the need where the file becomes large
+-- the need if the file becomes large
 need_large : (form : Form) (names : List ℕ → Bool) (touches : List ℕ) → grows_large form touches ≡ true
     → need_of form names touches ≡ missing_count Large (moved_down names) touches + 1
 unfolding need_of
 need_large form names touches grows = rw grows refl
 
--- the ways are wanted, where the file keeps its form and the need is met
+-- the ways are wanted, if the file keeps its form and the need is met
 pub wants_plain : (geometry : Geometry) (image : List ℕ) (i from n : ℕ) (blocks : List ℕ) → IsFile geometry image i → Rules3To7With geometry image blocks
     → grows_large (form_at geometry image i) (range_with_len from n) ≡ false
     → need_of (form_at geometry image i) (is_named geometry image i) (range_with_len from n) ≤ length blocks
@@ -101,23 +101,23 @@ wants_plain geometry image i from n blocks file sound grows room limit =
       want = λ p on. on;
     }
 
--- how many were taken
+-- the number of blocks taken
 taken_count : (blocks taken rest : List ℕ) → blocks ≡ taken ++ rest → length blocks ≡ length taken + length rest
 taken_count blocks taken rest e = ap length e ∙ length-append taken rest
 
--- the places for which blocks are taken where the file keeps its form
+-- the places for which blocks are taken if the file keeps its form
 taken_plain : (form : Form) (names : List ℕ → Bool) (touches : List ℕ) → grows_large form touches ≡ false
     → places_taken form names touches ≡ missing_places form names touches
 taken_plain form names touches grows =
     ap (λ t. (if t then (0 ∷ []) ∷ [] else []) ++ missing_places (if t then Large else form) (if t then moved_down names else names) touches) grows
 
--- the places for which blocks are taken where the file becomes large
+-- the places for which blocks are taken if the file becomes large
 taken_large : (form : Form) (names : List ℕ → Bool) (touches : List ℕ) → grows_large form touches ≡ true
     → places_taken form names touches ≡ (0 ∷ []) ∷ missing_places Large (moved_down names) touches
 taken_large form names touches grows =
     ap (λ t. (if t then (0 ∷ []) ∷ [] else []) ++ missing_places (if t then Large else form) (if t then moved_down names else names) touches) grows
 
--- all ways are named, where the file keeps its form
+-- all ways are named, if the file keeps its form
 pub fills_plain : (geometry : Geometry) (old new : List ℕ) (i from n : ℕ) (blocks : List ℕ) → IsFile geometry old i
     → grows_large (form_at geometry old i) (range_with_len from n) ≡ false
     → NamesWays geometry old new i (is_on_ways (form_at geometry old i) (range_with_len from n)) from n blocks
@@ -258,7 +258,7 @@ grows_not Bare from n low = refl
 pub grows_then : (form : Form) (from n : ℕ) → form ≡ Small → 1 ≤ n → 8 < from + n → grows_large form (range_with_len from n) ≡ true
 grows_then form from n is some high = ap (λ f. grows_large f (range_with_len from n)) is ∙ high_run from n some high
 
--- what the greatest size says of the blocks
+-- the bound on blocks that the greatest size gives
 pub limit_of : (edition : Edition) (mode to : ℕ) → has_places (kind_of edition mode) ≡ true → 512 * to < (constants edition).greatest + 512
     → (form_of edition mode ≡ Small → to ≤ 8) → to ≤ block_limit (form_of edition mode)
 limit_of V6 mode to kind h low =
@@ -287,7 +287,7 @@ pub enlarged_file : (geometry : Geometry) (old mid : List ℕ) (i : ℕ) (blocks
 enlarged_file geometry old mid i blocks file enlarged =
     record { first = file.first; last = file.last; kind = large_kind geometry.edition (mode_of geometry mid i) enlarged.form }
 
--- where the file becomes large a block is needed
+-- if the file becomes large a block is needed
 pub room_some : (form : Form) (names : List ℕ → Bool) (touches blocks : List ℕ) → grows_large form touches ≡ true
     → need_of form names touches ≤ length blocks → 1 ≤ length blocks
 room_some form names touches blocks grows room = let need = need_large form names touches grows in omega (arith, need, room)

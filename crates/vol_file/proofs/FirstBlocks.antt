@@ -11,19 +11,19 @@ use Rattle.vol_layout.specs.declared.block_map.Form.{Form}
 use Rattle.vol_layout.specs.declared.block_map.Form.TheVariants.{Small, Large, Deep, Bare}
 use Rattle.vol_file.specs.Clears.{first_block, is_past}
 
--- a place is past the kept blocks where its first block is
+-- a place is past the kept blocks if its first block is
 pub past_true : (form : Form) (kept : ℕ) (q : List ℕ) → kept ≤ first_block form q → is_past form kept q ≡ true
 past_true form kept q h = grind (arith, nat_tests, h)
 
--- a place isn't past them where its first block is kept
+-- a place isn't past them if its first block is kept
 pub past_false : (form : Form) (kept : ℕ) (q : List ℕ) → first_block form q < kept → is_past form kept q ≡ false
 past_false form kept q h = grind (arith, nat_tests, h)
 
--- what is past the kept blocks has its first block there
+-- a place past the kept blocks has its first block past them
 pub past_from : (form : Form) (kept : ℕ) (q : List ℕ) → is_past form kept q ≡ true → kept ≤ first_block form q
 past_from form kept q h = grind (arith, nat_tests, h)
 
--- what isn't past them has its first block among them
+-- a place that isn't past them has its first block among them
 pub past_within : (form : Form) (kept : ℕ) (q : List ℕ) → is_past form kept q ≡ false → first_block form q < kept
 past_within form kept q h = grind (arith, nat_tests, h)
 
@@ -36,14 +36,14 @@ first_front form a p (j ∷ (b ∷ r)) (inr front) =
     let above : first_block form (a ∷ p) ≤ first_block form (b ∷ r) = first_front form a p (b ∷ r) front in
     omega (arith, above)
 
--- what has a front past the kept blocks is past them
+-- a place with a front past the kept blocks is past them
 pub past_front : (form : Form) (kept a : ℕ) (p q : List ℕ) → is_past form kept (a ∷ p) ≡ true → IsFront (a ∷ p) q → is_past form kept q ≡ true
 past_front form kept a p q on front =
     let here = past_from form kept (a ∷ p) on in
     let later = first_front form a p q front in
     past_true form kept q (omega (arith, here, later))
 
--- how many logical blocks lie at or below a place
+-- the number of logical blocks at or below a place
 abbrev pub spread_of : Form → List ℕ → ℕ
 spread_of form q = pointer_count form ^ levels_below form q
 
@@ -92,22 +92,22 @@ entry_first form n level j a p many deep =
     ap (λ c. first_block form (a ∷ p) + j * c ^ levels_below form (j ∷ (a ∷ p))) many
     ∙ ap (λ d. first_block form (a ∷ p) + j * n ^ (d - 1)) deep
 
--- what is left of the kept blocks behind more of them
+-- the kept blocks that are left after more of them
 sub_more : (bound first more kept rest : ℕ) → kept ≡ bound - first → rest ≡ kept - more → rest ≡ bound - (first + more)
 sub_more bound first more kept rest e f = omega arith
 
--- how many kept blocks lie below an entry, or behind it
+-- the number of kept blocks below an entry, or after it
 pub entry_rest : (form : Form) (n level j a bound kept rest : ℕ) (p : List ℕ) → pointer_count form ≡ n → levels_below form (a ∷ p) ≡ level
     → kept ≡ bound - first_block form (a ∷ p) → rest ≡ kept - j * n ^ (level - 1) → rest ≡ bound - first_block form (j ∷ (a ∷ p))
 entry_rest form n level j a bound kept rest p many deep e f =
     sub_more bound (first_block form (a ∷ p)) (j * n ^ (level - 1)) kept rest e f
     ∙ ap (λ x. bound - x) (sym (entry_first form n level j a p many deep))
 
--- where no kept blocks are left at a place, it is past them
+-- if no kept blocks are left at a place, it is past them
 pub rest_past : (form : Form) (bound rest : ℕ) (q : List ℕ) → rest ≡ bound - first_block form q → rest ≡ 0 → is_past form bound q ≡ true
 rest_past form bound rest q e none = past_true form bound q (omega arith)
 
--- where some are left, it isn't
+-- if some are left, it isn't
 pub rest_kept : (form : Form) (bound rest : ℕ) (q : List ℕ) → rest ≡ bound - first_block form q → (rest ≡ 0 → ⊥) → is_past form bound q ≡ false
 rest_kept form bound rest q e some = past_false form bound q (omega arith)
 

@@ -52,7 +52,7 @@ fronts_same p (h ∷ r) x j (inr f) (inl e) =
     let tail : r ≡ p = cc in absurd (front_longer x p (subst (IsFront (x ∷ p)) tail f))
 fronts_same p (h ∷ r) x j (inr f) (inr g) = fronts_same p r x j f g
 
--- a place of which another is a front is the other, or lies under it
+-- if a place is a front of another, they are the same, or the other is below it
 pub front_under : (q p : List ℕ) → IsFront q p → (p ≡ q) ⊎ IsUnder q 0 p
 front_under q [] front = absurd front
 front_under q (j ∷ p) (inl e) = inl (sym e)
@@ -62,7 +62,7 @@ front_under q (j ∷ p) (inr front) =
       | inr under ↦ inr (record { index = under.index; from = omega arith; front = inr under.front })
     ]
 
--- what lies under a place has it as a front
+-- a place below another has that as a front
 pub under_front : (a j : ℕ) (p q : List ℕ) → IsUnder (a ∷ p) j q → IsFront (a ∷ p) q
 under_front a j p q under = front_above q p under.index a under.front
 
@@ -77,22 +77,22 @@ under_later p j k less under = elim under.front [
   | inr front ↦ front_longer under.index p front
 ]
 
--- what lies at or under an entry doesn't lie under later ones
+-- a place at or below an entry isn't below later ones
 pub under_apart : (p q : List ℕ) (j k : ℕ) → j < k → IsFront (j ∷ p) q → IsUnder p k q → ⊥
 under_apart p q j k less front under =
     let same : under.index ≡ j = fronts_same p q under.index j under.front front in
     let from : k ≤ under.index = under.from in omega arith
 
--- what lies under later entries lies under earlier ones
+-- a place below later entries is below earlier ones
 pub under_more : (p q : List ℕ) (j k : ℕ) → j ≤ k → IsUnder p k q → IsUnder p j q
 under_more p q j k less under =
     let from : k ≤ under.index = under.from in record { index = under.index; from = omega arith; front = under.front }
 
--- an entry and what lies under it
+-- an entry and the places below it
 pub under_here : (p q : List ℕ) (j : ℕ) → IsFront (j ∷ p) q → IsUnder p j q
 under_here p q j front = record { index = j; from = omega arith; front = front }
 
--- what lies under an entry or a later one lies under later ones, or at or under the entry
+-- a place below an entry or a later one is below later ones, or at or below the entry
 pub under_split : (p q : List ℕ) (j k : ℕ) → k ≡ j + 1 → IsUnder p j q → IsUnder p k q ⊎ IsFront (j ∷ p) q
 under_split p q j k next under =
     let from : j ≤ under.index = under.from in

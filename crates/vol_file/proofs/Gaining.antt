@@ -1,4 +1,4 @@
--- How many blocks more are free after the steps of a truncation.
+-- The number of blocks freed by the steps of a truncation.
 use Rattle.std.proofs.Common.{◌≡◌, ℕ, ◌+◌, ◌≤◌, ap, List, ◌∷◌, ◌++◌, length, arith}
 use Rattle.std.proofs.lemmas.List.{length-append}
 use Rattle.vol_layout.specs.Edition.{constants}
@@ -21,7 +21,7 @@ free_same geometry image xs ys low first second = ap length (IsFree_unique low f
 pub zone_some : (geometry : Geometry) (image : List ℕ) → Fits geometry image → 1 ≤ geometry.zone_start
 zone_some geometry image fits = let behind = zone_behind fits in omega (arith, behind)
 
--- where nothing is done no block more is free
+-- if nothing is done no block more is free
 pub gains_none : (geometry : Geometry) (image : List ℕ) → 1 ≤ geometry.zone_start → Gains geometry image image 0
 gains_none geometry image low before after first second = let same = free_same geometry image after before low second first in omega (arith, same)
 
@@ -45,7 +45,7 @@ pub gains_given : (geometry : Geometry) (old new given blocks : List ℕ) (count
 gains_given geometry old new given blocks count gains from to =
     let more = gains blocks (given ++ blocks) from to in omega (arith, more, length-append given blocks)
 
--- what an edition's numbers can be
+-- the numbers that an edition can store
 number_limit : (edition : Edition) (end : ℕ) → end ≤ (constants edition).number_limit → end ≤ 16777216
 number_limit V6 end h = omega arith
 number_limit V7 end h = h
@@ -66,7 +66,7 @@ below_stack geometry old new b level kept cleared node =
     let s = cleared node.file node.index (first + kept) node.place node.blocks node.sound node.is node.below (omega arith) in
     record { blocks = _; free = s.sound.free }
 
--- some blocks are free where one is named
+-- some blocks are free if one is named
 node_stack : (geometry : Geometry) (image : List ℕ) (b level : ℕ) → IsNamedAtLevel geometry image b level → HasStack geometry image
 node_stack geometry image b level node = record { blocks = node.blocks; free = node.sound.free }
 

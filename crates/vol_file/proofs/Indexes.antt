@@ -1,4 +1,4 @@
--- The indexes on the way of a logical block, each within its bounds, and what they lead to.
+-- The indexes on the way of a logical block, each within its bounds, and the numbers that they lead to.
 use Rattle.std.proofs.Common.{◌≡◌, ℕ, zero, suc, ◌+◌, ◌*◌, ◌<◌, ◌≤◌, sym, subst, List, slice_index, refl, arith, Some}
 use Rattle.vol_layout.specs.Edition.{constants}
 use Rattle.vol_layout.specs.Places.{first_count, pointer_count, last_place, place_to, end_of}
@@ -38,7 +38,7 @@ way_entry geometry image i form b way d same e h =
     ≡ (constants geometry.edition).number_bytes * slice_index way.entries d + (constants geometry.edition).number_bytes = grind arith in
     omega (arith, fit, more)
 
--- what the next entry of a way names
+-- the name of the next entry of a way
 pub named_more : (geometry : Geometry) (image : List ℕ) (i k : ℕ) (entries : List ℕ) (d : ℕ)
     → named geometry image i (place_to k entries (d + 1)) ≡ pointer_in geometry image (named geometry image i (place_to k entries d)) (slice_index entries d)
 named_more geometry image i k entries zero = refl

@@ -42,11 +42,11 @@ large_two k deep = grind (arith, nat_tests)
 large_some : (k : ℕ) → (1 ≤ levels Large k) × (levels Large k ≤ 2)
 large_some k = (grind (arith, nat_tests), grind (arith, nat_tests))
 
--- where one is left below an address of a large file, it isn't the last
+-- if one is left below an address of a large file, it isn't the last
 large_one : (k : ℕ) → k < 8 → levels Large k - 1 ≡ 0 → k < 7
 large_one k low none = grind (arith, nat_tests)
 
--- the first address of the seventh edition with so many levels
+-- the first logical blocks of the seventh edition's indirect addresses
 deep_eleven : first_at Deep 11 ≡ 138
 deep_eleven = refl
 
@@ -56,7 +56,7 @@ deep_twelve = refl
 deep_low : (k : ℕ) → k < 11 → first_at Deep k ≡ k
 deep_low k low = grind (arith, nat_tests)
 
--- a place of a large file has at most three indexes, fewer where there are levels below it
+-- a place of a large file has at most three indexes, fewer if there are levels below it
 large_long : (q : List ℕ) → IsPlace Large q → levels_below Large q + length q ≤ 3
 large_long [] place = absurd place
 large_long (k ∷ []) place = let few = large_some k in omega (arith, few.1)
@@ -153,7 +153,7 @@ record Bottom (form : Form) (p : List ℕ) : Type 0 where
   front : IsFront p leaf
   same : first_block form leaf ≡ first_block form p
 
--- what a place below another has, the other has too
+-- a property of a place below another is one of the other too
 bottom_above : (form : Form) (a : ℕ) (p : List ℕ) → Bottom form (0 ∷ (a ∷ p)) → Bottom form (a ∷ p)
 bottom_above form a p next =
     let start : first_block form (0 ∷ (a ∷ p)) ≡ first_block form (a ∷ p) = omega arith in
@@ -200,7 +200,7 @@ off_before form a p b low =
           ] refl
     ] refl
 
--- what is on the way of no block of a run is on no way of the run
+-- a place on the way of no block of a run is on no way of the run
 off_run : (form : Form) (p : List ℕ) (a n : ℕ) → ((b : ℕ) → a ≤ b → b < a + n → list_any (bytes_eq p) (way form b) ≡ false)
     → is_on_ways form (range_with_len a n) p ≡ false
 off_run form p a zero off = refl

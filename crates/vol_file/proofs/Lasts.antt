@@ -16,7 +16,7 @@ use Rattle.vol_file.specs.Shape.{is_named}
 use Rattle.vol_file.proofs.PlaceLists.{bytes_same}
 use Rattle.vol_file.proofs.Reaching.{extends_as}
 
--- what is always so, behind a choice
+-- a test that always passes, after a choice
 pub or_true : (x : Bool) → (x || true) ≡ true
 or_true true = refl
 or_true false = refl
@@ -49,7 +49,7 @@ way_wanted geometry image i form wanted b blocks way d is end wants h =
           ∙ front_true (end_of way) (place_to way.address way.entries d) (front_to way.address way.entries d way.depth h));
     }
 
--- where all its entries are named the way is named
+-- if all its entries are named the way is named
 pub way_named : (geometry : Geometry) (old new : List ℕ) (i : ℕ) (form : Form) (wanted : List ℕ → Bool) (b : ℕ) (blocks : List ℕ) (way : Way) (d k : ℕ)
     → form ≡ form_at geometry old i → Some (end_of way) ≡ last_place form b → d ≡ way.depth
     → Reaches geometry old new i wanted (place_to way.address way.entries d) blocks k → NamesWay geometry old new i wanted b blocks
@@ -92,7 +92,7 @@ may_next geometry old mid i form b way (suc d) m is end may h reached = record {
   next = record { want = way_wanted geometry old i form may.wanted b may.blocks way (suc (suc d)) is end may.is (omega arith); reached = reached };
 }
 
--- what the naming of the next entry reaches
+-- the effect of naming the next entry
 pub way_next : (geometry : Geometry) (old mid new : List ℕ) (i : ℕ) (form : Form) (wanted : List ℕ → Bool) (b : ℕ) (blocks : List ℕ) (way : Way) (d m k : ℕ)
     → form ≡ form_at geometry old i → Some (end_of way) ≡ last_place form b → WantsWay geometry old i wanted b blocks → d < way.depth
     → Reaches geometry old mid i wanted (place_to way.address way.entries d) blocks m

@@ -31,14 +31,14 @@ one_if t = cond t 1 0
 counted_step : (t : List ℕ → Bool) (q : List ℕ) (qs : List (List ℕ)) → count_by t (q ∷ qs) ≡ one_if (t q) + count_by t qs
 counted_step t q qs = sum_by-cons (λ x. cond (t x) 1 0) q qs
 
--- 1 for what passes one of two tests, where nothing passes both
+-- 1 for an item that passes one of two tests, if none passes both
 ones : (x y : Bool) → (x ≡ true → y ≡ false) → one_if (x || y) ≡ one_if x + one_if y
 ones true true h = let no : true ≡ false = h refl in cc
 ones true false h = refl
 ones false true h = refl
 ones false false h = refl
 
--- what passes one of two tests is counted by both together, where nothing passes both
+-- items that pass one of two tests are counted by both together, if none passes both
 pub count_apart : (s t : List ℕ → Bool) (qs : List (List ℕ)) → ((q : List ℕ) → s q ≡ true → t q ≡ false)
     → count_by (λ q. s q || t q) qs ≡ count_by s qs + count_by t qs
 count_apart s t [] h = refl
@@ -49,13 +49,13 @@ count_apart s t (q ∷ qs) h =
 
 -- Tests
 
--- whether two places are one doesn't hang on their order
+-- equality of two places doesn't depend on their order
 bytes_eq_sym : (p q : List ℕ) → bytes_eq p q ≡ bytes_eq q p
 bytes_eq_sym p q =
     same_from_decides (bytes_eq p q) (bytes_eq q p) (bytes_eq-Decides p q)
     (Decides-like (bytes_eq q p) (λ (e : q ≡ p). sym e) (λ (e : p ≡ q). sym e) (bytes_eq-Decides q p))
 
--- one of two answers is yes
+-- one of two truth values is true
 pub either : (x y : Bool) → (x || y) ≡ true → (x ≡ true) ⊎ ((x ≡ false) × (y ≡ true))
 either true y e = inl refl
 either false y e = inr (refl, e)
@@ -80,13 +80,13 @@ no_from false h = refl
 
 -- The places that are new on a way
 
--- whether q is a front of p that counts: any if the whole way counts, else one with no index after it but 0
+-- true if q is a front of p that counts: any if the whole way counts, else one with no index after it but 0
 abbrev pub is_new : Bool → List ℕ → List ℕ → Bool
 is_new whole [] q = false
 is_new whole (k ∷ []) q = bytes_eq q (k ∷ [])
 is_new whole (j ∷ (a ∷ p)) q = bytes_eq q (j ∷ (a ∷ p)) || ((whole || j == 0) && is_new whole (a ∷ p) q)
 
--- what counts is a front
+-- a place that counts is a front
 new_front : (whole : Bool) (p q : List ℕ) → is_new whole p q ≡ true → IsFront q p
 new_front whole [] q e = absurd (cc)
 new_front whole (k ∷ []) q e = inl (same_bytes q (k ∷ []) e)
@@ -96,7 +96,7 @@ new_front whole (j ∷ (a ∷ p)) q e =
       | inr (other, above) ↦ inr (new_front whole (a ∷ p) q (and_parts (whole || j == 0) (is_new whole (a ∷ p) q) above).1)
     ]
 
--- where the whole way counts, each front does
+-- if the whole way counts, each front does
 front_new : (p q : List ℕ) → IsFront q p → is_new true p q ≡ true
 front_new [] q front = absurd front
 front_new (k ∷ []) q (inl e) = bytes_same q (k ∷ []) e
@@ -106,13 +106,13 @@ front_new (j ∷ (a ∷ p)) q (inr deeper) =
     let above : is_new true (a ∷ p) q ≡ true = front_new (a ∷ p) q deeper in
     yes_after (bytes_eq q (j ∷ (a ∷ p))) (is_new true (a ∷ p) q) above
 
--- the fronts of a place are those that count where the whole way does
+-- the fronts of a place are those that count if the whole way does
 pub fronts_new : (p q : List ℕ) → list_any (bytes_eq q) (fronts p) ≡ is_new true p q
 fronts_new [] q = refl
 fronts_new (k ∷ []) q = or-false (bytes_eq q (k ∷ []))
 fronts_new (j ∷ (a ∷ p)) q = ap (λ x. bytes_eq q (j ∷ (a ∷ p)) || x) (fronts_new (a ∷ p) q)
 
--- one place that may name something, counted in a list where it comes once
+-- one place that may name a block, counted in a list in which it occurs once
 count_at : (names : List ℕ → Bool) (p : List ℕ) (qs : List (List ℕ)) → count_by (bytes_eq p) qs ≡ 1
     → count_by (λ q. bytes_eq q p && not (names q)) qs ≡ (if names p then 0 else 1)
 count_at names p qs once =
@@ -128,7 +128,7 @@ count_at names p qs once =
           ] refl) ∙ once
     ] refl
 
--- where some more of the way counts only under a condition
+-- if some more of the way counts only under a condition
 count_if : (t : Bool) (s names : List ℕ → Bool) (qs : List (List ℕ)) (n : ℕ) → count_by (λ q. s q && not (names q)) qs ≡ n
     → count_by (λ q. (t && s q) && not (names q)) qs ≡ (if t then n else 0)
 count_if true s names qs n h = h
@@ -159,7 +159,7 @@ count_new form names whole (j ∷ (a ∷ p)) place =
 
 -- The first block through a place
 
--- how many logical blocks lie below a place with d levels below it
+-- the number of logical blocks below a place with d levels below it
 abbrev spread : Form → ℕ → ℕ
 spread form zero = 1
 spread form (suc d) = pointer_count form * spread form d
@@ -177,7 +177,7 @@ first_through form [] = 0
 first_through form (k ∷ []) = first_of form k
 first_through form (j ∷ (a ∷ p)) = first_through form (a ∷ p) + j * spread form (levels_below form (j ∷ (a ∷ p)))
 
--- no block before goes through a front
+-- no block before passes through a front
 first_front : (form : Form) (p q : List ℕ) → IsFront q p → first_through form q ≤ first_through form p
 first_front form [] q front = absurd front
 first_front form (k ∷ []) q (inl e) = let same : first_through form q ≡ first_through form (k ∷ []) = ap (first_through form) e in omega (arith, same)
@@ -222,7 +222,7 @@ front_above_zeros (j ∷ (a ∷ p)) q (inr deeper) e =
     elim (j == 0) as (λ t. (t && is_new false (a ∷ p) q) ≡ false → IsFront q (if t then above (a ∷ p) else a ∷ p))
     [ true ↦ λ old. front_above_zeros (a ∷ p) q deeper old | false ↦ λ old. deeper ] rest
 
--- what lies above the zeros: above a 0 the same goes on, else all that is above
+-- the places above the zeros: above a 0 the same applies, else all places above
 above_cases : (j a : ℕ) (p q : List ℕ) → IsFront q (above (j ∷ (a ∷ p))) → ((j ≡ 0) × IsFront q (above (a ∷ p))) ⊎ ((1 ≤ j) × IsFront q (a ∷ p))
 above_cases j a p q front =
     elim (j == 0) as (λ t. j == 0 ≡ t → IsFront q (if t then above (a ∷ p) else a ∷ p) → ((j ≡ 0) × IsFront q (above (a ∷ p))) ⊎ ((1 ≤ j) × IsFront q (a ∷ p)))
@@ -368,7 +368,7 @@ of_triple b l h = record {
 one_place : (form : Form) (b : ℕ) (p r : List ℕ) → last_place form b ≡ Some r → last_place form b ≡ Some p → IsLastOf form b r → IsLastOf form b p
 one_place form b p r e f last = let same : Some r ≡ Some p = sym e ∙ f in let place : r ≡ p = cc in subst (IsLastOf form b) place last
 
--- what the last place of each logical block is like
+-- the form of the last place of each logical block
 last_of : (form : Form) (b : ℕ) (p : List ℕ) → last_place form b ≡ Some p → IsLastOf form b p
 last_of Small b p e =
     one_place Small b p (b ∷ []) (last_small b (last_leaf Small b p e).limit) e (record { starts = refl; shares = λ q none. absurd none })
@@ -395,11 +395,11 @@ last_of Bare b p e = let limit : b < 0 = (last_leaf Bare b p e).limit in absurd 
 
 -- Ways
 
--- whether a place is on the way of logical block b
+-- true if a place is on the way of logical block b
 abbrev pub is_on_way : Form → List ℕ → ℕ → Bool
 is_on_way form q b = list_any (bytes_eq q) (way form b)
 
--- a place is on no way where there is none
+-- a place is on no way if there is none
 way_none : (form : Form) (q : List ℕ) (b : ℕ) → last_place form b ≡ None → is_on_way form q b ≡ false
 way_none form q b e = ap (λ o. list_any (bytes_eq q) (option_map_or fronts o [])) e
 
@@ -407,7 +407,7 @@ way_none form q b e = ap (λ o. list_any (bytes_eq q) (option_map_or fronts o []
 way_some : (form : Form) (q : List ℕ) (b : ℕ) (p : List ℕ) → last_place form b ≡ Some p → is_on_way form q b ≡ is_new true p q
 way_some form q b p e = ap (λ o. list_any (bytes_eq q) (option_map_or fronts o [])) e ∙ fronts_new p q
 
--- what the test says of a way
+-- the test of a place on a way
 pub on_way_from : (form : Form) (q : List ℕ) (b : ℕ) → is_on_way form q b ≡ true → IsOnWay form b q
 on_way_from form q b passes =
     elim (last_place form b) as (λ o. last_place form b ≡ o → IsOnWay form b q) [
@@ -419,7 +419,7 @@ on_way_from form q b passes =
 pub on_way : (form : Form) (q : List ℕ) (b : ℕ) → IsOnWay form b q → is_on_way form q b ≡ true
 on_way form q b on = way_some form q b on.0 on.1 ∙ front_new on.0 q on.2
 
--- what passes in a range of numbers
+-- the numbers that pass a test in a range
 pub any_from : (t : ℕ → Bool) (a n : ℕ) → list_any t (range_with_len a n) ≡ true → (j : ℕ) × (a ≤ j) × (j < a + n) × (t j ≡ true)
 any_from t a zero e = absurd (cc)
 any_from t a (suc n) e =
@@ -469,7 +469,7 @@ old_is_old form p q first n e on old =
 new_on_way : (p q : List ℕ) → is_new false p q ≡ true → is_new true p q ≡ true
 new_on_way p q e = front_new p q (new_front false p q e)
 
--- with one way more, only its new fronts come in addition
+-- with one more way, only its new fronts are added
 more_or_new : (x w z : Bool) → (z ≡ true → w ≡ true) → (w ≡ true → z ≡ false → x ≡ true) → (x || w) ≡ (x || z)
 more_or_new true w z h k = refl
 more_or_new false true true h k = refl
@@ -477,16 +477,16 @@ more_or_new false true false h k = sym (k refl refl)
 more_or_new false false true h k = h refl
 more_or_new false false false h k = refl
 
--- what is missing on the way of a block that has a last place
+-- the places missing on the way of a block that has a last place
 missing_some : (form : Form) (names : List ℕ → Bool) (whole : Bool) (b : ℕ) (p : List ℕ) → last_place form b ≡ Some p
     → missing_at form names whole b ≡ missing_to names whole p
 missing_some form names whole b p e = ap (λ o. option_map_or (missing_to names whole) o 0) e
 
--- nothing is missing where there is no way
+-- nothing is missing if there is no way
 missing_none : (form : Form) (names : List ℕ → Bool) (whole : Bool) (b : ℕ) → last_place form b ≡ None → missing_at form names whole b ≡ 0
 missing_none form names whole b e = ap (λ o. option_map_or (missing_to names whole) o 0) e
 
--- the count with one block more, where it has a way and isn't the first
+-- the count with one more block, if it has a way and isn't the first
 count_later : (form : Form) (names : List ℕ → Bool) (first n : ℕ) (p : List ℕ) → last_place form (first + suc n) ≡ Some p
     → missing_count form names (range_with_len first (suc n)) ≡ missing_from form names first (suc n)
     → count_by (λ q. (is_on_ways form (range_with_len first (suc n)) q || is_on_way form q (first + suc n)) && not (names q)) (places form)
@@ -508,7 +508,7 @@ count_later form names first n p e sofar =
     (and_parts (is_on_ways form (range_with_len first (suc n)) q) (not (names q)) passes).0))
     ∙ omega (arith, sofar, added, at))
 
--- the count with one block more, where it has a way
+-- the count with one more block, if it has a way
 count_way : (form : Form) (names : List ℕ → Bool) (first n : ℕ) (p : List ℕ) → last_place form (first + n) ≡ Some p
     → missing_count form names (range_with_len first n) ≡ missing_from form names first n
     → count_by (λ q. (is_on_ways form (range_with_len first n) q || is_on_way form q (first + n)) && not (names q)) (places form)
@@ -566,7 +566,7 @@ pub missing_to_more : (names : List ℕ → Bool) (whole : Bool) (k : ℕ) (entr
 missing_to_more names whole k entries zero = refl
 missing_to_more names whole k entries (suc d) = let next : suc d + 1 ≡ suc (suc d) = omega arith in rw next refl
 
--- whether an entry names something in a small file that was made large
+-- an entry of a small file that was made large names a block or not
 pub moved_more : (names : List ℕ → Bool) (k : ℕ) (entries : List ℕ) (d : ℕ)
     → moved_down names (place_to k entries (d + 1))
     ≡ ((k == 0) && ((d == 0) && (nat_lt (slice_index entries d) 8 && names (slice_index entries d ∷ []))))
@@ -622,27 +622,27 @@ missing_limit form names first b end low (inr none) (inr past) =
     let same : end - first ≡ b - first + (end - first) = omega arith in
     sym (ap (missing_from form names first) same ∙ missing_past form names first (b - first) (end - first) (omega arith))
 
--- What a write needs
+-- The need of a write.
 
 -- the later of two numbers is the larger
 later : (m a b : ℕ) → a ≤ b → (nat_le m a || nat_le m b) ≡ nat_le m b
 later m a b h = grind (arith, nat_tests)
 
--- one of the numbers of a range is as large as m where the last one is
+-- one of the numbers of a range is as large as m if the last one is
 any_large : (m a n : ℕ) → list_any (λ b. nat_le m b) (range_with_len a (suc n)) ≡ nat_le m (a + n)
 any_large m a zero = let same : a ≡ a + 0 = omega arith in or-false (nat_le m a) ∙ ap (nat_le m) same
 any_large m a (suc n) =
     let same : a + 1 + n ≡ a + suc n = omega arith in
     ap (λ x. nat_le m a || x) (any_large m (a + 1) n ∙ ap (nat_le m) same) ∙ later m a (a + suc n) (omega arith)
 
--- whether a file becomes large hangs on the last block touched
+-- a file becomes large depending on the last block touched
 large_by_last : (form : Form) (a n : ℕ) → grows_large form (range_with_len a (suc n)) ≡ grows_at form (a + n)
 large_by_last Small a n = any_large 8 a n
 large_by_last Large a n = refl
 large_by_last Deep a n = refl
 large_by_last Bare a n = refl
 
--- what some blocks need, by the number of them
+-- the need of some blocks, by their number
 need_by_count : (form : Form) (names : List ℕ → Bool) (a n : ℕ)
     → need_of form names (range_with_len a (suc n))
     ≡ missing_from (grown_form form (grows_at form (a + n))) (grown_names names (grows_at form (a + n))) a (suc n) + (if grows_at form (a + n) then 1 else 0)
@@ -653,7 +653,7 @@ need_by_count form names a n =
     ∙ ap (λ x. x + (if grows_at form (a + n) then 1 else 0))
     (count_blocks (grown_form form (grows_at form (a + n))) (grown_names names (grows_at form (a + n))) a (suc n))
 
--- what a write of some bytes needs
+-- the need of a write of some bytes
 pub need_some : (form : Form) (names : List ℕ → Bool) (offset len last : ℕ) → 1 ≤ len → last ≡ (offset + (len - 1)) / 512
     → need_of form names (touched offset len)
     ≡ missing_from (grown_form form (grows_at form last)) (grown_names names (grows_at form last)) (offset / 512) (last + 1 - offset / 512)

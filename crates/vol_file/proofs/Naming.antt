@@ -1,4 +1,4 @@
--- What names and soundness are after a number was stored at a place of a file.
+-- Names and soundness after a number was stored at a place of a file.
 use Rattle.std.proofs.Common.{◌≡◌, ◌≢◌, ℕ, ◌+◌, ◌<◌, ◌≤◌, ◌∙◌, sym, ap, subst, List, [], ◌∷◌, get_or, refl, arith, inl, inr, true}
 use Rattle.std.proofs.lemmas.Bool.{cases_eq}
 use Rattle.std.proofs.lemmas.Bool.Decides.{nat_tests}
@@ -32,7 +32,7 @@ pub root_within : (geometry : Geometry) (image : List ℕ) → Fits geometry ima
     → (1 ≤ (constants geometry.edition).root) × ((constants geometry.edition).root ≤ geometry.last_inode)
 root_within geometry image fits = let one = root_first geometry.edition in (one, omega (arith, fits.root))
 
--- the kinds keep their rule where they stay
+-- the kinds keep their rule if they stay
 pub kinds_kept : (geometry : Geometry) (old new : List ℕ) → Fits geometry old
     → ((j : ℕ) → 1 ≤ j → j ≤ geometry.last_inode → kind_at geometry new j ≡ kind_at geometry old j)
     → HasKinds geometry old → HasKinds geometry new
@@ -75,7 +75,7 @@ links_kept geometry old new i j fits stays one first last =
       | inr other ↦ ap (λ node. node.links) (inode_of_kept geometry old new j (elsewhere_inode geometry old new i j fits stays one first last other))
     ]
 
--- the modes stay where file i's does
+-- the modes stay if file i's does
 pub modes_kept : (geometry : Geometry) (old new : List ℕ) (i j : ℕ) → Fits geometry old → StaysElsewhere geometry old new i → 1 ≤ i
     → mode_of geometry new i ≡ mode_of geometry old i
     → 1 ≤ j → j ≤ geometry.last_inode → mode_of geometry new j ≡ mode_of geometry old j
@@ -85,7 +85,7 @@ modes_kept geometry old new i j fits stays one mode first last =
       | inr other ↦ mode_kept geometry old new j (elsewhere_inode geometry old new i j fits stays one first last other)
     ]
 
--- the sizes stay where file i's does
+-- the sizes stay if file i's does
 pub sizes_stay : (geometry : Geometry) (old new : List ℕ) (i j : ℕ) → Fits geometry old → StaysElsewhere geometry old new i → 1 ≤ i
     → size_of geometry new i ≡ size_of geometry old i
     → 1 ≤ j → j ≤ geometry.last_inode → size_of geometry new j ≡ size_of geometry old j
@@ -95,7 +95,7 @@ sizes_stay geometry old new i j fits stays one size first last =
       | inr other ↦ size_kept geometry old new j (elsewhere_inode geometry old new i j fits stays one first last other)
     ]
 
--- a file is one where its mode stays
+-- a file is one if its mode stays
 pub file_same : (geometry : Geometry) (old new : List ℕ) (i : ℕ) → mode_of geometry new i ≡ mode_of geometry old i
     → IsFile geometry old i → IsFile geometry new i
 file_same geometry old new i mode file = record {
@@ -104,7 +104,7 @@ file_same geometry old new i mode file = record {
   kind = subst (λ m. has_places (kind_of geometry.edition m) ≡ true) (sym mode) file.kind;
 }
 
--- a place of a file is one where its mode stays
+-- a place of a file is one if its mode stays
 pub place_same : (geometry : Geometry) (old new : List ℕ) (i : ℕ) (p : List ℕ) → mode_of geometry new i ≡ mode_of geometry old i
     → IsPlaceOf geometry old i p → IsPlaceOf geometry new i p
 place_same geometry old new i p mode place = record {
@@ -112,7 +112,7 @@ place_same geometry old new i p mode place = record {
   place = subst (λ form. IsPlace form p) (sym (form_same geometry old new i mode)) place.place;
 }
 
--- the sizes keep their rule where they and the modes stay
+-- the sizes keep their rule if they and the modes stay
 pub sizes_kept : (geometry : Geometry) (old new : List ℕ) (i : ℕ) → Fits geometry old → StaysElsewhere geometry old new i → 1 ≤ i
     → mode_of geometry new i ≡ mode_of geometry old i → size_of geometry new i ≡ size_of geometry old i
     → HasSizes geometry old → HasSizes geometry new
@@ -145,7 +145,7 @@ below_none geometry image i v q fits is none (h ∷ p) x place (inr front) =
     below_none geometry image i v q fits is none p h (record { file = place.file; place = place.place.2 }) front in
     named_stops geometry image i x h p (ap (in_zone geometry) zero ∙ zero_out geometry image fits)
 
--- where nothing was named below the place, and what is stored there has no entries, the other places of the file name what they did
+-- if nothing was named below the place, and the number stored there leads to no entries, the other places of the file keep their names
 pub stores_only : (geometry : Geometry) (old new blocks : List ℕ) (i v : ℕ) (q : List ℕ) → Fits geometry old → Stores geometry old new i q v blocks
     → ((x : ℕ) → x < (constants geometry.edition).pointers → pointer_in geometry new v x ≡ 0)
     → ((x : ℕ) (p : List ℕ) → IsPlaceOf geometry old i (x ∷ p) → IsFront q p → named geometry old i (x ∷ p) ≡ 0)
@@ -165,7 +165,7 @@ pub data MayStand (geometry : Geometry) (image blocks : List ℕ) (v : ℕ) : Ty
   fresh : in_zone geometry v ≡ true → ((j : ℕ) (p : List ℕ) → IsPlaceOf geometry image j p → named geometry image j p ≢ v)
       → (IsIn v blocks → ⊥) → MayStand geometry image blocks v
 
--- what a place names after one number was stored: that number, if it is the place, else what it named
+-- the name of a place after one number was stored: that number at its place, else the name before
 data NamedAfter (geometry : Geometry) (old new : List ℕ) (i : ℕ) (q : List ℕ) (v j : ℕ) (p : List ℕ) : Type 0 where
   there : j ≡ i → p ≡ q → named geometry new j p ≡ v → NamedAfter geometry old new i q v j p
   elsewhere : IsPlaceOf geometry old j p → named geometry new j p ≡ named geometry old j p → NamedAfter geometry old new i q v j p
@@ -198,7 +198,7 @@ after_zoned geometry old new blocks i v q j p sound (MayStand.fresh zone _ _) (N
 after_zoned geometry old new blocks i v q j p sound may (NamedAfter.elsewhere place is) some =
     ap (in_zone geometry) is ∙ sound.zoned j p place (λ zero. some (is ∙ zero))
 
--- no place names what is stored there, unless that is 0
+-- no place names the number that is stored there, unless that is 0
 after_fresh : (geometry : Geometry) (old blocks : List ℕ) (v j : ℕ) (p : List ℕ) → MayStand geometry old blocks v → IsPlaceOf geometry old j p
     → v ≢ 0 → named geometry old j p ≢ v
 after_fresh geometry old blocks v j p (MayStand.none z) place some = absurd (some z)

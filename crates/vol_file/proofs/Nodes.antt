@@ -32,7 +32,7 @@ pub pointers_file : (geometry : Geometry) (image : List ℕ) (i : ℕ) → IsFil
 pointers_file geometry image i file =
     ap pointer_count (form_file geometry.edition (mode_of geometry image i) file.kind) ∙ pointers_in geometry.edition (mode_of geometry image i)
 
--- what was cleared below a place, by the form that the file had before
+-- the places cleared below a place, by the form that the file had before
 below_form : (geometry : Geometry) (old mid low : List ℕ) (i bound n level : ℕ) (q others : List ℕ) → mode_of geometry mid i ≡ mode_of geometry old i
     → Clears geometry mid low i (IsPastUnder (is_past (form_at geometry mid i) bound) q 0)
     (past_at geometry mid i (is_past (form_at geometry mid i) bound) (places_below n q level)) others
@@ -42,11 +42,11 @@ below_form geometry old mid low i bound n level q others mode t =
     subst (λ f. Clears geometry mid low i (IsPastUnder (is_past f bound) q 0) (past_at geometry mid i (is_past f bound) (places_below n q level)) others)
     (form_same geometry old mid i mode) t
 
--- what is below a place that is past the kept blocks is past them
+-- a place below one that is past the kept blocks is past them
 under_past : (form : Form) (bound j : ℕ) (p q : List ℕ) → is_past form bound (j ∷ p) ≡ true → IsUnder (j ∷ p) 0 q → is_past form bound q ≡ true
 under_past form bound j p q on under = past_front form bound j p q on (under_front j 0 p q under)
 
--- an entry or address of the last kept blocks is cleared by clearing what lies behind them below it
+-- an entry or address of the last kept blocks is cleared by clearing the places after them below it
 one_parted : (geometry : Geometry) (old mid low : List ℕ) (i b bound rest : ℕ) (level : ℕ → ℕ) (p : List ℕ) (count j k : ℕ) (blocks : List ℕ)
     → k ≡ j + 1 → k ≤ count → Fits geometry old → IsPlaceOf geometry old i (j ∷ p)
     → level j ≡ levels_below (form_at geometry old i) (j ∷ p) → IsNamedAt geometry mid i (j ∷ p) b
@@ -66,7 +66,7 @@ one_parted geometry old mid low i b bound rest level p count j k blocks next few
     from_part_on geometry old mid low i past n level p count j k blocks next few fits place (omega arith) (omega arith)
     (rest_kept (form_at geometry old i) bound rest (j ∷ p) left some) s t
 
--- an entry or address behind them that names a block is cleared by clearing what lies below it, and then it
+-- an entry or address after them that names a block is cleared by clearing the places below it, and then itself
 one_cleared : (geometry : Geometry) (old mid low new : List ℕ) (i b bound rest : ℕ) (level : ℕ → ℕ) (p : List ℕ) (count j k : ℕ) (blocks : List ℕ)
     → k ≡ j + 1 → k ≤ count → Fits geometry old → IsPlaceOf geometry old i (j ∷ p)
     → level j ≡ levels_below (form_at geometry old i) (j ∷ p) → IsNamedAt geometry mid i (j ∷ p) b
@@ -96,8 +96,8 @@ one_cleared geometry old mid low new i b bound rest level p count j k blocks nex
 abbrev pub same_level : ℕ → ℕ → ℕ
 same_level d x = d
 
--- the entries of block m from entry j on are cleared behind the first `kept` logical blocks below it, wherever the block was
--- named with so many levels below it
+-- the entries of block m from entry j on are cleared after the first `kept` logical blocks below it, wherever a place with
+-- `level` levels below it named the block
 abbrev pub ClearsEntries : Geometry → List ℕ → List ℕ → ℕ → ℕ → ℕ → ℕ → Type 0
 ClearsEntries geometry old new m level kept j = (i a bound : ℕ) (p blocks : List ℕ) → Rules3To7With geometry old blocks
     → IsNamedAt geometry old i (a ∷ p) m → levels_below (form_at geometry old i) (a ∷ p) ≡ level
@@ -105,16 +105,16 @@ ClearsEntries geometry old new m level kept j = (i a bound : ℕ) (p blocks : Li
     → ClearsFrom geometry old new i (is_past (form_at geometry old i) bound) (constants geometry.edition).pointers (same_level (level - 1)) (a ∷ p)
     (constants geometry.edition).pointers j blocks
 
--- the logical block behind the kept ones, at a place
+-- the logical block after the kept ones, at a place
 abbrev bound_at : Geometry → List ℕ → ℕ → List ℕ → ℕ → ℕ
 bound_at geometry image i q kept = first_block (form_at geometry image i) q + kept
 
--- so many are kept up to it
+-- the number of blocks kept up to it
 bound_is : (geometry : Geometry) (image : List ℕ) (i : ℕ) (q : List ℕ) (kept : ℕ)
     → kept ≡ bound_at geometry image i q kept - first_block (form_at geometry image i) q
 bound_is geometry image i q kept = omega arith
 
--- where there are no levels below a block, nothing lies below it
+-- if there are no levels below a block, nothing lies below it
 pub below_none : (geometry : Geometry) (image : List ℕ) (m kept : ℕ) → ClearsBelow geometry image image m 0 kept
 below_none geometry image m kept i a bound p blocks sound is level left =
     let past = is_past (form_at geometry image i) bound in
@@ -164,7 +164,7 @@ entries_end geometry old new m (suc d) kept j some few within cleared i a bound 
     (subst (λ x. Clears geometry old new i (IsPastUnder past (a ∷ p) 0) (past_at geometry old i past (places_among n (same_level x) (a ∷ p) 0 (n - 0))) blocks) less
     (entries_kept geometry old new m (suc d) kept j some few within cleared i a bound p blocks sound is deep left))
 
--- the number at entry j is what the entry names, while later entries are cleared
+-- the number at entry j is the entry's name, while later entries are cleared
 entries_named : (geometry : Geometry) (old new : List ℕ) (m level kept j k i a bound : ℕ) (p blocks : List ℕ) → ClearsEntries geometry old new m level kept k
     → Rules3To7With geometry old blocks → IsNamedAt geometry old i (a ∷ p) m → levels_below (form_at geometry old i) (a ∷ p) ≡ level
     → kept ≡ bound - first_block (form_at geometry old i) (a ∷ p)
@@ -235,7 +235,7 @@ entries_node geometry old new m level kept j k b cleared node some low number_is
       below = ap (λ f. levels_below f (j ∷ (node.index ∷ node.place))) form ∙ ap (λ x. x - 1) node.below;
     }
 
--- the entry names its block still once what lies below it is cleared
+-- the entry still names its block once the places below it are cleared
 pub entries_entry : (geometry : Geometry) (old mid low : List ℕ) (m level kept rest j k b : ℕ) → ClearsEntries geometry old mid m level kept k
     → IsNamedAtLevel geometry old m level → 1 ≤ level → j < (constants geometry.edition).pointers → b ≡ number geometry.edition mid (512 * m) j → b ≢ 0
     → ClearsBelow geometry mid low b (level - 1) rest → HasPointer geometry low m j b
@@ -263,7 +263,7 @@ entries_entry geometry old mid low m level kept rest j k b cleared node some ind
       is = below_named geometry mid low node.file beyond b (j ∷ q) given next.blocks next.is t;
     }
 
--- what is left of the kept blocks at an entry
+-- the kept blocks that are left at an entry
 entries_rest : (geometry : Geometry) (old : List ℕ) (level kept rest j i a bound : ℕ) (p : List ℕ) → IsFile geometry old i
     → levels_below (form_at geometry old i) (a ∷ p) ≡ level → kept ≡ bound - first_block (form_at geometry old i) (a ∷ p)
     → rest ≡ kept - j * (constants geometry.edition).pointers ^ (level - 1)
@@ -271,7 +271,7 @@ entries_rest : (geometry : Geometry) (old : List ℕ) (level kept rest j i a bou
 entries_rest geometry old level kept rest j i a bound p file deep left rest_is =
     entry_rest (form_at geometry old i) (constants geometry.edition).pointers level j a bound kept rest p (pointers_file geometry old i file) deep left rest_is
 
--- an entry in which the kept blocks end is cleared once what lies behind them below it is
+-- an entry in which the kept blocks end is cleared once the places after them below it are
 pub entries_part : (geometry : Geometry) (old mid low : List ℕ) (m level kept rest j k b : ℕ) → k ≡ j + 1 → k ≤ (constants geometry.edition).pointers
     → 1 ≤ level → b ≡ number geometry.edition mid (512 * m) j → b ≢ 0
     → rest ≡ kept - j * (constants geometry.edition).pointers ^ (level - 1) → rest ≢ 0
@@ -286,7 +286,7 @@ entries_part geometry old mid low m level kept rest j k b next few some number_i
     (entry_place geometry old i j a p is.place (omega arith) (omega arith)) (sym (ap (λ x. x - 1) deep)) at
     (entries_rest geometry old level kept rest j i a bound p is.place.file deep left rest_is) more s below
 
--- an entry behind them that names a block is cleared once the block is given back
+-- an entry after them that names a block is cleared once the block is given back
 pub entries_some : (geometry : Geometry) (old mid low new : List ℕ) (m level kept rest j k b : ℕ) → k ≡ j + 1 → k ≤ (constants geometry.edition).pointers
     → 1 ≤ level → b ≡ number geometry.edition mid (512 * m) j → b ≢ 0
     → rest ≡ kept - j * (constants geometry.edition).pointers ^ (level - 1) → rest ≡ 0
@@ -313,7 +313,7 @@ entries_some geometry old mid low new m level kept rest j k b next few some numb
     (entry_place geometry old i j a p is.place (omega arith) (omega arith)) (sym (ap (λ x. x - 1) deep)) at at_rest none s below
     (λ others. drop i a p others block)
 
--- the addresses of file i from address k on are cleared behind its first `kept` logical blocks
+-- the addresses of file i from address k on are cleared after its first `kept` logical blocks
 abbrev pub ClearsAddresses : Geometry → List ℕ → List ℕ → ℕ → ℕ → ℕ → Type 0
 ClearsAddresses geometry old new i kept k = (blocks : List ℕ) → Rules3To7With geometry old blocks
     → ClearsFrom geometry old new i (is_past (form_at geometry old i) kept) (constants geometry.edition).pointers (levels (form_at geometry old i)) []
@@ -363,7 +363,7 @@ addresses_node geometry old new i kept j k b blocks file cleared sound low is no
       below = ap (λ f. levels f j) (form_same geometry old new i s.mode);
     }
 
--- the address names its block still once what lies below it is cleared
+-- the address still names its block once the places below it are cleared
 pub addresses_address : (geometry : Geometry) (old mid low : List ℕ) (i kept rest j k b : ℕ) (blocks : List ℕ) → IsFile geometry old i
     → ClearsAddresses geometry old mid i kept k → Rules3To7With geometry old blocks → j < first_count (form_at geometry old i)
     → b ≡ address_at geometry.edition mid (inode_place geometry.edition i) j → b ≢ 0
@@ -378,7 +378,7 @@ addresses_address geometry old mid low i kept rest j k b blocks file cleared sou
     below i j bound [] next.blocks next.sound next.is next.below (bound_is geometry mid i (j ∷ []) rest) in
     record { blocks = given ++ next.blocks; sound = t.sound; is = below_named geometry mid low i past b (j ∷ []) given next.blocks next.is t }
 
--- an address in which the kept blocks end is cleared once what lies behind them below it is
+-- an address in which the kept blocks end is cleared once the places after them below it are
 pub addresses_part : (geometry : Geometry) (old mid low : List ℕ) (i kept rest j k b : ℕ) → k ≡ j + 1 → k ≤ first_count (form_at geometry old i)
     → IsFile geometry old i → b ≡ address_at geometry.edition mid (inode_place geometry.edition i) j → b ≢ 0
     → rest ≡ kept - first_at (form_at geometry old i) j → rest ≢ 0
@@ -389,7 +389,7 @@ addresses_part geometry old mid low i kept rest j k b next few file is not_zero 
     (record { file = file; place = omega arith }) refl
     (addresses_at geometry old mid i kept j k b blocks file cleared sound (omega arith) is not_zero) rest_is some (cleared blocks sound) below
 
--- an address behind them that names a block is cleared once the block is given back
+-- an address after them that names a block is cleared once the block is given back
 pub addresses_some : (geometry : Geometry) (old mid low new : List ℕ) (i kept rest j k b : ℕ) → k ≡ j + 1 → k ≤ first_count (form_at geometry old i)
     → IsFile geometry old i → b ≡ address_at geometry.edition mid (inode_place geometry.edition i) j → b ≢ 0
     → rest ≡ kept - first_at (form_at geometry old i) j → rest ≡ 0

@@ -37,7 +37,7 @@ pub past_some : (geometry : Geometry) (image : List ℕ) (i b : ℕ) (past : Lis
 past_some geometry image i b past p ps e is some =
     past_here geometry image i past p ps e ∙ at_some geometry image i b p (filter past ps) is some
 
--- a place that names nothing where it is past the kept blocks adds nothing
+-- a place that names nothing if it is past the kept blocks adds nothing
 past_zero : (geometry : Geometry) (image : List ℕ) (i : ℕ) (past : List ℕ → Bool) (p : List ℕ) (ps : List (List ℕ))
     → (past p ≡ true → named geometry image i p ≡ 0) → past_at geometry image i past (p ∷ ps) ≡ past_at geometry image i past ps
 past_zero geometry image i past p ps none =
@@ -83,7 +83,7 @@ flat_none geometry image i past f from (suc count) n fit none =
     ∙ (ap (λ xs. xs ++ past_at geometry image i past rest) (none from (omega arith))
     ∙ flat_none geometry image i past f (from + 1) count n (omega arith) none)
 
--- where what lies at or under a place names the same in both images, so do the places from it on
+-- if the places at or below a place name the same in both images, so do the places from it on
 from_same : (geometry : Geometry) (old new : List ℕ) (i : ℕ) (past : List ℕ → Bool) (form : Form) (n d a : ℕ) (p : List ℕ) → n ≤ pointer_count form
     → IsPlace form (a ∷ p) → d ≤ levels_below form (a ∷ p)
     → ((q : List ℕ) → IsPlace form q → IsFront (a ∷ p) q → named geometry new i q ≡ named geometry old i q)
@@ -96,7 +96,7 @@ from_same geometry old new i past form n (suc d) a p many place deep same =
     (λ x h. from_same geometry old new i past form n d x (a ∷ p) many (omega arith, omega arith, place) (omega arith)
     (λ q place_q front. same q place_q (front_above q p x a front))))
 
--- where what lies under a place names the same in both images, so do the places below it
+-- if the places below a place name the same in both images, so do those listed below it
 pub below_same : (geometry : Geometry) (old new : List ℕ) (i : ℕ) (past : List ℕ → Bool) (form : Form) (n d a : ℕ) (p : List ℕ) → n ≤ pointer_count form
     → IsPlace form (a ∷ p) → d ≤ levels_below form (a ∷ p)
     → ((q : List ℕ) → IsPlace form q → IsFront (a ∷ p) q → named geometry new i q ≡ named geometry old i q)
@@ -107,7 +107,7 @@ below_same geometry old new i past form n (suc d) a p many place deep same =
     (λ x h. from_same geometry old new i past form n d x (a ∷ p) many (omega arith, omega arith, place) (omega arith)
     (λ q place_q front. same q place_q (front_above q p x a front)))
 
--- where nothing past the kept blocks is named at or under a place, the places from it on name no blocks
+-- if nothing past the kept blocks is named at or under a place, the places from it on name no blocks
 pub past_none : (geometry : Geometry) (image : List ℕ) (i : ℕ) (past : List ℕ → Bool) (form : Form) (n d a : ℕ) (p : List ℕ) → n ≤ pointer_count form
     → IsPlace form (a ∷ p) → d ≤ levels_below form (a ∷ p)
     → ((q : List ℕ) → IsPlace form q → IsFront (a ∷ p) q → past q ≡ true → named geometry image i q ≡ 0)
@@ -120,7 +120,7 @@ past_none geometry image i past form n (suc d) a p many place deep none =
     (λ x h. past_none geometry image i past form n d x (a ∷ p) many (omega arith, omega arith, place) (omega arith)
     (λ q place_q front. none q place_q (front_above q p x a front)))
 
--- the blocks of an entry stand before those of the later ones
+-- the blocks of an entry are before those of the later ones
 pub among_step : (geometry : Geometry) (image : List ℕ) (i : ℕ) (past : List ℕ → Bool) (n : ℕ) (level : ℕ → ℕ) (p : List ℕ) (j k count rest : ℕ)
     → k ≡ j + 1 → count ≡ rest + 1
     → past_at geometry image i past (places_among n level p j count)

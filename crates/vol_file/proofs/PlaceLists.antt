@@ -15,7 +15,7 @@ use Rattle.vol_file.proofs.Fronts.{front_length, fronts_same}
 pub bytes_same : (p q : List ℕ) → p ≡ q → bytes_eq p q ≡ true
 bytes_same p q e = (bytes_eq-Decides p q).1 e
 
--- different lists of indexes are told apart
+-- the test finds different lists of indexes different
 pub other_place : (p q : List ℕ) → p ≢ q → bytes_eq p q ≡ false
 other_place p q ne =
     elim (bytes_eq p q) as (λ t. bytes_eq p q ≡ t → t ≡ false)
@@ -25,19 +25,19 @@ other_place p q ne =
 pub same_bytes : (p q : List ℕ) → bytes_eq p q ≡ true → p ≡ q
 same_bytes p q e = (bytes_eq-Decides p q).0 e
 
--- 1 where q is p, else 0
+-- 1 if q is p, else 0
 abbrev pub comes : List ℕ → List ℕ → ℕ
 comes p q = cond (bytes_eq p q) 1 0
 
--- a place comes where it is
+-- a place is found where it occurs
 pub comes_same : (p q : List ℕ) → p ≡ q → comes p q ≡ 1
 comes_same p q e = ap (λ t. cond t 1 0) (bytes_same p q e)
 
--- a place doesn't come where another is
+-- a place isn't found where another is
 pub comes_other : (p q : List ℕ) → p ≢ q → comes p q ≡ 0
 comes_other p q ne = ap (λ t. cond t 1 0) (other_place p q ne)
 
--- how often a place comes in a longer list
+-- the number of times that a place occurs in a longer list
 pub counted_more : (p q : List ℕ) (qs : List (List ℕ)) → count_by (bytes_eq p) (q ∷ qs) ≡ comes p q + count_by (bytes_eq p) qs
 counted_more p q qs = sum_by-cons (comes p) q qs
 
@@ -55,7 +55,7 @@ count_among f g (q ∷ qs) same =
 pub count_same : (s t : List ℕ → Bool) (qs : List (List ℕ)) → ((q : List ℕ) → s q ≡ t q) → count_by s qs ≡ count_by t qs
 count_same s t qs h = count_among s t qs (λ q among. h q)
 
--- where a test holds of nothing, nothing is counted
+-- if a test holds of nothing, nothing is counted
 pub count_none : (t : List ℕ → Bool) (qs : List (List ℕ)) → ((q : List ℕ) → t q ≡ false) → count_by t qs ≡ 0
 count_none t [] h = refl
 count_none t (q ∷ qs) h =
@@ -70,7 +70,7 @@ among_append p [] rs h = inr h
 among_append p (q ∷ qs) rs (inl e) = inl (inl e)
 among_append p (q ∷ qs) rs (inr h) = elim (among_append p qs rs h) [ inl l ↦ inl (inr l) | inr r ↦ inr r ]
 
--- what is in the lists of a range of numbers is in the list of one of them
+-- a place in the lists of a range of numbers is in the list of one of them
 pub among_flat : (f : ℕ → List (List ℕ)) (p : List ℕ) (a n : ℕ) → IsAmong p (flat_map f (range_with_len a n))
     → (j : ℕ) × (a ≤ j) × (j < a + n) × IsAmong p (f j)
 among_flat f p a zero h = absurd h
@@ -82,7 +82,7 @@ among_flat f p a (suc n) h =
           (found.0, omega (arith, found.1), omega (arith, found.2), found.3)
     ]
 
--- a place that comes in a list is one of it
+-- a place that occurs in a list is one of it
 pub among_counted : (p : List ℕ) (qs : List (List ℕ)) → 1 ≤ count_by (bytes_eq p) qs → IsAmong p qs
 among_counted p [] h = absurd (omega arith)
 among_counted p (q ∷ qs) h =
@@ -93,7 +93,7 @@ among_counted p (q ∷ qs) h =
           inr (among_counted p qs (omega (arith, h, counted_more p q qs, none)))
     ] refl
 
--- a place that is not one of a list doesn't come in it
+-- a place that is not one of a list doesn't occur in it
 pub counted_none : (p : List ℕ) (qs : List (List ℕ)) → (IsAmong p qs → ⊥) → count_by (bytes_eq p) qs ≡ 0
 counted_none p qs h =
     elim (count_by (bytes_eq p) qs) as (λ n. count_by (bytes_eq p) qs ≡ n → n ≡ 0)
@@ -135,7 +135,7 @@ sum_one f a (suc n) j low high one none =
           step ∙ omega (arith, now, rest)
     ]
 
--- a front is the place itself, or the place goes on from it with an index
+-- a front is the place itself, or the place continues from it with an index
 pub front_next : (p q : List ℕ) → IsFront p q → (q ≡ p) ⊎ ((j : ℕ) × IsFront (j ∷ p) q)
 front_next p [] front = absurd front
 front_next p (h ∷ q) (inl e) = inl (sym e)
@@ -164,7 +164,7 @@ from_place form j p (suc d) q place deep (inr below) =
     let found = among_flat (λ k. places_from (pointer_count form) (k ∷ (j ∷ p)) d) q 0 (pointer_count form) below in
     from_place form found.0 (j ∷ p) d q (omega (arith, found.2), omega (arith, deep), place) (omega (arith, deep)) found.3
 
--- among the places from a place on, as far down as there are levels, each place with that front comes once
+-- among the places from a place on, as far down as there are levels, each place with that front occurs once
 pub from_once : (form : Form) (j : ℕ) (p : List ℕ) (d : ℕ) (q : List ℕ) → IsPlace form q → IsFront (j ∷ p) q → d ≡ levels_below form (j ∷ p)
     → count_by (bytes_eq q) (places_from (pointer_count form) (j ∷ p) d) ≡ 1
 from_once form j p zero q place front deep =

@@ -38,7 +38,7 @@ pub is_on_more : (form : Form) (p : List ℕ) (a d : ℕ)
     → is_on_ways form (range_with_len a (d + 1)) p ≡ (is_on_ways form (range_with_len a d) p || list_any (bytes_eq p) (way form (a + d)))
 is_on_more form p a d = let next : d + 1 ≡ suc d = omega arith in ap (λ n. is_on_ways form (range_with_len a n) p) next ∙ is_on_suc form p a d
 
--- what is on the way of one block of a run is on the ways of the run
+-- a place on the way of one block of a run is on the ways of the run
 pub is_on_at : (form : Form) (p : List ℕ) (a n d : ℕ) → d < n → list_any (bytes_eq p) (way form (a + d)) ≡ true
     → is_on_ways form (range_with_len a n) p ≡ true
 is_on_at form p a zero d h on = absurd (omega arith)
@@ -87,7 +87,7 @@ way_places form b p among =
       | Some q ↦ λ e on. place_front form q p (last_leaf form b q e).place (among_fronts p q on)
     ] refl among
 
--- what is missing on a way hangs on which of its places name something
+-- the places missing on a way depend on which of its places name a block
 pub missing_same : (form : Form) (names same : List ℕ → Bool) (b : ℕ) → ((p : List ℕ) → IsPlace form p → names p ≡ same p)
     → missing_on_way form names b ≡ missing_on_way form same b
 missing_same form names same b equal =
@@ -106,7 +106,7 @@ missing_all_same form names same (b ∷ blocks) equal =
     (missing_all_same form more (λ p. same p || list_any (bytes_eq p) (way form b)) blocks
     (λ p place. ap (λ t. t || list_any (bytes_eq p) (way form b)) (equal p place)))
 
--- a run with one logical block more lacks what the last way lacks once the ways before are named
+-- a run with one more logical block lacks the places that the last way lacks once the ways before are named
 missing_suc : (form : Form) (names : List ℕ → Bool) (a d : ℕ)
     → missing_places form names (range_with_len a (suc d))
     ≡ missing_places form names (range_with_len a d) ++ missing_on_way form (λ p. names p || is_on_ways form (range_with_len a d) p) (a + d)

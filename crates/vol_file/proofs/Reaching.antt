@@ -33,7 +33,7 @@ use Rattle.vol_file.proofs.Taking.{stays_inode, stays_named, first_unnamed, firs
 use Rattle.vol_file.proofs.Fronts.{front_longer}
 use Rattle.vol_file.proofs.Extending.{count_less, unnamed_false, named_true, extends_one}
 
--- what has a place as a front, by the test, has it
+-- a place that has another as a front by the test has it
 pub has_front_is : (q p : List ℕ) → has_front q p ≡ true → IsFront p q
 has_front_is [] p e = absurd (true≢false (sym e))
 has_front_is (j ∷ q) p e = elim (or_cases (bytes_eq p (j ∷ q)) (has_front q p) e) [
@@ -76,7 +76,7 @@ extends_as geometry old new i wanted set same gained list blocks rest equal is e
   unused = e.unused;
 }
 
--- the names of a list of places, where each is the same
+-- the names of a list of places, if each is the same
 pub map_same : (f g : List ℕ → ℕ) (ps : List (List ℕ)) → ((p : List ℕ) → IsAmong p ps → f p ≡ g p) → map f ps ≡ map g ps
 map_same f g [] same = refl
 map_same f g (p ∷ ps) same =
@@ -118,13 +118,13 @@ extends_then geometry old mid new i wanted first second gained more blocks some 
   unused = keeps_then old mid new some rest (λ k within. rest_within k f.taken rest some f.free within) e.unused f.unused;
 }
 
--- what is there is there with a part of it
+-- a test and a part of it
 or_there : (x y : Bool) → (y ≡ true → x ≡ true) → x ≡ (x || y)
 or_there true y h = refl
 or_there false true h = h refl
 or_there false false h = refl
 
--- nothing is done where the places of the set name something
+-- nothing is done if the places of the set name something
 pub extends_none : (geometry : Geometry) (image : List ℕ) (i : ℕ) (wanted set : List ℕ → Bool) (blocks : List ℕ) → Rules3To7With geometry image blocks
     → ((p : List ℕ) → set p ≡ true → is_named geometry image i p ≡ true) → Extends geometry image image i wanted set [] blocks blocks
 extends_none geometry image i wanted set blocks sound all = record {
@@ -153,7 +153,7 @@ ready_after geometry old new i wanted set gained blocks rest ready e = record {
   room = omega (arith, e.count, ready.room);
 }
 
--- with what is always so
+-- a test and one that always passes
 and_all : (x : Bool) → (x && true) ≡ x
 and_all true = refl
 and_all false = refl
@@ -171,7 +171,7 @@ lacking_some geometry image i wanted q place want none =
     (λ p among differ. ap (λ t. f p && not t) (other_place p q differ) ∙ and_all (f p)) in
     omega (arith, less)
 
--- where no block could be taken, none was free
+-- if no block could be taken, none was free
 pops_none : (geometry : Geometry) (old new blocks : List ℕ) → Pops geometry old new blocks None → blocks ≡ []
 pops_none geometry old new [] pops = refl
 pops_none geometry old new (b ∷ rest) pops = absurd (search (pops.0, rules))
@@ -219,7 +219,7 @@ steps_named geometry image i wanted q blocks k want is some = record {
   some = some;
 }
 
--- a place that is wanted isn't lacking for want of free blocks
+-- enough blocks are free for a wanted place
 pub steps_out : (geometry : Geometry) (image new : List ℕ) (i : ℕ) (wanted : List ℕ → Bool) (q blocks : List ℕ)
     → IsWanted geometry image i wanted q blocks → named geometry image i q ≡ 0 → Pops geometry image new blocks None → ⊥
 steps_out geometry image new i wanted q blocks want none pops =
@@ -287,18 +287,18 @@ reaches_first geometry old new i wanted k blocks b steps = record {
 unnamed_same : (names same : List ℕ → Bool) (q : List ℕ) → names q ≡ same q → unnamed_of names (q ∷ []) ≡ unnamed_of same (q ∷ [])
 unnamed_same names same q e = rw e refl
 
--- a place is none of the fronts of what it lies below
+-- a place is none of the fronts of a place above it
 front_below : (j : ℕ) (p : List ℕ) → has_front p (j ∷ p) ≡ false
 front_below j p = false_from_ne_true (has_front p (j ∷ p)) (λ e. front_longer j p (has_front_is p (j ∷ p) e))
 
--- whether an entry names something isn't changed by naming the fronts of its block
+-- naming the fronts of an entry's block doesn't change whether the entry names a block
 next_same : (geometry : Geometry) (old mid : List ℕ) (i : ℕ) (wanted : List ℕ → Bool) (j a : ℕ) (p blocks : List ℕ) (m : ℕ)
     → NamesNext geometry old mid i wanted j a p blocks m → is_named geometry mid i (j ∷ (a ∷ p)) ≡ is_named geometry old i (j ∷ (a ∷ p))
 next_same geometry old mid i wanted j a p blocks m next =
     next.reached.extends.names (j ∷ (a ∷ p)) next.want.place
     ∙ (ap (λ t. is_named geometry old i (j ∷ (a ∷ p)) || t) (front_below j (a ∷ p)) ∙ or-false (is_named geometry old i (j ∷ (a ∷ p))))
 
--- an entry reached by a step from where its block was reached
+-- an entry reached by a step once its block was reached
 pub reaches_next : (geometry : Geometry) (old mid new : List ℕ) (i : ℕ) (wanted : List ℕ → Bool) (j a : ℕ) (p blocks : List ℕ) (m b : ℕ)
     → (next : NamesNext geometry old mid i wanted j a p blocks m) → Steps geometry mid new i wanted (j ∷ (a ∷ p)) next.reached.rest b
     → Reaches geometry old new i wanted (j ∷ (a ∷ p)) blocks b
@@ -318,7 +318,7 @@ reaches_next geometry old mid new i wanted j a p blocks m b next steps = record 
   some = steps.some;
 }
 
--- an entry is wanted where its block was reached
+-- an entry is wanted if its block was reached
 pub wanted_next : (geometry : Geometry) (old mid : List ℕ) (i : ℕ) (wanted : List ℕ → Bool) (j a : ℕ) (p blocks : List ℕ) (m : ℕ)
     → (next : NamesNext geometry old mid i wanted j a p blocks m) → IsWanted geometry mid i wanted (j ∷ (a ∷ p)) next.reached.rest
 wanted_next geometry old mid i wanted j a p blocks m next = record {
@@ -363,7 +363,7 @@ next_index geometry old mid i wanted j a p blocks m next =
     let many = pointers_of geometry.edition (mode_of geometry old i) in
     let index : j < pointer_count (form_at geometry old i) = next.want.place.place.0 in omega (arith, index, many)
 
--- what a wanted entry names is the number that stands there
+-- the name of a wanted entry is the number stored there
 pub next_named : (geometry : Geometry) (old mid : List ℕ) (i : ℕ) (wanted : List ℕ → Bool) (j a : ℕ) (p blocks : List ℕ) (m : ℕ)
     → NamesNext geometry old mid i wanted j a p blocks m → named geometry mid i (j ∷ (a ∷ p)) ≡ number geometry.edition mid (512 * m) j
 next_named geometry old mid i wanted j a p blocks m next =

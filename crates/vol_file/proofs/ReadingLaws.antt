@@ -9,7 +9,7 @@ use Rattle.vol_layout.proofs.BodyLaws.{body_byte_at, length-body, get_or-body, l
 use Rattle.std.specs.Prelude.{slice_range}
 use Rattle.vol_layout.specs.declared.geometry.Geometry.{Geometry}
 
--- a byte n places behind byte `at` of the body, within the same block
+-- a byte n places after byte `at` of the body, within the same block
 pub zone_byte-body : (geometry : Geometry) (image : List ℕ) (i at n : ℕ) → at % 512 + n < 512
     → zone_byte geometry image (stored geometry image i (form_at geometry image i) (at / 512)) (at % 512 + n)
     ≡ body_byte geometry image i (at + n)
@@ -17,7 +17,7 @@ zone_byte-body geometry image i at n h =
     let place : 512 * (at / 512) + (at % 512 + n) ≡ at + n = omega arith in
     sym (body_byte_at geometry image i (at / 512) (at % 512 + n) h) ∙ ap (body_byte geometry image i) place
 
--- where the first a elements are those of f, and a part written behind them goes on with f, the first a + k are
+-- if the first a elements are those of f, and a part written after them continues with f, the first a + k are
 pub written_on : (f : ℕ → ℕ) (xs ys : List ℕ) (a k m : ℕ) → m ≡ k → length ys ≡ k → a + k ≤ length xs
     → ((n : ℕ) → n < a → get_or xs n 0 ≡ f n) → ((n : ℕ) → n < k → get_or ys n 0 ≡ f (a + n))
     → (n : ℕ) → n < a + k → get_or (put_mid a m xs ys) n 0 ≡ f n

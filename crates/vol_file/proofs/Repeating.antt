@@ -1,4 +1,4 @@
--- What is stored for the logical blocks of a file, by the blocks that lead to them.
+-- The numbers stored for the logical blocks of a file, by the blocks that lead to them.
 use Rattle.std.proofs.Common.{◌≡◌, ℕ, zero, suc, ◌+◌, ◌-◌, ◌*◌, ◌/◌, ◌%◌, ◌<◌, ◌≤◌, ◌∙◌, sym, ap, subst, List, [], ◌∷◌, length, drop, ◌^◌, refl, arith, inl, inr, true, false, Some}
 use Rattle.std.specs.Prelude.{Bool, ◌&&◌, nat_lt, slice_index_or}
 use Rattle.std.proofs.Math.Nat.{pow-zero, pow-suc, mul-le-mul, one-le-pow}
@@ -19,14 +19,14 @@ use Rattle.vol_file.specs.Holes.{blocks_left}
 use Rattle.vol_file.specs.Repeats.{below, PassesBelow, MarksPassed}
 use Rattle.vol_file.proofs.Subtrees.{some_is, drop_to, length_to, pointers_at}
 
--- logical block t, of those below place p of block b without its last n indexes, is what lies there below the block that is named
+-- logical block t, of those below place p of block b without its last n indexes, has the number found below the block that is named there
 abbrev IsBelow : Geometry → List ℕ → ℕ → Form → ℕ → ℕ → ℕ → List ℕ → ℕ → Type 0
 IsBelow geometry image i form pointers n b p t =
     t < block_limit form → b + blocks_left pointers n p ≤ t + pointers ^ n → t < b + blocks_left pointers n p
     → stored geometry image i form t
     ≡ below geometry image pointers (named geometry image i (drop n p)) n (t + pointers ^ n - (b + blocks_left pointers n p))
 
--- what is stored for a logical block, by its last place
+-- the number stored for a logical block, by its last place
 stored_as : (geometry : Geometry) (image : List ℕ) (i : ℕ) (form : Form) (t : ℕ) (q : List ℕ) → last_place form t ≡ Some q
     → stored geometry image i form t ≡ named geometry image i q
 stored_as geometry image i form t q is = ap (λ o. option_map_or (named geometry image i) o 0) is
@@ -35,7 +35,7 @@ stored_as geometry image i form t q is = ap (λ o. option_map_or (named geometry
 pointer_as : (geometry : Geometry) (image : List ℕ) (m j k : ℕ) → j ≡ k → pointer_in geometry image m j ≡ pointer_in geometry image m k
 pointer_as geometry image m j k same = ap (pointer_in geometry image m) same
 
--- a pointer of a block to which a pointer leads, by indexes that are the same
+-- a pointer of a block to which a pointer leads, by equal indexes
 pointers_as : (geometry : Geometry) (image : List ℕ) (m a b j k : ℕ) → a ≡ b → j ≡ k
     → pointer_in geometry image (pointer_in geometry image m a) j ≡ pointer_in geometry image (pointer_in geometry image m b) k
 pointers_as geometry image m a b j k same also = ap (λ x. pointer_in geometry image (pointer_in geometry image m x) j) same ∙ pointer_as geometry image (pointer_in geometry image m b) j k also
@@ -105,7 +105,7 @@ below_all_triple geometry image i b t low high limit from within =
     ∙ pointers_as geometry image (named geometry image i (((b - 16522) / 16384) ∷ (12 ∷ []))) ((t - 16522) / 128 % 128) _ ((t - 16522) % 128) _
     (omega arith) (omega arith))
 
--- where no level lies below, a block is itself
+-- if no level lies below, a block is itself
 below_itself : (geometry : Geometry) (image : List ℕ) (i : ℕ) (form : Form) (pointers b t : ℕ) (p : List ℕ) → last_place form b ≡ Some p
     → IsBelow geometry image i form pointers 0 b p t
 below_itself geometry image i form pointers b t p is limit from within =
@@ -118,7 +118,7 @@ as_place : (geometry : Geometry) (image : List ℕ) (i : ℕ) (form : Form) (poi
     → IsBelow geometry image i form pointers n b q t → IsBelow geometry image i form pointers n b p t
 as_place geometry image i form pointers n b t p q same is = subst (λ r. IsBelow geometry image i form pointers n b r t) same is
 
--- what lies below each place of a way, up to two levels above its end
+-- the numbers below each place of a way, up to two levels above its end
 falls : (geometry : Geometry) (image : List ℕ) (i : ℕ) (form : Form) (n b t : ℕ) (p : List ℕ) → last_place form b ≡ Some p → n < length p → n < 3
     → IsBelow geometry image i form (pointer_count form) n b p t
 falls geometry image i form zero b t p e long few = below_itself geometry image i form (pointer_count form) b t p e
@@ -178,7 +178,7 @@ falls geometry image i Deep (suc (suc zero)) b t p e long few =
       ]
     ]
 
--- what is stored for a logical block, by the block that is named by the first d entries of the way of another
+-- the number stored for a logical block, by the block that the first d entries of another's way name
 pub stored_below : (geometry : Geometry) (image : List ℕ) (i : ℕ) (form : Form) (b d n t : ℕ) (way : Way) → form ≡ form_at geometry image i
     → Some (end_of way) ≡ last_place form b → n + d ≡ way.depth → n < 3 → t < block_limit form
     → b + blocks_left (constants geometry.edition).pointers n (end_of way) ≤ t + (constants geometry.edition).pointers ^ n
@@ -211,7 +211,7 @@ some_pointers : (edition : Edition) → 1 ≤ (constants edition).pointers
 some_pointers V6 = omega arith
 some_pointers V7 = omega arith
 
--- what lies below the block that the first d entries of a way lead to passes a test, so what is stored for the logical blocks there does
+-- if everything below the block to which the first d entries of a way lead passes a test, so do the numbers stored for the logical blocks there
 pub stored_passes : (test : ℕ → ℕ → Bool) (geometry : Geometry) (image : List ℕ) (i : ℕ) (form : Form) (b d n t part : ℕ) (way : Way)
     → form ≡ form_at geometry image i → Some (end_of way) ≡ last_place form b → n + d ≡ way.depth → n < 3
     → PassesBelow test geometry image (named geometry image i (place_to way.address way.entries d)) n → ((part : ℕ) → test 0 part ≡ true)
@@ -242,7 +242,7 @@ passes_stored test geometry image i form b d n from to way is end whole few star
     ∙ sym (stored_below geometry image i form b d n t way is end whole few (omega arith) (omega arith) (omega arith)))
     ∙ passed t part (omega arith) (omega arith)
 
--- nothing is known by marks of which none is set
+-- unset marks say nothing
 pub clear_passes : (test : ℕ → ℕ → Bool) (geometry : Geometry) (image : List ℕ) (marks : List Bool)
     → ((k : ℕ) → slice_index_or marks k false ≡ false) → MarksPassed test geometry image marks
 clear_passes test geometry image marks clear = λ m n marked.

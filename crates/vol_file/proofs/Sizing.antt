@@ -29,7 +29,7 @@ use Rattle.vol_file.proofs.Naming.{kinds_kept, links_kept, modes_kept, file_same
 use Rattle.vol_file.proofs.Extending.{body_same}
 use Rattle.vol_file.proofs.Bytes.{same_names, same_covered}
 
--- a byte of an i-node that is kept stands apart from the size
+-- a kept byte of an i-node is outside the size
 pub size_apart : (edition : Edition) (i r : ℕ) → is_kept_byte edition r ≡ true
     → (inode_place edition i + r < size_place edition i) ⊎ (size_place edition i + size_bytes edition ≤ inode_place edition i + r)
 size_apart V6 i r kept =

@@ -16,7 +16,7 @@ use Rattle.vol_file.proofs.Alone.{fits_len, elsewhere_inode, elsewhere_before, e
 use Rattle.vol_file.proofs.Naming.{kinds_kept, links_same, links_kept_byte}
 use Rattle.vol_file.specs.Changes.{StaysElsewhere}
 
--- what changes of file i: it keeps its kind, its size is within the limits, and each of its places names what it did, or nothing
+-- the change of file i: it keeps its kind, its size is within the limits, and each of its places keeps its name, or names nothing
 pub record Lessens (geometry : Geometry) (old new : List ℕ) (i : ℕ) : Type 0 where
   pub alone : StaysElsewhere geometry old new i
   pub kind : kind_at geometry new i ≡ kind_at geometry old i
@@ -93,7 +93,7 @@ sizes_after geometry old new i fits file less has = record {
       subst (λ n. n ≤ (constants geometry.edition).link_limit) (sym same) (has.links j first last before);
 }
 
--- the rules hold where file i lessens, and the free blocks are a stack of which no place names one
+-- the rules hold if file i lessens, and the free blocks are a stack of which no place names one
 pub sound_after : (geometry : Geometry) (old new blocks after : List ℕ) (i : ℕ) → Rules3To7With geometry old blocks → IsFile geometry old i
     → Lessens geometry old new i → IsFree geometry new after
     → ((j : ℕ) (p : List ℕ) → IsPlaceOf geometry new j p → IsIn (named geometry new j p) after → ⊥) → Rules3To7With geometry new after

@@ -6,7 +6,7 @@ use Rattle.std.proofs.lemmas.List.{length-append, length-take, length-drop, leng
 use Rattle.std.proofs.lemmas.Grind.{same_number_lists}
 use Rattle.vol_file.specs.Changes.{spliced}
 
--- how many bytes there are with others put at an offset
+-- the number of bytes after others are put at an offset
 pub length-spliced : (bytes : List ℕ) (offset : ℕ) (text : List ℕ) → length (spliced bytes offset text) ≡ max (length bytes) (offset + length text)
 length-spliced bytes offset text =
     let whole = length-append (take offset bytes ++ replicate (offset - length bytes) 0) (text ++ drop (offset + length text) bytes) in

@@ -1,4 +1,4 @@
--- What one store leaves: a number that was put at a place of a file.
+-- The effect of one store: a number put at a place of a file.
 use Rattle.std.specs.Prelude.{◌≡◌, ◌≢◌, ℕ, ◌+◌, ◌*◌, ◌<◌, ◌≤◌, true, List, slice_index}
 use Rattle.vol_layout.specs.Geometry.{in_zone}
 use Rattle.vol_layout.specs.Places.{levels_below}
@@ -9,7 +9,7 @@ use Rattle.vol_file.specs.Rules.{size_of}
 use Rattle.vol_layout.specs.declared.geometry.Geometry.{Geometry}
 use Rattle.vol_file.specs.Changes.{StaysElsewhere}
 
--- number v was put at place q of file i, where these blocks are free: nothing else has changed
+-- number v was put at place q of file i, and these blocks are free: nothing else has changed
 pub record Stores (geometry : Geometry) (old new : List ℕ) (i : ℕ) (q : List ℕ) (v : ℕ) (blocks : List ℕ) : Type 0 where
   pub alone : StaysElsewhere geometry old new i
   pub mode : mode_of geometry new i ≡ mode_of geometry old i

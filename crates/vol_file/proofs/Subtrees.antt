@@ -28,7 +28,7 @@ abbrev pub tail_of : List ℕ → List ℕ
 tail_of [] = []
 tail_of (j ∷ p) = p
 
--- a last place, if there is one, lies below an entry of the block that `above` names, n levels below it, from entry `low` to before `high`
+-- a last place, if there is one, lies below an entry of the block that `above` names, n levels below it, among the entries `low..high`
 abbrev LiesAmong : ℕ → List ℕ → ℕ → ℕ → Option (List ℕ) → Type 0
 LiesAmong n above low high None = Unit {0}
 LiesAmong n above low high (Some q) = (x : ℕ) × (drop n q ≡ x ∷ above) × (low ≤ x) × (x < high)
@@ -42,11 +42,11 @@ pub record HasMore (pointers n : ℕ) (p : List ℕ) (k : ℕ) : Type 0 where
 abbrev IsAmong : Form → ℕ → List ℕ → ℕ → ℕ → Type 0
 IsAmong form n p k t = LiesAmong n (tail_of (drop n p)) (head_of (drop n p)) (head_of (drop n p) + k + 1) (last_place form t)
 
--- what is held by a value is held by that of an equation
+-- equal values are equal under `Some`, and back
 pub some_is : (p q : List ℕ) → Some p ≡ Some q → p ≡ q
 some_is p q e = cc
 
--- a last place lies among others, by what it is
+-- the position of a last place among others
 lies : (form : Form) (n low high x t : ℕ) (above q : List ℕ) → last_place form t ≡ Some q → drop n q ≡ x ∷ above → low ≤ x → x < high
     → LiesAmong n above low high (last_place form t)
 lies form n low high x t above q is top from to = subst (LiesAmong n above low high) (sym is) (x, top, from, to)
@@ -196,7 +196,7 @@ among Deep b t n k p e deep few from more within =
     ]
 among Bare b t n k p e deep few from more within = let limit : b < 0 = (last_leaf Bare b p e).limit in absurd (omega arith)
 
--- what lies below a pointer that is 0 names nothing
+-- places below a pointer that is 0 name nothing
 below_none : (geometry : Geometry) (image : List ℕ) (i n : ℕ) (p : List ℕ) → Fits geometry image → n < length p
     → named geometry image i (drop n p) ≡ 0 → named geometry image i p ≡ 0
 below_none geometry image i zero p fits few none = none
@@ -206,7 +206,7 @@ below_none geometry image i (suc n) (j ∷ (a ∷ p)) fits few none =
     named_stops geometry image i j a p
     (ap (in_zone geometry) (below_none geometry image i n (a ∷ p) fits (omega arith) none) ∙ zero_out geometry image fits)
 
--- a place is longer than what is taken off it where some of it is left
+-- a place is longer than the part taken off if some of it is left
 long_enough : (n : ℕ) (q : List ℕ) (x : ℕ) (above : List ℕ) → drop n q ≡ x ∷ above → n < length q
 long_enough n q x above top = let left : length q - n ≡ suc (length above) = sym (length-drop n q) ∙ ap length top in omega arith
 
@@ -225,7 +225,7 @@ pub drop_to : (k : ℕ) (entries : List ℕ) (n d : ℕ) → drop n (place_to k 
 drop_to k entries zero d = let e : zero + d ≡ d = omega arith in ap (place_to k entries) e
 drop_to k entries (suc n) d = let e : suc n + d ≡ suc (n + d) = omega arith in rw e (drop_to k entries n d)
 
--- how long a place is
+-- the length of a place
 pub length_to : (k : ℕ) (entries : List ℕ) (d : ℕ) → length (place_to k entries d) ≡ suc d
 length_to k entries zero = refl
 length_to k entries (suc d) = ap suc (length_to k entries d)
@@ -240,15 +240,15 @@ pointers_by edition mode b p =
       | false ↦ λ e. let none : b < 0 = (last_leaf Bare b p e).limit in absurd (omega arith)
     ]
 
--- the pointers of an indirect block by the form of a file, where a logical block of it has a way
+-- the pointers of an indirect block, by the form of a file in which a logical block has a way
 pub pointers_at : (geometry : Geometry) (image : List ℕ) (i : ℕ) (form : Form) (b : ℕ) (way : Way) → form ≡ form_at geometry image i
     → Some (end_of way) ≡ last_place form b → pointer_count form ≡ (constants geometry.edition).pointers
 pointers_at geometry image i form b way is end =
     ap pointer_count is
     ∙ pointers_by geometry.edition (mode_of geometry image i) b (end_of way) (ap (λ f. last_place f b) (sym is) ∙ sym end)
 
--- nothing is stored for the logical blocks that are left below the place of a way's first `d` entries, and for those below the `k` pointers
--- that follow it, where all of these are 0
+-- nothing is stored for the logical blocks that are left below the place of a way's first `d` entries, nor for those below the
+-- `k` pointers that follow it, if all of these are 0
 pub hole_below : (geometry : Geometry) (image : List ℕ) (i : ℕ) (form : Form) (b d n k : ℕ) (way : Way) → Fits geometry image
     → form ≡ form_at geometry image i → Some (end_of way) ≡ last_place form b → 1 ≤ way.depth → n + d ≡ way.depth
     → HasMore (constants geometry.edition).pointers n (end_of way) k
@@ -276,7 +276,7 @@ few_entries geometry image i form b way is end k h =
     let same = pointers_at geometry image i form b way is end in
     omega arith
 
--- how many logical blocks a file can have at most
+-- the greatest number of logical blocks of a file
 few_blocks : (form : Form) → block_limit form ≤ 2113674
 few_blocks Small = omega arith
 few_blocks Large = omega arith
@@ -287,7 +287,7 @@ few_blocks Bare = omega arith
 pub low_block : (form : Form) (b : ℕ) (p : List ℕ) → last_place form b ≡ Some p → b < 2113674
 low_block form b p e = let limit = (last_leaf form b p e).limit in let few = few_blocks form in omega arith
 
--- what is stored for one of the first logical blocks is its address
+-- the number stored for one of the first logical blocks is its address
 pub stored_direct : (geometry : Geometry) (image : List ℕ) (i : ℕ) (form : Form) (b : ℕ) → b < direct_count form
     → stored geometry image i form b ≡ address_at geometry.edition image (inode_place geometry.edition i) b
 stored_direct geometry image i Small b low = ap (λ o. option_map_or (named geometry image i) o 0) (last_small b low)
@@ -301,14 +301,14 @@ hole_past geometry image i form b end none = λ t from within.
     let past : block_limit form ≤ t = omega (arith, last_none form b none) in
     ap (λ o. option_map_or (named geometry image i) o 0) (has_no_way form t past)
 
--- what an entry of the block at the end of a front of a way names
+-- the name of an entry of the block at the end of a front of a way
 pub named_under : (geometry : Geometry) (image : List ℕ) (i k : ℕ) (entries : List ℕ) (d x : ℕ)
     → named geometry image i (x ∷ place_to k entries d) ≡ pointer_in geometry image (named geometry image i (place_to k entries d)) x
 named_under geometry image i k entries zero x = refl
 named_under geometry image i k entries (suc d) x = refl
 
 -- nothing is stored for the logical blocks that are left below an entry of a way, and below the entries that follow it, up to m of them,
--- where all of these are 0
+-- if all of these are 0
 pub hole_at_entries : (geometry : Geometry) (image : List ℕ) (i : ℕ) (form : Form) (b d m : ℕ) (way : Way) → Fits geometry image
     → form ≡ form_at geometry image i → Some (end_of way) ≡ last_place form b → d < way.depth → 1 ≤ m
     → slice_index way.entries d + m ≤ (constants geometry.edition).pointers

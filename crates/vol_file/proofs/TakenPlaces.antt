@@ -21,7 +21,7 @@ use Rattle.vol_file.proofs.Reaching.{unnamed_step}
 use Rattle.vol_file.proofs.Ranges.{among_reverse}
 use Rattle.vol_file.proofs.MissingLaws.{is_new, count_apart, fronts_new, count_new}
 
--- what passes a test and is in a list
+-- a place that passes a test and is in a list
 among_filter : (f : List ℕ → Bool) (p : List ℕ) (qs : List (List ℕ)) → IsAmong p (filter f qs) → IsAmong p qs × (f p ≡ true)
 among_filter f p [] among = absurd among
 among_filter f p (q ∷ qs) among =
@@ -33,7 +33,7 @@ among_filter f p (q ∷ qs) among =
       | false ↦ λ e on. let rest = among_filter f p qs on in (inr rest.0, rest.1)
     ] refl among
 
--- what is in a list and passes a test
+-- a place that is in a list and passes a test
 filter_among : (f : List ℕ → Bool) (p : List ℕ) (qs : List (List ℕ)) → IsAmong p qs → f p ≡ true → IsAmong p (filter f qs)
 filter_among f p [] among e = among
 filter_among f p (q ∷ qs) (inl here) e =
@@ -42,13 +42,13 @@ filter_among f p (q ∷ qs) (inr later) e =
     let rest = filter_among f p qs later e in
     elim (f q) as (λ t. IsAmong p (if t then q ∷ filter f qs else filter f qs)) [ true ↦ inr rest | false ↦ rest ]
 
--- what is in a list is found there
+-- a place in a list is found there
 among_any : (p : List ℕ) (qs : List (List ℕ)) → IsAmong p qs → list_any (bytes_eq p) qs ≡ true
 among_any p [] among = absurd among
 among_any p (q ∷ qs) (inl here) = ap (λ t. t || list_any (bytes_eq p) qs) (bytes_same p q here)
 among_any p (q ∷ qs) (inr later) = ap (λ t. bytes_eq p q || t) (among_any p qs later) ∙ or_true (bytes_eq p q)
 
--- what is found in a list is there
+-- a place found in a list is in it
 any_among : (p : List ℕ) (qs : List (List ℕ)) → list_any (bytes_eq p) qs ≡ true → IsAmong p qs
 any_among p [] e = absurd (true≢false (sym e))
 any_among p (q ∷ qs) e = elim (or_cases (bytes_eq p q) (list_any (bytes_eq p) qs) e) [
@@ -56,7 +56,7 @@ any_among p (q ∷ qs) e = elim (or_cases (bytes_eq p q) (list_any (bytes_eq p) 
   | inr later ↦ inr (any_among p qs later)
 ]
 
--- what is in a list is in the list turned round
+-- a place in a list is in the reversed list
 reverse_among : (p : List ℕ) (qs : List (List ℕ)) → IsAmong p qs → IsAmong p (reverse qs)
 reverse_among p qs among = among_reverse p (reverse qs) (subst (IsAmong p) (sym (reverse-reverse qs)) among)
 
@@ -76,7 +76,7 @@ not_true : (x : Bool) → not x ≡ true → x ≡ false
 not_true true e = absurd (true≢false (sym e))
 not_true false e = refl
 
--- what is missing lies on the ways and names nothing
+-- a missing place is on the ways and names nothing
 pub missing_unnamed : (form : Form) (names : List ℕ → Bool) (blocks p : List ℕ) → IsAmong p (missing_places form names blocks)
     → (is_on_ways form blocks p ≡ true) × (names p ≡ false)
 unfolding missing_places
@@ -96,7 +96,7 @@ missing_unnamed form names (b ∷ blocks) p among =
           )
     ]
 
--- what lies on the ways and names nothing is missing
+-- a place that is on the ways and names nothing is missing
 pub unnamed_missing : (form : Form) (names : List ℕ → Bool) (blocks p : List ℕ) → (is_on_ways form blocks p ≡ true) × (names p ≡ false)
     → IsAmong p (missing_places form names blocks)
 unfolding missing_places
@@ -111,7 +111,7 @@ unnamed_missing form names (b ∷ blocks) p (on, none) =
           (unnamed_missing form more blocks p (some, ap (λ t. t || list_any (bytes_eq p) (way form b)) none ∙ away))
     ] refl on
 
--- a place alone counts as one where it names nothing
+-- a place alone counts as one if it names nothing
 length_one : (names : List ℕ → Bool) (q : List ℕ) → length (unnamed_of names (q ∷ [])) ≡ (if names q then 0 else 1)
 length_one names q = elim (names q) as (λ t. length (if not t then q ∷ [] else []) ≡ (if t then 0 else 1)) [ true ↦ refl | false ↦ refl ]
 
@@ -139,7 +139,7 @@ length_way form names b =
           (λ p. ap (λ t. t && not (names p)) (sym (fronts_new q p))))
     ] refl
 
--- what is on one of two ways and names nothing, parted by the first way
+-- the places on one of two ways that name nothing, split by the first way
 parted : (x y n : Bool) → ((x || y) && not n) ≡ ((x && not n) || (y && not (n || x)))
 parted true true true = refl
 parted true true false = refl

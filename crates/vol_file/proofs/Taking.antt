@@ -1,4 +1,4 @@
--- What taking a block from the free list leaves, and putting it at a place of a file.
+-- The effect of taking a block from the free list and putting it at a place of a file.
 use Rattle.std.proofs.Common.{◌≡◌, ◌≢◌, ℕ, ◌+◌, ◌*◌, ◌≤◌, ◌∙◌, sym, ap, subst, List, [], ◌∷◌, ◌++◌, refl, arith, inl, inr, true}
 use Rattle.pdp_words.specs.Words.{word}
 use Rattle.vol_layout.specs.Edition.{constants}
@@ -27,7 +27,7 @@ use Rattle.vol_file.specs.Changes.{StaysElsewhere}
 abbrev pub IsUnnamed : Geometry → List ℕ → ℕ → Type 0
 IsUnnamed geometry image b = (j : ℕ) (p : List ℕ) → IsPlaceOf geometry image j p → named geometry image j p ≢ b
 
--- another block stays where the head of the free list and a block are written
+-- another block stays if the head of the free list and a block are written
 pub stays_block : (geometry : Geometry) (old new : List ℕ) (b size m : ℕ) → StaysBut geometry old new b size → size ≤ 512 → 2 ≤ m → m ≢ b
     → IsCopy old new (512 * m) (512 * m) 512
 stays_block geometry old new b size m stays small two differ =
@@ -37,7 +37,7 @@ stays_block geometry old new b size m stays small two differ =
       | inr more ↦ record { bytes = λ r h. stays.between (512 * m + r) (omega arith) (omega arith) }
     ]
 
--- the i-nodes stay where the head of the free list and a data block are written
+-- the i-nodes stay if the head of the free list and a data block are written
 pub stays_inode : (geometry : Geometry) (old new : List ℕ) (b size j : ℕ) → Fits geometry old → StaysBut geometry old new b size
     → in_zone geometry b ≡ true → 1 ≤ j → j ≤ geometry.last_inode → KeepsInode geometry old new j
 stays_inode geometry old new b size j fits stays zone first last =
@@ -47,11 +47,11 @@ stays_inode geometry old new b size j fits stays zone first last =
     let room = place_room geometry old j fits first last in
     record { bytes = λ r h. stays.between (inode_place geometry.edition j + r) (omega (arith, head, from)) (omega (arith, room, bounds.0)) }
 
--- a data block stands behind the super-block
+-- a data block is after the super-block
 pub zone_two : (geometry : Geometry) (image : List ℕ) (k : ℕ) → Fits geometry image → in_zone geometry k ≡ true → 2 ≤ k
 zone_two geometry image k fits zone = let bounds = zone_bounds geometry k zone in omega (arith, bounds.0, fits.i_list)
 
--- the names stay where the head of the free list and a data block that no place names are written
+-- the names stay if the head of the free list and a data block that no place names are written
 pub stays_named : (geometry : Geometry) (old new : List ℕ) (b size j : ℕ) (p : List ℕ) → Fits geometry old → StaysBut geometry old new b size
     → size ≤ 512 → in_zone geometry b ≡ true → IsUnnamed geometry old b → IsPlaceOf geometry old j p → named geometry new j p ≡ named geometry old j p
 stays_named geometry old new b size j p fits stays small zone unnamed place =
@@ -68,7 +68,7 @@ stays_before geometry old new b size j p fits stays zone place =
     let kept = stays_inode geometry old new b size j fits stays zone place.file.first place.file.last in
     place_kept geometry new old j p (copy_back old new (inode_place geometry.edition j) (constants geometry.edition).inode_bytes kept) place
 
--- where the head of the free list and a data block that no place names are written, all but the free list stays, with
+-- if the head of the free list and a data block that no place names are written, all but the free list stays, with
 -- regard to any file
 pub stays_around : (geometry : Geometry) (old new : List ℕ) (b size i : ℕ) → Fits geometry old
     → ((j : ℕ) (p : List ℕ) (k : ℕ) → j ≢ i → NamesBlock geometry old j p k → in_zone geometry k ≡ true) → 1 ≤ i → i ≤ geometry.last_inode
@@ -92,13 +92,13 @@ stays_around geometry old new b size i fits zoned first last stays small zone un
       behind = λ k h. stays.above k (omega (arith, bounds.1));
     }
 
--- the same where the rules hold
+-- the same if the rules hold
 pub stays_elsewhere : (geometry : Geometry) (old new blocks : List ℕ) (b size i : ℕ) → Rules3To7With geometry old blocks → IsFile geometry old i
     → StaysBut geometry old new b size → size ≤ 512 → in_zone geometry b ≡ true → IsUnnamed geometry old b → StaysElsewhere geometry old new i
 stays_elsewhere geometry old new blocks b size i sound file =
     stays_around geometry old new b size i sound.fits (λ j p k other names. names_zoned geometry old blocks j p k sound names) file.first file.last
 
--- the rules hold with the other free blocks where the head of the free list and a data block that no place names are written
+-- the rules hold with the other free blocks if the head of the free list and a data block that no place names are written
 pub stays_sound : (geometry : Geometry) (old new blocks rest : List ℕ) (b size : ℕ) → Rules3To7With geometry old blocks
     → StaysBut geometry old new b size → size ≤ 512 → in_zone geometry b ≡ true → IsUnnamed geometry old b → IsFree geometry new rest
     → ((j : ℕ) (p : List ℕ) → IsPlaceOf geometry old j p → IsIn (named geometry old j p) rest → ⊥) → Rules3To7With geometry new rest
@@ -150,12 +150,12 @@ pub first_once : (geometry : Geometry) (image : List ℕ) (b : ℕ) (rest : List
 unfolding Once
 first_once geometry image b rest sound = sound.free.once.0
 
--- what is among the others is free
+-- a block among the others is free
 pub rest_in : (b k : ℕ) (rest : List ℕ) → IsIn k rest → IsIn k (b ∷ rest)
 unfolding IsIn
 rest_in b k rest within = inr within
 
--- what is free after some more were taken was free before
+-- a block that is free after more were taken was free before
 pub rest_within : (k : ℕ) (taken rest blocks : List ℕ) → blocks ≡ taken ++ rest → IsIn k rest → IsIn k blocks
 rest_within k [] rest blocks e within = subst (IsIn k) (sym e) within
 rest_within k (b ∷ taken) rest blocks e within = subst (IsIn k) (sym e) (rest_in b k (taken ++ rest) (rest_within k taken rest (taken ++ rest) refl within))

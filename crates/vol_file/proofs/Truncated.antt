@@ -63,7 +63,7 @@ kept_mode : (old new : List ℕ) (i r : ℕ) → SameOutside old new (inode_plac
     → is_kept_byte V6 r ≡ true → get_or new (inode_place V6 i + r) 0 ≡ get_or old (inode_place V6 i + r) 0
 kept_mode old new i r same kept = let high : 2 ≤ r = grind (arith, nat_tests) in same.above (inode_place V6 i + r) (omega arith)
 
--- what is written in the head of an i-node leaves all else
+-- a write to the head of an i-node keeps everything else
 head_elsewhere : (geometry : Geometry) (old new blocks : List ℕ) (i : ℕ) → Rules3To7With geometry old blocks → IsFile geometry old i
     → SameOutside old new (inode_place geometry.edition i) (inode_place geometry.edition i + address_offset geometry.edition)
     → ((r : ℕ) → is_kept_byte geometry.edition r ≡ true
@@ -88,7 +88,7 @@ head_elsewhere geometry old new blocks i sound file same kept =
       behind = λ k h. same.above k (omega (arith, within.2, room, zone));
     }
 
--- what the last steps of a truncation to nothing leave of a file that names nothing any more: its size and mode are put
+-- the effect of the last steps of a truncation to nothing on a file that names nothing: its size and mode are set
 pub record Ends (geometry : Geometry) (old low new : List ℕ) (i : ℕ) : Type 0 where
   pub same : SameOutside low new (inode_place geometry.edition i) (inode_place geometry.edition i + address_offset geometry.edition)
   pub kept : (r : ℕ) → is_kept_byte geometry.edition r ≡ true
@@ -207,7 +207,7 @@ kept_or form left p place few =
       | false ↦ λ e. inl (kept_is form left p place few ∙ ap not e, refl)
     ] refl
 
--- what the places name once those past the kept blocks are cleared
+-- the names of the places once those past the kept blocks are cleared
 cleared_names : (geometry : Geometry) (old low : List ℕ) (i left : ℕ) (blocks p : List ℕ) → whole_blocks left ≤ block_limit (form_at geometry old i)
     → ClearsPast geometry old low i (whole_blocks left) blocks → IsPlaceOf geometry old i p
     → named geometry low i p ≡ (if is_kept (form_at geometry old i) left p then named geometry old i p else 0)
@@ -217,7 +217,7 @@ cleared_names geometry old low i left blocks p few clear place =
       | inr (kept, on) ↦ clear.gone p place on ∙ sym (ap (λ t. if t then named geometry old i p else 0) kept)
     ]
 
--- the first blocks of a file keep what is stored in them
+-- the first blocks of a file keep their bytes
 cleared_bytes : (geometry : Geometry) (old low : List ℕ) (i left : ℕ) (blocks : List ℕ) (n : ℕ) → Fits geometry old → IsFile geometry old i
     → ClearsPast geometry old low i (whole_blocks left) blocks → n / 512 < whole_blocks left → body_byte geometry low i n ≡ body_byte geometry old i n
 cleared_bytes geometry old low i left blocks n fits file clear low_n =
@@ -284,7 +284,7 @@ given_count geometry old low i left count has file less gains clear =
     has.blocks count gains has.sound.free (clear has.blocks has.sound).sound.free
     ∙ ap length (past_list geometry old i left few)
 
--- the truncation is whole where the mode stays
+-- the truncation is whole if the mode stays
 pub shortened : (geometry : Geometry) (old low new blocks : List ℕ) (i left : ℕ) → Rules3To7With geometry old blocks → IsFile geometry old i
     → left ≤ size_of geometry old i → mode_of geometry old i ≡ truncated_mode geometry.edition left (mode_of geometry old i)
     → ClearsPast geometry old low i (whole_blocks left) blocks
@@ -354,7 +354,7 @@ filter_all (p ∷ ps) = ap (λ xs. p ∷ xs) (filter_all ps)
 pub mode_v7 : (edition : Edition) (left mode : ℕ) → edition ≡ V7 → mode ≡ truncated_mode edition left mode
 mode_v7 edition left mode e = subst (λ x. mode ≡ truncated_mode x left mode) (sym e) refl
 
--- where bytes are left the mode stays
+-- if bytes are left the mode stays
 pub mode_left : (edition : Edition) (left mode : ℕ) → (left ≡ 0 → ⊥) → mode ≡ truncated_mode edition left mode
 mode_left V6 left mode some = let no : (left == 0) ≡ false = grind (arith, nat_tests) in sym (ap (λ t. if t then with_large mode false else mode) no)
 mode_left V7 left mode some = refl

@@ -1,4 +1,4 @@
--- Laws of numbers of which some bytes are known.
+-- Laws of numbers some of whose bytes are known.
 use Rattle.std.proofs.Common.{◌≡◌, ◌≢◌, ℕ, ◌+◌, ◌-◌, ◌*◌, ◌/◌, ◌<◌, ◌≤◌, ◌∙◌, ap, List, slice_index, arith, inl, inr}
 use Rattle.std.proofs.lemmas.Bool.{cases_eq}
 use Rattle.vol_layout.specs.Edition.{constants, number}
@@ -52,7 +52,7 @@ pub some_at : (edition : Edition) (image : List ℕ) (at found : ℕ) → at ≤
 some_at V6 image at found order some none = some (zero_byte V6 image at ((found - at) / 2) found (omega arith) (omega arith) none)
 some_at V7 image at found order some none = some (zero_byte V7 image at ((found - at) / 4) found (omega arith) (omega arith) none)
 
--- it is one of the block's pointers where the byte is one of the block's
+-- it is one of the block's pointers if the byte is one of the block's
 pub found_within : (edition : Edition) (at found : ℕ) → at ≤ found
     → (found - at) / (constants edition).number_bytes < (constants edition).pointers → found < at + 512
 found_within V6 at found order within = omega arith

@@ -1,4 +1,4 @@
--- What a write and a truncation leave.
+-- The effects of a write and of a truncation.
 use Rattle.std.specs.Prelude.{◌≡◌, ◌≢◌, ℕ, ◌+◌, ◌-◌, ◌*◌, ◌/◌, ◌<◌, ◌≤◌, ◌==◌, ◌&&◌, ◌||◌, Bool, true, false, not, max, nat_lt, nat_le, if◌then◌else◌, List, [], ◌∷◌, ◌++◌, length, map, filter, take, drop, replicate, slice_index}
 use Rattle.std.specs.List.{range_with_len}
 use Rattle.vol_layout.specs.Edition.{constants}
@@ -16,13 +16,13 @@ use Rattle.vol_layout.specs.declared.edition.Edition.{Edition}
 use Rattle.vol_layout.specs.declared.edition.Edition.TheVariants.{V6, V7}
 use Rattle.vol_layout.specs.declared.geometry.Geometry.{Geometry}
 
--- whether byte r of an i-node is none of its size and addresses, nor, in the sixth edition, of its mode (ino.h)
+-- true if byte r of an i-node is not part of its size and addresses, nor, in the sixth edition, of its mode (ino.h)
 abbrev pub is_kept_byte : Edition → ℕ → Bool
 is_kept_byte V6 r = (nat_le 2 r && nat_lt r 5) || (nat_le 24 r && nat_lt r 32)
 is_kept_byte V7 r = nat_lt r 8 || (nat_le 51 r && nat_lt r 64)
 
--- what a change of file i leaves alone: block 0, block 1 outside the free list, the other i-nodes, the other bytes of i's own,
--- the blocks of all other files, and what lies behind the volume (a frame)
+-- the bytes that a change of file i keeps: block 0, block 1 outside the free list, the other i-nodes, the other bytes of
+-- i's own, the blocks of all other files, and the bytes past the volume (a frame)
 pub record StaysElsewhere (geometry : Geometry) (old new : List ℕ) (i : ℕ) : Type 0 where
   pub len : length new ≡ length old
   pub before : (k : ℕ) → k < free_head geometry.edition → slice_index new k ≡ slice_index old k
@@ -36,7 +36,7 @@ pub record StaysElsewhere (geometry : Geometry) (old new : List ℕ) (i : ℕ) :
       → slice_index new (512 * k + r) ≡ slice_index old (512 * k + r)
   pub behind : (k : ℕ) → 512 * geometry.zone_end ≤ k → slice_index new k ≡ slice_index old k
 
--- what that says of the other files: their places name what they did, and their bodies stay (a frame)
+-- a change of file i alone: the places of the other files name what they did, and their bodies stay (a frame)
 pub record ChangesFileAlone (geometry : Geometry) (old new : List ℕ) (i : ℕ) : Type 0 where
   pub elsewhere : StaysElsewhere geometry old new i
   pub places : (j : ℕ) (p : List ℕ) → j ≢ i → IsPlaceOf geometry old j p → named geometry new j p ≡ named geometry old j p
@@ -51,19 +51,19 @@ KeepsBlocks old new blocks = (k r : ℕ) → IsIn k blocks → r < 512 → slice
 abbrev pub spliced : List ℕ → ℕ → List ℕ → List ℕ
 spliced bytes offset text = (take offset bytes ++ replicate (offset - length bytes) 0) ++ (text ++ drop (offset + length text) bytes)
 
--- the mode of a file once these logical blocks are touched (Lions on bmap)
+-- the mode of a file after these logical blocks are touched (Lions on bmap)
 abbrev pub mode_after : Geometry → List ℕ → ℕ → List ℕ → ℕ
 mode_after geometry image i blocks =
     if grows_large (form_at geometry image i) blocks then with_large (mode_of geometry image i) true else mode_of geometry image i
 
--- where a place of a file stands once these logical blocks are touched: `[k]` of a small file that becomes large is entry k of
--- the block that `[0]` names (Lions on bmap)
+-- a place of a file after these logical blocks are touched: `[k]` of a small file that becomes large is then entry k of the
+-- block that `[0]` names (Lions on bmap)
 abbrev pub place_after : Form → List ℕ → List ℕ → List ℕ
 place_after form blocks p = if grows_large form blocks then p ++ (0 ∷ []) else p
 
--- a write of at least one byte at an offset of file i, where `blocks` were free: those taken are the first of them, as
--- many as are needed, each for one of the places that lacked a block, in their order; the rest stay free, and keep their
--- bytes; a place that named something names it still, and what is stored past the size stays (Lions on writei and bmap)
+-- a write of at least one byte at an offset of file i, where `blocks` were free: it takes the first of them, as many as it
+-- needs, one for each place that lacked a block, in their order; the rest stay free and keep their bytes; a place that
+-- named a block still names it, and the bytes stored past the size stay (Lions on writei and bmap)
 pub record Writes (geometry : Geometry) (old new : List ℕ) (i offset : ℕ) (text blocks : List ℕ) : Type 0 where
   pub taken : List ℕ
   pub rest : List ℕ
@@ -87,29 +87,29 @@ pub record Writes (geometry : Geometry) (old new : List ℕ) (i offset : ℕ) (t
 unfoldable pub blocks_of : Geometry → List ℕ → ℕ → List ℕ
 blocks_of geometry image i = filter (λ k. not (k == 0)) (map (named geometry image i) (places (form_at geometry image i)))
 
--- how many logical blocks hold the first so many bytes of a file: their number rounded up to whole blocks (this project)
+-- the number of logical blocks that hold the first `size` bytes of a file (this project)
 abbrev pub whole_blocks : ℕ → ℕ
 whole_blocks size = (size + 511) / 512
 
--- whether a place is on the way of one of the logical blocks that hold the first `size` bytes (this project)
+-- true if a place is on the way of one of the logical blocks that hold the first `size` bytes (this project)
 abbrev pub is_kept : Form → ℕ → List ℕ → Bool
 is_kept form size p = is_on_ways form (range_with_len 0 (whole_blocks size)) p
 
--- the blocks that a file names by its other places, in the order of its places (Lions on itrunc; the size is this project's)
+-- the blocks that a file names by places past its first `size` bytes, in the order of the places (Lions on itrunc; the size is this project's)
 unfoldable pub blocks_past : Geometry → List ℕ → ℕ → ℕ → List ℕ
 blocks_past geometry image i size =
     filter (λ k. not (k == 0)) (map (named geometry image i)
     (filter (λ p. not (is_kept (form_at geometry image i) size p)) (places (form_at geometry image i))))
 
--- the mode of a file once it is truncated: where it is empty then, the sixth edition's large flag goes (Lions on itrunc)
+-- the mode of a file after it is truncated; if it is then empty, the sixth edition's large flag is cleared (Lions on itrunc)
 abbrev pub truncated_mode : Edition → ℕ → ℕ → ℕ
 truncated_mode V6 size mode = if size == 0 then with_large mode false else mode
 truncated_mode V7 size mode = mode
 
--- a truncation of file i to its first `left` bytes, where `blocks` were free: the places on the ways of the logical blocks that
--- hold them name what they did, and all others nothing; the blocks of those lie upon the free ones, in the order of the places,
--- since they are given back from the last place to the first, and those that were free keep their bytes. What is stored in the
--- blocks that are kept stays, also past the size (Lions on itrunc; the size is this project's)
+-- a truncation of file i to its first `left` bytes, where `blocks` were free: the places on the ways of the logical blocks
+-- that hold these bytes name what they did, and all others nothing; the blocks of the others are put before the free ones
+-- in the order of the places, since they are freed from the last place to the first, and the free blocks keep their bytes.
+-- The bytes stored in kept blocks stay, even past the size (Lions on itrunc; the size is this project's)
 pub record Truncates (geometry : Geometry) (old new : List ℕ) (i left : ℕ) (blocks : List ℕ) : Type 0 where
   pub sound : Rules3To7With geometry new (blocks_past geometry old i left ++ blocks)
   pub covered : IsCovered geometry old blocks → IsCovered geometry new (blocks_past geometry old i left ++ blocks)

@@ -1,4 +1,4 @@
--- What the steps of a truncation leave: which places name nothing any more, and which blocks are free in exchange.
+-- The steps of a truncation: which places no longer name a block, and which blocks are freed by that.
 use Rattle.std.specs.Prelude.{◌≡◌, ◌≢◌, ℕ, zero, suc, ◌+◌, ◌-◌, ◌*◌, ◌^◌, ◌<◌, ◌≤◌, ◌⊎◌, ◌==◌, not, Bool, true, nat_le, if◌then◌else◌, List, [], ◌∷◌, ◌++◌, length, map, filter, slice_index}
 use Rattle.std.specs.List.{flat_map, range_with_len}
 use Rattle.vol_layout.specs.Edition.{constants}
@@ -12,7 +12,7 @@ use Rattle.vol_layout.specs.declared.geometry.Geometry.{Geometry}
 use Rattle.vol_layout.specs.declared.block_map.Form.{Form}
 use Rattle.vol_layout.specs.declared.block_map.Form.TheVariants.{Small, Large, Deep, Bare}
 
--- q is entry j or a later one of what place p names, or lies below such an entry (Lions on bmap)
+-- q is entry j or a later one of the block that place p names, or is below such an entry (Lions on bmap)
 pub record IsUnder (p : List ℕ) (j : ℕ) (q : List ℕ) : Type 0 where
   pub index : ℕ
   pub from : j ≤ index
@@ -25,17 +25,17 @@ first_at Large k = 256 * k
 first_at Deep k = if k == 11 then 138 else if k == 12 then 16522 else k
 first_at Bare k = k
 
--- the first logical block that lies at or below a place (Lions on bmap)
+-- the first logical block at or below a place (Lions on bmap)
 abbrev pub first_block : Form → List ℕ → ℕ
 first_block form [] = 0
 first_block form (k ∷ []) = first_at form k
 first_block form (j ∷ (a ∷ p)) = first_block form (a ∷ p) + j * pointer_count form ^ levels_below form (j ∷ (a ∷ p))
 
--- whether none of the first `kept` logical blocks lies at or below a place (this project)
+-- true if none of the first `kept` logical blocks is at or below a place (this project)
 abbrev pub is_past : Form → ℕ → List ℕ → Bool
 is_past form kept q = nat_le kept (first_block form q)
 
--- none of the first `kept` logical blocks of file i lies at or below place q (this project)
+-- none of the first `kept` logical blocks of file i is at or below place q (this project)
 abbrev pub IsPast : Geometry → List ℕ → ℕ → ℕ → List ℕ → Type 0
 IsPast geometry image i kept q = is_past (form_at geometry image i) kept q ≡ true
 
@@ -43,8 +43,7 @@ IsPast geometry image i kept q = is_past (form_at geometry image i) kept q ≡ t
 unfoldable pub blocks_at : Geometry → List ℕ → ℕ → List (List ℕ) → List ℕ
 blocks_at geometry image i places = filter (λ k. not (k == 0)) (map (named geometry image i) places)
 
--- `count` entries of place p, from entry `from` on, each with the places below it in as many more levels as `level`
--- says (Lions on itrunc)
+-- `count` entries of place p, from entry `from` on, each with the places below it, in `level` more levels (Lions on itrunc)
 abbrev pub places_among : ℕ → (ℕ → ℕ) → List ℕ → ℕ → ℕ → List (List ℕ)
 places_among n level p from count = flat_map (λ x. places_from n (x ∷ p) (level x)) (range_with_len from count)
 
@@ -63,7 +62,7 @@ pub record IsNamedAt (geometry : Geometry) (image : List ℕ) (i : ℕ) (q : Lis
 abbrev pub IsEmptyUnder : Geometry → List ℕ → ℕ → List ℕ → Type 0
 IsEmptyUnder geometry image i q = (p : List ℕ) → IsPlaceOf geometry image i p → IsUnder q 0 p → named geometry image i p ≡ 0
 
--- the places of file i of which `Cleared` holds name nothing any more, the blocks `given` are free besides `blocks`, and
+-- the places of file i for which `Cleared` holds no longer name a block, the blocks `given` are free besides `blocks`, and
 -- nothing else has changed; the data blocks of the other places keep their bytes (Lions on itrunc)
 pub record Clears (geometry : Geometry) (old new : List ℕ) (i : ℕ) (Cleared : List ℕ → Type 0) (given blocks : List ℕ) : Type 0 where
   pub alone : StaysElsewhere geometry old new i
@@ -78,11 +77,11 @@ pub record Clears (geometry : Geometry) (old new : List ℕ) (i : ℕ) (Cleared 
       → named geometry old i q ≢ 0 → r < 512 → slice_index new (512 * named geometry old i q + r) ≡ slice_index old (512 * named geometry old i q + r)
   pub unused : KeepsBlocks old new blocks
 
--- so many blocks more are free (Lions on itrunc)
+-- `count` more blocks are free (Lions on itrunc)
 abbrev pub Gains : Geometry → List ℕ → List ℕ → ℕ → Type 0
 Gains geometry old new count = (before after : List ℕ) → IsFree geometry old before → IsFree geometry new after → length after ≡ count + length before
 
--- where place q of file i names b and nothing below it names anything, it names nothing any more, and b is free (Lions on itrunc)
+-- if place q of file i names b and no place below it names a block, it no longer names one, and b is free (Lions on itrunc)
 abbrev pub Drops : Geometry → List ℕ → List ℕ → ℕ → List ℕ → ℕ → List ℕ → Type 0
 Drops geometry old new i q b blocks = Rules3To7With geometry old blocks → IsNamedAt geometry old i q b → IsEmptyUnder geometry old i q
     → Clears geometry old new i (IsFront q) (b ∷ []) blocks
@@ -103,7 +102,7 @@ pub record HasAddress (geometry : Geometry) (image : List ℕ) (i k b : ℕ) : T
   pub sound : Rules3To7With geometry image blocks
   pub is : IsNamedAt geometry image i (k ∷ []) b
 
--- block b is named by a place of a file with so many levels below it (manual section 5, file system)
+-- a place of a file with `level` levels below it names block b (manual section 5, file system)
 pub record IsNamedAtLevel (geometry : Geometry) (image : List ℕ) (b level : ℕ) : Type 0 where
   pub blocks : List ℕ
   pub sound : Rules3To7With geometry image blocks
@@ -113,12 +112,12 @@ pub record IsNamedAtLevel (geometry : Geometry) (image : List ℕ) (b level : �
   pub is : IsNamedAt geometry image file (index ∷ place) b
   pub below : levels_below (form_at geometry image file) (index ∷ place) ≡ level
 
--- q is past the kept blocks, and is entry j or a later one of what place p names, or lies below such an entry (Lions on itrunc)
+-- q is past the kept blocks, and is entry j or a later one of the block that place p names, or is below such an entry (Lions on itrunc)
 abbrev pub IsPastUnder : (List ℕ → Bool) → List ℕ → ℕ → List ℕ → Type 0
 IsPastUnder past p j q = IsUnder p j q × (past q ≡ true)
 
--- wherever block b was named with so many levels below it, nothing below it is named any more but on the ways of the first
--- `kept` logical blocks below it, and what was named there is free (Lions on itrunc)
+-- wherever a place with `level` levels below it named block b, the places below it no longer name blocks, except on the
+-- ways of the first `kept` logical blocks below it, and the blocks named there are free (Lions on itrunc)
 abbrev pub ClearsBelow : Geometry → List ℕ → List ℕ → ℕ → ℕ → ℕ → Type 0
 ClearsBelow geometry old new b level kept = (i a bound : ℕ) (p blocks : List ℕ) → Rules3To7With geometry old blocks
     → IsNamedAt geometry old i (a ∷ p) b → levels_below (form_at geometry old i) (a ∷ p) ≡ level
@@ -126,7 +125,7 @@ ClearsBelow geometry old new b level kept = (i a bound : ℕ) (p blocks : List �
     → Clears geometry old new i (IsPastUnder (is_past (form_at geometry old i) bound) (a ∷ p) 0)
     (blocks_at geometry old i (filter (is_past (form_at geometry old i) bound) (places_below (constants geometry.edition).pointers (a ∷ p) level))) blocks
 
--- the places of file i that are past its first `kept` logical blocks name nothing any more, and what they named is free (Lions on itrunc)
+-- the places of file i past its first `kept` logical blocks no longer name blocks, and the blocks that they named are free (Lions on itrunc)
 abbrev pub ClearsPast : Geometry → List ℕ → List ℕ → ℕ → ℕ → List ℕ → Type 0
 ClearsPast geometry old new i kept blocks =
     Clears geometry old new i (IsPast geometry old i kept)

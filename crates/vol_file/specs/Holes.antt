@@ -5,25 +5,25 @@ use Rattle.vol_layout.specs.declared.geometry.Geometry.{Geometry}
 use Rattle.vol_layout.specs.declared.block_map.Form.{Form}
 use Rattle.vol_layout.specs.declared.block_map.Form.TheVariants.{Small, Large, Deep, Bare}
 
--- no number is stored for the logical blocks from `from` to before `end` (Lions on bmap)
+-- no number is stored for the logical blocks `from..end` (Lions on bmap)
 abbrev pub IsHole : Geometry → List ℕ → ℕ → Form → ℕ → ℕ → Type 0
 IsHole geometry image i form from end = (b : ℕ) → from ≤ b → b < end → stored geometry image i form b ≡ 0
 
--- b is the first logical block from `from` on, below `end`, for which a number is stored, or else `end` (Lions on bmap)
+-- b is the first logical block in `from..end` for which a number is stored, or else `end` (Lions on bmap)
 pub record IsNextStored (geometry : Geometry) (image : List ℕ) (i : ℕ) (form : Form) (from end b : ℕ) : Type 0 where
   pub reached : from ≤ b
   pub within : b ≤ end
   pub hole : IsHole geometry image i form from b
   pub some : b < end → stored geometry image i form b ≡ 0 → ⊥
 
--- how many logical blocks, from the one whose last place is given, lie below the place n levels above that, where each
--- indirect block has so many pointers: below a pointer of the next level it is one less for each pointer before (Lions on bmap)
+-- the number of logical blocks, from the one with the given last place on, below the place n levels above it, where each
+-- indirect block has `pointers` pointers: at each level, one fewer for each pointer before (Lions on bmap)
 abbrev pub blocks_left : ℕ → ℕ → List ℕ → ℕ
 blocks_left pointers zero place = 1
 blocks_left pointers (suc n) [] = 1
 blocks_left pointers (suc n) (j ∷ place) = blocks_left pointers n place * pointers - j
 
--- how many of the first logical blocks have an address of the i-node each (Lions on bmap; ino.h of the seventh edition)
+-- the number of direct blocks, logical blocks that have an address of the i-node each (Lions on bmap; ino.h of the seventh edition)
 abbrev pub direct_count : Form → ℕ
 direct_count Small = 8
 direct_count Large = 0

@@ -1,4 +1,4 @@
--- Words and statements of the laws about lists of places, and about how many blocks a write takes.
+-- The laws about lists of places and about the number of blocks that a write takes, as statements.
 use Rattle.std.specs.Prelude.{◌≡◌, ℕ, ◌+◌, ◌/◌, ◌<◌, ◌≤◌, ◌⊎◌, ◌↔◌, Bool, true, false, List, [], ◌∷◌, length}
 use Rattle.std.specs.List.{count_by, range_with_len}
 use Rattle.std.specs.Str.{bytes_eq}
@@ -15,16 +15,16 @@ abbrev pub IsAmong : List ℕ → List (List ℕ) → Type 0
 IsAmong p [] = ⊥
 IsAmong p (q ∷ qs) = (p ≡ q) ⊎ IsAmong p qs
 
--- the list of a form's places has its places and nothing else (this project)
+-- the list of a form's places contains its places and nothing else (this project)
 abbrev pub ListsPlaces : Type 0
 ListsPlaces = (form : Form) (p : List ℕ) → IsAmong p (places form) ↔ IsPlace form p
 
--- the list of a form's places has each of them once (this project)
+-- the list of a form's places contains each of them once (this project)
 abbrev pub ListsPlacesOnce : Type 0
 ListsPlacesOnce = (form : Form) (p : List ℕ) → IsPlace form p → count_by (bytes_eq p) (places form) ≡ 1
 
--- the places that are missing for n logical blocks in a row, counted over the list of all places, are as many as those
--- counted block by block, where a place on the ways of two blocks is counted at the first (Lions on bmap)
+-- the places missing for n logical blocks in a row, counted over the list of all places, are as many as those counted block
+-- by block, where a place on the ways of two blocks is counted at the first (Lions on bmap)
 abbrev pub CountsBlockByBlock : Type 0
 CountsBlockByBlock = (form : Form) (names : List ℕ → Bool) (first n : ℕ)
     → missing_count form names (range_with_len first n) ≡ missing_from form names first n
@@ -33,15 +33,15 @@ CountsBlockByBlock = (form : Form) (names : List ℕ → Bool) (first n : ℕ)
 abbrev pub NeedsNothingForNothing : Type 0
 NeedsNothingForNothing = (geometry : Geometry) (image : List ℕ) (i offset : ℕ) → need geometry image i offset 0 ≡ 0
 
--- just the places on the ways of some logical blocks that name nothing are missing (this project)
+-- the missing places are exactly those on the ways of some logical blocks that name nothing (this project)
 abbrev pub MissesWhatIsUnnamed : Type 0
 MissesWhatIsUnnamed = (form : Form) (names : List ℕ → Bool) (blocks p : List ℕ)
     → IsAmong p (missing_places form names blocks) ↔ ((is_on_ways form blocks p ≡ true) × (names p ≡ false))
 
--- a block is taken for as many places as are needed (this project)
+-- as many blocks are taken as are needed (this project)
 abbrev pub TakesWhatIsNeeded : Type 0
 TakesWhatIsNeeded = (form : Form) (names : List ℕ → Bool) (blocks : List ℕ) → length (places_taken form names blocks) ≡ need_of form names blocks
 
--- a logical block is touched where one of the bytes lies in it, and nowhere else (Lions on writei)
+-- a logical block is touched if and only if one of the bytes is in it (Lions on writei)
 abbrev pub TouchesWhereBytesLie : Type 0
 TouchesWhereBytesLie = (offset len b : ℕ) → IsIn b (touched offset len) ↔ ((n : ℕ) × (offset ≤ n) × (n < offset + len) × (n / 512 ≡ b))

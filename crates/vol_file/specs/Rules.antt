@@ -1,4 +1,4 @@
--- The rules of soundness that speak of i-nodes, files and the free list: 3 to 8.
+-- The rules of soundness about i-nodes, files and the free list: 3 to 8.
 use Rattle.std.specs.Prelude.{◌≡◌, ◌≢◌, ℕ, ◌≤◌, ◌⊎◌, true, List}
 use Rattle.vol_layout.specs.Edition.{constants}
 use Rattle.vol_layout.specs.Geometry.{in_zone, Fits}
@@ -15,7 +15,7 @@ use Rattle.vol_layout.specs.declared.block_map.Form.TheVariants.{Small}
 abbrev pub size_of : Geometry → List ℕ → ℕ → ℕ
 size_of geometry image i = size_at geometry.edition image (inode_place geometry.edition i)
 
--- what i-node i is (manual section 5, file system)
+-- the kind of i-node i (manual section 5, file system)
 abbrev pub kind_at : Geometry → List ℕ → ℕ → Kind
 kind_at geometry image i = kind_of geometry.edition (mode_of geometry image i)
 
@@ -26,15 +26,15 @@ pub record HasKinds (geometry : Geometry) (image : List ℕ) : Type 0 where
   pub root : kind_at geometry image (constants geometry.edition).root ≡ kinds.Directory
   pub bad_blocks : geometry.edition ≡ V7 → (kind_at geometry image 1 ≡ kinds.Free) ⊎ (kind_at geometry image 1 ≡ kinds.Regular)
 
--- rule 4: no file is greater than the greatest or, if it is small, than eight blocks,
--- and no link count is above the limit (this project)
+-- rule 4: no file is larger than the greatest size or, if it is small, than eight blocks, and no link count is above the
+-- limit (this project)
 pub record HasSizes (geometry : Geometry) (image : List ℕ) : Type 0 where
   pub greatest : (i : ℕ) → IsFile geometry image i → size_of geometry image i ≤ (constants geometry.edition).greatest
   pub small : (i : ℕ) → IsFile geometry image i → form_at geometry image i ≡ Small → size_of geometry image i ≤ 4096
   pub links : (i : ℕ) → 1 ≤ i → i ≤ geometry.last_inode → kind_at geometry image i ≢ kinds.Free
       → (inode_of geometry.edition image i).links ≤ (constants geometry.edition).link_limit
 
--- rule 5: each number that a place of a file names is that of a data block (icheck)
+-- rule 5: each number that a place of a file stores is that of a data block (icheck)
 abbrev pub IsZoned : Geometry → List ℕ → Type 0
 IsZoned geometry image = (i : ℕ) (p : List ℕ) → IsPlaceOf geometry image i p → named geometry image i p ≢ 0
     → in_zone geometry (named geometry image i p) ≡ true

@@ -1,4 +1,4 @@
--- The shape of a file: which of its places name something. It has no block numbers.
+-- The shape of a file: which of its places name a block, without the block numbers.
 use Rattle.std.specs.Prelude.{ℕ, zero, suc, ◌+◌, ◌-◌, ◌/◌, ◌==◌, ◌&&◌, ◌||◌, Bool, false, not, nat_lt, nat_le, if◌then◌else◌, List, [], ◌∷◌}
 use Rattle.std.specs.List.{list_any, range_with_len}
 use Rattle.std.specs.Str.{bytes_eq}
@@ -8,7 +8,7 @@ use Rattle.vol_layout.specs.declared.geometry.Geometry.{Geometry}
 use Rattle.vol_layout.specs.declared.block_map.Form.{Form}
 use Rattle.vol_layout.specs.declared.block_map.Form.TheVariants.{Small, Large, Deep, Bare}
 
--- whether a place of i-node i names something (manual section 5, file system)
+-- true if a place of i-node i names a block (manual section 5, file system)
 abbrev pub is_named : Geometry → List ℕ → ℕ → List ℕ → Bool
 is_named geometry image i p = not (named geometry image i p == 0)
 
@@ -17,19 +17,19 @@ abbrev pub touched : ℕ → ℕ → List ℕ
 touched offset zero = []
 touched offset (suc n) = range_with_len (offset / 512) ((offset + n) / 512 - offset / 512 + 1)
 
--- whether a place is on the way of one of these logical blocks (Lions on bmap)
+-- true if a place is on the way of one of these logical blocks (Lions on bmap)
 abbrev pub is_on_ways : Form → List ℕ → List ℕ → Bool
 is_on_ways form blocks p = list_any (λ b. list_any (bytes_eq p) (way form b)) blocks
 
--- whether a file becomes large when these blocks are touched: a small file of the sixth edition,
--- at its ninth block or later (Lions on bmap)
+-- true if a file becomes large when these blocks are touched: a small file of the sixth edition, at its ninth block or
+-- later (Lions on bmap)
 abbrev pub grows_large : Form → List ℕ → Bool
 grows_large Small blocks = list_any (λ b. nat_le 8 b) blocks
 grows_large Large blocks = false
 grows_large Deep blocks = false
 grows_large Bare blocks = false
 
--- the places of a small file that was made large: `[0]` names a block that holds the eight old addresses (Lions on bmap)
+-- the places of a small file that was made large: `[0]` names a block with the eight old addresses (Lions on bmap)
 abbrev pub moved_down : (List ℕ → Bool) → List ℕ → Bool
 moved_down names [] = false
 moved_down names (k ∷ []) = k == 0
@@ -40,10 +40,10 @@ moved_down names (j ∷ (k ∷ (a ∷ p))) = false
 abbrev pub fit_form : Form → List ℕ → Form
 fit_form form blocks = if grows_large form blocks then Large else form
 
--- the places that name something in that form, before any is added (Lions on bmap)
+-- the places that name a block in that form, before any is added (Lions on bmap)
 abbrev pub fit_names : Form → (List ℕ → Bool) → List ℕ → List ℕ → Bool
 fit_names form names blocks = if grows_large form blocks then moved_down names else names
 
--- the places that name something once all on the ways of touched blocks do (Lions on bmap)
+-- the places that name a block once all on the ways of touched blocks do (Lions on bmap)
 abbrev pub filled : Form → (List ℕ → Bool) → List ℕ → List ℕ → Bool
 filled form names blocks p = fit_names form names blocks p || is_on_ways (fit_form form blocks) blocks p

@@ -1,11 +1,11 @@
--- Going over the blocks of a file.
+-- Visiting the blocks of a file.
 use Rattle.std.specs.Prelude.{◌≡◌, ℕ, ◌+◌, ◌*◌, ◌<◌, List, length, slice_index}
 use Rattle.std.specs.Fn.{Called, Mut}
 use Rattle.std.specs.Borrow.{Bor}
 use Rattle.vol_layout.specs.Body.{body_byte}
 use Rattle.vol_layout.specs.declared.geometry.Geometry.{Geometry}
 
--- the 512 bytes of logical block b of file i, those of a hole zeros (Lions on bmap)
+-- the 512 bytes of logical block b of file i; zeros for a hole (Lions on bmap)
 pub record IsBlock (geometry : Geometry) (image : List ℕ) (i b : ℕ) (bytes : List ℕ) : Type 0 where
   pub len : length bytes ≡ 512
   pub at : (r : ℕ) → r < 512 → slice_index bytes r ≡ body_byte geometry image i (512 * b + r)

@@ -1,4 +1,4 @@
-//! Blocks taken for a write: each place on the way of a logical block gets one if it names none.
+//! Taking blocks for a write: each place on the way of a logical block that names no block gets one.
 ghost use Rattle.std.specs.Prelude.{◌≡◌, ℕ, ◌-◌, ◌*◌, ◌≤◌, Bool, List, [], ◌∷◌};
 ghost use Rattle.vol_layout.specs.Names.{form_at};
 ghost use Rattle.vol_file.specs.Steps.{
@@ -20,8 +20,7 @@ use vol_free::take;
 use vol_layout::i_list::address;
 use vol_layout::{Form, Geometry, number, put_address, put_number};
 
-/// The block that address `k` of i-node `i` names: if it names none, the first free block, which it
-/// names from then on.
+/// Returns the block that address `k` of i-node `i` names. If it names none, it gets the first free block.
 fn name_address(image: &mut Image, geometry: &Geometry, i: u16, k: usize) -> u32
     requires may { MayName geometry.now image.old i (k ∷ []) }
     ensures { (wanted : List ℕ → Bool) (blocks : List ℕ) → IsWanted geometry.now image.old i wanted (k ∷ []) blocks
@@ -40,8 +39,7 @@ fn name_address(image: &mut Image, geometry: &Geometry, i: u16, k: usize) -> u32
     }
 }
 
-/// The block that entry `j` of indirect block `m` names: if it names none, the first free block, which
-/// it names from then on.
+/// Returns the block that entry `j` of indirect block `m` names. If it names none, it gets the first free block.
 fn name_entry(image: &mut Image, geometry: &Geometry, m: u32, j: u32) -> u32
     requires may { MayNameEntry geometry.now image.old m j }
     ensures { (old : List ℕ) (i : ℕ) (wanted : List ℕ → Bool) (a : ℕ) (p blocks : List ℕ)
@@ -62,7 +60,7 @@ fn name_entry(image: &mut Image, geometry: &Geometry, m: u32, j: u32) -> u32
     }
 }
 
-/// Names what is missing on the way of logical block `b` of file `i`, from the i-node down.
+/// Gives each place on the way of logical block `b` of file `i` that names no block a free one, from the i-node down.
 fn name_way(image: &mut Image, geometry: &Geometry, i: u16, form: Form, b: u32)
     requires form { form ≡ form_at geometry.now image.old i }
     requires may { MayNameWay geometry.now image.old i b }
@@ -76,7 +74,7 @@ fn name_way(image: &mut Image, geometry: &Geometry, i: u16, form: Form, b: u32)
     }
 }
 
-/// Names what is missing on the ways of the logical blocks of file `i` from `from` up to `to`.
+/// Does what [`name_way`] does for the logical blocks `from..to` of file `i`.
 pub(crate) fn name_ways(
     image: &mut Image,
     geometry: &Geometry,

@@ -1,4 +1,4 @@
-//! Following the way of a logical block to the number of the block that holds it.
+//! Looking up the block number of a logical block in the block map.
 ghost use Rattle.std.specs.Prelude.{◌≡◌, ℕ, ◌+◌, ◌*◌, ◌<◌, ◌≤◌, slice_index};
 ghost use Rattle.vol_layout.specs.Edition.{constants};
 ghost use Rattle.vol_layout.specs.Geometry.{Fits};
@@ -9,9 +9,9 @@ use pdp_words::{BLOCK, Image};
 use vol_layout::i_list::{address, mode};
 use vol_layout::{Form, Geometry, Way, number};
 
-/// The block that holds logical block `b` of i-node `i`, from 1 to the last, by the number that its
-/// last place holds; None where nothing is named there, `b` is past the blocks that a file can have,
-/// or `i` is no regular file or directory. The number may be outside the data zone.
+/// Returns the number of the block that holds logical block `b` of i-node `i`, from 1 to the last, as its last place stores
+/// it. Returns `None` if nothing is stored there, if `b` is past the blocks that a file can have, or if `i` is no regular
+/// file or directory. The number may be outside the data zone.
 pub fn block_at(image: &Image, geometry: &Geometry, i: u16, b: u32) -> Option<u32>
     requires fits { Fits geometry.now image.now }
     requires first { 1 ≤ i }
@@ -25,7 +25,7 @@ pub fn block_at(image: &Image, geometry: &Geometry, i: u16, b: u32) -> Option<u3
     }
 }
 
-/// Pointer `j` in block `m`, which is an indirect block; 0 where `m` is no data block.
+/// Returns pointer `j` of the indirect block `m`, or 0 if `m` is no data block.
 #[tactic(auto, unfolding(vol_layout::specs::Names::pointer_in))]
 pub(crate) fn entry(image: &Image, geometry: &Geometry, m: u32, j: u32) -> u32
     requires fits { Fits geometry.now image.now }
@@ -39,8 +39,8 @@ pub(crate) fn entry(image: &Image, geometry: &Geometry, m: u32, j: u32) -> u32
     }
 }
 
-/// The number at the last place of the way of logical block `b`, in a file of some form; 0 where there
-/// is no way, or nothing is named.
+/// Returns the number at the last place of the way of logical block `b`, in a file of some form, or 0 if there is no
+/// way or nothing is named.
 #[tactic(auto, using(crate::proofs::Indexes::way_address, crate::proofs::Indexes::way_entry))]
 pub(crate) fn number_at(image: &Image, geometry: &Geometry, i: u16, form: Form, b: u32) -> u32
     requires fits { Fits geometry.now image.now }

@@ -1,4 +1,4 @@
-//! Going over the logical blocks of a file without its holes.
+//! Iterating over the stored logical blocks of a file, past its holes.
 ghost use Rattle.std.specs.Prelude.{◌≡◌, ◌≢◌, ℕ, ◌-◌, ◌^◌, ◌<◌, ◌≤◌, slice_index};
 ghost use Rattle.vol_layout.specs.Edition.{constants};
 ghost use Rattle.vol_layout.specs.Geometry.{Fits};
@@ -13,11 +13,11 @@ use pdp_words::Image;
 use vol_layout::i_list::{address, mode};
 use vol_layout::{Form, Geometry, Way};
 
-/// The first logical block of i-node `i`, from 1 to the last, from block `from` up to `end`, for which the
-/// block map has a number, which may be outside the data zone; `end` where there is none.
+/// Returns the first logical block of i-node `i`, from 1 to the last, in `from..end` for which the block map has a
+/// number, or `end` if there is none. The number may be outside the data zone.
 ///
-/// Costs the way of that block, and what [`next_pointer`] does for the pointers that are passed because they are 0:
-/// whatever lies below them is passed as a whole, however many logical blocks that is.
+/// Costs one block-map lookup, and [`next_pointer`] over the pointers that are 0. Everything below a zero pointer is
+/// passed at once, however many logical blocks that is.
 pub fn next_block(image: &Image, geometry: &Geometry, i: u16, from: u32, end: u32) -> u32
     requires fits { Fits geometry.now image.now }
     requires first { 1 ≤ i }
@@ -29,7 +29,7 @@ pub fn next_block(image: &Image, geometry: &Geometry, i: u16, from: u32, end: u3
     next_stored(image, geometry, i, form, from, end)
 }
 
-/// The block that [`next_block`] answers, in a file of some form.
+/// Does what [`next_block`] does, in a file of some form.
 pub(crate) fn next_stored(
     image: &Image,
     geometry: &Geometry,
@@ -56,8 +56,8 @@ pub(crate) fn next_stored(
     end
 }
 
-/// The end of the hole in which logical block `b` lies, as far as it is one because of missing addresses of first blocks,
-/// or of missing pointers of the same block; `b` itself where a number is stored for it.
+/// Returns the end of the hole that starts at logical block `b`, at least as far as zero addresses of direct blocks or zero
+/// pointers of one indirect block reach, or `b` itself if a number is stored for it.
 #[tactic(auto, using(crate::proofs::Indexes::way_address, crate::proofs::Indexes::way_entry))]
 fn hole_end(image: &Image, geometry: &Geometry, i: u16, form: Form, b: u32) -> u32
     requires fits { Fits geometry.now image.now }
@@ -89,7 +89,7 @@ fn hole_end(image: &Image, geometry: &Geometry, i: u16, form: Form, b: u32) -> u
     if block == 0 { b + 1 } else { b }
 }
 
-/// How many of the first logical blocks of a file have an address of the i-node each.
+/// Returns the number of direct blocks: logical blocks that have an address of the i-node each.
 pub(crate) fn direct_count(form: Form) -> u32
     ensures { result ≡ direct_count form }
 {
@@ -100,7 +100,7 @@ pub(crate) fn direct_count(form: Form) -> u32
     }
 }
 
-/// The first address of i-node `i` from address `from` on that isn't 0; `end` where none before it is.
+/// Returns the first address of i-node `i` in `from..end` that isn't 0, or `end` if all are.
 fn next_address(image: &Image, geometry: &Geometry, i: u16, from: u32, end: u32) -> u32
     requires fits { Fits geometry.now image.now }
     requires first { 1 ≤ i }
@@ -121,7 +121,7 @@ fn next_address(image: &Image, geometry: &Geometry, i: u16, from: u32, end: u32)
     end
 }
 
-/// How many logical blocks lie below a pointer with so many levels of indirect blocks below it.
+/// Returns the number of logical blocks below a pointer that has `levels` levels of indirect blocks below it.
 pub(crate) fn blocks_below(geometry: &Geometry, levels: usize) -> u32
     requires { levels ≤ 2 }
     ensures exact { result ≡ (constants geometry.now.edition).pointers ^ levels }
@@ -135,8 +135,8 @@ pub(crate) fn blocks_below(geometry: &Geometry, levels: usize) -> u32
     }
 }
 
-/// How many logical blocks, from the one with this way on, lie below the indirect block that the first `d`
-/// entries of the way lead to.
+/// Returns the number of logical blocks, from the one with this way on, that are below the indirect block to which the
+/// first `d` entries of the way lead.
 pub(crate) fn left_below(geometry: &Geometry, way: &Way, d: usize) -> u32
     requires depth { way.now.depth ≤ 3 }
     requires above { d ≤ way.now.depth }

@@ -1,4 +1,4 @@
-//! The files of a volume: where the blocks of a file lie, and its bytes.
+//! The files of a volume: their block maps and their bytes.
 #![tactic(auto)]
 
 mod block_taking;

@@ -1,4 +1,4 @@
-//! How many blocks a write takes.
+//! The number of blocks that a write takes.
 ghost use Rattle.std.specs.Prelude.{◌≡◌, ◌+◌, ◌-◌, ◌^◌, ◌≤◌, ◌==◌, ◌||◌, true, if◌then◌else◌};
 ghost use Rattle.vol_layout.specs.Geometry.{Fits};
 ghost use Rattle.vol_layout.specs.Names.{form_at};
@@ -11,16 +11,15 @@ use pdp_words::{BLOCK, Image};
 use vol_layout::i_list::{address, mode};
 use vol_layout::{Form, Geometry};
 
-/// How many blocks a file of the sixth edition has before it becomes large.
+/// The number of blocks up to which a file of the sixth edition is small.
 const SMALL_BLOCKS: u32 = 8;
 
-/// How many free blocks a write of `len` bytes at byte `offset` of i-node `i`, from 1 to the last,
-/// takes: those of its data and those of pointers, as far as none stands there. A small file of the
-/// sixth edition that becomes large takes one more, for the addresses that it has. Bytes past the
-/// blocks that a file can have take none, nor do bytes of an i-node that is no regular file or
-/// directory.
+/// Returns the number of free blocks that a write of `len` bytes at byte `offset` of i-node `i`, from 1 to the last,
+/// takes: the data blocks and indirect blocks that are missing. A small file of the sixth edition that becomes large takes
+/// one more, for its old addresses. Bytes past the blocks that a file can have take none, nor do bytes of an i-node that is
+/// no regular file or directory.
 ///
-/// Costs one way for each logical block.
+/// Costs one block-map lookup for each logical block.
 pub fn need(image: &Image, geometry: &Geometry, i: u16, offset: u32, len: u32) -> u32
     requires fits { Fits geometry.now image.now }
     requires first { 1 ≤ i }
@@ -38,7 +37,7 @@ pub fn need(image: &Image, geometry: &Geometry, i: u16, offset: u32, len: u32) -
     missing + u32::from(grows)
 }
 
-/// Whether a file of some form becomes large when `last` is the last block touched.
+/// True if a file of some form becomes large when `last` is the last block touched.
 pub(crate) fn grows_large(form: Form, last: u32) -> bool
     ensures { result ≡ grows_at form last }
 {
@@ -48,8 +47,8 @@ pub(crate) fn grows_large(form: Form, last: u32) -> bool
     }
 }
 
-/// How many places on the ways of the logical blocks from `first` to before `end` name nothing, in a
-/// file of some form that is to become large if it `grows`.
+/// Returns the number of places on the ways of the logical blocks `first..end` that name nothing. The file
+/// becomes large first if it `grows`.
 fn missing_in_range(
     image: &Image,
     geometry: &Geometry,
@@ -77,15 +76,15 @@ fn missing_in_range(
     missing
 }
 
-/// The form of a file, once it has become large if it does.
+/// Returns the form of a file, after it has become large if it `grows`.
 fn grown_form(form: Form, grows: bool) -> Form
     ensures { result ≡ grown_form form grows }
 {
     if grows { Form::Large } else { form }
 }
 
-/// How many places on the way of logical block `b` name nothing, the whole way or what is on the way
-/// of no earlier block.
+/// Returns the number of places on the way of logical block `b` that name nothing: of the `whole` way, or only of the
+/// part that is not on the way of an earlier block.
 fn missing_at(
     image: &Image,
     geometry: &Geometry,
@@ -111,8 +110,7 @@ fn missing_at(
     }
 }
 
-/// How many places on the way of logical block `b` name nothing, as [`missing_at`] counts them, in a
-/// file that keeps its form.
+/// Returns the count of [`missing_at`] in a file that keeps its form.
 #[tactic(auto, using(crate::proofs::Indexes::way_address, crate::proofs::Indexes::way_entry, crate::proofs::Indexes::named_more, crate::proofs::MissingLaws::missing_to_more))]
 fn missing_on_way(
     image: &Image,
@@ -140,8 +138,8 @@ fn missing_on_way(
     missing
 }
 
-/// How many places on the way of logical block `b` name nothing, as [`missing_at`] counts them, in a
-/// small file that is to become large: address 0 then names a block of the eight addresses that it had.
+/// Returns the count of [`missing_at`] in a small file that becomes large: its address 0 then names a block with the eight
+/// old addresses.
 fn missing_once_large(image: &Image, geometry: &Geometry, i: u16, whole: bool, b: u32) -> u32
     requires fits { Fits geometry.now image.now }
     requires first { 1 ≤ i }
@@ -162,15 +160,15 @@ fn missing_once_large(image: &Image, geometry: &Geometry, i: u16, whole: bool, b
     missing
 }
 
-/// 1 where a place names nothing.
+/// Returns 1 if a place names nothing, else 0.
 fn absent(named: bool) -> u32
     ensures { result ≡ (if named then 0 else 1) }
 {
     u32::from(!named)
 }
 
-/// 1 where entry `j` of an indirect block names nothing, and what is missing above it, where that counts:
-/// on a whole way, or where `j` is 0, so that no earlier block leads through the same.
+/// Returns 1 if entry `j` of an indirect block names nothing, plus the places missing `above` it, if these count: on a
+/// whole way, or if `j` is 0, so that no earlier block uses the same indirect block.
 fn absent_with(named: bool, whole: bool, j: u32, above: u32) -> u32
     requires { above ≤ 3 }
     ensures { result ≡ (if named then 0 else 1) + (if whole || j == 0 then above else 0) }

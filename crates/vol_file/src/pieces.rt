@@ -10,7 +10,7 @@ use crate::holes::next_stored;
 use pdp_words::{BLOCK, Image};
 use vol_layout::{Form, Geometry};
 
-/// Puts bytes of file `i` from byte `at` on, all in one logical block, for which a block is named.
+/// Writes `piece` to file `i` from byte `at` on, all in one logical block, which is stored.
 fn put_piece(image: &mut Image, geometry: &Geometry, i: u16, form: Form, at: usize, piece: &[u8])
     requires form { form ≡ form_at geometry.now image.old i }
     requires file { IsFile geometry.now image.old i }
@@ -26,7 +26,7 @@ fn put_piece(image: &mut Image, geometry: &Geometry, i: u16, form: Form, at: usi
     image.put_bytes(BLOCK * block as usize + at % BLOCK, piece);
 }
 
-/// Makes bytes of file `i` from byte `at` on zero, all in one logical block; a hole stays one.
+/// Clears `count` bytes of file `i` from byte `at` on, all in one logical block; a hole stays one.
 fn clear_piece(image: &mut Image, geometry: &Geometry, i: u16, form: Form, at: usize, count: usize)
     requires form { form ≡ form_at geometry.now image.old i }
     requires file { IsFile geometry.now image.old i }
@@ -43,7 +43,7 @@ fn clear_piece(image: &mut Image, geometry: &Geometry, i: u16, form: Form, at: u
     }
 }
 
-/// Puts `text` as the bytes of file `i` from byte `offset` on, where a block is named for each.
+/// Writes `text` to file `i` from byte `offset` on, where the block of each byte is stored.
 pub(crate) fn put_text(
     image: &mut Image,
     geometry: &Geometry,
@@ -70,10 +70,10 @@ pub(crate) fn put_text(
     }
 }
 
-/// Makes the bytes of file `i` from byte `from` up to `to` zero; holes stay.
+/// Clears the bytes `from..to` of file `i`; holes stay.
 ///
-/// Costs what [`next_block`](crate::next_block) does for each logical block that is named there: time follows the
-/// blocks of the file, and not how far apart `from` and `to` are.
+/// Costs what [`next_block`](crate::next_block) does for each stored logical block among them: the time depends on the
+/// file's blocks, not on how far apart `from` and `to` are.
 pub(crate) fn clear_between(
     image: &mut Image,
     geometry: &Geometry,

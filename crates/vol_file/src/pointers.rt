@@ -1,4 +1,4 @@
-//! Going over the pointers of an indirect block without those that are 0.
+//! Iterating over the pointers of an indirect block, past those that are 0.
 ghost use Rattle.std.specs.Prelude.{◌≡◌, ◌≢◌, ℕ, ◌+◌, ◌<◌, ◌≤◌, true, length, slice_index};
 ghost use Rattle.vol_layout.specs.Edition.{constants};
 ghost use Rattle.vol_layout.specs.Geometry.{Fits};
@@ -7,16 +7,16 @@ ghost use Rattle.vol_layout.specs.Names.{pointer_in};
 use pdp_words::{BLOCK, Image};
 use vol_layout::Geometry;
 
-/// How many bytes are looked at together, as long as all of them are 0.
+/// The number of bytes tested at once while all of them are 0.
 const LARGE: usize = 64;
 
-/// How many bytes are looked at together where so many as `LARGE` aren't all 0.
+/// The number of bytes tested at once after `LARGE` bytes were not all 0.
 const SMALL: usize = 16;
 
-/// The first pointer of indirect block `m` from pointer `from` on that isn't 0; where there is none, as
-/// in a block outside the data zone, the number of pointers that a block has.
+/// Returns the first pointer of indirect block `m`, from pointer `from` on, that isn't 0, or the number of pointers in a
+/// block if there is none or `m` is outside the data zone.
 ///
-/// Costs a look at the bytes that are passed, up to 64 of them together.
+/// Costs a read of the bytes that are passed, up to 64 of them at once.
 pub fn next_pointer(image: &Image, geometry: &Geometry, m: u32, from: u32) -> u32
     requires fits { Fits geometry.now image.now }
     requires within { from ≤ (constants geometry.now.edition).pointers }
@@ -35,7 +35,7 @@ pub fn next_pointer(image: &Image, geometry: &Geometry, m: u32, from: u32) -> u3
     ((found - start) / constants.number_bytes) as u32
 }
 
-/// The first byte from `from` on that isn't 0; `end` where none before it is.
+/// Returns the position of the first byte in `from..end` that isn't 0, or `end` if all are.
 fn next_byte(bytes: &[u8], from: usize, end: usize) -> usize
     requires order { from ≤ end }
     requires room { end ≤ length bytes.now }
@@ -53,7 +53,7 @@ fn next_byte(bytes: &[u8], from: usize, end: usize) -> usize
     end
 }
 
-/// The first byte from `from` on, piece after piece, at which no piece of zeros begins that ends before `end`.
+/// Returns the position after the pieces of zeros that follow one another from byte `from` on and end by `end`.
 fn past_clear(bytes: &[u8], from: usize, end: usize, piece: usize) -> usize
     requires some { 1 ≤ piece }
     requires order { from ≤ end }
@@ -69,8 +69,8 @@ fn past_clear(bytes: &[u8], from: usize, end: usize, piece: usize) -> usize
     at
 }
 
-/// Whether the bytes of the piece from byte `at` on are all 0. It has no branch for each byte, so that
-/// several are looked at by one instruction.
+/// True if the bytes of the piece from byte `at` on are all 0. Has no branch for each byte, so that one instruction
+/// can test several.
 fn is_clear(bytes: &[u8], at: usize, piece: usize) -> bool
     requires room { at + piece ≤ length bytes.now }
     ensures zeros { result ≡ true → (k : ℕ) → at ≤ k → k < at + piece → slice_index bytes.now k ≡ 0 }

@@ -8,12 +8,11 @@ use pdp_words::{BLOCK, Image};
 use vol_layout::Geometry;
 use vol_layout::i_list::size;
 
-/// Reads the bytes of i-node `i`, from 1 to the last, from byte `offset` on, as many as `buffer` has
-/// room for, and answers how many: none at the end and past it. The rest of `buffer` stays. Holes, and
-/// numbers outside the data zone, read as zeros; so does all of an i-node that is no regular file or
-/// directory.
+/// Reads the bytes of i-node `i`, from 1 to the last, from byte `offset` on into `buffer`, as many as it has room for, and
+/// returns their number: 0 at the end and past it. The rest of `buffer` stays. Holes and numbers outside the data zone read
+/// as zeros, and so does an i-node that is no regular file or directory.
 ///
-/// Costs a copy of the bytes, for each logical block a look at its number, and the way of the first one in each indirect block.
+/// Costs a copy of the bytes, and one block-map lookup for each indirect block; the other logical blocks cost one number each.
 pub fn read(image: &Image, geometry: &Geometry, i: u16, offset: u32, buffer: &mut [u8]) -> usize
     requires fits { Fits geometry.now image.now }
     requires first { 1 ≤ i }
@@ -31,7 +30,7 @@ pub fn read(image: &Image, geometry: &Geometry, i: u16, offset: u32, buffer: &mu
     count
 }
 
-/// How many bytes the body of i-node `i` has: its size, cut at the greatest.
+/// Returns the length of i-node `i`'s body: its size, but at most the greatest.
 fn body_length(image: &Image, geometry: &Geometry, i: u16) -> u32
     requires fits { Fits geometry.now image.now }
     requires first { 1 ≤ i }

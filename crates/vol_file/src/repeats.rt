@@ -1,4 +1,4 @@
-//! Passing over what lies below an indirect block that is known already, however often places name it.
+//! Skipping what is below an indirect block that was visited before, however often places name that block.
 ghost use Rattle.std.specs.Prelude.{◌≡◌, ℕ, ◌+◌, ◌-◌, ◌*◌, ◌^◌, ◌<◌, ◌≤◌, true, false, Bool, List, length, slice_index, slice_index_or, IfOk};
 ghost use Rattle.vol_layout.specs.Edition.{constants};
 ghost use Rattle.vol_layout.specs.Places.{end_of};
@@ -15,10 +15,10 @@ use std::alloc::{AllocError, Global};
 use vol_layout::i_list::{address, mode};
 use vol_layout::{Form, Geometry, Way};
 
-/// How many marks each block has: for what lies 0, 1 and 2 levels below it.
+/// The number of marks of each block: for what is 0, 1 and 2 levels below it.
 pub const MARKS: usize = 3;
 
-/// Marks of which none is set: [`MARKS`] for each block of a volume.
+/// Returns marks none of which is set: [`MARKS`] for each block of a volume.
 pub fn no_marks(alloc: Global, geometry: &Geometry) -> Result<Vec<bool>, AllocError>
     ensures len { IfOk result (λ marks. length marks.items ≡ 3 * geometry.now.zone_end) }
     ensures clear { IfOk result (λ marks. (k : ℕ) → slice_index_or marks.items k false ≡ false) }
@@ -26,10 +26,10 @@ pub fn no_marks(alloc: Global, geometry: &Geometry) -> Result<Vec<bool>, AllocEr
     vec![in alloc; false; MARKS * geometry.zone_end as usize]
 }
 
-/// The end of the logical blocks of i-node `i`, from 1 to the last, that need no look from block `b` on, since they lie below
-/// a marked block; `b` itself if it isn't below any.
+/// Returns the end of the logical blocks of i-node `i`, from 1 to the last, from block `b` on that are below a marked block
+/// and can be skipped, or `b` itself if it isn't below one.
 ///
-/// Costs the way of `b`, or nothing if there are no marks.
+/// Costs one block-map lookup, or nothing if there are no marks.
 #[tactic(auto, using(crate::proofs::Indexes::way_address, crate::proofs::Indexes::way_entry))]
 pub fn passed_end(image: &Image, geometry: &Geometry, i: u16, b: u32, marks: &[bool]) -> u32
     requires fits { Fits geometry.now image.now }
@@ -56,9 +56,9 @@ pub fn passed_end(image: &Image, geometry: &Geometry, i: u16, b: u32, marks: &[b
 }
 
 /// Marks each block on the way of logical block `b` of i-node `i`, from 1 to the last, if all logical blocks below it are
-/// from `from` to before `to`. There are [`MARKS`] marks for each block; a block for which `marks` has none isn't marked.
+/// in `from..to`. There are [`MARKS`] marks for each block; a block without marks in `marks` isn't marked.
 ///
-/// Costs the way of `b`, or nothing if there are no marks.
+/// Costs one block-map lookup, or nothing if there are no marks.
 #[tactic(auto, using(crate::proofs::Indexes::way_address, crate::proofs::Indexes::way_entry))]
 pub fn mark_passed(
     image: &Image,
@@ -94,8 +94,8 @@ pub fn mark_passed(
     }
 }
 
-/// Whether no more than two levels lie below the block that the first `d` entries of the way of logical block `b` lead to, and all
-/// logical blocks below it are from `from` to before `to`.
+/// True if at most two levels are below the block to which the first `d` entries of the way of logical block `b` lead, and
+/// all logical blocks below it are in `from..to`.
 fn is_between(geometry: &Geometry, way: &Way, d: usize, b: u32, from: u32, to: u32) -> bool
     requires depth { way.now.depth ≤ 3 }
     requires above { d ≤ way.now.depth }
@@ -115,7 +115,7 @@ fn is_between(geometry: &Geometry, way: &Way, d: usize, b: u32, from: u32, to: u
     end <= to && from <= end && blocks_below(geometry, levels) <= end - from
 }
 
-/// Whether block `m` is marked for what lies `levels` levels below it.
+/// True if block `m` is marked for what is `levels` levels below it.
 fn is_marked(marks: &[bool], m: u32, levels: usize) -> bool
     requires deep { levels ≤ 3 }
     ensures few { result ≡ true → levels < 3 }
@@ -125,7 +125,7 @@ fn is_marked(marks: &[bool], m: u32, levels: usize) -> bool
     levels < MARKS && at < marks.len() && marks[at]
 }
 
-/// Marks block `m` for what lies `levels` levels below it.
+/// Marks block `m` for what is `levels` levels below it.
 fn mark(marks: &mut [bool], m: u32, levels: usize)
     requires few { levels < 3 }
     ensures { (test : ℕ → ℕ → Bool) (geometry : Geometry) (image : List ℕ) → MarksPassed test geometry image marks.old

@@ -11,10 +11,10 @@ use pdp_words::Image;
 use vol_layout::i_list::{address, mode};
 use vol_layout::{Form, Geometry};
 
-/// Where the numbers of a run of logical blocks stand.
+/// Where the numbers of a run of logical blocks are stored.
 #[derive(Clone, Copy, Debug)]
 pub(crate) enum Source {
-    /// Nowhere: these blocks have no way.
+    /// Nowhere: a file can't have these blocks.
     Nowhere,
     /// In the i-node, as its addresses.
     Inode,
@@ -22,21 +22,21 @@ pub(crate) enum Source {
     Indirect(u32),
 }
 
-/// Logical blocks of a file whose numbers stand one after the other.
+/// Logical blocks of a file whose numbers are stored one after the other.
 #[derive(Clone, Copy, Debug)]
 pub(crate) struct Run {
     /// The first logical block.
     first: u32,
-    /// The last one; before the first where there is none.
+    /// The last one; below the first if there is none.
     last: u32,
-    /// Where the numbers stand.
+    /// Where the numbers are stored.
     source: Source,
-    /// Which number there is that of the first block.
+    /// The index there of the first block's number.
     entry: u32,
 }
 
-/// Looks up the numbers of a file's logical blocks. It follows the way of a block only where its number doesn't stand
-/// beside the one before: in the same indirect block, or in the i-node.
+/// Looks up the numbers of a file's logical blocks. A block-map lookup is made only if the number isn't stored in the
+/// same indirect block as the one before, or in the i-node.
 #[derive(Clone, Copy, Debug)]
 pub struct BlockNumbers {
     inode: u16,
@@ -45,7 +45,7 @@ pub struct BlockNumbers {
 }
 
 impl BlockNumbers {
-    /// The numbers of i-node `i`, from 1 to the last. None is looked up yet.
+    /// Makes a lookup for i-node `i`, from 1 to the last. Reads nothing but its mode.
     pub fn of(image: &Image, geometry: &Geometry, i: u16) -> BlockNumbers
         requires fits { Fits geometry.now image.now }
         requires first { 1 ≤ i }
@@ -65,9 +65,10 @@ impl BlockNumbers {
         }
     }
 
-    /// The block that holds logical block `b`, as [`block_at`](crate::block_at) says, of the image and geometry of the calls before.
+    /// Returns the block that holds logical block `b`, as [`block_at`](crate::block_at) does. Image and geometry are those of the
+    /// calls before.
     ///
-    /// Costs a look at one number, and the way of the block where it doesn't lie in the run of the one before.
+    /// Costs one number, and a block-map lookup if the block isn't in the run of the one before.
     pub fn block_at(&mut self, image: &Image, geometry: &Geometry, b: u32) -> Option<u32>
         requires fits { Fits geometry.now image.now }
         requires own { LooksUp geometry.now image.now self.old.inode self.old }
@@ -98,7 +99,7 @@ impl BlockNumbers {
         }
     }
 
-    /// The number at the last place of the way of logical block `b`; 0 where there is no way, or nothing is named.
+    /// Returns the number that is stored for logical block `b`; 0 if there is none, or if a file can't have the block.
     pub(crate) fn number_at(&mut self, image: &Image, geometry: &Geometry, b: u32) -> u32
         requires fits { Fits geometry.now image.now }
         requires own { LooksUp geometry.now image.now self.old.inode self.old }
@@ -109,7 +110,7 @@ impl BlockNumbers {
         self.run.number(image, geometry, self.inode, b)
     }
 
-    /// A run with logical block `b`: the last one, if it lies there, else the one that begins with it.
+    /// Returns a run with logical block `b`: the last one if it is in it, else the one that begins with it.
     fn run_with(&self, image: &Image, geometry: &Geometry, b: u32) -> Run
         requires fits { Fits geometry.now image.now }
         requires own { LooksUp geometry.now image.now self.now.inode self.now }
@@ -126,7 +127,7 @@ impl BlockNumbers {
 }
 
 impl Run {
-    /// The number of logical block `b` of i-node `i`, which lies in this run of it.
+    /// Returns the number of logical block `b` of i-node `i`, which is in this run of it.
     #[tactic(auto, using(crate::proofs::Indexes::entry_room))]
     fn number(&self, image: &Image, geometry: &Geometry, i: u16, b: u32) -> u32
         requires fits { Fits geometry.now image.now }
@@ -148,10 +149,10 @@ impl Run {
     }
 }
 
-/// The run of the numbers of i-node `i` from that of logical block `b` on to the end of its indirect block, or of the addresses of
-/// data blocks.
+/// Returns the run of the numbers of i-node `i` from that of logical block `b` to the end of its indirect block, or of the addresses
+/// of data blocks.
 ///
-/// Costs the way of the block.
+/// Costs one block-map lookup.
 fn run_from(image: &Image, geometry: &Geometry, i: u16, form: Form, b: u32) -> Run
     requires fits { Fits geometry.now image.now }
     requires first { 1 ≤ i }

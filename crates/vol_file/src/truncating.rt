@@ -1,4 +1,4 @@
-//! Truncating a file: the blocks past its new size go back to the free list.
+//! Truncating a file: the blocks past its new size return to the free list.
 ghost use Rattle.std.specs.Prelude.{◌≡◌, ℕ, ◌*◌, ◌≤◌, List, [], ◌∷◌, length};
 ghost use Rattle.vol_layout.specs.Geometry.{Fits};
 ghost use Rattle.vol_layout.specs.Names.{form_at, IsFile, named};
@@ -12,14 +12,13 @@ use vol_free::give;
 use vol_layout::i_list::{address, mode};
 use vol_layout::{Edition, Form, Geometry, number, put_address, put_mode, put_number, put_size};
 
-/// Truncates file `i` to its first `size` bytes, which are at most as many as it has. It keeps the blocks
-/// on the ways of the logical blocks that hold them, and names no other block any more: these go back to
-/// the free list, from its last place to its first, so that the next to be taken is the one that the first
-/// of their places named. In the sixth edition the large flag goes where `size` is 0, and the rest of the
-/// mode stays. Answers how many blocks were given back. Takes no memory.
+/// Truncates file `i` to its first `size` bytes, at most its size, and returns the number of blocks freed. The blocks on
+/// the ways of the logical blocks that hold these bytes are kept. All others are put on the free list, from the last place
+/// to the first, so that the next block to be taken is the one that the first of their places named. In the sixth edition
+/// the large flag is cleared if `size` is 0; the rest of the mode stays. Takes no memory.
 ///
-/// Costs one read for each entry of the file's indirect blocks that lies behind the kept ones, on the way
-/// of the last kept block too, and two writes for each block that is given back.
+/// Costs one read for each entry of the file's indirect blocks after the kept ones, including those on the way of the last
+/// kept block, and two writes for each block freed.
 pub fn truncate(image: &mut Image, geometry: &Geometry, i: u16, size: u32) -> u32
     requires file { IsFile geometry.now image.old i }
     requires within { size ≤ size_of geometry.now image.old i }
@@ -44,9 +43,8 @@ pub fn truncate(image: &mut Image, geometry: &Geometry, i: u16, size: u32) -> u3
     given
 }
 
-/// Makes those addresses of file `i` 0 below which none of its first `kept` logical blocks lies, the last
-/// address first, gives back what they lead to, and what the others lead to behind those blocks. Answers
-/// how many blocks that is.
+/// Frees what the addresses of file `i` lead to past its first `kept` logical blocks, the last address first, clears the
+/// addresses that lead to nothing else, and returns the number of blocks freed.
 fn clear_addresses(image: &mut Image, geometry: &Geometry, i: u16, form: Form, kept: u32) -> u32
     requires file { IsFile geometry.now image.old i }
     requires sound { Rules3To7 geometry.now image.old }
@@ -72,7 +70,7 @@ fn clear_addresses(image: &mut Image, geometry: &Geometry, i: u16, form: Form, k
     given
 }
 
-/// The first logical block that lies below address `k` of a file.
+/// Returns the first logical block below address `k` of a file.
 fn first_at(form: Form, k: usize) -> u32
     requires { k ≤ 12 }
     ensures { result ≡ first_at form k }
@@ -85,10 +83,9 @@ fn first_at(form: Form, k: usize) -> u32
     }
 }
 
-/// Makes those entries of block `m` 0 below which none of the first `kept` logical blocks below `m` lies,
-/// the last entry first, gives back what they lead to, and what the others lead to behind those blocks.
-/// Answers how many blocks that is. Block `m` is named by a place with `level` levels below it; where
-/// there is none, nothing is done.
+/// Frees what the entries of block `m` lead to past the first `kept` logical blocks below `m`, the last entry first, clears
+/// the entries that lead to nothing else, and returns the number of blocks freed. A place with `level` levels below it
+/// names block `m`; if `level` is 0, nothing is done.
 fn clear_below(image: &mut Image, geometry: &Geometry, m: u32, level: u8, kept: u32) -> u32
     requires { IsNamedAtLevel geometry.now image.old m level }
     ensures cleared { ClearsBelow geometry.now image.old image.new m level kept }
@@ -116,7 +113,7 @@ fn clear_below(image: &mut Image, geometry: &Geometry, m: u32, level: u8, kept: 
     given
 }
 
-/// Makes entry `j` of block `m` 0, and gives back block `b`, which it named.
+/// Clears entry `j` of block `m`, and frees block `b`, which it named.
 fn drop_entry(image: &mut Image, geometry: &Geometry, m: u32, j: u32, b: u32)
     requires { HasPointer geometry.now image.old m j b }
     ensures dropped { (i a : ℕ) (p blocks : List ℕ) → named geometry.now image.old i (a ∷ p) ≡ m
@@ -127,7 +124,7 @@ fn drop_entry(image: &mut Image, geometry: &Geometry, m: u32, j: u32, b: u32)
     give(image, geometry, b);
 }
 
-/// Makes address `k` of file `i` 0, and gives back block `b`, which it named.
+/// Clears address `k` of file `i`, and frees block `b`, which it named.
 fn drop_address(image: &mut Image, geometry: &Geometry, i: u16, k: usize, b: u32)
     requires { HasAddress geometry.now image.old i k b }
     ensures dropped { (blocks : List ℕ) → Drops geometry.now image.old image.new i (k ∷ []) b blocks }

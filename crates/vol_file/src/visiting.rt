@@ -1,4 +1,4 @@
-//! Going over a range of the logical blocks of a file.
+//! Iterating over a range of a file's logical blocks.
 ghost use Rattle.std.specs.Prelude.{◌≡◌, ℕ, ◌+◌, ◌^◌, ◌<◌, ◌≤◌, length, slice_index};
 ghost use Rattle.std.specs.List.{FoldsTo, range_with_len};
 ghost use Rattle.vol_layout.specs.Body.{zone_byte};
@@ -9,12 +9,11 @@ use crate::runs::BlockNumbers;
 use pdp_words::{BLOCK, Image};
 use vol_layout::Geometry;
 
-/// Calls `visit` with the 512 bytes of each of `count` logical blocks of i-node `i`, from 1 to the last, in their
-/// order from block `first` on. Holes, numbers outside the data zone and blocks past those that a file can have read
-/// as zeros; so does all of an i-node that is no regular file or directory. What is stored past the size is handed
-/// out too.
+/// Calls `visit` with the 512 bytes of each of `count` logical blocks of i-node `i`, from 1 to the last, in order from
+/// block `first` on. Holes, numbers outside the data zone and blocks past those that a file can have read as zeros, and so
+/// does an i-node that is no regular file or directory. Bytes stored past the size are visited too.
 ///
-/// Takes no memory, and copies nothing. Costs a look at the number of each block, and the way of the first one in each indirect block.
+/// Takes no memory, and copies nothing. Costs one block-map lookup for each indirect block; the other blocks cost one number each.
 pub fn read_range<F: FnMut(&[u8])>(
     image: &Image,
     geometry: &Geometry,
@@ -38,7 +37,7 @@ pub fn read_range<F: FnMut(&[u8])>(
     }
 }
 
-/// The bytes of block `k`, or those of `hole` where `k` is no data block.
+/// Returns the bytes of block `k`, or `hole` if `k` is no data block.
 #[tactic(auto, unfolding(vol_layout::specs::Body::zone_byte))]
 fn block_bytes<'a>(image: &'a Image, geometry: &Geometry, k: u32, hole: &'a [u8]) -> &'a [u8]
     requires fits { Fits geometry.now image.now }

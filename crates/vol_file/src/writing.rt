@@ -1,4 +1,4 @@
-//! Writing the bytes of a file, where it is made longer if it must be.
+//! Writing the bytes of a file, which grows if it must.
 ghost use Rattle.std.specs.Prelude.{◌≡◌, ℕ, ◌+◌, ◌-◌, ◌*◌, ◌/◌, ◌<◌, ◌≤◌, true, List, length};
 ghost use Rattle.std.specs.List.{range_with_len};
 ghost use Rattle.vol_layout.specs.Edition.{constants};
@@ -20,8 +20,8 @@ use vol_layout::{
     Form, Geometry, clear_addresses, copy_addresses, put_address, put_mode, put_size,
 };
 
-/// Makes the small file `i` large: the first free block gets its eight addresses, and the first address
-/// names that block then. Nothing is done where no block is free.
+/// Makes the small file `i` large: its eight addresses move to the first free block, and address 0 then names that
+/// block. Does nothing if no block is free.
 fn make_large(image: &mut Image, geometry: &Geometry, i: u16)
     requires form { form_at geometry.now image.old i ≡ Form.Small }
     requires may { MayEnlarge geometry.now image.old i }
@@ -40,8 +40,8 @@ fn make_large(image: &mut Image, geometry: &Geometry, i: u16)
     }
 }
 
-/// Names what is missing on the ways of the logical blocks of file `i` from `from` up to `to`. A small
-/// file is made large first, where the last of them is its ninth or later.
+/// Gives each place on the ways of the logical blocks `from..to` of file `i` a block if it names none. A small file first
+/// becomes large if one of them is its ninth or later.
 fn name_blocks(image: &mut Image, geometry: &Geometry, i: u16, from: u32, to: u32)
     requires order { from < to }
     requires greatest { 512 * to < (constants geometry.now.edition).greatest + 512 }
@@ -59,8 +59,8 @@ fn name_blocks(image: &mut Image, geometry: &Geometry, i: u16, from: u32, to: u3
     }
 }
 
-/// Puts `text` in file `i` from byte `offset` on, where a block is named for each of its bytes: zeros
-/// between the size and the offset, then the text, then the size.
+/// Writes `text` to file `i` from byte `offset` on, where the block of each of its bytes is stored: first zeros between the
+/// size and the offset, then the text, then the size.
 fn put_in_blocks(image: &mut Image, geometry: &Geometry, i: u16, offset: u32, text: &[u8])
     requires file { IsFile geometry.now image.old i }
     requires sound { Rules3To7 geometry.now image.old }
@@ -78,13 +78,12 @@ fn put_in_blocks(image: &mut Image, geometry: &Geometry, i: u16, offset: u32, te
     put_size(image, geometry, i, before.max(offset + text.len() as u32));
 }
 
-/// Writes `text` in file `i` from byte `offset` on, up to the edition's greatest size. Where the file
-/// is shorter than `offset`, zeros stand between. Blocks are taken from the front of the free list, for
-/// each place that names none: in the sixth edition first the block that makes a small file large, then
-/// for each logical block in turn what is missing on its way, from the i-node down. The size grows
-/// where it must; a write of no bytes changes nothing.
+/// Writes `text` to file `i` from byte `offset` on, up to the edition's greatest size. Bytes between the old size and
+/// `offset` become zeros. Takes blocks from the front of the free list for the places that name none: in the sixth edition
+/// first the block that makes a small file large, then for each logical block in turn those that are missing on its way,
+/// from the i-node down. The size grows if it must; a write of no bytes changes nothing.
 ///
-/// Costs a copy of `text`, twice the way of each logical block that it touches, and once that of each
+/// Costs a copy of `text`, two block-map lookups for each logical block that it touches, and one for each stored block
 /// between the old size and `offset`.
 pub fn write(image: &mut Image, geometry: &Geometry, i: u16, offset: u32, text: &[u8])
     requires file { IsFile geometry.now image.old i }

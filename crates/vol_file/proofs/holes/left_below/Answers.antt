@@ -11,7 +11,7 @@ use Rattle.vol_file.proofs.holes.left_below.Goals as goal
 next_power : (n left pointers : ℕ) → left ≤ 256 ^ n → pointers ≤ 256 → left * pointers ≤ 256 ^ suc n
 next_power n left pointers few h = rw (pow-suc 256 n) (mul-le-mul few h)
 
--- the powers that three levels come to
+-- the powers for three levels
 powers : (n : ℕ) → n ≤ 3 → 256 ^ n ≤ 16777216
 powers zero h = omega arith
 powers (suc zero) h = omega arith
@@ -27,7 +27,7 @@ overflow_mul-left c =
     let most = powers (suc n) (omega arith) in
     omega arith
 
--- what is taken off is less than one block's pointers
+-- the number taken off is less than one block's pointers
 taken_off : (left pointers j : ℕ) → 1 ≤ left → j < pointers → j + 1 ≤ left * pointers
 taken_off left pointers j some h =
     let least : 1 * pointers ≤ left * pointers = mul-le-mul some (omega arith) in

@@ -8,7 +8,7 @@ use Rattle.vol_file.proofs.truncating.+clear_below.Given as goal
 abbrev pub decreases-clear_below : goal.decreases-clear_below
 decreases-clear_below l = l.level
 
--- the entries from j on are cleared, and so many blocks given
+-- the entries from j on are cleared, and `given` blocks are freed
 abbrev pub invariant-loop-j : goal.invariant-loop-j
 invariant-loop-j l = record {
   few : l.j ≤ (constants l.geometry.edition).pointers;

@@ -5,7 +5,7 @@ use Rattle.vol_file.specs.Clears.{Gains}
 use Rattle.vol_file.proofs.Nodes.{ClearsAddresses}
 use Rattle.vol_file.proofs.truncating.clear_addresses.Given as goal
 
--- the addresses from k on are cleared, and so many blocks given
+-- the addresses from k on are cleared, and `given` blocks are freed
 abbrev pub invariant-loop-k : goal.invariant-loop-k
 invariant-loop-k l = record {
   few : l.k ≤ first_count (form_at l.geometry l.fn.image l.i);

@@ -16,7 +16,7 @@ range_suc a (suc n) =
     let here : a + 1 + n ≡ a + suc n = omega arith in
     ap (λ xs. a ∷ xs) (range_suc (a + 1) n) ∙ ap (λ k. a ∷ (range_with_len (a + 1) n ++ k ∷ [])) here
 
--- the range up to the number behind b
+-- the range up to the number after b
 range_to : (a b : ℕ) → a < b + 1 → range_with_len a (b + 1 - a) ≡ range_with_len a (b - a) ++ b ∷ []
 range_to a b h =
     let more : b + 1 - a ≡ suc (b - a) = omega arith in

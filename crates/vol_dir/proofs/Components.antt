@@ -63,7 +63,7 @@ has_first (c ∷ path) =
       })
     ] refl
 
--- what stands behind the slashes before a path begins with no slash
+-- the rest of a path after its leading slashes begins with no slash
 name_follows : (path : List ℕ) → let rest = drop (position_or_len (λ c. not (eqb c 47)) path) path in
     0 < length rest → 0 < position_or_len (λ c. eqb c 47) rest
 name_follows [] = λ h. h
@@ -115,7 +115,7 @@ components-none path none =
     let count : length (drop n path) ≡ length path - n = length-drop n path in
     sym (components-slashes path) ∙ (ap components (nil_from_length (drop n path) (omega (arith, all, count))) ∙ components-nil)
 
--- the first component of a path begins at byte k, where `named` begins, and has n bytes
+-- the first component of a path begins at byte k, with the text `named`, and has n bytes
 pub record Begins (path named : List ℕ) (k n : ℕ) : Type 0 where
   pub at : k ≡ position_or_len (λ c. not (eqb c 47)) path
   pub is : named ≡ drop k path
@@ -142,7 +142,7 @@ has_byte path named k n begun =
     subst (λ j. 0 < j) (sym begun.stop)
     (subst (λ xs. 0 < length xs → 0 < position_or_len (λ c. eqb c 47) xs) (sym behind) (name_follows path) begun.full)
 
--- a path's first component is what stands behind its slashes before the next one, cut
+-- a path's first component is the part from its leading slashes to the next one, cut
 pub components-split : (path named front rest : List ℕ) (k n m : ℕ) → Begins path named k n
     → front ≡ take n named → rest ≡ drop n named → m ≡ min (length front) 14
     → components path ≡ take m front ∷ components rest

@@ -1,4 +1,4 @@
--- What a search over the slots of a directory says of its map.
+-- A search over the slots of a directory, and the directory's map.
 use Rattle.std.proofs.Common.{◌≡◌, ◌∙◌, ap, refl, sym, ℕ, ◌+◌, ◌*◌, ◌^◌, ◌<◌, ◌||◌, ◌==◌, Bor, Bool, eqb, if◌then◌else◌, inl, inr, Result, Ok, Err, IfOk, IfErr, OnErr, true, false, not, List, [], ◌∷◌, length, get_or, None, Some, arith, zero, suc}
 use Rattle.std.specs.Prelude.{Option}
 use Rattle.std.specs.List.{list_any}
@@ -63,7 +63,7 @@ named_slot geometry image name d s i first =
     position_or_len_is (holds name) (slots geometry image d) s None (let within = first.within in omega arith)
     (λ t h. ap (holds name) (slot_is geometry image d t) ∙ first.before t (omega arith) h) (λ h. ap (holds name) (slot_is geometry image d s) ∙ first.found)
 
--- a slot has a name where it has an entry
+-- a slot has a name if it has an entry
 none_of_name : (slot : Option (List ℕ × ℕ)) → is_none (option_map (λ (entry : List ℕ × ℕ). entry.0) slot) ≡ is_none slot
 none_of_name None = refl
 none_of_name (Some entry) = refl
@@ -73,7 +73,7 @@ pub length-names_in : (slots : List (Option (List ℕ × ℕ))) → length (name
 length-names_in [] = refl
 length-names_in (slot ∷ slots) = ap suc (length-names_in slots)
 
--- whether a slot of the list of names is empty
+-- a slot of the list of names is empty or not
 empty_named : (geometry : Geometry) (image : List ℕ) (d t : ℕ) → t < slot_count geometry image d
     → is_none (get_or (names_in (slots geometry image d)) t None) ≡ is_none (entry_at geometry image d t)
 empty_named geometry image d t h =
@@ -100,7 +100,7 @@ pub new_slot_found : (geometry : Geometry) (image : List ℕ) (d : ℕ) {s : ℕ
     → IsFirst Empty (entry_at geometry image d) 0 (slot_count geometry image d) s slot → new_slot (names_in (slots geometry image d)) ≡ s
 new_slot_found geometry image d {s} first = new_slot_at geometry image d s first.within first.found (λ t h. first.before t (omega arith) h)
 
--- the place of a new entry is past the last slot where none is empty
+-- the place of a new entry is past the last slot if none is empty
 pub new_slot_past : (geometry : Geometry) (image : List ℕ) (d : ℕ)
     → IsMissing Empty (entry_at geometry image d) 0 (slot_count geometry image d)
     → new_slot (names_in (slots geometry image d)) ≡ slot_count geometry image d
@@ -115,7 +115,7 @@ none_any : {X : Type 0} (test : X → Bool) (xs : List X) (d : X) → ((t : ℕ)
 none_any test [] d none = refl
 none_any test (x ∷ xs) d none = or_from (test x) (list_any test xs) (none zero (omega arith)) (none_any test xs d (λ t h. none (suc t) (omega arith)))
 
--- the map has another name than `.` and `..` where a search for one finds a slot
+-- the map has another name than `.` and `..` if a search for one finds a slot
 pub others_are : (geometry : Geometry) (image : List ℕ) (d : ℕ) (r : Option (ℕ × Slot))
     → Searches Other (entry_at geometry image d) 0 (slot_count geometry image d) r
     → list_any (λ (entry : List ℕ × ℕ). not (is_dots entry.0)) (names_of (slots geometry image d)) ≡ is_some r
@@ -156,7 +156,7 @@ held_open name slot = elim (eqb slot.inode 0) as (λ z. z ≡ false
 pub empty_open : (slot : Slot) → slot.inode ≡ 0 → is_none (entry_in slot) ≡ true
 empty_open slot e = ap (λ i. is_none {T = List ℕ × ℕ} (if i == 0 then None else Some (name_of slot.name, i))) e
 
--- what is looked up under a name, and answered
+-- the result of looking up a name
 pub record IsLookedUp (geometry : Geometry) (image : List ℕ) (d : ℕ) (name : List ℕ) (result : Result Entry ℕ) : Type 0 where
   pub number : IfOk result (λ entry. get (names_of (slots geometry image d)) name ≡ Some entry.inode)
   pub slot : IfOk result (λ entry. entry.slot ≡ slot_named name (slots geometry image d))
@@ -208,7 +208,7 @@ module _ (geometry : Geometry) (image name : List ℕ) (d : ℕ) where
         ap (λ n. holds name (entry_at geometry image d n)) same ∙ not_held_empty name (entry_at geometry image d s) empty
   ]
 
-  -- the first slot that is empty or has the name is empty, and the search for the name went on behind it
+  -- the first slot that is empty or has the name is empty, and the search for the name went on after it
   pub looked_on : (s : ℕ) (found : Option Entry) → s < slot_count geometry image d → is_none (entry_at geometry image d s) ≡ true
       → ((t : ℕ) → t < s → (is_none (entry_at geometry image d t) || holds name (entry_at geometry image d t)) ≡ false)
       → Finds name (entry_at geometry image d) (s + 1) (slot_count geometry image d) found → IsLookedUp geometry image d name (ok_or found s)

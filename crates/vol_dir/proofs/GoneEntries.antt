@@ -1,4 +1,4 @@
--- What is left of a directory when an entry goes.
+-- A directory after an entry is removed.
 use Rattle.std.proofs.Common.{◌≡◌, ◌≢◌, ◌∙◌, sym, ap, subst, refl, ℕ, zero, suc, ◌+◌, ◌-◌, ◌*◌, ◌/◌, ◌%◌, ◌<◌, ◌≤◌, Bool, true, false, cond, ◌&&◌, true≢false, not, ◌||◌, List, [], ◌∷◌, map, length, get_or, None, Some, inl, inr, arith, ◌==◌, if◌then◌else◌}
 use Rattle.std.specs.Prelude.{Option}
 use Rattle.std.specs.List.{list_any, range_with_len, count_by}
@@ -64,7 +64,7 @@ count_none {X} test (x ∷ xs) none =
     let first : ◌≡◌ {A = ℕ} (cond (test x) 1 0) 0 = ap (λ b. cond b 1 0) (none x) in
     let split = sum_by-cons {X = X} (λ y. cond (test y) 1 0) x xs in omega (arith, rest, split, first)
 
--- what is on the way and names something isn't missing
+-- a place on the way that names a block isn't missing
 passes_not : (on : Bool) (k : ℕ) → (on ≡ true → k ≢ 0) → ((on || false) && not (not (k == 0))) ≡ false
 passes_not true k some = ap (λ b. not (not b)) (ne_eqb k 0 (some refl))
 passes_not false k some = refl
@@ -114,7 +114,7 @@ zero_at zero h = refl
 zero_at (suc zero) h = refl
 zero_at (suc (suc r)) h = absurd (omega arith)
 
--- where two zeros were put, bytes are zero
+-- if two zeros were put, bytes are zero
 zeros_put : (whole bytes : List ℕ) (at r : ℕ) → at ≤ length bytes → r < 2 → whole ≡ spliced bytes at (0 ∷ (0 ∷ [])) → get_or whole (at + r) 0 ≡ 0
 zeros_put whole bytes at r start h is =
     ap (λ xs. get_or xs (at + r) 0) is ∙ (spliced_inside bytes at (0 ∷ (0 ∷ [])) r start h ∙ zero_at r h)
@@ -146,7 +146,7 @@ removes geometry old new blocks d s file sound whole within writes =
     })
     (empty_slot (slot_at (body geometry new d) (16 * s)) (omega (arith, low, high)))
 
--- a name that is there stands in its slot
+-- a name that the directory has is in its slot
 pub record StandsIn (geometry : Geometry) (image : List ℕ) (d : ℕ) (name : List ℕ) (s : ℕ) : Type 0 where
   pub within : s < slot_count geometry image d
   pub held : holds name (entry_at geometry image d s) ≡ true

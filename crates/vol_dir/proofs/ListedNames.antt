@@ -1,4 +1,4 @@
--- Collecting the names of a directory, slot after slot, where a name may come twice.
+-- Collecting the names of a directory, slot by slot, in which a name may occur twice.
 use Rattle.std.proofs.Common.{◌≡◌, ℕ, zero, suc, ◌+◌, ◌-◌, ◌<◌, ◌≤◌, Bool, true, false, cond, List, [], ◌∷◌, ◌++◌, map, None, Some, refl, ap, sym, subst, ◌∙◌, inl, inr, arith}
 use Rattle.std.specs.Prelude.{Option, T, nat_lt, if◌then◌else◌, slice_index_or}
 use Rattle.std.specs.BTreeMap.{insert_entry}
@@ -34,7 +34,7 @@ use Rattle.vol_dir.specs.Listing.{by_bytes, put_first}
 unfoldable pub slots_below : Geometry → List ℕ → ℕ → ℕ → List (Option (List ℕ × ℕ))
 slots_below geometry image d n = map (entry_at geometry image d) (range_with_len 0 n)
 
--- whether a slot is empty or has one of these names
+-- true if a slot is empty or has one of these names
 abbrev pub is_met : Names → Option (List ℕ × ℕ) → Bool
 is_met names None = true
 is_met names (Some entry) = is_some (get names entry.0)
@@ -58,7 +58,7 @@ unfolding slots_below
 slots_more geometry image d n =
     ap (map (entry_at geometry image d)) (range_more 0 n n (omega arith)) ∙ map-append (entry_at geometry image d) (range_with_len 0 n) (n ∷ [])
 
--- an empty slot behind others has no name
+-- an empty slot after others has no name
 names_empty : (slots : List (Option (List ℕ × ℕ))) → names_of (slots ++ None ∷ []) ≡ names_of slots
 names_empty [] = refl
 names_empty (None ∷ slots) = names_empty slots
@@ -69,17 +69,17 @@ get_insert : (names : Names) (name q : List ℕ) (i : ℕ) → get (insert names
 get_insert names name q i =
     find-put (slice_cmp nat_cmp) nat_list_cmp_total q name i names ∙ ap (λ b. cond b (Some i) (get names q)) (is_eq-slice_cmp q name)
 
--- the first of two, where there is one
+-- the first of two values, if there is one
 abbrev pub or_else : Option ℕ → Option ℕ → Option ℕ
 or_else None second = second
 or_else (Some first) second = Some first
 
--- what a choice gives first
+-- the first value of a choice
 cond_else : (b : Bool) (x second : Option ℕ) (i : ℕ) → cond b (Some i) (or_else x second) ≡ or_else (cond b (Some i) x) second
 cond_else true x second i = refl
 cond_else false x second i = refl
 
--- a name behind others is found where none of them has it
+-- a name after others is found if none of them has it
 get_behind : (slots : List (Option (List ℕ × ℕ))) (name q : List ℕ) (i : ℕ)
     → get (names_of (slots ++ Some (name, i) ∷ [])) q ≡ or_else (get (names_of slots) q) (cond (bytes_eq q name) (Some i) None)
 get_behind [] name q i = get_insert [] name q i
@@ -90,7 +90,7 @@ get_behind (Some entry ∷ slots) name q i =
     ∙ (cond_else (bytes_eq q entry.0) (get (names_of slots) q) (cond (bytes_eq q name) (Some i) None) entry.1
     ∙ ap (λ first. or_else first (cond (bytes_eq q name) (Some i) None)) (sym (get_insert (names_of slots) entry.0 q entry.1))))
 
--- what a map answers once a name is put first
+-- the result of a map once a name is put first
 get_put_first : (names : Names) (name q : List ℕ) (i : ℕ)
     → get (put_first names name i) q ≡ or_else (get names q) (cond (bytes_eq q name) (Some i) None)
 unfolding put_first
@@ -112,7 +112,7 @@ get_put_first names name q i =
     present false None j here = refl
     present false (Some k) j here = refl
 
--- the names of slots with one behind them
+-- the names of slots with one after them
 names_behind : (slots : List (Option (List ℕ × ℕ))) (name : List ℕ) (i : ℕ)
     → names_of (slots ++ Some (name, i) ∷ []) ≡ put_first (names_of slots) name i
 unfolding put_first
@@ -179,12 +179,12 @@ collected_none geometry image d entries marks empty clear = record {
   marked = clear_passes (passes_in (is_met (by_bytes entries)) geometry image) geometry image marks clear;
 }
 
--- a choice has what its first has
+-- a choice has the value of its first, if that has one
 else_some : (first second : Option ℕ) → is_some first ≡ true → is_some (or_else first second) ≡ true
 else_some None second some = absurd (true≢false (sym some))
 else_some (Some i) second some = refl
 
--- a choice has what its second has
+-- a choice has the value of its second
 some_else : (first : Option ℕ) (i : ℕ) → is_some (or_else first (Some i)) ≡ true
 some_else None i = refl
 some_else (Some j) i = refl
@@ -244,7 +244,7 @@ collected_next geometry image d from s slot name old new before after collected 
           (passes_more (by_bytes old) (name_of slot.name) slot.inode geometry image (below geometry image (constants geometry.edition).pointers m n c) part (marked m n mark c part low));
     }
 
--- where no further slot has another name, all names of the directory are collected
+-- if no further slot has another name, all names of the directory are collected
 pub collected_all : (geometry : Geometry) (image : List ℕ) (d from : ℕ) (entries : List (Vec ℕ × ℕ)) (marks : List Bool)
     → HasCollected geometry image d from entries marks
     → PassSlots (is_met (by_bytes entries)) geometry image d from (slot_count geometry image d)
@@ -254,7 +254,7 @@ collected_all geometry image d from entries marks collected passed =
     collected.names ∙ sym (names_until geometry image d from (slot_count geometry image d) collected.within (omega arith)
     (subst (λ names. PassSlots (is_met names) geometry image d from (slot_count geometry image d)) collected.names passed))
 
--- what is looked up among entries is what their map has
+-- looking up a name among entries gives the same as in their map
 lookup_listed : (name : List ℕ) (entries : List (Vec ℕ × ℕ)) → lookup (λ k. is_eq (slice_cmp nat_cmp name k.items)) entries ≡ get (by_bytes entries) name
 lookup_listed name [] = refl
 lookup_listed name (e ∷ es) = ap (cond (is_eq (slice_cmp nat_cmp name e.0.items)) (Some e.1)) (lookup_listed name es)

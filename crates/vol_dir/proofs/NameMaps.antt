@@ -1,4 +1,4 @@
--- Laws of the map of a directory's names: what it answers, and what a new or removed entry makes of it.
+-- Laws of the map of a directory's names: looking up a name, and adding or removing an entry.
 use Rattle.std.proofs.Common.{◌≡◌, ◌∙◌, sym, ap, subst, refl, ℕ, zero, suc, ◌+◌, ◌<◌, ◌≤◌, Bool, true, false, cond, not, ◌||◌, List, [], ◌∷◌, ◌++◌, take, drop, map, length, get_or, None, Some, arith}
 use Rattle.std.specs.Prelude.{Option, T}
 use Rattle.std.specs.List.{list_any}
@@ -77,7 +77,7 @@ any_put test name i (e ∷ es) =
     or_turned true false c = refl
     or_turned false b c = refl
 
--- the map has a name other than `.` and `..` where a slot holds one
+-- the map has a name other than `.` and `..` if a slot holds one
 pub any_other : (slots : List (Option (List ℕ × ℕ)))
     → list_any (λ (entry : List ℕ × ℕ). not (is_dots entry.0)) (names_of slots) ≡ list_any holds_other slots
 any_other [] = refl
@@ -85,7 +85,7 @@ any_other (None ∷ slots) = any_other slots
 any_other (Some entry ∷ slots) =
     any_put (λ name. not (is_dots name)) entry.0 entry.1 (names_of slots) ∙ ap (λ b. not (is_dots entry.0) || b) (any_other slots)
 
--- the slot that holds a name, behind one more
+-- the slot that holds a name, after one more
 slot_next : (name : List ℕ) (slot : Option (List ℕ × ℕ)) (slots : List (Option (List ℕ × ℕ))) → holds name slot ≡ false
     → get_or (slot ∷ slots) (slot_named name (slot ∷ slots)) None ≡ get_or slots (slot_named name slots) None
 slot_next name slot slots e =
@@ -107,7 +107,7 @@ get_named (Some entry ∷ slots) name =
       | false ↦ λ e. get_named slots name ∙ sym (ap (option_map (λ (entry : List ℕ × ℕ). entry.1)) (slot_next name (Some entry) slots e))
     ] refl
 
--- where a name isn't found, no slot holds it
+-- if a name isn't found, no slot holds it
 pub none_held : (slots : List (Option (List ℕ × ℕ))) (name : List ℕ) → get (names_of slots) name ≡ None → list_any (holds name) slots ≡ false
 none_held [] name none = refl
 none_held (None ∷ slots) name none = none_held slots name none
@@ -117,13 +117,13 @@ none_held (Some entry ∷ slots) name none =
       | false ↦ λ e. none_held slots name e
     ] (sym (get_insert (names_of slots) entry.0 name entry.1) ∙ none)
 
--- two tests that don't both pass may be asked in either order
+-- two tests that don't both pass may be made in either order
 turned : {X : Type 0} (a b : Bool) (x y z : X) → (a ≡ true → b ≡ true → ⊥) → cond a x (cond b y z) ≡ cond b y (cond a x z)
 turned true true x y z apart = absurd (apart refl refl)
 turned true false x y z apart = refl
 turned false b x y z apart = refl
 
--- another item behind the first
+-- another item after the first
 with_item_next : {X : Type 0} (first x : X) (xs : List X) (s : ℕ) → with_item (first ∷ xs) (suc s) x ≡ first ∷ with_item xs s x
 with_item_next first x xs s = let next : suc s + 1 ≡ suc (s + 1) = omega arith in ap (λ n. first ∷ (take s xs ++ x ∷ drop n (first ∷ xs))) next
 
@@ -131,7 +131,7 @@ with_item_next first x xs s = let next : suc s + 1 ≡ suc (s + 1) = omega arith
 with_item_none : {X : Type 0} (x : X) (s : ℕ) → with_item [] (suc s) x ≡ x ∷ []
 with_item_none x s = let next : suc s + 1 ≡ suc (s + 1) = omega arith in ap (λ n. x ∷ drop n []) next
 
--- what the map answers once a name is put in an empty slot, or behind the last
+-- the result of the map once a name is put in an empty slot, or after the last
 get_with : (slots : List (Option (List ℕ × ℕ))) (s i : ℕ) (name q : List ℕ) → s ≤ length slots → get_or slots s None ≡ None
     → list_any (holds name) slots ≡ false
     → get (names_of (with_item slots s (Some (name, i)))) q ≡ cond (bytes_eq q name) (Some i) (get (names_of slots) q)
@@ -150,7 +150,7 @@ get_with (Some entry ∷ slots) (suc s) i name q h empty none =
     (λ a b. true≢false (sym (bytes_same name entry.0 (sym (same_bytes q name b) ∙ same_bytes q entry.0 a)) ∙ parts.0))
     ∙ ap (cond (bytes_eq q name) (Some i)) (sym (get_insert (names_of slots) entry.0 q entry.1)))))
 
--- a name put in an empty slot, or behind the last, is put in the map
+-- a name put in an empty slot, or after the last, is put in the map
 pub names_with : (slots : List (Option (List ℕ × ℕ))) (s i : ℕ) (name : List ℕ) → s ≤ length slots → get_or slots s None ≡ None
     → list_any (holds name) slots ≡ false → names_of (with_item slots s (Some (name, i))) ≡ insert (names_of slots) name i
 names_with slots s i name h empty none =
@@ -159,7 +159,7 @@ names_with slots s i name h empty none =
     (is_sorted-put (slice_cmp nat_cmp) nat_list_cmp_total name i (names_of slots) (sorted slots))
     (λ q. get_with slots s i name q h empty none ∙ sym (get_insert (names_of slots) name q i))
 
--- the names in slots of which one is another
+-- the names in slots one of which is another
 pub names_in_with : (slots : List (Option (List ℕ × ℕ))) (s : ℕ) (slot : Option (List ℕ × ℕ))
     → names_in (with_item slots s slot) ≡ with_item (names_in slots) s (option_map (λ (entry : List ℕ × ℕ). entry.0) slot)
 names_in_with [] zero slot = refl
@@ -175,7 +175,7 @@ names_in_with (first ∷ slots) (suc s) slot =
 abbrev pub cleared : List ℕ → Option (List ℕ × ℕ) → Option (List ℕ × ℕ)
 cleared name slot = cond (holds name slot) None slot
 
--- what the map answers once a name is removed
+-- the result of the map once a name is removed
 pub get_remove : (names : Names) (name q : List ℕ) → get (remove names name) q ≡ cond (bytes_eq name q) None (get names q)
 get_remove names name q =
     find-where_key (slice_cmp nat_cmp) (λ other. not (eq_by_cmp (slice_cmp nat_cmp) name other)) q
@@ -186,7 +186,7 @@ get_remove names name q =
     not_cond true x y = refl
     not_cond false x y = refl
 
--- what the map answers once a name is cleared out of its slots
+-- the result of the map once a name is cleared out of its slots
 get_cleared : (slots : List (Option (List ℕ × ℕ))) (name q : List ℕ)
     → get (names_of (map (cleared name) slots)) q ≡ cond (bytes_eq name q) None (get (names_of slots) q)
 get_cleared [] name q = elim (bytes_eq name q) as (λ b. get [] q ≡ cond b None (get [] q)) [ true ↦ refl | false ↦ refl ]

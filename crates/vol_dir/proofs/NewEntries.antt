@@ -1,4 +1,4 @@
--- What a new entry makes of a directory.
+-- A directory after a new entry is added.
 use Rattle.std.proofs.Common.{◌≡◌, ◌≢◌, ◌∙◌, sym, ap, not, subst, refl, ℕ, ◌+◌, ◌-◌, ◌*◌, ◌/◌, ◌%◌, ◌<◌, ◌≤◌, true, true≢false, List, length, take, get_or, None, Some, inl, inr, arith, ◌==◌, if◌then◌else◌}
 use Rattle.std.specs.Prelude.{Option, replicate}
 use Rattle.std.specs.List.{position_or_len}
@@ -27,7 +27,7 @@ use Rattle.vol_dir.proofs.NameMaps.{none_held}
 use Rattle.vol_dir.proofs.Replacing.{Replaces, replaces, spliced_inside}
 use Rattle.vol_dir.proofs.SlotReading.{length-slots, slot_is}
 
--- zeros stand behind a name
+-- zeros are after a name
 zeros_behind : (name : List ℕ) (k : ℕ) → length name ≤ k → get_or (padded_name name) k 0 ≡ 0
 zeros_behind name k h =
     get_or-append_right name (replicate (14 - length name) 0) (length name) k 0 refl h
@@ -56,7 +56,7 @@ slot_of_text name i short first some =
     ∙ (ap (λ b. if b then None else Some (name_of (take 14 (padded_name name)), i)) (ne_eqb i 0 (λ e. omega (arith, e)))
     ∙ ap (λ xs. Some (xs, i)) (ap name_of whole ∙ name_padded name some))
 
--- the place of a new entry is within the slots, or right behind them
+-- the place of a new entry is within the slots, or right after them
 pub new_within : (geometry : Geometry) (image : List ℕ) (d : ℕ) → new_slot (names_in (slots geometry image d)) ≤ slot_count geometry image d
 new_within geometry image d =
     let most = prefix_len-le-length (λ slot. not (is_none slot)) (names_in (slots geometry image d)) in
@@ -156,7 +156,7 @@ once_added geometry old new name d s i names none replaced =
       ];
     }
 
--- a write, by where it is and what it puts
+-- a write, by its position and its bytes
 pub writes_as : (geometry : Geometry) (old new blocks : List ℕ) (d at offset : ℕ) (bytes text : List ℕ) → at ≡ offset → bytes ≡ text
     → Writes geometry old new d at bytes blocks → Writes geometry old new d offset text blocks
 writes_as geometry old new blocks d at offset bytes text e f writes =

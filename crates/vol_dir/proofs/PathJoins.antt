@@ -9,7 +9,7 @@ use Rattle.vol_dir.specs.PathLaws.{JoinsComponents, HasNoOuterSlashes, CountsSla
 use Rattle.vol_dir.proofs.Components.{kept, has_first, components-nil}
 use Rattle.vol_dir.specs.declared.cred.Cred.{Cred}
 
--- a byte goes before the first piece, where there is one, whatever follows
+-- a byte is put before the first piece, if there is one, whatever follows
 onto_first-append : (c : ℕ) (ps qs others : List (List ℕ)) (first : List ℕ) → ps ≡ first ∷ others → onto_first c (ps ++ qs) ≡ onto_first c ps ++ qs
 onto_first-append c [] qs others first e = cc
 onto_first-append c (p ∷ ps) qs others first e = refl
@@ -50,7 +50,7 @@ pub walk-nothing : BeginsAtRoot
 unfolding walk walk_parent
 walk-nothing tree cred path e = (ap (walk_from tree cred (root tree)) e, ap (parent_over tree cred) e)
 
--- a walk over more names goes on from where the first lead
+-- a walk over more names continues from where the first lead
 pub walk_from-append : (tree : Tree) (cred : Cred) (i : ℕ) (names others : List (List ℕ))
     → walk_from tree cred i (names ++ others) ≡ and_then (walk_from tree cred i names) (λ j. walk_from tree cred j others)
 walk_from-append tree cred i [] others = refl

@@ -1,4 +1,4 @@
--- The test for places: what passes it is a place, and each place passes.
+-- The test for places: exactly the places pass it.
 use Rattle.std.proofs.Common.{◌≡◌, ◌∙◌, sym, ap, ℕ, ◌&&◌, List, [], ◌∷◌, nat_lt, true, true≢false, arith}
 use Rattle.std.specs.Prelude.{nat_le}
 use Rattle.std.proofs.lemmas.Bool.{and_parts, leb-true, ltb-true}
@@ -7,7 +7,7 @@ use Rattle.vol_layout.specs.Places.{IsPlace, first_count, pointer_count, levels_
 use Rattle.vol_layout.specs.declared.block_map.Form.{Form}
 use Rattle.vol_dir.specs.Tree.{is_place}
 
--- what passes the test for places is one
+-- a list that passes the test for places is a place
 pub place_passed : (form : Form) (p : List ℕ) → is_place form p ≡ true → IsPlace form p
 place_passed form [] h = absurd (true≢false (sym h))
 place_passed form (k ∷ []) h = ltb-true k (first_count form) h

@@ -1,4 +1,4 @@
--- What becomes of the slots of a directory where bytes are put in one of them.
+-- The slots of a directory after bytes are put in one of them.
 use Rattle.std.proofs.Common.{suc, ◌≡◌, ◌≢◌, ◌∙◌, sym, ap, refl, ℕ, ◌+◌, ◌-◌, ◌*◌, ◌/◌, ◌%◌, ◌<◌, ◌≤◌, max, List, ◌∷◌, ◌++◌, map, length, take, drop, get_or, None, inl, inr, arith, ltb, if◌then◌else◌}
 use Rattle.std.specs.Prelude.{Option, replicate, ◌⊎◌}
 use Rattle.std.specs.List.{range_with_len}
@@ -16,7 +16,7 @@ use Rattle.vol_dir.specs.Editing.{with_item}
 use Rattle.vol_dir.specs.Entries.{entry_in, slot_count, entry_at, slots}
 use Rattle.vol_dir.proofs.SlotReading.{entry_at_in, entry_at_past, length-slots, slot_from}
 
--- what stands before the text
+-- the bytes before the text
 front_length : (bytes : List ℕ) (offset : ℕ) → offset ≤ length bytes → length (take offset bytes ++ replicate (offset - length bytes) 0) ≡ offset
 front_length bytes offset h =
     omega (arith, length-append (take offset bytes) (replicate (offset - length bytes) 0), length-take offset bytes, length-replicate {A = ℕ} (offset - length bytes) 0)
@@ -69,7 +69,7 @@ pub record PutsInSlot (geometry : Geometry) (old new : List ℕ) (d s : ℕ) (te
   pub size : size_of geometry new d ≡ max (size_of geometry old d) (16 * s + length text)
   pub body : body geometry new d ≡ spliced (body geometry old d) (16 * s) text
 
--- the slots are those before, and one more where the text was put behind them
+-- the slots are those before, and one more if the text was put after them
 count_after : (geometry : Geometry) (old new : List ℕ) (d s : ℕ) (text : List ℕ) → PutsInSlot geometry old new d s text
     → slot_count geometry new d ≡ max (slot_count geometry old d) (s + 1)
 count_after geometry old new d s text puts =
@@ -115,7 +115,7 @@ replaces geometry old new d s text slot puts is =
       ];
     }
 
--- a list with another item has one item more where that stands at its end
+-- a list with another item at its end has one more item
 pub length-with_item : {X : Type 0} (xs : List X) (s : ℕ) (x : X) → s ≤ length xs → length (with_item xs s x) ≡ max (length xs) (s + 1)
 length-with_item xs s x h =
     omega (arith, length-append (take s xs) (x ∷ drop (s + 1) xs), length-take s xs, length-drop (s + 1) xs)

@@ -1,4 +1,4 @@
--- Laws of the slots of a directory: what they are, read from the body or from a block.
+-- Laws of the slots of a directory: their content, read from the body or from a block.
 use Rattle.std.proofs.Common.{◌≡◌, ℕ, ◌+◌, ◌*◌, ◌<◌, ◌≤◌, ◌∙◌, sym, ap, refl, inl, inr, List, length, get_or, true, false, if◌then◌else◌, eqb, None, Some, arith}
 use Rattle.std.specs.Prelude.{Option}
 use Rattle.std.specs.Option.{unwrap_or, is_some}
@@ -38,7 +38,7 @@ slot_byte geometry image d b t r few within h =
     get_or-body geometry image d (16 * (32 * b + t) + r) (omega arith)
     ∙ (ap (body_byte geometry image d) place ∙ body_byte_at geometry image d b (16 * t + r) (omega arith))
 
--- slot t of logical block b, where data block k is stored for it
+-- slot t of logical block b, for which data block k is stored
 pub entry_in_block : (geometry : Geometry) (image : List ℕ) (d b t k : ℕ) → Fits geometry image → t < 32 → 32 * b + t < slot_count geometry image d
     → stored geometry image d (form_at geometry image d) b ≡ k → in_zone geometry k ≡ true
     → entry_at geometry image d (32 * b + t) ≡ entry_in (slot_at image (512 * k + 16 * t))
@@ -58,7 +58,7 @@ entry_in_block geometry image d b t k fits few within is zone =
 pub empty_slot : (slot : Slot) → slot.inode ≡ 0 → entry_in slot ≡ None
 empty_slot slot e = rw e
 
--- slot t of logical block b, where what is stored for it is no data block
+-- slot t of logical block b, for which no data block is stored
 pub entry_in_hole : (geometry : Geometry) (image : List ℕ) (d b t k : ℕ) → t < 32 → 32 * b + t < slot_count geometry image d
     → stored geometry image d (form_at geometry image d) b ≡ k → in_zone geometry k ≡ false
     → entry_at geometry image d (32 * b + t) ≡ None
@@ -76,11 +76,11 @@ entry_in_hole geometry image d b t k few within is zone =
 pub number_named : (k m : ℕ) → (if eqb k 0 then None else Some k) ≡ Some m → k ≡ m
 number_named k m = elim (eqb k 0) as (λ z. (if z then None else Some k) ≡ Some m → k ≡ m) [ true ↦ λ e. absurd (true≢false (ap is_some (sym e))) | false ↦ λ e. ap (λ o. unwrap_or o 0) e ]
 
--- where no block is named, 0 is stored
+-- if no block is named, 0 is stored
 pub number_missing : (k : ℕ) → (if eqb k 0 then None else Some k) ≡ None → k ≡ 0
 number_missing k = elim (eqb k 0) as (λ z. eqb k 0 ≡ z → (if z then None else Some k) ≡ None → k ≡ 0) [ true ↦ λ z e. eqb-true k 0 z | false ↦ λ z e. absurd (true≢false (ap is_some e)) ] refl
 
--- a search answers for slots that are the same
+-- a search gives the same result for the same slots
 pub searches_same : (sought : Sought) (f g : ℕ → Option (List ℕ × ℕ)) (from n : ℕ) (r : Option (ℕ × Slot)) → ((t : ℕ) → t < n → g t ≡ f t)
     → Searches sought f from n r → Searches sought g from n r
 searches_same sought f g from n None same search = λ t low h. ap (is_sought sought) (same t h) ∙ search t low h
@@ -97,7 +97,7 @@ pub length-slots : (geometry : Geometry) (image : List ℕ) (d : ℕ) → length
 unfolding slots
 length-slots geometry image d = length-map-range_with_len (entry_at geometry image d) 0 (slot_count geometry image d)
 
--- entry s of the list, whatever is told for a place past its end
+-- entry s of the list, whatever the value past its end
 pub slot_from : (geometry : Geometry) (image : List ℕ) (d s : ℕ) (other : Option (List ℕ × ℕ)) → s < slot_count geometry image d
     → get_or (slots geometry image d) s other ≡ entry_at geometry image d s
 unfolding slots

@@ -10,15 +10,15 @@ use Rattle.vol_dir.specs.Names.{get, names_of}
 use Rattle.vol_dir.specs.Searching.{slot_named}
 use Rattle.vol_dir.specs.Tree.{is_place}
 
--- a name has the i-number of the first slot that holds it, and none where no slot does (Lions on namei)
+-- a name has the i-number of the first slot with that name, or none if no slot has it (Lions on namei)
 abbrev pub FindsFirstSlot : Type 0
 FindsFirstSlot = (slots : List (Option (List ℕ × ℕ))) (name : List ℕ)
     → get (names_of slots) name ≡ option_map (λ (entry : List ℕ × ℕ). entry.1) (get_or slots (slot_named name slots) None)
 
--- the names of a map strictly ascend by their bytes (this project)
+-- the names of a map are in strictly ascending order of their bytes (this project)
 abbrev pub AscendsByName : Type 0
 AscendsByName = (slots : List (Option (List ℕ × ℕ))) → T (is_sorted (slice_cmp nat_cmp) (names_of slots))
 
--- just the places pass the test for places (this project)
+-- exactly the places pass the test for places (this project)
 abbrev pub TestsPlaces : Type 0
 TestsPlaces = (form : Form) (p : List ℕ) → (is_place form p ≡ true) ↔ IsPlace form p

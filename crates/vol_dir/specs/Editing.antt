@@ -1,18 +1,18 @@
--- Adding an entry to a directory, and removing one.
+-- Adding and removing an entry of a directory.
 use Rattle.std.specs.Prelude.{◌≡◌, ℕ, ◌+◌, ◌/◌, ◌%◌, true, List, ◌∷◌, ◌++◌, take, drop}
 use Rattle.vol_layout.specs.Slot.{padded_name}
 use Rattle.vol_layout.specs.declared.geometry.Geometry.{Geometry}
 use Rattle.vol_dir.specs.Entries.{entry_at}
 use Rattle.vol_dir.specs.Searching.{holds}
 
--- the bytes of a slot that gives a name to an i-number (manual section 5, directories)
+-- the bytes of a slot with a name for an i-number (manual section 5, directories)
 abbrev pub slot_bytes : List ℕ → ℕ → List ℕ
 slot_bytes name i = (i % 256) ∷ (i / 256) ∷ padded_name name
 
--- a list with another item in place of item s; with one item more, where s is its length (this project)
+-- a list with item s replaced by another, or with that one appended if s is its length (this project)
 abbrev pub with_item : {X : Type 0} → List X → ℕ → X → List X
 with_item xs s x = take s xs ++ (x ∷ drop (s + 1) xs)
 
--- no name comes twice in directory d (manual section 5, directories; rule 9)
+-- no name occurs twice in directory d (manual section 5, directories; rule 9)
 pub record HasNamesOnce (geometry : Geometry) (image : List ℕ) (d : ℕ) : Type 0 where
   pub once : (name : List ℕ) (s t : ℕ) → holds name (entry_at geometry image d s) ≡ true → holds name (entry_at geometry image d t) ≡ true → s ≡ t

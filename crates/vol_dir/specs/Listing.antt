@@ -1,4 +1,4 @@
--- The names of a directory, put together entry after entry.
+-- The names of a directory, collected entry by entry.
 use Rattle.std.specs.Prelude.{ℕ, List, map, if◌then◌else◌}
 use Rattle.std.specs.Option.{is_some}
 use Rattle.std.specs.Global.{Vec}
@@ -8,6 +8,6 @@ use Rattle.vol_dir.specs.Names.{Names, get, insert}
 abbrev pub by_bytes : List (Vec ℕ × ℕ) → Names
 by_bytes entries = map (λ (entry : Vec ℕ × ℕ). (entry.0.items, entry.1)) entries
 
--- a map with one more name, where it isn't there already (Lions on namei)
+-- a map with one more name, unless it has that already (Lions on namei)
 unfoldable pub put_first : Names → List ℕ → ℕ → Names
 put_first names name i = if is_some (get names name) then names else insert names name i

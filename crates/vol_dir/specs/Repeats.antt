@@ -1,4 +1,4 @@
--- Blocks of directories whose slots need no second look.
+-- Blocks of directories whose slots need not be read again.
 use Rattle.std.specs.Prelude.{◌≡◌, ℕ, ◌+◌, ◌*◌, ◌<◌, ◌≤◌, Bool, true, nat_lt, if◌then◌else◌, List, Option, None}
 use Rattle.std.specs.Option.{is_none}
 use Rattle.vol_layout.specs.Geometry.{in_zone}
@@ -8,29 +8,29 @@ use Rattle.vol_layout.specs.declared.slot.Slot.{Slot}
 use Rattle.vol_file.specs.Repeats.{MarksPassed}
 use Rattle.vol_dir.specs.Entries.{entry_in, entry_at, slot_count}
 
--- the entry in slot s of block m; None where m is no data block (manual section 5, directories)
+-- the entry in slot s of block m; None if m is no data block (manual section 5, directories)
 abbrev pub entry_in_block : Geometry → List ℕ → ℕ → ℕ → Option (List ℕ × ℕ)
 entry_in_block geometry image m s = if in_zone geometry m then entry_in (slot_at image (512 * m + 16 * s)) else None
 
--- whether slot s of block m, of 32, passes a test (this project)
+-- true if slot s of block m, of 32, passes a test (this project)
 abbrev pub passes_in : (Option (List ℕ × ℕ) → Bool) → Geometry → List ℕ → ℕ → ℕ → Bool
 passes_in test geometry image m s = if nat_lt s 32 then test (entry_in_block geometry image m s) else true
 
--- all slots that lie below marked blocks pass a test (this project)
+-- all slots below marked blocks pass a test (this project)
 abbrev pub MarksSlots : (Option (List ℕ × ℕ) → Bool) → Geometry → List ℕ → List Bool → Type 0
 MarksSlots test geometry image marks = MarksPassed (passes_in test geometry image) geometry image marks
 
--- the slots of directory d from slot `from` to before `to` pass a test (this project)
+-- the slots `from..to` of directory d pass a test (this project)
 abbrev pub PassSlots : (Option (List ℕ × ℕ) → Bool) → Geometry → List ℕ → ℕ → ℕ → ℕ → Type 0
 PassSlots test geometry image d from to = (t : ℕ) → from ≤ t → t < to → t < slot_count geometry image d → test (entry_at geometry image d t) ≡ true
 
--- slot s of directory d, from slot `from` on, has an entry, which this slot holds (this project)
+-- slot s of directory d, not before slot `from`, has an entry, and this slot has its content (this project)
 pub record IsEntryFrom (geometry : Geometry) (image : List ℕ) (d from s : ℕ) (slot : Slot) : Type 0 where
   pub reached : from ≤ s
   pub within : s < slot_count geometry image d
   pub some : slot.inode ≡ 0 → ⊥
   pub holds : entry_at geometry image d s ≡ entry_in slot
 
--- no slot that lies below a marked block has an entry (this project)
+-- no slot below a marked block has an entry (this project)
 abbrev pub MarksEmpty : Geometry → List ℕ → List Bool → Type 0
 MarksEmpty geometry image marks = MarksSlots (λ entry. is_none entry) geometry image marks

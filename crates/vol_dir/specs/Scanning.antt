@@ -1,9 +1,9 @@
--- Going over the entries of a directory, slot after slot.
+-- Iterating over the entries of a directory, slot by slot.
 use Rattle.std.specs.Prelude.{◌≡◌, ◌≢◌, ℕ, ◌<◌, ◌≤◌, List, Option, None, MatchOption}
 use Rattle.vol_dir.specs.Entries.{entry_in}
 use Rattle.vol_layout.specs.declared.slot.Slot.{Slot}
 
--- slot s is the first from slot `from` on, of so many, that has an entry, and this slot has its i-number and name (manual section 5, directories)
+-- slot s is the first of `count`, from slot `from` on, that has an entry, and this slot has its i-number and name (manual section 5, directories)
 pub record IsNextEntry (entry : ℕ → Option (List ℕ × ℕ)) (from count s : ℕ) (slot : Slot) : Type 0 where
   pub reached : from ≤ s
   pub within : s < count
@@ -11,7 +11,7 @@ pub record IsNextEntry (entry : ℕ → Option (List ℕ × ℕ)) (from count s 
   pub holds : entry s ≡ entry_in slot
   pub none : (t : ℕ) → from ≤ t → t < s → entry t ≡ None
 
--- what going on from slot `from` to the next entry answers: None where no slot from there on has one (manual section 5, directories)
+-- the result of a search for the next entry from slot `from` on: None if no slot from there on has one (manual section 5, directories)
 abbrev pub GoesOn : (ℕ → Option (List ℕ × ℕ)) → ℕ → ℕ → Option (ℕ × Slot) → Type 0
 GoesOn entry from count result =
     MatchOption result ((t : ℕ) → from ≤ t → t < count → entry t ≡ None) (λ found. IsNextEntry entry from count found.0 found.1)

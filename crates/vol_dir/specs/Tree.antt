@@ -20,8 +20,8 @@ use Rattle.vol_layout.specs.declared.mode.Kind.TheVariants as kinds
 use Rattle.vol_layout.specs.declared.block_map.Form.{Form}
 use Rattle.vol_layout.specs.declared.block_map.Form.TheVariants.{Small, Large, Deep}
 
--- what a node holds: a regular file its bytes, a directory its map, a special file the type bits of its mode and its
--- addresses, which nobody interprets (manual section 5, file system)
+-- the content of a node: a regular file's bytes, a directory's map, or a special file's type bits of the mode and its
+-- addresses, which nothing interprets (manual section 5, file system)
 pub data Content : Type 0 where
   Body : List ℕ → Content
   Directory : Names → Content
@@ -45,14 +45,14 @@ pub record Tree : Type 0 where
   pub time : ℕ
   pub nodes : ℕ → Option Node
 
--- what a file's blocks are beside their bytes: which places name something, whether a file of the sixth edition is large,
--- and for a directory which name, if any, each slot holds (this project)
+-- the structure of a file, without its bytes: the places that name a block, whether it is large in the sixth edition, and
+-- for a directory the name, if any, in each slot (this project)
 pub record Shape : Type 0 where
   pub names : List ℕ → Bool
   pub large : Bool
   pub slots : List (Option (List ℕ))
 
--- the shape of what has no places (this project)
+-- the shape of a node without places (this project)
 abbrev pub no_shape : Shape
 no_shape = record { names = λ p. false; large = false; slots = [] }
 
@@ -66,31 +66,31 @@ abbrev pub form_in : Edition → Bool → Form
 form_in V6 large = if large then Large else Small
 form_in V7 large = Deep
 
--- whether a list of indexes is a place of the form (Lions on bmap; ino.h)
+-- true if a list of indexes is a place of the form (Lions on bmap; ino.h)
 abbrev pub is_place : Form → List ℕ → Bool
 is_place form [] = false
 is_place form (k ∷ []) = nat_lt k (first_count form)
 is_place form (j ∷ (a ∷ p)) = nat_lt j (pointer_count form) && (nat_le 1 (levels_below form (a ∷ p)) && is_place form (a ∷ p))
 
--- whether one of the places of i-node i names something (icheck)
+-- true if a list of indexes is a place of i-node i that names a block (icheck)
 abbrev pub is_named_place : Geometry → List ℕ → ℕ → List ℕ → Bool
 is_named_place geometry image i p = is_place (form_at geometry image i) p && is_named geometry image i p
 
--- how many places of a file of some shape name something (icheck)
+-- the number of places of a file of some shape that name a block (icheck)
 unfoldable pub place_count : Edition → Shape → ℕ
 place_count edition shape = count_by shape.names (places (form_in edition shape.large))
 
--- the number of data blocks less that of the places of all files that name something; where none is named twice, how many are free (icheck)
+-- the number of data blocks minus the number of places, of all files, that name a block; if no block is named twice, the number of free blocks (icheck)
 unfoldable pub free_count : Geometry → (ℕ → Shape) → ℕ
 free_count geometry shapes =
     geometry.zone_end - geometry.zone_start
     - sum_by (λ i. place_count geometry.edition (shapes i)) (range_with_len 1 geometry.last_inode)
 
--- whether an i-number is one of the volume (manual section 5, file system)
+-- true if an i-number is one of the volume (manual section 5, file system)
 abbrev pub is_number : Geometry → ℕ → Bool
 is_number geometry i = nat_le 1 i && nat_le i geometry.last_inode
 
--- what i-node i holds, by its kind, if it stands for something (manual section 5, file system)
+-- the content of i-node i, by its kind, unless it is free or odd (manual section 5, file system)
 abbrev pub content_of : Geometry → List ℕ → ℕ → Kind → Option Content
 content_of geometry image i kinds.Free = None
 content_of geometry image i kinds.Odd = None
@@ -143,6 +143,6 @@ unfoldable pub shapes : Geometry → List ℕ → ℕ → Shape
 shapes geometry image i =
     if is_number geometry i then shape_of geometry image i (kind_of geometry.edition (mode_of geometry image i)) else no_shape
 
--- what an image reads as (this project)
+-- the state that an image reads as (this project)
 abbrev pub state : Geometry → List ℕ → State
 state geometry image = record { tree = tree geometry image; shapes = shapes geometry image }

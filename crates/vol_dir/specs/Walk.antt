@@ -14,56 +14,56 @@ use Rattle.vol_dir.specs.declared.refusal.Refusal.TheVariants as refusals
 abbrev pub root : Tree → ℕ
 root tree = (constants tree.geometry.edition).root
 
--- a byte before the first piece of a list of pieces (this project)
+-- a list of pieces with a byte before the first piece (this project)
 abbrev pub onto_first : ℕ → List (List ℕ) → List (List ℕ)
 onto_first c [] = (c ∷ []) ∷ []
 onto_first c (piece ∷ pieces) = (c ∷ piece) ∷ pieces
 
--- the pieces of a path between slashes, of which there is one more than there are slashes (Lions on namei)
+-- the pieces of a path between slashes, one more than it has slashes (Lions on namei)
 abbrev pub pieces : List ℕ → List (List ℕ)
 pieces [] = [] ∷ []
 pieces (c ∷ path) = if c == 47 then [] ∷ pieces path else onto_first c (pieces path)
 
--- whether a list has no item (this project)
+-- true if a list is empty (this project)
 abbrev pub is_nil : {X : Type 0} → List X → Bool
 is_nil [] = true
 is_nil (x ∷ xs) = false
 
--- the components of a path: its pieces but for the empty ones, each cut to 14 bytes (Lions on namei)
+-- the components of a path: its non-empty pieces, each cut to 14 bytes (Lions on namei)
 unfoldable pub components : List ℕ → List (List ℕ)
 components path = map (take 14) (filter (λ piece. not (is_nil piece)) (pieces path))
 
--- whether a path or a name has a zero byte (this project)
+-- true if a path or a name has a zero byte (this project)
 abbrev pub has_zero : List ℕ → Bool
 has_zero bytes = list_any (λ c. c == 0) bytes
 
--- what a component is: 1 to 14 bytes, none of them a slash (Lions on namei)
+-- a component has 1 to 14 bytes, none of them a slash (Lions on namei)
 pub record IsComponent (name : List ℕ) : Type 0 where
   pub some : 1 ≤ length name
   pub short : length name ≤ 14
   pub plain : list_any (λ c. c == 47) name ≡ false
 
--- the map of a directory; what is no directory has none (manual section 5, directories)
+-- the map of a directory; other nodes have none (manual section 5, directories)
 abbrev pub map_of : Content → Option Names
 map_of (Directory names) = Some names
 map_of (Body bytes) = None
 map_of (Device type addresses) = None
 
--- whether a node is a directory (manual section 5, file system)
+-- true if a node is a directory (manual section 5, file system)
 abbrev pub is_directory : Node → Bool
 is_directory node = is_some (map_of node.content)
 
--- the map of a node that is a directory and may be searched, or why there is none (Lions on namei)
+-- the map of a node, if it is a directory that may be searched, else the refusal (Lions on namei)
 abbrev pub search_node : Cred → Node → Result Names Refusal
 search_node cred node =
     option_map_or (λ names. if grants may_execute cred node then Ok names else Err refusals.Access)
     (map_of node.content) (Err refusals.NotDirectory)
 
--- the map of i-number i, if its node is a directory and may be searched, or why there is none (Lions on namei)
+-- the map of i-number i, if its node is a directory that may be searched, else the refusal (Lions on namei)
 abbrev pub search : Tree → Cred → ℕ → Result Names Refusal
 search tree cred i = option_map_or (search_node cred) (tree.nodes i) (Err refusals.NotDirectory)
 
--- what comes after an Ok; a refusal ends it (this project)
+-- the next step after an Ok; a refusal ends the walk (this project)
 abbrev pub and_then : {X Y : Type 0} → Result X Refusal → (X → Result Y Refusal) → Result Y Refusal
 and_then (Ok x) next = next x
 and_then (Err refusal) next = Err refusal
@@ -81,7 +81,7 @@ walk_from tree cred i (name ∷ names) = and_then (find_in tree cred i name) (λ
 unfoldable pub walk : Tree → Cred → List ℕ → Result ℕ Refusal
 walk tree cred path = walk_from tree cred (root tree) (components path)
 
--- the items before the last, and the last; None of a list without item (this project)
+-- the items before the last, and the last; None for an empty list (this project)
 abbrev pub split_last : {X : Type 0} → List X → Option (List X × X)
 split_last [] = None
 split_last (x ∷ xs) = Some (option_map_or (λ parts. (x ∷ parts.0, parts.1)) (split_last xs) ([], x))
@@ -91,10 +91,10 @@ abbrev pub parent_from : Tree → Cred → List (List ℕ) × List ℕ → Resul
 parent_from tree cred names =
     and_then (walk_from tree cred (root tree) names.0) (λ i. and_then (search tree cred i) (λ _. Ok (i, names.1)))
 
--- the parent to which names lead, and the last of them; None where there are none (Lions on namei)
+-- the parent to which names lead, and the last of them; None if there are none (Lions on namei)
 abbrev pub parent_over : Tree → Cred → List (List ℕ) → Option (Result (ℕ × List ℕ) Refusal)
 parent_over tree cred names = option_map (parent_from tree cred) (split_last names)
 
--- the parent that a path leads to, and its last name; None for a path without component (Lions on namei)
+-- the parent to which a path leads, and its last name; None for a path without components (Lions on namei)
 unfoldable pub walk_parent : Tree → Cred → List ℕ → Option (Result (ℕ × List ℕ) Refusal)
 walk_parent tree cred path = parent_over tree cred (components path)

@@ -1,4 +1,4 @@
-//! Who may do what with an i-node.
+//! Permissions of i-nodes.
 ghost use Rattle.std.specs.Prelude.{◌≡◌, ◌*◌, ◌≤◌, Some};
 ghost use Rattle.vol_layout.specs.Geometry.{Fits};
 ghost use Rattle.vol_dir.specs.Tree.{Node, node_of};
@@ -8,19 +8,19 @@ use crate::cred::Cred;
 use pdp_words::Image;
 use vol_layout::{Geometry, inode};
 
-/// What a user asks to do with a file or directory.
+/// An access to a file or directory.
 #[derive(Clone, Copy, Debug, PartialEq, Eq)]
 pub enum Access {
-    /// To read a file, or to list a directory.
+    /// Reading a file, or listing a directory.
     Read,
-    /// To write a file, or to change a directory's entries.
+    /// Writing a file, or changing a directory's entries.
     Write,
-    /// To run a file, or to look a name up in a directory.
+    /// Running a file, or looking a name up in a directory.
     Execute,
 }
 
 impl Access {
-    /// Its bit in a triple of permissions.
+    /// Returns its bit in a triple of permissions.
     fn bit(self) -> u16
         ensures bit { result ≡ bit_of self }
         ensures low { 1 ≤ result }
@@ -34,9 +34,8 @@ impl Access {
     }
 }
 
-/// Whether i-node `i`, from 1 to the last, grants an access: to user 0 always, to the owner by the
-/// owner's triple of permissions, else to the group by the group's, else by the others' (Lions on
-/// access).
+/// True if i-node `i`, from 1 to the last, grants an access: user 0 gets every access, the owner those of the owner's
+/// triple of permissions, else the group those of the group's, and others those of the last (Lions on access).
 #[tactic(auto, unfolding(crate::specs::Tree::node_of))]
 pub fn grants(image: &Image, geometry: &Geometry, i: u16, access: Access, cred: Cred) -> bool
     requires fits { Fits geometry.now image.now }
@@ -59,7 +58,7 @@ pub fn grants(image: &Image, geometry: &Geometry, i: u16, access: Access, cred: 
     }
 }
 
-/// Whether permissions have a bit, which is given by its value.
+/// True if permissions have a bit, given by its value.
 fn has_bit(permissions: u16, value: u16) -> bool
     requires { 1 ≤ value }
     ensures { result ≡ has_bit permissions value }

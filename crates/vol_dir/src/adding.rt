@@ -1,4 +1,4 @@
-//! A new entry of a directory.
+//! Adding an entry to a directory.
 ghost use Rattle.std.specs.Prelude.{◌≡◌, ◌≢◌, ℕ, ◌+◌, ◌*◌, ◌%◌, ◌<◌, ◌≤◌, List, None, Some, length, slice_index};
 ghost use Rattle.vol_layout.specs.Edition.{constants};
 ghost use Rattle.vol_layout.specs.Geometry.{Fits};
@@ -17,9 +17,9 @@ use vol_file::write;
 use vol_layout::slot::SLOT;
 use vol_layout::{Geometry, Slot};
 
-/// Gives `name` to i-number `i` in directory `dir`: in its first empty slot, else at its end. The name
-/// isn't there yet. All 16 bytes of the slot are written, as [`write`] writes them: blocks are taken
-/// where the slot's block, or one on the way to it, isn't named.
+/// Adds an entry for i-number `i` to directory `dir`, which doesn't have `name` yet, in its first empty slot or else at its
+/// end. Writes all 16 bytes of the slot, as [`write`] does: it takes blocks if the slot's block, or one on the way to it,
+/// is missing.
 ///
 /// Costs as much as [`place_for`](crate::place_for), and the write.
 pub fn add(image: &mut Image, geometry: &Geometry, dir: u16, name: &[u8], i: u16)
@@ -51,8 +51,8 @@ pub fn add(image: &mut Image, geometry: &Geometry, dir: u16, name: &[u8], i: u16
     add_at(image, geometry, dir, slot, name, i);
 }
 
-/// Gives `name` to i-number `i` in directory `dir`, as [`add`] does, in the slot where a new entry goes, as
-/// [`lookup`](crate::lookup) of the name found it.
+/// Adds an entry for i-number `i` to directory `dir`, as [`add`] does, in the slot for a new entry that
+/// [`lookup`](crate::lookup) of the name returned.
 ///
 /// Costs the write of 16 bytes.
 pub fn add_at(image: &mut Image, geometry: &Geometry, dir: u16, slot: u32, name: &[u8], i: u16)

@@ -1,6 +1,6 @@
-//! Who asks.
+//! Users and groups.
 
-/// The user and group in whose name a call is made. User 0 passes every test of permissions.
+/// The user and group that a call runs as. User 0 passes every permission test.
 #[derive(Clone, Copy, Debug, PartialEq, Eq)]
 pub struct Cred {
     /// The user number.
@@ -10,6 +10,6 @@ pub struct Cred {
 }
 
 impl Cred {
-    /// User 0 of group 0, who passes every test of permissions.
+    /// User 0 of group 0, which passes every permission test.
     pub const ROOT: Cred = Cred { uid: 0, gid: 0 };
 }

@@ -1,4 +1,4 @@
-//! The entries of a directory: finding one, and the place of a new one.
+//! The entries of a directory: finding one, and the slot for a new one.
 ghost use Rattle.std.specs.Prelude.{◌≡◌, ℕ, ◌+◌, ◌-◌, ◌*◌, ◌<◌, ◌≤◌, not, true, false, length, OnErr, IfOk, IfErr, Some, None};
 ghost use Rattle.std.specs.List.{list_any};
 ghost use Rattle.vol_layout.specs.Geometry.{Fits};
@@ -15,17 +15,17 @@ use vol_layout::i_list::size;
 use vol_layout::slot::{NAME, SLOT};
 use vol_layout::{Geometry, Slot};
 
-/// Slots in a block.
+/// The number of slots in a block.
 pub(crate) const SLOTS: u32 = 32;
 
-/// What a search over the slots of a directory looks for.
+/// The target of a search over the slots of a directory.
 #[derive(Clone, Copy, Debug)]
 pub(crate) enum Sought<'a> {
-    /// The entry with a name.
+    /// The entry with this name.
     Named(&'a [u8]),
-    /// A slot without entry.
+    /// An empty slot.
     Empty,
-    /// The entry with a name, or a slot without entry, whichever comes first.
+    /// The entry with this name, or an empty slot, whichever comes first.
     NamedOrEmpty(&'a [u8]),
     /// Any entry.
     Any,
@@ -33,7 +33,7 @@ pub(crate) enum Sought<'a> {
     Other,
 }
 
-/// Where a name stands in a directory, and what it names.
+/// The slot of a name in a directory, and the i-number that it names.
 #[derive(Clone, Copy, Debug, PartialEq, Eq)]
 pub struct Entry {
     /// The slot, counted from 0.
@@ -42,7 +42,7 @@ pub struct Entry {
     pub inode: u16,
 }
 
-/// Whether a search ends at a slot.
+/// True if a search ends at a slot.
 fn is_sought(slot: &Slot, sought: Sought<'_>) -> bool
     ensures { result ≡ is_sought sought.entry (entry_in slot.now) }
 {
@@ -56,14 +56,14 @@ fn is_sought(slot: &Slot, sought: Sought<'_>) -> bool
     }
 }
 
-/// Whether a name is `.` or `..`.
+/// True if a name is `.` or `..`.
 pub fn is_dots(name: &[u8]) -> bool
     ensures { result ≡ is_dots name.now }
 {
     name == b".".as_slice() || name == b"..".as_slice()
 }
 
-/// How many slots directory `dir` has.
+/// Returns the number of slots of directory `dir`.
 pub(crate) fn slot_count(image: &Image, geometry: &Geometry, dir: u16) -> u32
     requires fits { Fits geometry.now image.now }
     requires first { 1 ≤ dir }
@@ -73,8 +73,8 @@ pub(crate) fn slot_count(image: &Image, geometry: &Geometry, dir: u16) -> u32
     size(image, geometry, dir).min(geometry.edition.constants().greatest) / SLOT as u32
 }
 
-/// Whether a search goes on past the slot at byte `at`, because it is empty and an entry is sought: so its i-number says
-/// alone, and its name isn't read.
+/// True if a search skips the slot at byte `at` because it is empty and an entry is sought. Only the i-number is read, not
+/// the name.
 fn is_passed(bytes: &[u8], at: usize, sought: Sought<'_>) -> bool
     requires room { at + 16 ≤ length bytes.now }
     ensures { result ≡ true → is_sought sought.entry (entry_in (slot_at bytes.now at)) ≡ false }
@@ -85,7 +85,7 @@ fn is_passed(bytes: &[u8], at: usize, sought: Sought<'_>) -> bool
     }
 }
 
-/// The first slot from `start` on that is sought, of `count` from byte `at` on.
+/// Returns the first sought slot from `start` on, of `count` slots from byte `at` on.
 fn first_from(
     image: &Image,
     at: usize,
@@ -110,7 +110,7 @@ fn first_from(
     None
 }
 
-/// The first slot from `start` on that is sought, of `count` empty ones: those of a block that is a hole.
+/// Returns the first sought slot from `start` on, of `count` empty ones: those of a hole.
 fn first_in_hole(start: u32, count: u32, sought: Sought<'_>) -> Option<(u32, Slot)>
     ensures { Searches sought.entry (λ t. None) start count result }
 {
@@ -124,7 +124,7 @@ fn first_in_hole(start: u32, count: u32, sought: Sought<'_>) -> Option<(u32, Slo
     }
 }
 
-/// The first slot from `start` on that is sought, of `count` of logical block `b` of directory `dir`.
+/// Returns the first sought slot from `start` on, of `count` slots in logical block `b` of directory `dir`.
 pub(crate) fn first_in_block(
     image: &Image,
     geometry: &Geometry,
@@ -149,8 +149,8 @@ pub(crate) fn first_in_block(
     }
 }
 
-/// The logical block of directory `dir` where a search goes on after block `b`, of `blocks`: the next one, but
-/// after a hole, where holes have nothing that is sought, the next that is none.
+/// Returns the logical block of directory `dir` at which a search continues after block `b`, of `blocks`: the next one,
+/// or, after a hole, the next that is stored, unless empty slots are sought.
 pub(crate) fn block_after(
     image: &Image,
     geometry: &Geometry,
@@ -175,8 +175,8 @@ pub(crate) fn block_after(
     }
 }
 
-/// The logical block of directory `dir` where a search goes on after the hole `b`, of `blocks`: the next one, but
-/// where holes have nothing that is sought the next that is none.
+/// Returns the logical block of directory `dir` at which a search continues after the hole `b`, of `blocks`: the next
+/// that is stored, or, if empty slots are sought, the next one.
 fn after_hole(
     image: &Image,
     geometry: &Geometry,
@@ -200,11 +200,11 @@ fn after_hole(
     }
 }
 
-/// The first slot of directory `dir` from slot `from` on that is sought, and what it holds.
+/// Returns the first sought slot of directory `dir` from slot `from` on, and its content.
 ///
-/// Costs two ways for each logical block that is passed and isn't a hole, a look at each of its slots, and a way
-/// and what [`next_block`] does for each run of holes between: time follows the blocks that the directory names, pointers among
-/// them, and not its size.
+/// Costs two block-map lookups for each stored logical block that is passed, a read of each of its slots, and a lookup and
+/// what [`next_block`] does for each run of holes between them: the time depends on the blocks that the directory names,
+/// indirect ones included, not on its size.
 pub(crate) fn first_slot(
     image: &Image,
     geometry: &Geometry,
@@ -231,11 +231,11 @@ pub(crate) fn first_slot(
     None
 }
 
-/// The first slot of directory `dir` from slot `from` on that has an entry, with its i-number and name. Which
-/// bytes stand behind the name's first zero byte is left open.
+/// Returns the first slot of directory `dir` from slot `from` on that has an entry, with its i-number and name. The bytes
+/// after the name's first zero byte are unspecified.
 ///
-/// Costs a way for each logical block that is passed and isn't a hole, a look at each of its slots, and a step for each
-/// pointer that is passed because it names nothing, whatever the directory's size is.
+/// Costs two block-map lookups for each stored logical block that is passed, a read of each of its slots, and a step for
+/// each pointer that is passed because it is 0, whatever the directory's size.
 pub fn next_entry(image: &Image, geometry: &Geometry, dir: u16, from: u32) -> Option<(u32, Slot)>
     requires fits { Fits geometry.now image.now }
     requires directory { IsDirectory geometry.now image.now dir }
@@ -244,11 +244,11 @@ pub fn next_entry(image: &Image, geometry: &Geometry, dir: u16, from: u32) -> Op
     first_slot(image, geometry, dir, from, Sought::Any)
 }
 
-/// The entry that `name` has in directory `dir`; where the name isn't there, an Err with the slot of a new
-/// entry: the first empty one, else one behind the last. Of slots with one name the first counts.
+/// Returns the entry of `name` in directory `dir`, or, as the error, the slot for a new entry if there is none: the first
+/// empty one, else the one after the last. If several slots have the name, the first counts.
 ///
-/// Goes over the slots once. Costs the way of each logical block up to the entry, and a look at each slot
-/// of those that aren't holes; where the name isn't there, those of the whole directory.
+/// Reads each slot at most once. Costs what [`next_entry`] does for the slots before the entry, or for all slots if the
+/// directory doesn't have the name.
 pub fn lookup(image: &Image, geometry: &Geometry, dir: u16, name: &[u8]) -> Result<Entry, u32>
     requires fits { Fits geometry.now image.now }
     requires first { 1 ≤ dir }
@@ -270,7 +270,7 @@ pub fn lookup(image: &Image, geometry: &Geometry, dir: u16, name: &[u8]) -> Resu
     first_entry(image, geometry, dir, slot + 1, name).ok_or(slot)
 }
 
-/// The first entry of directory `dir` from slot `from` on that has `name`.
+/// Returns the first entry of directory `dir`, from slot `from` on, that has `name`.
 pub(crate) fn first_entry(
     image: &Image,
     geometry: &Geometry,
@@ -290,10 +290,10 @@ pub(crate) fn first_entry(
     })
 }
 
-/// The i-number that `name` has in directory `dir`; None where the name isn't there. Of slots with one
-/// name the first counts.
+/// Returns the i-number of `name` in directory `dir`, or `None` if it doesn't have the name. If several slots have the
+/// name, the first counts.
 ///
-/// Costs what [`next_entry`] does for what stands before the entry.
+/// Costs what [`next_entry`] does for the slots before the entry.
 pub fn find(image: &Image, geometry: &Geometry, dir: u16, name: &[u8]) -> Option<u16>
     requires fits { Fits geometry.now image.now }
     requires first { 1 ≤ dir }
@@ -303,8 +303,7 @@ pub fn find(image: &Image, geometry: &Geometry, dir: u16, name: &[u8]) -> Option
     Some(first_entry(image, geometry, dir, 0, name)?.inode)
 }
 
-/// The byte of directory `dir` where its next entry goes: that of its first empty slot, else of its
-/// end.
+/// Returns the byte of directory `dir` at which its next entry is put: that of its first empty slot, else its end.
 ///
 /// Costs as much as [`find`] of a name in that slot.
 pub fn place_for(image: &Image, geometry: &Geometry, dir: u16) -> u32
@@ -316,7 +315,7 @@ pub fn place_for(image: &Image, geometry: &Geometry, dir: u16) -> u32
     SLOT as u32 * new_slot(image, geometry, dir)
 }
 
-/// The slot of directory `dir` where its next entry goes: the first empty one, else one behind the last.
+/// Returns the slot for the next entry of directory `dir`: the first empty one, else the one after the last.
 pub(crate) fn new_slot(image: &Image, geometry: &Geometry, dir: u16) -> u32
     requires fits { Fits geometry.now image.now }
     requires first { 1 ≤ dir }
@@ -329,9 +328,9 @@ pub(crate) fn new_slot(image: &Image, geometry: &Geometry, dir: u16) -> u32
     }
 }
 
-/// Whether directory `dir` has no entries but `.` and `..`.
+/// True if directory `dir` has only the entries `.` and `..`.
 ///
-/// Costs as much as [`find`] of a name that isn't there, at most.
+/// Costs at most as much as [`find`] of a name that the directory doesn't have.
 pub fn is_empty_dir(image: &Image, geometry: &Geometry, dir: u16) -> bool
     requires fits { Fits geometry.now image.now }
     requires first { 1 ≤ dir }

@@ -1,4 +1,4 @@
-//! The directories of a volume: their entries, and the walk of a path over them.
+//! The directories of a volume: their entries, and path lookup.
 #![tactic(auto)]
 
 pub mod access;

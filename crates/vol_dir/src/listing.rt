@@ -13,11 +13,12 @@ use std::collections::BTreeMap;
 use vol_file::no_marks;
 use vol_layout::Geometry;
 
-/// The names of directory `dir`, in ascending order of their bytes, with their i-numbers. Of entries with one name the
-/// first counts.
+/// Returns the names of directory `dir` with their i-numbers, in ascending order of their bytes. If several entries have
+/// the same name, the first counts.
 ///
-/// Costs as much as going over the slots and sorting the names. Of a directory of more than 320 slots, and one for each four blocks of
-/// the volume, the slots below a block that it names again are passed. That takes three bytes for each block of the volume.
+/// Costs a pass over the slots, and sorting the names. If the directory has more than 320 slots plus one for each four
+/// blocks of the volume, slots below a block that it names again are skipped; this takes three bytes for each block of the
+/// volume.
 pub fn list_names(
     alloc: Global,
     image: &Image,
@@ -35,7 +36,7 @@ pub fn list_names(
         .collect(alloc)
 }
 
-/// The names of directory `dir`, with the i-numbers that their first entries have.
+/// Returns the names of directory `dir`, with the i-numbers of their first entries.
 fn collect_names(
     alloc: Global,
     image: &Image,
@@ -50,7 +51,7 @@ fn collect_names(
     collect_unmarked(alloc, image, geometry, dir, &mut marks)
 }
 
-/// The same, by marks of which none is set at first.
+/// Does what [`collect_names`] does, with `marks` that are not set at first.
 fn collect_unmarked(
     alloc: Global,
     image: &Image,
@@ -72,8 +73,8 @@ fn collect_unmarked(
     Ok(names)
 }
 
-/// Marks for a search of directory `dir`, of which none is set: none at all if there would be so many that to make them costs more
-/// than to go over its slots.
+/// Returns unset marks for a search of directory `dir`, or none at all if making them would cost more than a pass over its
+/// slots.
 fn marks_for(
     alloc: Global,
     image: &Image,
@@ -91,7 +92,7 @@ fn marks_for(
     }
 }
 
-/// Puts a name among others, unless it is there.
+/// Adds a name to the others, unless they have it.
 fn put_first(
     alloc: Global,
     names: &mut BTreeMap<Vec<u8>, u16>,

@@ -5,9 +5,9 @@ ghost use Rattle.vol_dir.specs.Walk.{components, has_zero, IsComponent};
 
 use vol_layout::slot::NAME;
 
-/// The first component of a path, cut to 14 bytes, and what follows it in the path; None where the path
-/// has no component. Slashes that follow one another count as one, and those at the end as none. Costs
-/// one look at each byte that is passed.
+/// Returns the first component of a path, cut to 14 bytes, and the rest of the path, or `None` if the path has no
+/// component. Several slashes in a row count as one, and those at the end don't count. Costs a read of each byte that is
+/// passed.
 pub fn split_component(path: &[u8]) -> Option<(&[u8], &[u8])>
     ensures parts { MatchOption result (components path.now ≡ [])
         (λ parts. components path.now ≡ parts.0.now ∷ components parts.1.now) }
@@ -22,14 +22,14 @@ pub fn split_component(path: &[u8]) -> Option<(&[u8], &[u8])>
     Some((&component[..component.len().min(NAME)], rest))
 }
 
-/// Where the first component of a path begins: at its first byte that is no slash.
+/// Returns the position of a path's first component: that of its first byte other than a slash.
 fn component_start(path: &[u8]) -> Option<usize>
     ensures { result ≡ position (λ c. not (c == 47)) path.now }
 {
     path.iter().position(|c| *c != b'/')
 }
 
-/// Where the first slash of a path stands.
+/// Returns the position of a path's first slash.
 fn first_slash(path: &[u8]) -> Option<usize>
     ensures { result ≡ position (λ c. c == 47) path.now }
 {

@@ -1,37 +1,37 @@
-//! Why a call is refused.
+//! The reasons to refuse a call.
 ghost use Rattle.std.specs.Prelude.{◌≡◌};
 
 use thiserror::Error;
 
-/// Why a call or a query is refused. Its text is its number and name. The numbers up to 31 are those of
-/// the system's errors (intro to section 2 of the manual); those from 101 on are this project's.
+/// The reason why a call or a query is refused. Its text is its number and name. The numbers up to 31 are those of the
+/// system's errors (intro to section 2 of the manual); those from 101 on are this project's.
 #[derive(Clone, Copy, Debug, PartialEq, Eq, Error)]
 pub enum Refusal {
-    /// The caller is neither the owner nor user 0, or only user 0 may do it.
+    /// The caller is neither the owner nor user 0, or must be user 0.
     #[error("1 NotOwner")]
     NotOwner,
-    /// A directory on the way has no such name.
+    /// A directory on the path doesn't have the name.
     #[error("2 NoEntry")]
     NoEntry,
-    /// An allocation was refused.
+    /// Memory ran out.
     #[error("12 NoMemory")]
     NoMemory,
-    /// The permissions don't grant it.
+    /// The permissions don't grant the access.
     #[error("13 Access")]
     Access,
-    /// The name is there already.
+    /// The name exists already.
     #[error("17 Exists")]
     Exists,
-    /// What stands on the way, or is asked for, is no directory.
+    /// A node on the path, or at its end, is not a directory.
     #[error("20 NotDirectory")]
     NotDirectory,
-    /// It is a directory.
+    /// The node is a directory.
     #[error("21 IsDirectory")]
     IsDirectory,
-    /// The path holds a zero byte, or the call can't be made of it.
+    /// The path has a zero byte, or the call makes no sense for it.
     #[error("22 Invalid")]
     Invalid,
-    /// The file would be greater than the greatest.
+    /// The file would be larger than the greatest size.
     #[error("27 TooBig")]
     TooBig,
     /// More blocks are needed than are free.
@@ -40,16 +40,16 @@ pub enum Refusal {
     /// The link count would be above its limit.
     #[error("31 TooManyLinks")]
     TooManyLinks,
-    /// The directory has other entries than `.` and `..`.
+    /// The directory has entries other than `.` and `..`.
     #[error("101 NotEmpty")]
     NotEmpty,
-    /// It is a special file.
+    /// The node is a special file.
     #[error("102 NotRegular")]
     NotRegular,
     /// No i-number above the root's is free.
     #[error("103 NoInode")]
     NoInode,
-    /// The user or group number is above the edition's highest.
+    /// A user or group number is above the edition's limit.
     #[error("104 BadId")]
     BadId,
 }
@@ -57,7 +57,7 @@ pub enum Refusal {
 impl Refusal {
     ghost use Rattle.vol_dir.specs.Refusals.{number_of};
 
-    /// The number by which it is known.
+    /// Returns its number.
     pub fn number(self) -> u8
         ensures { result ≡ number_of self }
     {

@@ -1,4 +1,4 @@
-//! An entry of a directory that goes.
+//! Removing an entry from a directory.
 ghost use Rattle.std.specs.Prelude.{◌≡◌, ◌≢◌, ℕ, ◌*◌, ◌%◌, List, [], ◌∷◌, map, IsSome};
 ghost use Rattle.vol_layout.specs.Geometry.{Fits};
 ghost use Rattle.vol_layout.specs.Names.{IsFile};
@@ -16,8 +16,8 @@ use vol_file::write;
 use vol_layout::Geometry;
 use vol_layout::slot::SLOT;
 
-/// Takes `name`, which is there, out of directory `dir`: the i-number of its slot becomes 0, and the
-/// name's bytes stay. The size of the directory stays, and no block is taken or given back.
+/// Removes `name`, which directory `dir` has: the i-number in its slot becomes 0, and the name's bytes stay. The size of
+/// the directory stays, and no block is taken or freed.
 ///
 /// Costs as much as [`find`](crate::find) of the name.
 pub fn remove(image: &mut Image, geometry: &Geometry, dir: u16, name: &[u8])
@@ -43,8 +43,7 @@ pub fn remove(image: &mut Image, geometry: &Geometry, dir: u16, name: &[u8])
     }
 }
 
-/// Takes `name` out of directory `dir`, as [`remove`] does, from its slot, as [`lookup`](crate::lookup) found
-/// it.
+/// Removes `name` from directory `dir`, as [`remove`] does, from the slot that [`lookup`](crate::lookup) returned.
 ///
 /// Costs the write of two bytes.
 pub fn remove_at(image: &mut Image, geometry: &Geometry, dir: u16, slot: u32, name: &[u8])
@@ -66,7 +65,7 @@ pub fn remove_at(image: &mut Image, geometry: &Geometry, dir: u16, slot: u32, na
     ensures fits { Fits geometry.now image.new }
     ensures file { IsFile geometry.now image.new dir }
 {
-    // The slot says which name it is.
+    // Only the slot is needed.
     let _ = name;
     write(image, geometry, dir, SLOT as u32 * slot, &[0, 0]);
 }

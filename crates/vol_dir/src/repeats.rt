@@ -1,4 +1,4 @@
-//! Going over the entries of a directory without the blocks that need no second look, however often the directory names them.
+//! Iterating over the entries of a directory without reading blocks twice, however often the directory names them.
 ghost use Rattle.std.specs.Prelude.{◌≡◌, ℕ, ◌+◌, ◌*◌, ◌<◌, ◌≤◌, Bool, true, List, Option, None, IfOk, IfErr, IfSome, MatchOption};
 ghost use Rattle.vol_layout.specs.Geometry.{Fits};
 ghost use Rattle.vol_dir.specs.Entries.{IsDirectory, slot_count, entry_at};
@@ -10,13 +10,13 @@ use pdp_words::Image;
 use vol_file::{mark_passed, passed_end};
 use vol_layout::{Geometry, Slot};
 
-/// An entry of directory `dir` from slot `from` on, with its i-number and name: the first, but for those below marked blocks.
-/// `marks` has three marks for each block, or none.
+/// Returns the first entry of directory `dir` from slot `from` on that is not below a marked block, with its i-number and
+/// name. `marks` has three marks for each block, or none.
 ///
-/// What lies below a block is marked once it was gone over, from slot `known` on. So the marks hold for whatever is true of all
-/// slots from `known` to the entry that is returned, or to the end: that they are empty, if `known` is `from`; that they are empty
-/// or have names that the caller met, if it is 0. Costs at most what [`next_entry`](crate::next_entry) does, and two ways more for each logical
-/// block that is looked at.
+/// Marks what is below each block that was passed from slot `known` on. So the marks mean whatever is true of all slots
+/// from `known` to the returned entry, or to the end: if `known` is `from`, that they are empty; if it is 0, that they are
+/// empty or have names that the caller met. Costs at most what [`next_entry`](crate::next_entry) does, and two more
+/// block-map lookups for each logical block that is read.
 pub fn next_unmarked(
     image: &Image,
     geometry: &Geometry,
@@ -50,10 +50,11 @@ pub fn next_unmarked(
     None
 }
 
-/// The entry that [`next_entry`](crate::next_entry) returns, by marks of blocks below which there is none.
+/// Returns the entry that [`next_entry`](crate::next_entry) returns, skipping marked blocks, below which there is none.
 ///
-/// Costs what that does, less what lies below marked blocks, and two ways more for each logical block that is looked at. If searches of several
-/// directories share their marks, they go over the slots below a block without entries once.
+/// Costs at most what that does, and two more block-map lookups for each logical block that is read; what is below
+/// marked blocks costs nothing. Searches of several directories that share their marks read the slots below a block without
+/// entries once.
 pub fn next_entry_marked(
     image: &Image,
     geometry: &Geometry,
@@ -70,8 +71,8 @@ pub fn next_entry_marked(
     next_unmarked(image, geometry, dir, from, from, marks)
 }
 
-/// The first entry in logical block `b` of directory `dir`, of its slots from slot `from` of the directory on; else the logical
-/// block where a search goes on: behind those below a marked block, and behind holes.
+/// Returns the first entry in logical block `b` of directory `dir`, from the directory's slot `from` on, or else the
+/// logical block at which the search continues, after those below a marked block and after holes.
 fn first_or_end(
     image: &Image,
     geometry: &Geometry,

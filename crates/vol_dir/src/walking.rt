@@ -16,12 +16,12 @@ use pdp_words::Image;
 use vol_layout::i_list::kind;
 use vol_layout::{Geometry, Kind};
 
-/// The i-number that a path leads to, as a user walks it from the root: the empty path leads to the
-/// root. For each component, in this order: NotDirectory where the i-node at hand is no directory,
-/// Access where it doesn't grant execute, NoEntry where it doesn't have the name (Lions on namei). A
-/// number that is none of the volume's, which an entry of an unsound image may hold, is no directory's.
+/// Returns the i-number to which a path leads from the root, as a user walks it; the empty path leads to the root. Each
+/// component is refused if the i-node so far is no directory (NotDirectory), doesn't grant execute (Access) or doesn't have
+/// the name (NoEntry), in this order (Lions on namei). In an unsound image, an entry may have a number outside the volume,
+/// which counts as no directory.
 ///
-/// Costs for each component what [`find`] costs.
+/// Costs what [`find`] does for each component.
 pub fn walk(image: &Image, geometry: &Geometry, cred: Cred, path: &[u8]) -> Result<u16, Refusal>
     requires { Fits geometry.now image.now }
     ensures exact { result ≡ walk (tree geometry.now image.now) cred path.now }
@@ -37,12 +37,11 @@ pub fn walk(image: &Image, geometry: &Geometry, cred: Cred, path: &[u8]) -> Resu
     Ok(i)
 }
 
-/// The parent directory that a path leads to, and the path's last component, cut to 14 bytes; None for
-/// a path without component. The walk goes over all components but the last, and is refused as that of
-/// [`walk`]; then NotDirectory where the parent is no directory, and Access where it doesn't grant
-/// execute (Lions on namei).
+/// Returns the parent directory to which a path leads, and the path's last component, cut to 14 bytes, or `None` for a
+/// path without components. The walk over all components but the last is refused as that of [`walk`] is; then also if the
+/// parent is no directory (NotDirectory) or doesn't grant execute (Access) (Lions on namei).
 ///
-/// Costs for each component but the last what [`find`] costs.
+/// Costs what [`find`] does for each component but the last.
 pub fn walk_parent<'a>(
     image: &Image,
     geometry: &Geometry,
@@ -62,8 +61,7 @@ pub fn walk_parent<'a>(
     Some(parent_from(image, geometry, cred, first, rest))
 }
 
-/// The parent to which component `first`, and then those of `rest`, lead from the root, and the last
-/// of them.
+/// Returns the parent to which component `first` and then those of `rest` lead from the root, and the last of these.
 fn parent_from<'a>(
     image: &Image,
     geometry: &Geometry,
@@ -92,7 +90,7 @@ fn parent_from<'a>(
     Ok((dir, name))
 }
 
-/// The i-number to which one name leads from i-node `i`.
+/// Returns the i-number to which one name leads from i-node `i`.
 fn step(image: &Image, geometry: &Geometry, cred: Cred, i: u16, name: &[u8]) -> Result<u16, Refusal>
     requires { Fits geometry.now image.now }
     ensures exact { result ≡ find_in (tree geometry.now image.now) cred i name.now }
@@ -102,7 +100,7 @@ fn step(image: &Image, geometry: &Geometry, cred: Cred, i: u16, name: &[u8]) -> 
     find(image, geometry, i, name).ok_or(Refusal::NoEntry)
 }
 
-/// Whether `i` is the i-number of a directory that may be searched; else why not.
+/// Checks that `i` is the i-number of a directory that may be searched.
 fn search(image: &Image, geometry: &Geometry, cred: Cred, i: u16) -> Result<(), Refusal>
     requires { Fits geometry.now image.now }
     ensures exact { MatchResult result
@@ -117,7 +115,7 @@ fn search(image: &Image, geometry: &Geometry, cred: Cred, i: u16) -> Result<(), 
     }
 }
 
-/// Whether i-node `i` is a directory that may be searched; else why not.
+/// Checks that i-node `i` is a directory that may be searched.
 fn search_node(image: &Image, geometry: &Geometry, cred: Cred, i: u16) -> Result<(), Refusal>
     requires fits { Fits geometry.now image.now }
     requires first { 1 ≤ i }

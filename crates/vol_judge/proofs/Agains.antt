@@ -38,7 +38,7 @@ again_then (b ∷ blocks) more marks mid end done next = elim (cases_eq (get_or 
   | inr before ↦ absurd (none-some mid (sym (marked_again marks b blocks before) ∙ done))
 ]
 
--- what is found among the first blocks is the first of all
+-- a block found among the first ones is the first of all
 pub again_left : (blocks more marks : List ℕ) (x : ℕ) → again marks blocks ≡ Some x → again marks (blocks ++ more) ≡ Some x
 unfolding again
 again_left [] more marks x found = absurd (none-some x found)
@@ -49,7 +49,7 @@ again_left (b ∷ blocks) more marks x found = elim (cases_eq (get_or marks b 0)
   | inr before ↦ again_here marks b (blocks ++ more) before ∙ (sym (again_here marks b blocks before) ∙ found)
 ]
 
--- what is found in some lists is the first in more
+-- a block found in some lists is the first in more
 again_longer : (f : ℕ → List ℕ) (a n d : ℕ) (marks : List ℕ) (x : ℕ) → again marks (flat_map f (range_with_len a n)) ≡ Some x
     → again marks (flat_map f (range_with_len a (n + d))) ≡ Some x
 again_longer f a n zero marks x found = let size : n + 0 ≡ n = omega arith in ap (λ m. again marks (flat_map f (range_with_len a m))) size ∙ found
@@ -57,7 +57,7 @@ again_longer f a n (suc d) marks x found =
     ap (again marks) (flat_more f a (n + d) (n + suc d) (a + (n + d)) (omega arith) refl)
     ∙ again_left (flat_map f (range_with_len a (n + d))) (f (a + (n + d))) marks x (again_longer f a n d marks x found)
 
--- what is found in a list, once those before it are marked, is the first of all
+-- a block found in a list, once those before it are marked, is the first of all
 again_stops : (f : ℕ → List ℕ) (a n j count : ℕ) (marks mid : List ℕ) (x : ℕ) → a + n ≡ j → n < count
     → marked marks (flat_map f (range_with_len a n)) ≡ Some mid → again mid (f j) ≡ Some x → again marks (flat_map f (range_with_len a count)) ≡ Some x
 again_stops f a n j count marks mid x at less done found =
@@ -66,7 +66,7 @@ again_stops f a n j count marks mid x at less done found =
     ∙ again_longer f a (n + 1) (count - (n + 1)) marks x
     (ap (again marks) (flat_more f a n (n + 1) j refl at) ∙ again_then (flat_map f (range_with_len a n)) (f j) marks mid (Some x) done found)
 
--- where a block is found, not all can be marked
+-- if a block is found, not all can be marked
 pub again_marked : (blocks marks : List ℕ) (x : ℕ) → again marks blocks ≡ Some x → marked marks blocks ≡ None
 unfolding again
 again_marked [] marks x found = absurd (none-some x found)
@@ -126,20 +126,20 @@ module _ (g : Geometry) (image : List ℕ) where
       ap (again marks) (from_entries g image d b some one)
       ∙ (again_past marks b (entries_from g image (d - 1) b (constants g.edition).pointers) fresh ∙ below)
 
-  -- what is found in an entry is the first of all
+  -- a block found in an entry is the first of all
   pub entries_again : (d b j n : ℕ) (marks mid : List ℕ) (x : ℕ) → j < n → marked marks (entries_from g image d b j) ≡ Some mid
       → again mid (blocks_from g image d (pointer_in g image b j)) ≡ Some x → again marks (entries_from g image d b n) ≡ Some x
   unfolding entries_from
   entries_again d b j n marks mid x less done found =
       again_stops (λ j. blocks_from g image d (pointer_in g image b j)) 0 j j n marks mid x (omega arith) less done found
 
-  -- what is found from an address on is the first of all
+  -- a block found from an address on is the first of all
   pub addresses_again : (i k n : ℕ) (marks mid : List ℕ) (x : ℕ) → k < n → marked marks (addresses_from g image i k) ≡ Some mid
       → again mid (address_blocks g image i k) ≡ Some x → again marks (addresses_from g image i n) ≡ Some x
   unfolding addresses_from
   addresses_again i k n marks mid x less done found = again_stops (address_blocks g image i) 0 k k n marks mid x (omega arith) less done found
 
-  -- what is found in a file breaks rule 7
+  -- a block found in a file breaks rule 7
   pub file_breaks : (i x : ℕ) (marks mid : List ℕ) → 1 ≤ i → i ≤ g.last_inode → IsZoned g image → length marks ≡ g.zone_end
       → ((b : ℕ) → get_or marks b 0 ≡ 0) → marked marks (files_from g image (i - 1)) ≡ Some mid → again mid (blocks_of g image i) ≡ Some x
       → IsApart g image → ⊥

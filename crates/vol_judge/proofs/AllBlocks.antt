@@ -68,7 +68,7 @@ named_all geometry image i p place some =
     flat_in (blocks_of geometry image) (named geometry image i p) 1 geometry.last_inode i place.file.first (omega (arith, place.file.last))
     (named_block geometry image i p place some)
 
--- where no block comes twice, no two places name the same
+-- if no block occurs twice, no two places name the same
 once_apart : (geometry : Geometry) (image : List ℕ) → Once (all_blocks geometry image) → IsApart geometry image
 once_apart geometry image once i j p q here there some same =
     let some_q : named geometry image j q ≢ 0 = λ none. some (same ∙ none) in
@@ -88,7 +88,7 @@ once_apart geometry image once i j p q here there some same =
           (places_among form p here.place) (places_among form q there_i.place) some same_i,
     )
 
--- where no two places name the same block, no block of a file comes twice
+-- if no two places name the same block, no block of a file occurs twice
 file_once : (geometry : Geometry) (image : List ℕ) (i : ℕ) → 1 ≤ i → i ≤ geometry.last_inode → IsApart geometry image → Once (blocks_of geometry image i)
 file_once geometry image i first last apart =
     let form = form_at geometry image i in
@@ -98,7 +98,7 @@ file_once geometry image i first last apart =
     (λ p q here there some same.
     (apart i i p q (place_of geometry image i p first last (among_places form p here)) (place_of geometry image i q first last (among_places form q there)) some same).1))
 
--- and none of all comes twice
+-- and none of all occurs twice
 pub apart_once : (geometry : Geometry) (image : List ℕ) → IsApart geometry image → Once (all_blocks geometry image)
 apart_once geometry image apart =
     once_flat (blocks_of geometry image) 1 geometry.last_inode
@@ -108,7 +108,7 @@ apart_once geometry image apart =
     let q = block_named geometry image j b low' (omega (arith, high')) there in
     (apart i j p.0 q.0 p.1.place q.1.place (λ none. p.1.some (sym p.1.is ∙ none)) (p.1.is ∙ sym q.1.is)).0)
 
--- where each number is a data block's, so is each block of all
+-- if each number is a data block's, so is each block of all
 pub all_zoned : (geometry : Geometry) (image : List ℕ) (b : ℕ) → IsZoned geometry image → IsIn b (all_blocks geometry image) → in_zone geometry b ≡ true
 all_zoned geometry image b zoned among =
     let found = all_named geometry image b among in
@@ -120,7 +120,7 @@ all_within : (geometry : Geometry) (image : List ℕ) (b : ℕ) → IsZoned geom
 all_within geometry image b zoned among =
     let bounds = zone_bounds geometry b (all_zoned geometry image b zoned among) in bounds.1
 
--- where all could be marked, no two places name the same block, and the marks are those of the blocks that they name
+-- if all could be marked, no two places name the same block, and the marks are those of the blocks that they name
 pub all_marked : (geometry : Geometry) (image marks new : List ℕ) → Fits geometry image → IsZoned geometry image → length marks ≡ geometry.zone_end
     → ((b : ℕ) → get_or marks b 0 ≡ 0) → marked marks (all_blocks geometry image) ≡ Some new
     → IsApart geometry image × MarksNamed geometry image new
@@ -143,7 +143,7 @@ all_marked geometry image marks new fits zoned len clear done =
       ),
     )
 
--- where one couldn't be, two places name the same block
+-- if one couldn't be, two places name the same block
 pub all_refused : (geometry : Geometry) (image marks : List ℕ) → IsZoned geometry image → length marks ≡ geometry.zone_end
     → ((b : ℕ) → get_or marks b 0 ≡ 0) → marked marks (all_blocks geometry image) ≡ None → IsApart geometry image → ⊥
 all_refused geometry image marks zoned len clear stops apart =

@@ -155,7 +155,7 @@ names_next {geometry = geometry} {image = image} {d = d} {from = from} {s = s} {
           ];
     }
 
--- a name that is in the set comes twice
+-- a name that is in the set occurs twice
 pub twice : {geometry : Geometry} {image : List ℕ} {d from s : ℕ} {slot : Slot} {names : BTreeSet (List ℕ)} → HoldsNamesBelow geometry image d from names
     → IsNextEntry (entry_at geometry image d) from (slot_count geometry image d) s slot → is_in names (padded_name (name_of slot.name)) ≡ true → HasEntriesIn geometry image d → ⊥
 twice {slot = slot} held next there rule =
@@ -164,7 +164,7 @@ twice {slot = slot} held next there rule =
     let same : had.slot ≡ _ = rule.once had.slot _ had.inode slot.inode (name_of slot.name) entry (entry_next next) in
     omega (arith, had.below, next.reached, same)
 
--- where no slot is left, rule 9 holds of the directory
+-- if no slot is left, rule 9 holds of the directory
 pub all_below : {geometry : Geometry} {image : List ℕ} {d from : ℕ} → size_of geometry image d % 16 ≡ 0 → HasEntriesBelow geometry image d from
     → ((t : ℕ) → from ≤ t → t < slot_count geometry image d → entry_at geometry image d t ≡ None) → HasEntriesIn geometry image d
 all_below {geometry = geometry} {image = image} {d = d} {from = from} whole below none =
@@ -184,7 +184,7 @@ pub each_more : {geometry : Geometry} {image : List ℕ} {d : ℕ} → ((e : ℕ
     → (IsDirectory geometry image d → HasEntriesIn geometry image d) → (e : ℕ) → e < d + 1 → IsDirectory geometry image e → HasEntriesIn geometry image e
 each_more {geometry = geometry} {image = image} {d = d} below here = below_more (λ e. IsDirectory geometry image e → HasEntriesIn geometry image e) d below here
 
--- and so it holds, where all directories are below d
+-- and so it holds, if all directories are below d
 pub each_holds : {geometry : Geometry} {image : List ℕ} (d : ℕ) → ((e : ℕ) → e < d → IsDirectory geometry image e → HasEntriesIn geometry image e)
     → geometry.last_inode < d → HasEntries geometry image
 each_holds d below last =
@@ -196,7 +196,7 @@ each_holds d below last =
       once = λ e s t i j name has has'. (each e has.directory).once s t i j name has.entry has'.entry;
     }
 
--- where it fails of a directory, it fails
+-- if it fails of a directory, it fails
 pub fails_in : {geometry : Geometry} {image : List ℕ} {d : ℕ} → IsDirectory geometry image d → (HasEntriesIn geometry image d → ⊥) → HasEntries geometry image → ⊥
 fails_in {geometry = geometry} {image = image} {d = d} is broken rule =
     let here : HasEntriesIn geometry image d = record {

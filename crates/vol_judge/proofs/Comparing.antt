@@ -1,4 +1,4 @@
--- What the marks of the blocks that files name and of the free ones say together.
+-- Consequences of the marks of the blocks that files name and of those of the free ones.
 use Rattle.std.proofs.Common.{◌≡◌, ℕ, ◌<◌, ◌≤◌, inl, inr, Bool, true, false, List, get_or, subst, arith}
 use Rattle.std.proofs.lemmas.Bool.{cases_eq}
 use Rattle.std.proofs.lemmas.Bool.Decides.{nat_tests}
@@ -12,7 +12,7 @@ use Rattle.vol_judge.specs.Lost.{IsFirstLost}
 use Rattle.vol_judge.specs.Marks.{MarksZone}
 use Rattle.vol_judge.specs.Sound.{IsNoneLost}
 
--- the free blocks are those by which the marks are set
+-- the free blocks are those that are marked
 same_free : {geometry : Geometry} {image blocks : List ℕ} {free : List Bool} → Fits geometry image → (marks : AreFreeMarks geometry image free)
     → IsFree geometry image blocks → blocks ≡ marks.blocks
 same_free fits marks is = IsFree_unique (omega (arith, zone_behind fits)) is marks.free
@@ -21,7 +21,7 @@ same_free fits marks is = IsFree_unique (omega (arith, zone_behind fits)) is mar
 zone_within : (geometry : Geometry) (k : ℕ) → geometry.zone_start ≤ k → k < geometry.zone_end → in_zone geometry k ≡ true
 zone_within geometry k from below = grind (arith, nat_tests)
 
--- where each data block is named or free, none is lost
+-- if each data block is named or free, none is lost
 pub none_lost : {geometry : Geometry} {image : List ℕ} (places : List ℕ) (free : List Bool) → Fits geometry image
     → MarksZone geometry image places → AreFreeMarks geometry image free
     → ((k : ℕ) → geometry.zone_start ≤ k → k < geometry.zone_end → get_or places k 0 ≡ 0 → get_or free k false ≡ true) → IsNoneLost geometry image

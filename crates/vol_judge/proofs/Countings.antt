@@ -7,18 +7,18 @@ use Rattle.vol_judge.specs.Counting.{HasCounts, IsCounted}
 use Rattle.vol_judge.specs.Directories.{entry_count, HasLinks}
 
 module _ (g : Geometry) (image counts : List ℕ) (all : HasCounts g image counts) where
-  -- where the link count of each i-node is right, rule 12 holds
+  -- if the link count of each i-node is right, rule 12 holds
   pub links_hold : (n : ℕ) → g.last_inode < n → ((j : ℕ) → 1 ≤ j → j < n → IsCounted g image j (entry_count g image j)) → HasLinks g image
   links_hold n after each = record {
     counts = λ i first last some. (each i first (omega arith) some).0;
     linked = λ i root last some. (each i (omega (arith, root_first g.edition, root)) (omega arith) some).1 root;
   }
 
-  -- where rule 12 holds, the link count of each i-node is right
+  -- if rule 12 holds, the link count of each i-node is right
   pub links_each : HasLinks g image → (i : ℕ) → 1 ≤ i → i ≤ g.last_inode → IsCounted g image i (entry_count g image i)
   links_each rule i first last = λ some. (rule.counts i first last some, λ root. rule.linked i root last some)
 
-  -- what was counted is how many entries there are
+  -- the count is the number of entries
   pub counted : (i : ℕ) → i ≤ g.last_inode → (n : ℕ) → n ≡ get_or counts i 0 → IsCounted g image i n → IsCounted g image i (entry_count g image i)
   counted i last n is here = subst (IsCounted g image i) (is ∙ all.count i last) here
 

@@ -54,7 +54,7 @@ sum_one f g a (suc n) d low high more same =
     added : (l r a b x y : ℕ) → l ≡ a + x → r ≡ b + y → b + y ≡ a + x + 1 → r ≡ l + 1
     added l r a b x y p q e = omega arith
 
--- counting what a list is made of
+-- counting a mapped list
 count_map : {X : Type 0} (p : X → Bool) (f : ℕ → X) (xs : List ℕ) → count_by p (map f xs) ≡ count_by (λ x. p (f x)) xs
 count_map p f [] = refl
 count_map p f (x ∷ xs) =
@@ -87,7 +87,7 @@ before_early : (geometry : Geometry) (image : List ℕ) (place i d t : ℕ) → 
     → is_before geometry image place i d t ≡ true
 before_early geometry image place i d t is early = rw is (test_low (rank d t) place early)
 
--- the next entry alone is counted anew
+-- only the next entry is added to the count
 before_same : {geometry : Geometry} {image : List ℕ} {place d s : ℕ} {slot : Slot} (i e t : ℕ) → IsNextSlot geometry image place d s slot
     → IsDirectory geometry image e → (e ≡ d → t ≡ s → i ≡ slot.inode → ⊥)
     → is_before geometry image place i e t ≡ is_before geometry image (rank d (s + 1)) i e t
@@ -184,7 +184,7 @@ count_first geometry image place i low =
     in_none e first kinds.Special = refl
     in_none e first kinds.Odd = refl
 
--- where no entry is left, all are counted
+-- if no entry is left, all are counted
 count_all : (geometry : Geometry) (image : List ℕ) (place i : ℕ) → IsPastEntries geometry image place
     → count_before geometry image place i ≡ entry_count geometry image i
 unfolding count_before entry_count slots
@@ -249,7 +249,7 @@ counts_past is next past = record {
   count = λ i last. is.count i last ∙ count_other i next (λ same. omega (arith, same, last, past));
 }
 
--- where no entry is left, the counts are whole
+-- if no entry is left, the counts are whole
 pub counts_all : {geometry : Geometry} {image counts : List ℕ} {place : ℕ} → CountsBefore geometry image place counts → IsPastEntries geometry image place
     → HasCounts geometry image counts
 counts_all {geometry = geometry} {image = image} {place = place} is none = record {

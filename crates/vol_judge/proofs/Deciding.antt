@@ -13,11 +13,11 @@ refuted broken = (λ t. absurd (cc t), λ p. absurd (broken p))
 pub shown : {P : Type 0} → P → (IsTrue true ↔ P)
 shown p = (λ t. p, λ q. refl)
 
--- what a test that is true decides holds
+-- a test that is true decides that a fact holds
 pub holds : {P : Type 0} (b : Bool) → (IsTrue b ↔ P) → b ≡ true → P
 holds b decides e = decides.0 e
 
--- what a test that is false decides doesn't hold
+-- a test that is false decides that a fact doesn't hold
 pub fails : {P : Type 0} (b : Bool) → (IsTrue b ↔ P) → b ≡ false → P → ⊥
 fails b decides e p = let t : b ≡ true = decides.1 p in cc
 
@@ -41,22 +41,22 @@ other_option (Some m) n e same =
     let yes : eqb m n ≡ true = eq-eqb m n number in
     cc
 
--- what holds where nothing was found holds then
+-- a fact that holds if nothing was found holds then
 pub if_none : {A P : Type 0} (o : Option A) → is_some o ≡ false → IfNone o P → P
 if_none None none holds = holds
 if_none (Some x) none holds = absurd (cc)
 
--- where a search finds nothing the rule holds
+-- if a search finds nothing the rule holds
 pub finds_none : {rule : Type 0} (first : Finding → Type 0) (found : Option Finding) → is_some found ≡ false → Finds rule first found → rule
 finds_none first None none finds = finds
 finds_none first (Some finding) none finds = absurd (cc)
 
--- where it finds something the rule fails
+-- if it finds something the rule fails
 pub finds_some : {rule : Type 0} (first : Finding → Type 0) (found : Option Finding) → is_some found ≡ true → Finds rule first found → rule → ⊥
 finds_some first None some finds = absurd (cc)
 finds_some first (Some finding) some finds = finds.1
 
--- where the rule holds, what is said where nothing is found holds
+-- if the rule holds, so does a fact that holds if nothing is found
 pub finds_kept : {rule P : Type 0} (first : Finding → Type 0) (found : Option Finding) → IfNone found P → Finds rule first found → rule → P
 finds_kept first None none finds kept = none
 finds_kept first (Some finding) none finds kept = absurd (finds.1 kept)

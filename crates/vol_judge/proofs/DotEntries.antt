@@ -1,4 +1,4 @@
--- What a directory names by a name, while its entries are gone over.
+-- The i-number that a directory has for a name, while its entries are read.
 use Rattle.std.proofs.Common.{◌≡◌, ℕ, ◌+◌, ◌<◌, ◌≤◌, inl, inr, if◌then◌else◌, List, Option, None, Some, ap, ◌∙◌, arith}
 use Rattle.std.specs.Str.{bytes_eq}
 use Rattle.std.proofs.lemmas.Bool.{cases_lt, cases_Bool}
@@ -16,7 +16,7 @@ use Rattle.vol_dir.proofs.NextEntries.{entry_next, none_from}
 pub named_first : (geometry : Geometry) (image : List ℕ) (d : ℕ) (name : List ℕ) → IsNamedUpTo geometry image d 0 name None
 named_first geometry image d name = record { all = λ s i low has. absurd (omega (arith, low)); only = λ i same. absurd (cc) }
 
--- in a directory in which no name comes twice, all entries of a name have one i-number
+-- in a directory with no name twice, all entries of a name have one i-number
 same_number : {geometry : Geometry} {image : List ℕ} {d s t i j : ℕ} {name : List ℕ} → HasEntries geometry image → HasEntry geometry image d s name i
     → HasEntry geometry image d t name j → i ≡ j
 same_number {geometry = geometry} {image = image} {d = d} {s = s} {t = t} {i = i} {j = j} {name = name} rule has other =
@@ -61,7 +61,7 @@ pub named_found : {geometry : Geometry} {image : List ℕ} {d n : ℕ} {name : L
     → IsNamedUpTo geometry image d n name number → number ≡ Some j → IsNamed geometry image d name number
 named_found j rule known some = record { all = λ s i has. let found = known.only j some in some ∙ ap Some (same_number rule found.1 has); only = known.only }
 
--- where no entry is left, all are gone over
+-- if no entry is left, all have been read
 pub named_all : {geometry : Geometry} {image : List ℕ} {d from : ℕ} {name : List ℕ} {number : Option ℕ} → IsNamedUpTo geometry image d from name number
     → ((t : ℕ) → from ≤ t → t < slot_count geometry image d → entry_at geometry image d t ≡ None) → IsNamed geometry image d name number
 named_all {geometry = geometry} {image = image} {d = d} {from = from} {name = name} known none = record {

@@ -14,7 +14,7 @@ use Rattle.vol_judge.specs.InodeMarks.{IsNamed}
 use Rattle.vol_judge.specs.Tree.{NotesParents}
 use Rattle.vol_judge.proofs.Deciding.{not_true, not_false, same_option, other_option}
 
--- where rule 10 holds, each directory and the root have their entries
+-- if rule 10 holds, each directory and the root have their entries
 pub each_keeps : {geometry : Geometry} {image : List ℕ} → HasDots geometry image → (d : ℕ) → NeedsDots geometry image d → KeepsDots geometry image d
 each_keeps {geometry = geometry} {image = image} rule d needs =
     let is : IsDirectory geometry image d = elim needs [ inl is ↦ is | inr same ↦ rw same rule.root.1.directory ] in
@@ -23,7 +23,7 @@ each_keeps {geometry = geometry} {image = image} rule d needs =
       parent = record { root = λ same. rw same rule.root; other = λ other. rule.parent d is other };
     }
 
--- and where they have, it holds
+-- and if they have, it holds
 pub all_keep : {geometry : Geometry} {image : List ℕ} → ((d : ℕ) → NeedsDots geometry image d → KeepsDots geometry image d) → HasDots geometry image
 all_keep {geometry = geometry} all = record {
   itself = λ d is. (all d (inl is)).own;
@@ -31,25 +31,25 @@ all_keep {geometry = geometry} all = record {
   parent = λ d is other. (all d (inl is)).parent.other other;
 }
 
--- what holds below d, and of d, holds below d + 1
+-- a property of all below d, and of d, is one of all below d + 1
 pub keep_more : {geometry : Geometry} {image : List ℕ} (d : ℕ) → ((e : ℕ) → e < d → NeedsDots geometry image e → KeepsDots geometry image e)
     → (NeedsDots geometry image d → KeepsDots geometry image d) → (e : ℕ) → e < d + 1 → NeedsDots geometry image e → KeepsDots geometry image e
 keep_more {geometry = geometry} {image = image} d below here = below_more (λ e. NeedsDots geometry image e → KeepsDots geometry image e) d below here
 
--- what holds below one past the last i-number holds of all
+-- a property of all below one past the last i-number is one of all
 pub keep_all : {geometry : Geometry} {image : List ℕ} (d : ℕ) → Fits geometry image
     → ((e : ℕ) → e < d → NeedsDots geometry image e → KeepsDots geometry image e) → geometry.last_inode < d → HasDots geometry image
 keep_all {geometry = geometry} d fits below last =
     all_keep (λ e needs. below e (elim needs [ inl is ↦ omega (arith, is.last) | inr same ↦ omega (arith, same, fits.root) ]) needs)
 
--- a directory that isn't the first that doesn't name itself, and comes after none, comes before it
+-- a directory that isn't the first without an entry for itself, and is after none, is before it
 before_first : (nameless : Option ℕ) (d : ℕ) → ((n : ℕ) → nameless ≡ Some n → d ≤ n) → (nameless ≡ Some d → ⊥) → IsBeforeFirst nameless d
 before_first nameless d reached other n is = elim (cases_eq d n) [
   | inl same ↦ absurd (other (is ∙ ap Some (sym same)))
   | inr apart ↦ let low = reached n is in omega (arith, low, apart)
 ]
 
--- the first directory that doesn't name itself tells whether one does that doesn't come after it
+-- the first directory without an entry for itself tells if one that isn't after it has one
 pub itself_decides : {geometry : Geometry} {image : List ℕ} {ups : List (Option ℕ)} {nameless : Option ℕ} {d : ℕ} (b : Bool)
     → KnowsDots geometry image ups nameless → IsDirectory geometry image d → ((n : ℕ) → nameless ≡ Some n → d ≤ n)
     → b ≡ not (option_eq eqb nameless (Some d)) → IsTrue b ↔ NamesItself geometry image d
@@ -64,14 +64,14 @@ itself_decides {nameless = nameless} {d = d} b known is reached test = (
       ],
 )
 
--- and then what it names by `..` is known
+-- and then its `..` is known
 pub up_known : {geometry : Geometry} {image : List ℕ} {ups : List (Option ℕ)} {nameless : Option ℕ} {d : ℕ} (b : Bool)
     → KnowsDots geometry image ups nameless → IsDirectory geometry image d → ((n : ℕ) → nameless ≡ Some n → d ≤ n)
     → b ≡ not (option_eq eqb nameless (Some d)) → b ≡ true → IsNamed geometry image d dot_dot (get_or ups d None)
 up_known {nameless = nameless} {d = d} b known is reached test right =
     known.named d is (before_first nameless d reached (other_option nameless d (not_true b (option_eq eqb nameless (Some d)) test right)))
 
--- a directory that doesn't come after the first that doesn't name itself
+-- a directory that is not after the first without an entry for itself
 pub none_before : {geometry : Geometry} {image : List ℕ} {ups : List (Option ℕ)} {nameless : Option ℕ} {d : ℕ} → KnowsDots geometry image ups nameless
     → ((e : ℕ) → e < d → NeedsDots geometry image e → KeepsDots geometry image e) → (n : ℕ) → nameless ≡ Some n → d ≤ n
 none_before {d = d} known below n is = elim (cases_lt n d) [
@@ -87,7 +87,7 @@ no_parent {geometry = geometry} {d = d} named none names = elim (cases_eq d (roo
   | inr other ↦ let parent = names.other other in let up = named.all parent.0 parent.1 parent.3 in cc
 ]
 
--- what the root names by `..` tells whether it is its own parent
+-- the root's `..` tells if it is its own parent
 pub root_parent : {geometry : Geometry} {image : List ℕ} {d : ℕ} {number : Option ℕ} (up root : ℕ) → IsNamed geometry image d dot_dot number
     → number ≡ Some up → d ≡ root → d ≡ root_of geometry → IsTrue (nat_eq up root) ↔ NamesParent geometry image d
 root_parent {d = d} up root named some own is = (

@@ -1,4 +1,4 @@
--- A graph in which what is no directory loses a name.
+-- A graph in which a node that is no directory loses a name.
 use Rattle.std.proofs.Common.{◌≡◌, ◌≢◌, ◌∙◌, sym, ap, ℕ, ◌+◌, ◌%◌, ◌≤◌, List, None, Some, inl, inr, arith}
 use Rattle.std.proofs.lemmas.Bool.{cases_eq}
 use Rattle.vol_dir.specs.Names.{dot, dot_dot}
@@ -32,7 +32,7 @@ stays_there old new d s x t i j name word slot away apart some = elim (cases_eq 
   | inr there ↦ away there ∙ some
 ]
 
--- what is no directory loses its name in slot s of d; if it isn't free then, it has another, and its links say so
+-- i, which is no directory, loses its name in slot s of d; if it isn't free then, it has another name, as its link count says
 pub record IsUnnamed (old new : Graph) (last i d s : ℕ) (name : List ℕ) : Type 0 where
   pub before : IsGraphWithin old last
   pub after : IsGraphWithin new last
@@ -146,7 +146,7 @@ dropped_name_sound old new root last i d s name before after sound drops =
       kept = drops.kept;
     })
 
--- a graph in which a file goes with its last name stays sound
+-- a graph in which a file is freed with its last name stays sound
 pub dropped_file_sound : (old new : Graph) (root last i d s : ℕ) (name : List ℕ) → IsGraphWithin old last → IsGraphWithin new last
     → IsGraphSound old root last → DropsFile old new i d s name → IsGraphSound new root last
 dropped_file_sound old new root last i d s name before after sound drops =

@@ -1,4 +1,4 @@
--- A graph in which a directory goes.
+-- A graph from which a directory is removed.
 use Rattle.std.proofs.Common.{◌≡◌, ◌≢◌, ◌∙◌, sym, ap, refl, ℕ, ◌+◌, ◌%◌, true≢false, List, None, Some, inl, inr, arith}
 use Rattle.std.proofs.lemmas.Bool.{cases_eq, cases_Bool}
 use Rattle.vol_dir.specs.Names.{dot, dot_dot, is_dots}
@@ -9,12 +9,12 @@ use Rattle.vol_judge.proofs.GraphParts.{not_free, not_directory, has_entry, entr
 use Rattle.vol_judge.proofs.DroppedGraphs.{was_there, stays_there}
 use Rattle.vol_layout.specs.declared.mode.Kind.TheVariants as kinds
 
--- nothing leads on from what goes
+-- no entry of the removed directory leads on
 leads_not : (old new : Graph) (i d s e t j : ℕ) (name : List ℕ) → DropsDirectory old new i d s name → Leads old e t j → e ≢ i
 leads_not old new i d s e t j name drops leads same =
     true≢false (sym (drops.only t j leads.0 (sym (ap (λ y. old.entry y t) same) ∙ leads.1)) ∙ leads.2)
 
--- the entry that goes leads to it
+-- removing an entry leads to it
 leads_to : (old new : Graph) (i d s : ℕ) (name : List ℕ) → DropsDirectory old new i d s name → Leads old d s i
 leads_to old new i d s name drops = (name, drops.slot.was, drops.named)
 
@@ -27,11 +27,11 @@ root_apart : (old new : Graph) (root last i d s : ℕ) (name : List ℕ) → IsG
 root_apart old new root last i d s name sound drops same =
     sound.root_none d s (name, drops.slot.was ∙ ap (λ n. Some (name, n)) (sym same), drops.named)
 
--- beside d and what goes nothing changes
+-- nothing besides d and the removed directory changes
 beyond : (old new : Graph) (i d s x t : ℕ) (name : List ℕ) → DropsDirectory old new i d s name → x ≢ i → x ≢ d → new.entry x t ≡ old.entry x t
 beyond old new i d s x t name drops other away = drops.others.entry x t away other
 
--- what goes has no entries afterwards
+-- the removed directory has no entries afterwards
 gone_entry : (old new : Graph) (last i d s t : ℕ) (name : List ℕ) → IsGraphWithin new last → DropsDirectory old new i d s name → new.entry i t ≡ None
 gone_entry old new last i d s t name after drops = after.directories i t (not_directory (new.kind i) drops.kind)
 
@@ -43,7 +43,7 @@ kept_entry old new last i d s x t name entry after drops some = elim (cases_eq x
   | inr other ↦ (other, was_there old new d s x t entry (name, i) drops.slot (beyond old new i d s x t name drops other) some)
 ]
 
--- `..` of a directory beside the root names one from which an entry leads to it
+-- `..` of a directory other than the root names one from which an entry leads to it
 up_leads : (graph : Graph) (root last x t j : ℕ) → IsGraphSound graph root last → graph.kind x ≡ kinds.Directory → x ≢ root
     → graph.entry x t ≡ Some (dot_dot, j) → (u : ℕ) × Leads graph j u x
 up_leads graph root last x t j sound is other some =
@@ -58,7 +58,7 @@ root_up graph root last t j sound some =
     let place = sound.once root t sound.of_root.0 j root dot_dot some sound.of_root.1 in
     (entry_parts dot_dot dot_dot j root (sym some ∙ (ap (graph.entry root) place ∙ sound.of_root.1))).1
 
--- no entry is left for what goes
+-- no entry for the removed directory is left
 none_left : (old new : Graph) (root last i d s x t : ℕ) (name word : List ℕ) → IsGraphWithin old last → IsGraphWithin new last
     → IsGraphSound old root last → DropsDirectory old new i d s name → new.entry x t ≡ Some (word, i) → ⊥
 none_left old new root last i d s x t name word before after sound drops some =
@@ -83,7 +83,7 @@ none_left old new root last i d s x t name word before after sound drops some =
           let none : new.entry x t ≡ None = ap (λ y. new.entry y t) same.0 ∙ (ap (new.entry d) same.1 ∙ drops.slot.is) in cc
     ]
 
--- what goes has one entry for the directory above it
+-- the removed directory has one entry for the directory above it
 count_up : (old new : Graph) (root last i d s : ℕ) (name : List ℕ) → IsGraphWithin old last → IsGraphSound old root last
     → DropsDirectory old new i d s name → counted_in old d i ≡ 1
 count_up old new root last i d s name before sound drops =
@@ -111,7 +111,7 @@ count_others old new root last i d s j name sound drops apart other =
           other (sound.one i j leads.0 d s drops.was leads.1 (leads_to old new i d s name drops)).0
     ])
 
--- each i-number has as many entries less as the slot and those of what goes
+-- the entries for each i-number are fewer by those in the slot and in the removed directory
 emptied_count : (old new : Graph) (last i d s j : ℕ) (name : List ℕ) → IsGraphWithin old last → IsGraphWithin new last
     → DropsDirectory old new i d s name → counted new last j + one_for j (Some (name, i)) + counted_in old j i ≡ counted old last j
 emptied_count old new last i d s j name before after drops =
@@ -145,7 +145,7 @@ emptied_links old new root last i d s j name before after sound drops some =
           let kept = drops.kept j apart other (λ free. some (drops.others.kind j apart ∙ free)) in omega (arith, links, count, slot, none, kept)
     ]
 
--- a graph in which a directory goes stays sound
+-- a graph from which a directory is removed stays sound
 pub dropped_directory_sound : (old new : Graph) (root last i d s : ℕ) (name : List ℕ) → IsGraphWithin old last → IsGraphWithin new last
     → IsGraphSound old root last → DropsDirectory old new i d s name → IsGraphSound new root last
 dropped_directory_sound old new root last i d s name before after sound drops =

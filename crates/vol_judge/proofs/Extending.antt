@@ -1,4 +1,4 @@
--- Laws of marks of data blocks, of which more are set.
+-- Laws of marks of data blocks as more of them are set.
 use Rattle.std.proofs.Common.{◌≡◌, ◌≢◌, ℕ, zero, suc, ◌+◌, ◌-◌, ◌<◌, ◌≤◌, ◌==◌, ◌∙◌, if◌then◌else◌, true, false, sym, ap, subst, inl, inr, List, [], ◌∷◌, ◌++◌, length, get_or, set, refl, arith, lit≤, get_or-set_same, get_or-set_other}
 use Rattle.std.proofs.lemmas.Bool.{cases_eq}
 use Rattle.std.specs.List.{flat_map, range_with_len}
@@ -89,7 +89,7 @@ ext_set g b d below old new within ext = record {
   kept = λ x some. set_kept new b d x within (ext.kept x some);
 }
 
--- nothing is known where no mark is set
+-- nothing is known if no mark is set
 pub known_none : (g : Geometry) (image marks : List ℕ) → ((b : ℕ) → get_or marks b 0 ≡ 0) → KnowsMarked g image marks
 known_none g image marks clear b d is x among zone = absurd (omega (arith, is, clear b))
 
@@ -118,7 +118,7 @@ module _ (g : Geometry) (image : List ℕ) where
   here_in zero b x some same = subst (IsIn x) (sym (from_leaf g image b some)) (inl same)
   here_in (suc d) b x some same = subst (IsIn x) (sym (from_suc g image d b some)) (inl same)
 
-  -- what is found in fewer levels is found in more
+  -- a block found in fewer levels is found in more
   from_less : (d e b x : ℕ) → d ≤ e → IsIn x (blocks_from g image d b) → IsIn x (blocks_from g image e b)
   unfolding IsIn entries_from
   from_less zero e b x less among = elim (cases_eq b 0) [
@@ -141,7 +141,7 @@ module _ (g : Geometry) (image : List ℕ) where
     ]
   ]
 
-  -- from what is no data block on, none is found
+  -- from a number of no data block on, none is found
   out_from : (d b x : ℕ) → in_zone g b ≡ false → IsIn x (blocks_from g image d b) → in_zone g x ≡ true → ⊥
   unfolding IsIn entries_from
   out_from zero b x out among zone = elim (cases_eq b 0) [
@@ -161,11 +161,11 @@ module _ (g : Geometry) (image : List ℕ) where
     ]
   ]
 
-  -- what is no data block adds nothing
+  -- a number of no data block adds nothing
   pub ext_out : (d b : ℕ) (marks : List ℕ) → in_zone g b ≡ false → ExtendsMarks g (blocks_from g image d b) marks marks
   ext_out d b marks out = ext_known g (blocks_from g image d b) marks (λ x among zone. absurd (out_from d b x out among zone))
 
-  -- nor does a block that was gone over in as many levels
+  -- nor does a block that was visited in as many levels
   pub ext_again : (d b : ℕ) (marks : List ℕ) → KnowsMarked g image marks → d < get_or marks b 0 → ExtendsMarks g (blocks_from g image d b) marks marks
   ext_again d b marks known less =
       let size : get_or marks b 0 ≡ get_or marks b 0 - 1 + 1 = omega (arith, less) in
@@ -230,7 +230,7 @@ module _ (g : Geometry) (image : List ℕ) where
   unfolding files_from
   ext_file i n m old mid new size at first second = ext_next g (blocks_of g image) 1 n m i old mid new size at first second
 
-  -- the marks once all files are gone over
+  -- the marks once all files are visited
   pub ext_all : (marks new : List ℕ) → Fits g image → ((b : ℕ) → get_or marks b 0 ≡ 0) → ExtendsMarks g (files_from g image g.last_inode) marks new
       → MarksZone g image new
   ext_all marks new fits clear ext b zone = (

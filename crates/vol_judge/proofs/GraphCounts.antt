@@ -1,4 +1,4 @@
--- How many entries of a graph are for an i-number, and how a changed slot changes that.
+-- The number of a graph's entries for an i-number, and its change when a slot changes.
 use Rattle.std.proofs.Common.{◌≡◌, ◌≢◌, ◌∙◌, sym, ap, refl, ℕ, zero, suc, ◌+◌, ◌-◌, ◌/◌, ◌<◌, ◌≤◌, cond, ◌==◌, List, [], ◌∷◌, map, Option, None, Some, inl, inr, arith}
 use Rattle.std.specs.List.{sum_by, range_with_len}
 use Rattle.std.proofs.lemmas.Bool.{cases_eq, ne_eqb, eq-eqb}
@@ -76,7 +76,7 @@ sum_zero a (suc n) =
     let rest = sum_zero (a + 1) n in
     let split = sum_by-cons (λ (x : ℕ). 0) a (range_with_len (a + 1) n) in omega (arith, rest, split)
 
--- how many of the first n slots have an entry for i
+-- the number of the first n slots that have an entry for i
 abbrev pub count_to : (ℕ → Option (List ℕ × ℕ)) → ℕ → ℕ → ℕ
 count_to entry i n = sum_by (λ s. one_for i (entry s)) (range_with_len 0 n)
 
@@ -89,7 +89,7 @@ sum_map {X} f g (x ∷ xs) =
     let right = sum_by-cons (λ y. f (g y)) x xs in
     omega (arith, rest, left, right)
 
--- empty slots behind add nothing
+-- empty slots after add nothing
 count_more : (entry : ℕ → Option (List ℕ × ℕ)) (i a n m k : ℕ) → n + k ≡ m → ((s : ℕ) → a + n ≤ s → entry s ≡ None)
     → sum_by (λ s. one_for i (entry s)) (range_with_len a m) ≡ sum_by (λ s. one_for i (entry s)) (range_with_len a n)
 count_more entry i a zero zero k e none = refl
@@ -105,13 +105,13 @@ count_more entry i a (suc n) (suc m) k e none =
     let right = sum_by-cons (λ s. one_for i (entry s)) a (range_with_len (a + 1) n) in
     omega (arith, rest, left, right)
 
--- the slots of d may be counted as far as one likes behind the size
+-- the slots of d may be counted as far as one likes after the size
 pub counted_to : (graph : Graph) (last i d n : ℕ) → IsGraphWithin graph last → graph.size d / 16 ≤ n → counted_in graph i d ≡ count_to (graph.entry d) i n
 counted_to graph last i d n within far =
     sum_map (one_for i) (graph.entry d) (range_with_len 0 (graph.size d / 16))
     ∙ sym (count_more (graph.entry d) i 0 (graph.size d / 16) n (n - graph.size d / 16) (omega (arith, far)) (λ s low. within.slots d s (omega (arith, low))))
 
--- where one slot of d changes
+-- if one slot of d changes
 pub slot_changed : (old new : Graph) (last i d s : ℕ) → IsGraphWithin old last → IsGraphWithin new last
     → ((t : ℕ) → t ≢ s → new.entry d t ≡ old.entry d t)
     → counted_in new i d + one_for i (old.entry d s) ≡ counted_in old i d + one_for i (new.entry d s)
@@ -122,7 +122,7 @@ slot_changed old new last i d s before after same =
     let change = sum_but (λ t. one_for i (new.entry d t)) (λ t. one_for i (old.entry d t)) 0 n s (omega arith) (omega arith) (λ t other. ap (one_for i) (same t other)) in
     omega (arith, left, right, change)
 
--- where no slot of d changes
+-- if no slot of d changes
 pub slots_same : (old new : Graph) (last i d : ℕ) → IsGraphWithin old last → IsGraphWithin new last
     → ((t : ℕ) → new.entry d t ≡ old.entry d t) → counted_in new i d ≡ counted_in old i d
 slots_same old new last i d before after same =
@@ -130,14 +130,14 @@ slots_same old new last i d before after same =
     let first : one_for i (new.entry d 0) ≡ one_for i (old.entry d 0) = ap (one_for i) (same 0) in
     omega (arith, change, first)
 
--- where a directory has no entry for i
+-- if a directory has no entry for i
 pub slots_none : (graph : Graph) (i d : ℕ) → ((t : ℕ) (name : List ℕ) → graph.entry d t ≡ Some (name, i) → ⊥) → counted_in graph i d ≡ 0
 slots_none graph i d none =
     sum_map (one_for i) (graph.entry d) (range_with_len 0 (graph.size d / 16))
     ∙ (sum_same (λ t. one_for i (graph.entry d t)) (λ t. 0) 0 (graph.size d / 16) (λ t low high. not_one i (graph.entry d t) (none t))
     ∙ sum_zero 0 (graph.size d / 16))
 
--- where it has one
+-- if it has one
 pub slots_one : (graph : Graph) (last i d s : ℕ) (name : List ℕ) → IsGraphWithin graph last → graph.entry d s ≡ Some (name, i)
     → ((t : ℕ) (word : List ℕ) → t ≢ s → graph.entry d t ≡ Some (word, i) → ⊥) → counted_in graph i d ≡ 1
 slots_one graph last i d s name within here none =
@@ -150,24 +150,24 @@ slots_one graph last i d s name within here none =
     let first : one_for i (graph.entry d s) ≡ 1 = ap (one_for i) here ∙ one_here i name in
     omega (arith, all, zeros, change, first)
 
--- where no directory changes
+-- if no directory changes
 pub counted_same : (old new : Graph) (last i : ℕ) → ((x : ℕ) → counted_in new i x ≡ counted_in old i x) → counted new last i ≡ counted old last i
 unfolding counted
 counted_same old new last i same = sum_same (counted_in new i) (counted_in old i) 1 last (λ x low high. same x)
 
--- where no entry is for i
+-- if no entry is for i
 pub counted_none : (graph : Graph) (last i : ℕ) → ((d t : ℕ) (name : List ℕ) → graph.entry d t ≡ Some (name, i) → ⊥) → counted graph last i ≡ 0
 unfolding counted
 counted_none graph last i none =
     sum_same (counted_in graph i) (λ x. 0) 1 last (λ x low high. slots_none graph i x (none x)) ∙ sum_zero 1 last
 
--- where one directory changes
+-- if one directory changes
 pub counted_but : (old new : Graph) (last i d : ℕ) → 1 ≤ d → d ≤ last → ((x : ℕ) → x ≢ d → counted_in new i x ≡ counted_in old i x)
     → counted new last i + counted_in old i d ≡ counted old last i + counted_in new i d
 unfolding counted
 counted_but old new last i d low high same = sum_but (counted_in new i) (counted_in old i) 1 last d low (omega (arith, high)) same
 
--- where two directories change
+-- if two directories change
 pub counted_but_two : (old new : Graph) (last i d e : ℕ) → d ≢ e → 1 ≤ d → d ≤ last → 1 ≤ e → e ≤ last
     → ((x : ℕ) → x ≢ d → x ≢ e → counted_in new i x ≡ counted_in old i x)
     → counted new last i + counted_in old i d + counted_in old i e ≡ counted old last i + counted_in new i d + counted_in new i e

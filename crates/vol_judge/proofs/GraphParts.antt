@@ -1,4 +1,4 @@
--- What follows from the rules of a graph.
+-- Consequences of the rules of a graph.
 use Rattle.std.proofs.Common.{◌≡◌, ◌≢◌, ◌∙◌, sym, ap, refl, ℕ, ◌+◌, true, false, List, Option, Some, inl, inr, ◌⊎◌, arith}
 use Rattle.std.specs.Option.{option_map_or}
 use Rattle.std.specs.Str.{bytes_eq}
@@ -27,7 +27,7 @@ not_free kind is e = cc
 pub not_directory : (kind : Kind) → kind ≡ kinds.Free → kind ≢ kinds.Directory
 not_directory kind is e = cc
 
--- what has an entry is a directory
+-- a node with an entry is a directory
 pub has_entry : (graph : Graph) (last d s : ℕ) (entry : List ℕ × ℕ) → IsGraphWithin graph last → graph.entry d s ≡ Some entry
     → graph.kind d ≡ kinds.Directory
 has_entry graph last d s entry within some = elim (is_directory (graph.kind d)) [
@@ -66,7 +66,7 @@ not_dots graph root last d name sound is new =
 pub counted_free : (graph : Graph) (root last i : ℕ) → IsGraphSound graph root last → graph.kind i ≡ kinds.Free → counted graph last i ≡ 0
 counted_free graph root last i sound free = counted_none graph last i (λ d t name e. (sound.allocated d t i name e).1 free)
 
--- beside d nothing changes where i is no directory, neither before nor after
+-- nothing except d changes if i is no directory, neither before nor after
 pub elsewhere : (old new : Graph) (last d i : ℕ) → IsGraphWithin old last → IsGraphWithin new last → KeepsOthers old new d i
     → old.kind i ≢ kinds.Directory → new.kind i ≢ kinds.Directory → (x t : ℕ) → x ≢ d → new.entry x t ≡ old.entry x t
 elsewhere old new last d i before after others was is x t other = elim (cases_eq x i) [
@@ -75,7 +75,7 @@ elsewhere old new last d i before after others was is x t other = elim (cases_eq
   | inr away ↦ others.entry x t other away
 ]
 
--- where one slot changes, the entries for each i-number are as many more or less as that slot says
+-- if one slot changes, the entries for each i-number are as many more or less as that slot says
 pub counted_slot : (old new : Graph) (last d s j : ℕ) (was is : Option (List ℕ × ℕ)) → IsGraphWithin old last → IsGraphWithin new last
     → ChangesSlot old new d s was is → ((x t : ℕ) → x ≢ d → new.entry x t ≡ old.entry x t)
     → counted new last j + one_for j was ≡ counted old last j + one_for j is
@@ -87,12 +87,12 @@ counted_slot old new last d s j was is before after slot away =
     let second : one_for j (new.entry d s) ≡ one_for j is = ap (one_for j) slot.is in
     omega (arith, all, here, first, second)
 
--- what is below the root stays so where entries stay
+-- a node below the root stays there if entries stay
 pub below_same : (old new : Graph) (root i : ℕ) → ((d s j : ℕ) → Leads old d s j → Leads new d s j) → IsBelow old root i → IsBelow new root i
 below_same old new root i stays at_root = at_root
 below_same old new root i stays (below d s j above leads) = below d s j (below_same old new root d stays above) (stays d s j leads)
 
--- what is below the root stays so where no chain passes through i, and entries for others stay
+-- a node below the root stays there if no chain passes through i, and entries for others stay
 pub below_kept : (old new : Graph) (root i x : ℕ) → ((e t j : ℕ) → Leads old e t j → e ≢ i)
     → ((e t j : ℕ) → j ≢ i → Leads old e t j → Leads new e t j) → IsBelow old root x → x ≢ i → IsBelow new root x
 below_kept old new root i x apart stays at_root other = at_root

@@ -22,7 +22,7 @@ pub kind_inside : (geometry : Geometry) (image : List ℕ) (i : ℕ) → 1 ≤ i
 kind_inside geometry image i first last =
     ap (λ b. if b then kind_at geometry image i else kinds.Free) (and_from _ _ (le-leb 1 i first) (le-leb i geometry.last_inode last))
 
--- what isn't free is one of the volume's i-numbers
+-- a node that isn't free has one of the volume's i-numbers
 pub inside_from : (geometry : Geometry) (image : List ℕ) (i : ℕ) → kind_in geometry image i ≢ kinds.Free → (1 ≤ i) × (i ≤ geometry.last_inode)
 inside_from geometry image i used = elim (is_number geometry i) as (λ b. is_number geometry i ≡ b → (1 ≤ i) × (i ≤ geometry.last_inode)) [
   | true ↦ λ e. let parts = and_parts _ _ e in (leb-true 1 i parts.0, leb-true i geometry.last_inode parts.1)
@@ -64,7 +64,7 @@ leads_to geometry image d s i enters = (enters.0, entry_to geometry image enters
 pub leads_from : (geometry : Geometry) (image : List ℕ) (d s i : ℕ) → Leads (graph_of geometry image) d s i → Enters geometry image d s i
 leads_from geometry image d s i leads = (leads.0, entry_from geometry image leads.0 d s i leads.1, leads.2)
 
--- what is reached is below the root in the graph
+-- a node that is reached is below the root in the graph
 pub reached_to : (geometry : Geometry) (image : List ℕ) (i : ℕ) → IsReached geometry image i → IsBelow (graph_of geometry image) (root_of geometry) i
 reached_to geometry image i root_reached = root_below
 reached_to geometry image i (one_reached d s j above enters) =
@@ -76,12 +76,12 @@ reached_from geometry image i root_below = root_reached
 reached_from geometry image i (one_below d s j above leads) =
     one_reached d s j (reached_from geometry image d above) (leads_from geometry image d s j leads)
 
--- no slot stands past the size
+-- no slot is past the size
 slot_past : (geometry : Geometry) (image : List ℕ) (d s : ℕ) → size_of geometry image d / 16 ≤ s → entry_at geometry image d s ≡ None
 unfolding entry_at
 slot_past geometry image d s past = rw (le-ltb s (slot_count geometry image d) (omega (arith, past)))
 
--- what no slot holds no kind of i-node holds
+-- a slot that is empty is empty for each kind of i-node
 pub empty_by : (kind : Kind) (geometry : Geometry) (image : List ℕ) (d s : ℕ) → entry_at geometry image d s ≡ None → entry_by kind geometry image d s ≡ None
 empty_by kinds.Directory geometry image d s none = none
 empty_by kinds.Free geometry image d s none = refl
@@ -105,7 +105,7 @@ graph_within geometry image = record {
   directories = λ d s other. other_by (kind_in geometry image d) geometry image d s other;
 }
 
--- what doesn't lie in one of the volume's directories counts none
+-- an i-number that is not one of the volume's directories counts no entries
 other_count : (kind : Kind) (geometry : Geometry) (image : List ℕ) (i d : ℕ) → kind ≢ kinds.Directory → count_in geometry image i d kind ≡ 0
 other_count kinds.Directory geometry image i d other = absurd (other refl)
 other_count kinds.Free geometry image i d other = refl
@@ -148,7 +148,7 @@ used_to geometry image i from to used e =
     let one = root_first geometry.edition in
     let first : 1 ≤ i = omega (arith, one, from) in used (sym (kind_inside geometry image i first to) ∙ e)
 
--- what is used in the graph is used in the image
+-- a node in use in the graph is in use in the image
 pub used_from : (geometry : Geometry) (image : List ℕ) (i : ℕ) → kind_in geometry image i ≢ kinds.Free
     → (1 ≤ i) × (i ≤ geometry.last_inode) × (kind_at geometry image i ≢ kinds.Free)
 used_from geometry image i used =

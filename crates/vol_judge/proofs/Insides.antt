@@ -40,7 +40,7 @@ inside_entry geometry image (suc d) b j one h inside =
     let less : d ≡ suc d - 1 = omega arith in
     subst (λ x. IsInside geometry image x (pointer_in geometry image b j)) less (inside.1 j h)
 
--- nothing is known where no levels are
+-- no levels say nothing
 pub knows_nothing : (geometry : Geometry) (image known : List ℕ) → ((b : ℕ) → get_or known b 0 ≡ 0) → KnowsInside geometry image known
 unfolding IsInside
 knows_nothing geometry image known none b zone = subst (λ x. IsInside geometry image x b) (sym (none b)) (λ some. zone)

@@ -14,12 +14,12 @@ use Rattle.vol_layout.specs.declared.mode.Kind.TheVariants as kinds
 apart_from : (old new : Graph) (made d s : ℕ) (name : List ℕ) → AddsDirectory old new made d s name → d ≢ made
 apart_from old new made d s name adds same = not_free (old.kind d) adds.slot.directory (ap old.kind same ∙ adds.was)
 
--- beside d and what is made nothing changes
+-- nothing besides d and the new node changes
 beyond : (old new : Graph) (made d s x t : ℕ) (name : List ℕ) → AddsDirectory old new made d s name → x ≢ made → x ≢ d
     → new.entry x t ≡ old.entry x t
 beyond old new made d s x t name adds other away = adds.others.entry x t away other
 
--- the entries of what is made
+-- the entries of the new node
 made_entry : (old new : Graph) (made d s t j : ℕ) (name word : List ℕ) → AddsDirectory old new made d s name
     → new.entry made t ≡ Some (word, j)
     → ((t ≡ 0) × (word ≡ dot) × (j ≡ made)) ⊎ ((t ≡ 1) × (word ≡ dot_dot) × (j ≡ d))
@@ -33,7 +33,7 @@ made_entry old new made d s t j name word adds some = elim (cases_eq t 0) [
   ]
 ]
 
--- what leads on afterwards is the new entry, or led on before
+-- an entry that leads on afterwards is the new one, or was there before
 lead_cases : (old new : Graph) (made d s x t j : ℕ) (name : List ℕ) → AddsDirectory old new made d s name → Leads new x t j
     → ((x ≡ d) × (t ≡ s) × (j ≡ made)) ⊎ Leads old x t j
 lead_cases old new made d s x t j name adds leads = elim (cases_eq x made) [
@@ -83,7 +83,7 @@ made_count old new last made d s j name before after adds =
     let second : one_for j (new.entry made 1) ≡ one_for j (Some (dot_dot, d)) = ap (one_for j) adds.parent in
     omega (arith, all, here, was, is, none, two, first, second)
 
--- no name comes twice in a directory afterwards
+-- no name occurs twice in a directory afterwards
 made_once : (old new : Graph) (root last made d s : ℕ) (name : List ℕ) → IsGraphWithin old last → IsGraphSound old root last
     → IsNewName old d name → AddsDirectory old new made d s name → (x t u j k : ℕ) (word : List ℕ) → new.entry x t ≡ Some (word, j)
     → new.entry x u ≡ Some (word, k) → t ≡ u

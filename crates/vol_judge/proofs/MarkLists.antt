@@ -35,7 +35,7 @@ marked_then (b ∷ blocks) more marks mid end done next =
       | inr before ↦ absurd (none-some mid (sym (marked_again marks b blocks before) ∙ done))
     ]
 
--- where the first can't be marked nor can all
+-- if the first can't be marked nor can all
 pub marked_stops : (blocks more marks : List ℕ) → marked marks blocks ≡ None → marked marks (blocks ++ more) ≡ None
 unfolding marked
 marked_stops [] more marks stops = absurd (none-some marks (sym stops))
@@ -55,7 +55,7 @@ flat_suc f a (suc n) =
     ap (λ xs. f a ++ xs) (flat_suc f (a + 1) n ∙ ap (λ x. flat_map f (range_with_len (a + 1) n) ++ f x) same)
     ∙ sym (append_assoc (f a) (flat_map f (range_with_len (a + 1) n)) (f (a + suc n)))
 
--- the same, where the numbers are equal by arithmetic
+-- the same, for numbers that are equal by arithmetic
 pub flat_more : (f : ℕ → List ℕ) (a n m j : ℕ) → m ≡ n + 1 → a + n ≡ j → flat_map f (range_with_len a m) ≡ flat_map f (range_with_len a n) ++ f j
 flat_more f a n m j size at =
     let more : m ≡ suc n = omega arith in
@@ -71,7 +71,7 @@ marked_more f a n j m marks mid end at next done last =
     ∙ (ap (λ x. marked marks (flat_map f (range_with_len a n) ++ f x)) at
     ∙ marked_then (flat_map f (range_with_len a n)) (f j) marks mid end done last))
 
--- where those of some numbers can't be marked nor can those of more
+-- if those of some numbers can't be marked nor can those of more
 marked_longer : (f : ℕ → List ℕ) (a n d : ℕ) (marks : List ℕ) → marked marks (flat_map f (range_with_len a n)) ≡ None
     → marked marks (flat_map f (range_with_len a (d + n))) ≡ None
 marked_longer f a n zero marks stops =
@@ -130,7 +130,7 @@ marks_more b blocks marks new within fresh rest =
       ];
     }
 
--- where all could be marked, none comes twice or was marked, and the marks are theirs and those before
+-- if all could be marked, none occurs twice or was marked, and the marks are theirs and those from before
 pub marked_marks : (blocks marks new : List ℕ) → ((b : ℕ) → IsIn b blocks → b < length marks) → marked marks blocks ≡ Some new → Marks blocks marks new
 unfolding IsIn Once
 marked_marks [] marks new within done =
@@ -152,7 +152,7 @@ marked_marks (b ∷ blocks) marks new within done =
       | inr before ↦ absurd (none-some new (sym (marked_again marks b blocks before) ∙ done))
     ]
 
--- where they couldn't be, one comes twice or was marked
+-- if they couldn't be, one occurs twice or was marked
 pub marked_refused : (blocks marks : List ℕ) → ((b : ℕ) → IsIn b blocks → b < length marks) → marked marks blocks ≡ None
     → Once blocks → ((b : ℕ) → IsIn b blocks → get_or marks b 0 ≡ 0) → ⊥
 unfolding IsIn Once

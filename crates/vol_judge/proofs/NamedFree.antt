@@ -16,7 +16,7 @@ use Rattle.vol_judge.specs.Sound.{IsFreeApart}
 use Rattle.vol_judge.specs.declared.finding.Finding.TheVariants.{UsedAndFree}
 use Rattle.vol_judge.proofs.NamedOnce.{in_append, in_left, in_right}
 
--- what is found first among some blocks: none that is marked, or the first
+-- the result of a search for the first marked block: None, or that block
 abbrev pub FindsMarked : List ℕ → List ℕ → Option ℕ → Type 0
 FindsMarked marks blocks found = MatchOption found (AreClear marks blocks) (IsFirstMarked marks blocks)
 
@@ -45,7 +45,7 @@ marked_more marks blocks b n first = record {
 }
 
 module _ (g : Geometry) (image marks blocks : List ℕ) (fits : Fits g image) (names : MarksZone g image marks) (free : IsFree g image blocks) where
-  -- where none of the free blocks is marked, none is named
+  -- if none of the free blocks is marked, none is named
   clear_apart : AreClear marks blocks → IsFreeApart g image
   clear_apart clear = λ others is i p place there.
       let same : others ≡ blocks = IsFree_unique (omega (arith, zone_behind fits)) is free in
@@ -75,7 +75,7 @@ module _ (g : Geometry) (image marks blocks : List ℕ) (fits : Fits g image) (n
         λ rule. rule blocks free by.0 by.1 by.2.place (subst (λ x. IsIn x blocks) (sym named_is) there),
       )
 
-  -- what is found first says whether no free block is named
+  -- the first one found tells if no free block is named
   pub named_found : (found : Option ℕ) → IsApart g image → FindsMarked marks blocks found
       → Finds (IsFreeApart g image) (IsFirstTwice g image) (option_map UsedAndFree found)
   named_found None apart clear = clear_apart clear

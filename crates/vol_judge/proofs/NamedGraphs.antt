@@ -1,4 +1,4 @@
--- A graph in which what is no directory has a new name.
+-- A graph in which a node that is no directory gets a new name.
 use Rattle.std.proofs.Common.{◌≡◌, ◌≢◌, ◌∙◌, sym, ap, ℕ, ◌+◌, ◌%◌, ◌≤◌, ◌==◌, List, Option, None, Some, inl, inr, ◌⊎◌, arith}
 use Rattle.std.specs.List.{list_any}
 use Rattle.std.proofs.lemmas.Bool.{cases_eq}
@@ -35,7 +35,7 @@ old_stays old new d s x t entry added slot away some = elim (cases_eq x d) [
   | inr there ↦ away there ∙ some
 ]
 
--- what is no directory has a new name, in slot s of d, which is counted
+-- i, which is no directory, gets a new name, in slot s of d, which is counted
 pub record IsNamed (old new : Graph) (last i d s : ℕ) (name : List ℕ) : Type 0 where
   pub before : IsGraphWithin old last
   pub after : IsGraphWithin new last

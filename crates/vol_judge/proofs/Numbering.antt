@@ -11,18 +11,18 @@ use Rattle.vol_file.specs.Rules.{IsZoned}
 use Rattle.vol_judge.specs.Judging.{IsFirstBroken}
 use Rattle.vol_judge.specs.Sound.{free_rules, block_rules, volume_rules, nth_fact, rules, Rule, IsJudged}
 
--- where a fact holds, and each of some others, each of them all holds
+-- if a fact holds, and each of some others, each of them all holds
 each_fact : (fact : Type 0) (facts : List (Type 0)) → fact → ((m : ℕ) → nth_fact facts m) → (m : ℕ) → nth_fact (fact ∷ facts) m
 each_fact fact facts holds others zero = holds
 each_fact fact facts holds others (suc m) = others m
 
--- where a fact holds, and each of some others before the n-th, each of them all before the next holds
+-- if a fact holds, and each of some others before the n-th, each of them all before the next holds
 each_before : (fact : Type 0) (facts : List (Type 0)) (n : ℕ) → fact → ((m : ℕ) → m < n → nth_fact facts m)
     → (m : ℕ) → m < suc n → nth_fact (fact ∷ facts) m
 each_before fact facts n holds others zero less = holds
 each_before fact facts n holds others (suc m) less = others m (omega arith)
 
--- what the first broken of some facts is: none, or the k-th
+-- the first broken of some facts: none, or the k-th
 broken_or_not : (n : ℕ) (facts : List (Type 0)) (answer : Option ℕ) → IsFirstBroken n facts answer
     → ((answer ≡ None) × ((m : ℕ) → nth_fact facts m))
     ⊎ ((k : ℕ) × (answer ≡ Some (n + k)) × (nth_fact facts k → ⊥) × ((m : ℕ) → m < k → nth_fact facts m))
@@ -44,7 +44,7 @@ judged free edition image answer first =
       | inr (k, is, fails, before) ↦ let same : answer ≡ Some k = is ∙ ap Some (omega arith) in rw same (record { broken = fails; before = before })
     ]
 
--- what is chosen by two tests is one of three
+-- a choice by two tests is one of three
 chosen_short : (w b : Bool) (geometry : Geometry) → (if w then (if b then Ok geometry else Err Bounds) else Err Short) ≡ Err Short → w ≡ true → ⊥
 chosen_short true true geometry e whole = absurd (cc)
 chosen_short true false geometry e whole = absurd (cc)
@@ -62,21 +62,21 @@ chosen_ok true true geometry other e = (refl, refl, cc)
 chosen_ok true false geometry other e = absurd (cc)
 chosen_ok false b geometry other e = absurd (cc)
 
--- where the image is too short for its geometry, rule 1 is the first broken
+-- if the image is too short for its geometry, rule 1 is the first broken
 pub judged_short : (free : Bool) (edition : Edition) (image : List ℕ) → geometry_read edition image ≡ Err Short → IsJudged free edition image (Some 1)
 unfolding geometry_read
 judged_short free edition image e =
     judged free edition image (Some 1)
     (inr (tt, inl (refl, chosen_short (is_whole edition image) (is_bounded edition image) (geometry_of edition image) e)))
 
--- where the sizes are out of bounds, rule 2 is the first broken
+-- if the sizes are out of bounds, rule 2 is the first broken
 pub judged_bounds : (free : Bool) (edition : Edition) (image : List ℕ) → geometry_read edition image ≡ Err Bounds → IsJudged free edition image (Some 2)
 unfolding geometry_read
 judged_bounds free edition image e =
     let chosen = chosen_bounds (is_whole edition image) (is_bounded edition image) (geometry_of edition image) e in
     judged free edition image (Some 2) (inr (tt, inr (chosen.0, inl (refl, chosen.1))))
 
--- what was read is the geometry that the image states
+-- the geometry that was read is the one that the image states
 pub read_sizes : (edition : Edition) (image : List ℕ) (geometry : Geometry) → geometry_read edition image ≡ Ok geometry → geometry ≡ geometry_of edition image
 unfolding geometry_read
 read_sizes edition image geometry e =
@@ -90,7 +90,7 @@ judged_volume free edition image geometry least e first =
     let chosen = chosen_ok (is_whole edition image) (is_bounded edition image) (geometry_of edition image) geometry e in
     judged free edition image least (inr (tt, inr (chosen.0, inr (chosen.1, (rw (← chosen.2) at first)))))
 
--- where rule 5 holds, the first broken of rules 5 to 8 is that of 6 to 8
+-- if rule 5 holds, the first broken of rules 5 to 8 is that of 6 to 8
 pub first_behind_zoned : (free : Bool) (geometry : Geometry) (image : List ℕ) (result : Result (Result ℕ ℕ) AllocError) → free ≡ true
     → IsZoned geometry image → IfOk result (λ found. IsFirstBroken 6 (free_rules true geometry image) (result_err found))
     → IfOk result (λ found. IsFirstBroken 5 (block_rules free geometry image) (result_err found))

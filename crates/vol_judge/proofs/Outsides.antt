@@ -25,11 +25,11 @@ module _ (g : Geometry) where
   pub passed : (b : ℕ) (rest : List ℕ) → in_zone g b ≡ true → first_outside g (b ∷ rest) ≡ first_outside g rest
   passed b rest zone = find_past (λ k. not (in_zone g k)) b rest (ap not zone)
 
-  -- what is no data block's is found
+  -- a number of no data block is found
   pub found : (b : ℕ) (rest : List ℕ) → in_zone g b ≡ false → first_outside g (b ∷ rest) ≡ Some b
   found b rest out = find_here (λ k. not (in_zone g k)) b rest (ap not out)
 
-  -- where nothing is found, the first number is a data block's
+  -- if nothing is found, the first number is a data block's
   pub kept : (b : ℕ) (rest : List ℕ) → first_outside g (b ∷ rest) ≡ None → (in_zone g b ≡ true) × (first_outside g rest ≡ None)
   kept b rest none =
       let parts = find_none (λ k. not (in_zone g k)) b rest none in
@@ -38,14 +38,14 @@ module _ (g : Geometry) where
         | inr out ↦ absurd (let there : not (in_zone g b) ≡ true = ap not out in let none-there = parts.0 in cc)
       ]
 
-  -- where nothing is found, each number is a data block's
+  -- if nothing is found, each number is a data block's
   pub all_kept : (xs : List ℕ) (b : ℕ) → first_outside g xs ≡ None → IsIn b xs → in_zone g b ≡ true
   unfolding IsIn
   all_kept [] b none among = absurd among
   all_kept (x ∷ xs) b none (inl same) = ap (in_zone g) same ∙ (kept x xs none).0
   all_kept (x ∷ xs) b none (inr later) = all_kept xs b (kept x xs none).1 later
 
-  -- what is found is one of the numbers, and no data block's
+  -- the number found is one of the numbers, and not that of a data block
   pub found_in : (xs : List ℕ) (b : ℕ) → first_outside g xs ≡ Some b → IsIn b xs × (in_zone g b ≡ false)
   unfolding IsIn
   found_in [] b some = absurd (none-some b some)
@@ -86,7 +86,7 @@ module _ (g : Geometry) where
     entries_next d b j m end size none last =
         find_more (λ k. not (in_zone g k)) (λ j. blocks_from g image d (pointer_in g image b j)) 0 j j m end (omega arith) size none last
 
-    -- what is found in an entry is the first of all
+    -- a number found in an entry is the first of all
     pub entries_stop : (d b j n x : ℕ) → j < n → first_outside g (entries_from g image d b j) ≡ None
         → first_outside g (blocks_from g image d (pointer_in g image b j)) ≡ Some x → first_outside g (entries_from g image d b n) ≡ Some x
     unfolding entries_from
@@ -103,7 +103,7 @@ module _ (g : Geometry) where
         entries_next d b (j + n) m None (omega arith) before
         (out_zero d (pointer_in g image b (j + n)) (zeros (j + n) (omega arith) (omega arith)))
 
-    -- where nothing is found from a number on, all that is found below it is inside
+    -- if nothing is found from a number on, all that is found below it is inside
     pub none_inside : (d b : ℕ) → Fits g image → first_outside g (blocks_from g image d b) ≡ None → IsInside g image d b
     unfolding IsInside entries_from
     none_inside zero b fits none = λ some. (kept b [] (sym (ap (first_outside g) (from_leaf g image b some)) ∙ none)).0
@@ -119,7 +119,7 @@ module _ (g : Geometry) where
           )
     ]
 
-    -- where all that is found below a number is inside, nothing is found from it on
+    -- if all that is found below a number is inside, nothing is found from it on
     pub inside_none : (d b : ℕ) → IsInside g image d b → first_outside g (blocks_from g image d b) ≡ None
     unfolding IsInside entries_from
     inside_none zero b inside = elim (cases_eq b 0) [
@@ -146,27 +146,27 @@ module _ (g : Geometry) where
     unfolding addresses_from
     addresses_next i k m end size none last = find_more (λ k. not (in_zone g k)) (address_blocks g image i) 0 k k m end (omega arith) size none last
 
-    -- what is found from an address on is the first of all
+    -- a number found from an address on is the first of all
     pub addresses_stop : (i k n x : ℕ) → k < n → first_outside g (addresses_from g image i k) ≡ None
         → first_outside g (address_blocks g image i k) ≡ Some x → first_outside g (addresses_from g image i n) ≡ Some x
     unfolding addresses_from
     addresses_stop i k n x less none some = find_stops (λ k. not (in_zone g k)) (address_blocks g image i) 0 k k n x (omega arith) less none some
 
-    -- where nothing is found in a file, its numbers are data blocks'
+    -- if nothing is found in a file, its numbers are data blocks'
     pub file_none : (i : ℕ) → first_outside g (blocks_of g image i) ≡ None → IsFileZoned g image i
     file_none i none p place some =
         all_kept (blocks_of g image i) (named g image i p) none
         (subst (IsIn (named g image i p)) (sym (blocks_at_all g image i))
         (at_in g image i p (places (form_at g image i)) (places_among (form_at g image i) p place.place) some))
 
-    -- where something is found in a file, rule 5 fails
+    -- if something is found in a file, rule 5 fails
     pub file_some : (i x : ℕ) → 1 ≤ i → i ≤ g.last_inode → first_outside g (blocks_of g image i) ≡ Some x → IsZoned g image → ⊥
     file_some i x first last some zoned =
         let there = found_in (blocks_of g image i) x some in
         let zone : in_zone g x ≡ true = all_zoned g image x zoned (flat_in (blocks_of g image) x 1 g.last_inode i first (omega arith) there.0) in
         let out = there.1 in absurd (cc)
 
-    -- where nothing is found in the files before n, nor in n, nothing is in those up to n
+    -- if nothing is found in the files before n, nor in n, nothing is in those up to n
     pub files_next : (n : ℕ) → ((j : ℕ) → 1 ≤ j → j < n → IsFileZoned g image j) → IsFileZoned g image n
         → (j : ℕ) → 1 ≤ j → j < n + 1 → IsFileZoned g image j
     files_next n before here j first less = elim (cases_eq n j) [
@@ -174,6 +174,6 @@ module _ (g : Geometry) where
       | inr other ↦ before j first (omega arith)
     ]
 
-    -- where all files are passed, rule 5 holds
+    -- if all files are passed, rule 5 holds
     pub files_hold : (n : ℕ) → g.last_inode < n → ((j : ℕ) → 1 ≤ j → j < n → IsFileZoned g image j) → IsZoned g image
     files_hold n after each i p place some = each i place.file.first (omega (arith, place.file.last)) p place some

@@ -119,7 +119,7 @@ parents_noted {geometry = geometry} {image = image} {place = place} {d = d} {s =
           ];
     }
 
--- an entry of `.` or `..`, or for what is neither the root nor a directory, enters none
+-- an entry `.` or `..`, or one for a node that is neither the root nor a directory, enters none
 pub once_passed : {geometry : Geometry} {image : List ℕ} {place d s : ℕ} {slot : Slot}
     → HasOnceBefore geometry image place → IsNextSlot geometry image place d s slot
     → (is_dots (name_of slot.name) ≡ false → (slot.inode ≢ root_of geometry) × (IsDirectory geometry image slot.inode → ⊥))
@@ -172,7 +172,7 @@ once_noted {geometry = geometry} {image = image} {place = place} {d = d} {s = s}
           ];
     }
 
--- what holds of the entries before the place where the search for the next one began holds of all before that
+-- a property of the entries before the place where the search for the next one began is one of all before that
 once_here : {geometry : Geometry} {image : List ℕ} {place d s : ℕ} {slot : Slot} → HasOnceBefore geometry image place
     → IsNextSlot geometry image place d s slot → HasOnceBefore geometry image (rank d s)
 once_here once next = record {
@@ -207,7 +207,7 @@ again_second {geometry = geometry} {image = image} {d = d} {s = s} {slot = slot}
       },
     )
 
--- where no entry is left, all are noted
+-- if no entry is left, all are noted
 pub parents_all : {geometry : Geometry} {image : List ℕ} {place : ℕ} {ups parents : List (Option ℕ)} → NotesParentsBefore geometry image ups place parents
     → IsPastEntries geometry image place → NotesParents geometry image ups parents
 parents_all known none = record {
@@ -226,7 +226,7 @@ once_all once none = record {
   root_none = λ e s enters. once.root_none e s enters (none e s _ enters.0 enters.1);
 }
 
--- where each directory is entered once, the parent of each is known
+-- if each directory is entered once, the parent of each is known
 pub parents_known : {geometry : Geometry} {image : List ℕ} {ups parents : List (Option ℕ)} → NotesParents geometry image ups parents → IsOnce geometry image
     → KnowsParents geometry image parents
 parents_known {geometry = geometry} notes once = record {
@@ -249,7 +249,7 @@ again_broken geometry image (findings.EnteredTwice d s) again rule =
     omega (arith, had.before, same.0, same.1)
 again_broken geometry image _ again rule = absurd again
 
--- the first of what was found before and of what the next entry is
+-- the first of the violation found before and of that by the next entry
 pub again_next : {geometry : Geometry} {image : List ℕ} {ups parents : List (Option ℕ)} {place d s : ℕ} {slot : Slot} (first second result : Option Finding)
     → IfNone first (result ≡ second) → IfSome first (λ f. result ≡ first) → NotesParentsBefore geometry image ups place parents
     → IsNextSlot geometry image place d s slot → IfNone first (HasOnceBefore geometry image place) → IfSome first (IsEnteredAgain geometry image)
@@ -267,14 +267,14 @@ again_next {geometry = geometry} {image = image} {place = place} {d = d} {s = s}
     subst (λ o. IfNone o (HasOnceBefore geometry image (rank d (s + 1))) × IfSome o (IsEnteredAgain geometry image)) (sym none)
     (tt, found place known once next)
 
--- where no entry is left, nothing was found, or the first of all
+-- if no entry is left, nothing was found, or the first of all
 pub again_all : {geometry : Geometry} {image : List ℕ} {place : ℕ} (again : Option Finding) → IfNone again (HasOnceBefore geometry image place)
     → IfSome again (IsEnteredAgain geometry image) → IsPastEntries geometry image place
     → Finds (IsOnce geometry image) (IsEnteredAgain geometry image) again
 again_all None once found none = once_all once none
 again_all {geometry = geometry} {image = image} (Some f) once found none = (found, again_broken geometry image f found)
 
--- it is what breaks the rule first
+-- it is the first violation of the rule
 pub again_first : (geometry : Geometry) (image : List ℕ) (finding : Finding) → IsEnteredAgain geometry image finding → IsFirstTree geometry image finding
 again_first geometry image (findings.RootEntered d s) again = again
 again_first geometry image (findings.EnteredTwice d s) again = again

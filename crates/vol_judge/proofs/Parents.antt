@@ -1,4 +1,4 @@
--- What directories name by `.` and `..`.
+-- The entries `.` and `..` of directories.
 use Rattle.std.proofs.Common.{◌≡◌, ℕ, ◌+◌, ◌<◌, inl, inr, true, List, Option, None, Some, length, get_or, refl, sym, arith, get_or-set_other, get_or-set_same}
 use Rattle.std.specs.Option.{is_some}
 use Rattle.std.proofs.Math.ListN.{set, length-set}
@@ -17,7 +17,7 @@ pub held_some : (name : List ℕ) (slot : Option (List ℕ × ℕ)) → holds na
 held_some name None held = absurd (cc)
 held_some name (Some entry) held = let same = sym (same_bytes name entry.0 held) in (entry.1, (λ k. Some (same k, entry.1)))
 
--- a directory that names itself is gone over, and what it names by `..` is kept
+-- a directory with an entry for itself is passed, and its `..` is noted
 pub themselves_named : {geometry : Geometry} {image : List ℕ} {d : ℕ} {ups : List (Option ℕ)} {own number : Option ℕ}
     → NameThemselvesBelow geometry image d ups → IsNamed geometry image d dot own → own ≡ Some d → IsNamed geometry image d dot_dot number
     → d < length ups → NameThemselvesBelow geometry image (d + 1) (set ups d number)
@@ -37,7 +37,7 @@ themselves_named {geometry = geometry} {image = image} {d = d} {ups = ups} {numb
   };
 }
 
--- what is no directory names nothing
+-- a node that is no directory names nothing
 pub themselves_other : {geometry : Geometry} {image : List ℕ} {d : ℕ} {ups : List (Option ℕ)} → NameThemselvesBelow geometry image d ups
     → (IsDirectory geometry image d → ⊥) → NameThemselvesBelow geometry image (d + 1) ups
 themselves_other {geometry = geometry} {image = image} {d = d} {ups = ups} below other = record {

@@ -1,4 +1,4 @@
--- What an image is that keeps all rules, and what makes an image keep them all.
+-- Consequences of all rules for an image, and the parts from which all rules follow.
 use Rattle.std.proofs.Common.{◌≡◌, ℕ, ◌≤◌, inr, true, List, None, refl, arith}
 use Rattle.std.proofs.lemmas.Bool.Decides.{nat_tests}
 use Rattle.vol_layout.specs.Edition.{constants}
@@ -86,7 +86,7 @@ pub sound_links : (edition : Edition) (image : List ℕ) → IsSound edition ima
 unfolding Rule
 sound_links edition image sound = sound 12
 
--- an image is sound where rules 1 and 2 hold, its geometry fits, rules 3 to 7 hold with some free blocks, each data block is
+-- an image is sound if rules 1 and 2 hold, its geometry fits, rules 3 to 7 hold with some free blocks, each data block is
 -- free or named, and rules 9 to 12 hold
 pub sound_of : (edition : Edition) (image blocks : List ℕ) → is_whole edition image ≡ true → is_bounded edition image ≡ true
     → Rules3To7With (geometry_of edition image) image blocks → IsCovered (geometry_of edition image) image blocks

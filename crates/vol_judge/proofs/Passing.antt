@@ -25,11 +25,11 @@ pub entry_low : {geometry : Geometry} {image : List ℕ} {d s i : ℕ} {name : L
 entry_low {geometry = geometry} {image = image} {d = d} {s = s} {i = i} {name = name} has =
     omega (arith, count_low geometry.edition (size_of geometry image d), entry_within geometry image d s (name, i) has.entry)
 
--- the entries before slot `start` of directory d stand before a place
+-- the entries before slot `start` of directory d are before a place
 abbrev pub IsPassed : Geometry → List ℕ → ℕ → ℕ → ℕ → Type 0
 IsPassed geometry image from d start = (e t i : ℕ) (name : List ℕ) → HasEntry geometry image e t name i → rank e t < rank d start → rank e t < from
 
--- where no slot of the directory from `start` on has an entry, those before the next directory do
+-- if no slot of the directory from `start` on has an entry, those before the next directory do
 pub passed_next : {geometry : Geometry} {image : List ℕ} (from d start : ℕ) → IsPassed geometry image from d start
     → ((t i : ℕ) (name : List ℕ) → HasEntry geometry image d t name i → start ≤ t → ⊥) → IsPassed geometry image from (d + 1) 0
 passed_next from d start passed none e t i name has before =
@@ -49,7 +49,7 @@ pub passed_none : {geometry : Geometry} {image : List ℕ} (from d start : ℕ) 
 passed_none {geometry = geometry} {image = image} from d start passed none =
     passed_next from d start passed (λ t i name has above. none_some (entry_at geometry image d t) (name, i) has.entry (none_from geometry image d start none t above))
 
--- in what is no directory
+-- in a node that is no directory
 pub passed_other : {geometry : Geometry} {image : List ℕ} (from d start : ℕ) → IsPassed geometry image from d start
     → (IsDirectory geometry image d → ⊥) → IsPassed geometry image from (d + 1) 0
 passed_other from d start passed none = passed_next from d start passed (λ t i name has above. none has.directory)
@@ -79,7 +79,7 @@ next_of {geometry = geometry} {image = image} {from = from} {d = d} {start = sta
       ];
 }
 
--- an entry before the place after the next one stands before the place where the search began, or is the next one
+-- an entry before the place after the next one is before the place where the search began, or is the next one
 pub split : {geometry : Geometry} {image : List ℕ} {from d s : ℕ} {slot : Slot} (e t i : ℕ) (name : List ℕ) → IsNextSlot geometry image from d s slot
     → HasEntry geometry image e t name i → rank e t < rank d (s + 1)
     → (rank e t < from) ⊎ ((e ≡ d) × (t ≡ s) × (name ≡ name_of slot.name) × (i ≡ slot.inode))

@@ -20,7 +20,7 @@ set_walk walks n d i room (inl walked) =
 was_walk : (walks : List ℕ) (n d i : ℕ) → (i ≡ n → ⊥) → get_or (set walks n d) i 0 ≡ d → get_or walks i 0 ≡ d
 was_walk walks n d i apart same = rw get_or-set_other at same
 
--- a way goes on to the parent
+-- a way continues to the parent
 pub goes_on : {geometry : Geometry} {image walks : List ℕ} {parents : List (Option ℕ)} {d place : ℕ} (up : ℕ) → KnowsParents geometry image parents
     → WalksUp geometry image parents d place walks → place ≢ root_of geometry → place < length walks → get_or parents place None ≡ Some up
     → WalksUp geometry image parents d up (set walks place d)
@@ -68,7 +68,7 @@ goes_on {geometry = geometry} {image = image} {walks = walks} {parents = parents
       ];
     }
 
--- of what is marked, and entered by nothing but that, nothing is reached, unless the root is
+-- of marked directories that only such directories enter, none is reached, unless the root is among them
 closed : {geometry : Geometry} {image : List ℕ} {d : ℕ} (walks : List ℕ) (i : ℕ) → get_or walks (root_of geometry) 0 ≢ d
     → ((i e s : ℕ) → get_or walks i 0 ≡ d → Enters geometry image e s i → get_or walks e 0 ≡ d)
     → IsReached geometry image i → get_or walks i 0 ≡ d → ⊥
@@ -86,7 +86,7 @@ goes_round {geometry = geometry} {walks = walks} {d = d} known is top other reac
     ])
     reached (elim is.begun [ inl same ↦ rw same at top | inr walked ↦ walked ])
 
--- nor is that of a way that comes to a directory without a parent
+-- nor is one whose way reaches a directory without a parent
 pub goes_nowhere : {geometry : Geometry} {image walks : List ℕ} {parents : List (Option ℕ)} {d place : ℕ} → KnowsParents geometry image parents
     → WalksUp geometry image parents d place walks → place ≢ root_of geometry → place < length walks → d ≢ root_of geometry
     → get_or parents place None ≡ None → IsReached geometry image d → ⊥

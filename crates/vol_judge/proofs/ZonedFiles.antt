@@ -22,7 +22,7 @@ pub file_counted : (geometry : Geometry) (image : List ℕ) (i k : ℕ) → 1 �
 file_counted geometry image i k first last h =
     record { first = first; last = last; kind = kind_counted geometry.edition (mode_of geometry image i) k h }
 
--- where a file's numbers are data blocks', so is all that is found below one of its places
+-- if a file's numbers are data blocks', so is all that is found below one of its places
 pub place_inside : (geometry : Geometry) (image : List ℕ) (i : ℕ) → IsFile geometry image i → IsFileZoned geometry image i → (d a : ℕ) (p : List ℕ)
     → IsPlace (form_at geometry image i) (a ∷ p) → d ≤ levels_below (form_at geometry image i) (a ∷ p)
     → IsInside geometry image d (named geometry image i (a ∷ p))

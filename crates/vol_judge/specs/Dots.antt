@@ -1,4 +1,4 @@
--- What breaks the rule of the entries `.` and `..` first.
+-- The first violation of the rule about the entries `.` and `..`.
 use Rattle.std.specs.Prelude.{◌≡◌, ◌≢◌, ℕ, ◌+◌, ◌<◌, ◌⊎◌, List, Option, None, Some, length, slice_index_or}
 use Rattle.vol_dir.specs.Entries.{IsDirectory, HasEntry}
 use Rattle.vol_dir.specs.Names.{dot, dot_dot}
@@ -8,7 +8,7 @@ use Rattle.vol_layout.specs.declared.geometry.Geometry.{Geometry}
 use Rattle.vol_judge.specs.declared.finding.Finding.{Finding}
 use Rattle.vol_judge.specs.declared.finding.Finding.TheVariants as findings
 
--- rule 10 asks d for its entries `.` and `..`: it is a directory or the root (rule 10)
+-- rule 10 checks d for its entries `.` and `..`: it is a directory or the root (rule 10)
 abbrev pub NeedsDots : Geometry → List ℕ → ℕ → Type 0
 NeedsDots geometry image d = IsDirectory geometry image d ⊎ (d ≡ root_of geometry)
 
@@ -26,24 +26,24 @@ pub record KeepsDots (geometry : Geometry) (image : List ℕ) (d : ℕ) : Type 0
   pub own : NamesItself geometry image d
   pub parent : NamesParent geometry image d
 
--- directory d comes before the first one that doesn't name itself by `.`, if there is one (this project)
+-- directory d is before the first one without an entry `.` for itself, if there is one (this project)
 abbrev pub IsBeforeFirst : Option ℕ → ℕ → Type 0
 IsBeforeFirst nameless d = (n : ℕ) → nameless ≡ Some n → d < n
 
--- the first directory that doesn't name itself by `.`, and what those before it name by `..` (manual section 5, directories)
+-- the first directory without an entry `.` for itself, and what those before it name `..` (manual section 5, directories)
 pub record KnowsDots (geometry : Geometry) (image : List ℕ) (ups : List (Option ℕ)) (nameless : Option ℕ) : Type 0 where
   pub room : length ups ≡ geometry.last_inode + 1
   pub without : (d : ℕ) → nameless ≡ Some d → IsDirectory geometry image d × (NamesItself geometry image d → ⊥)
   pub itself : (d : ℕ) → IsDirectory geometry image d → IsBeforeFirst nameless d → NamesItself geometry image d
   pub named : (d : ℕ) → IsDirectory geometry image d → IsBeforeFirst nameless d → IsNamed geometry image d dot_dot (slice_index_or ups d None)
 
--- which of its entries `.` and `..` d wants first (rule 10)
+-- which of its entries `.` and `..` is the first that d lacks (rule 10)
 abbrev pub IsWrongDots : Geometry → List ℕ → ℕ → Finding → Type 0
 IsWrongDots geometry image d (findings.NoDot e) = (e ≡ d) × (NamesItself geometry image d → ⊥)
 IsWrongDots geometry image d (findings.NoDotDot e) = (e ≡ d) × NamesItself geometry image d × (NamesParent geometry image d → ⊥)
 IsWrongDots geometry image d _ = ⊥
 
--- what breaks rule 10 first: of the first directory that wants its entry `.` or `..`, the first that it wants; the root counts, whatever it is (this project)
+-- the first violation of rule 10: the first directory that lacks its entry `.` or `..`, and the first of these that it lacks; the root counts, whatever it is (this project)
 pub record IsFirstDots (geometry : Geometry) (image : List ℕ) (finding : Finding) : Type 0 where
   pub d : ℕ
   pub needs : NeedsDots geometry image d

@@ -1,4 +1,4 @@
--- What breaks the rule of entries first.
+-- The first violation of the rule about entries.
 use Rattle.std.specs.Prelude.{◌≡◌, ◌≢◌, ℕ, ◌%◌, ◌<◌, ◌≤◌, ◌==◌, ◌⊎◌, true, false, List, [], Some}
 use Rattle.std.specs.List.{list_any}
 use Rattle.vol_layout.specs.Edition.{constants}
@@ -10,7 +10,7 @@ use Rattle.vol_layout.specs.declared.mode.Kind.TheVariants as kinds
 use Rattle.vol_judge.specs.declared.finding.Finding.{Finding}
 use Rattle.vol_judge.specs.declared.finding.Finding.TheVariants as findings
 
--- a name is some, and without a slash (rule 9)
+-- a name is not empty and has no slash (rule 9)
 abbrev pub IsName : List ℕ → Type 0
 IsName name = (name ≢ []) × (list_any (λ c. c == 47) name ≡ false)
 
@@ -18,7 +18,7 @@ IsName name = (name ≢ []) × (list_any (λ c. c == 47) name ≡ false)
 abbrev pub IsNumbered : Geometry → ℕ → Type 0
 IsNumbered geometry i = ((constants geometry.edition).root ≤ i) × (i ≤ geometry.last_inode)
 
--- what is wrong first with an entry in slot s of directory d, of a name for an i-number: the name, then the number, then what it stands for (rule 9)
+-- the first defect of an entry in slot s of directory d, with a name for an i-number: the name, then the number, then its i-node (rule 9)
 abbrev pub IsWrongEntry : Geometry → List ℕ → ℕ → ℕ → List ℕ → ℕ → Finding → Type 0
 IsWrongEntry geometry image d s name i (findings.NoName e t) = (e ≡ d) × (t ≡ s) × (name ≡ [])
 IsWrongEntry geometry image d s name i (findings.Slash e t) =
@@ -28,7 +28,7 @@ IsWrongEntry geometry image d s name i (findings.FreeInode e t) =
     (e ≡ d) × (t ≡ s) × IsName name × IsNumbered geometry i × (kind_at geometry image i ≡ kinds.Free)
 IsWrongEntry geometry image d s name i _ = ⊥
 
--- what breaks rule 9 by slot s of directory d, before which it holds: an entry that is wrong, or one of a name that comes before (rule 9)
+-- the violation of rule 9 by slot s of directory d, before which the rule holds: a defective entry, or one whose name an earlier entry has (rule 9)
 pub record IsFirstSlot (geometry : Geometry) (image : List ℕ) (d s : ℕ) (finding : Finding) : Type 0 where
   pub name : List ℕ
   pub inode : ℕ
@@ -38,12 +38,12 @@ pub record IsFirstSlot (geometry : Geometry) (image : List ℕ) (d s : ℕ) (fin
   pub wrong : IsWrongEntry geometry image d s name inode finding
       ⊎ ((finding ≡ findings.SameName d s) × IsValidEntry geometry image name inode × IsNamedBelow geometry image d s name)
 
--- what breaks rule 9 first in directory d: its size, which is no whole slots, or a slot (rule 9)
+-- the first violation of rule 9 in directory d: its size, which is not a whole number of slots, or a slot (rule 9)
 abbrev pub IsFirstIn : Geometry → List ℕ → ℕ → Finding → Type 0
 IsFirstIn geometry image d finding =
     ((finding ≡ findings.PartSlot d) × (size_of geometry image d % 16 ≢ 0)) ⊎ ((s : ℕ) × IsFirstSlot geometry image d s finding)
 
--- what breaks rule 9 first: of the first directory that does, its size or its first slot that does (this project)
+-- the first violation of rule 9: of the first directory that breaks it, its size or the first slot that does (this project)
 pub record IsFirstEntry (geometry : Geometry) (image : List ℕ) (finding : Finding) : Type 0 where
   pub d : ℕ
   pub directory : IsDirectory geometry image d

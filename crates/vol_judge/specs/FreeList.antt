@@ -1,11 +1,11 @@
--- What breaks the rule of the free list first.
+-- The first violation of the rule about the free list.
 use Rattle.std.specs.Prelude.{◌≡◌, ℕ, List, Some}
 use Rattle.vol_layout.specs.declared.geometry.Geometry.{Geometry}
 use Rattle.vol_free.specs.FreeWalk.{free_walk}
 use Rattle.vol_judge.specs.declared.finding.Finding.{Finding}
 use Rattle.vol_judge.specs.declared.finding.Finding.TheVariants as findings
 
--- what breaks rule 6 first: what ends the walk over the free list, with its count or number (icheck)
+-- the first violation of rule 6: the fault that ends the walk over the free list, with its count or number (icheck)
 abbrev pub IsFirstFault : Geometry → List ℕ → Finding → Type 0
 IsFirstFault geometry image (findings.FreeList fault number) = (free_walk geometry image).fault ≡ Some (fault, number)
 IsFirstFault geometry image _ = ⊥

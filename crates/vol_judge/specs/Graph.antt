@@ -1,5 +1,5 @@
--- The graph that directories make: what each i-number is, its link count and size, and the entries in its slots; and the
--- rules of soundness from 9 to 12, said of it.
+-- The graph of directories: the kind of each i-number, its link count and size, and the entries in its slots; and the rules
+-- of soundness from 9 to 12, stated for it.
 use Rattle.std.specs.Prelude.{◌≡◌, ◌≢◌, ℕ, ◌/◌, ◌%◌, ◌≤◌, ◌==◌, false, if◌then◌else◌, List, [], map, Option, None, Some}
 use Rattle.std.specs.List.{count_by, sum_by, range_with_len, list_any}
 use Rattle.vol_layout.specs.Inode.{inode_of}
@@ -27,7 +27,7 @@ entry_by kinds.Regular geometry image d s = None
 entry_by kinds.Special geometry image d s = None
 entry_by kinds.Odd geometry image d s = None
 
--- what an i-number is; one that the volume doesn't have is free (manual section 5, file system)
+-- the kind of an i-number; one outside the volume is free (manual section 5, file system)
 abbrev pub kind_in : Geometry → List ℕ → ℕ → Kind
 kind_in geometry image i = if is_number geometry i then kind_at geometry image i else kinds.Free
 
@@ -40,7 +40,7 @@ graph_of geometry image = record {
   entry = λ d s. entry_by (kind_in geometry image d) geometry image d s;
 }
 
--- the graph is one of a volume with some last i-number: what isn't free is one of its numbers, and no entry stands past the size (this project)
+-- the graph is that of a volume with some last i-number: i-nodes that aren't free have one of its numbers, and no entry is past the size (this project)
 pub record IsGraphWithin (graph : Graph) (last : ℕ) : Type 0 where
   pub numbers : (i : ℕ) → graph.kind i ≢ kinds.Free → (1 ≤ i) × (i ≤ last)
   pub slots : (d s : ℕ) → graph.size d / 16 ≤ s → graph.entry d s ≡ None
@@ -55,11 +55,11 @@ pub data IsBelow (graph : Graph) (root : ℕ) : ℕ → Type 0 where
   at_root : IsBelow graph root root
   below : (d s i : ℕ) → IsBelow graph root d → Leads graph d s i → IsBelow graph root i
 
--- how many of the slots of d have an entry for i (dcheck)
+-- the number of slots of d with an entry for i (dcheck)
 abbrev pub counted_in : Graph → ℕ → ℕ → ℕ
 counted_in graph i d = count_by (is_for i) (map (graph.entry d) (range_with_len 0 (graph.size d / 16)))
 
--- how many entries there are for i in the directories up to the last i-number (dcheck)
+-- the number of entries for i in the directories up to the last i-number (dcheck)
 unfoldable pub counted : Graph → ℕ → ℕ → ℕ
 counted graph last i = sum_by (counted_in graph i) (range_with_len 1 last)
 

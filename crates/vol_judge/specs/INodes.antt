@@ -1,4 +1,4 @@
--- What breaks the rules of i-nodes first.
+-- The first violations of the rules about i-nodes.
 use Rattle.std.specs.Prelude.{◌≡◌, ◌≢◌, ℕ, ◌<◌, ◌≤◌, List}
 use Rattle.vol_layout.specs.Edition.{constants}
 use Rattle.vol_file.specs.Rules.{kind_at}
@@ -23,7 +23,7 @@ pub record IsFirstOdd (geometry : Geometry) (image : List ℕ) (i : ℕ) : Type 
   pub odd : kind_at geometry image i ≡ kinds.Odd
   pub before : AreKnownBelow geometry image i
 
--- what breaks rule 3 first: an odd mode, then the kind of the root, then that of i-number 1 (this project)
+-- the first violation of rule 3: an odd mode, then the kind of the root, then that of i-number 1 (this project)
 abbrev pub IsFirstKind : Geometry → List ℕ → Finding → Type 0
 IsFirstKind geometry image (findings.OddMode i) = IsFirstOdd geometry image i
 IsFirstKind geometry image findings.RootKind =
@@ -44,7 +44,7 @@ pub record IsPastLimited (geometry : Geometry) (image : List ℕ) (i : ℕ) : Ty
   pub last : i ≤ geometry.last_inode
   pub before : AreLimitedBelow geometry image i
 
--- what breaks rule 4 first: an i-node that is too large, or has too many links (this project)
+-- the first violation of rule 4: an i-node that is too large, or has too many links (this project)
 abbrev pub IsFirstSize : Geometry → List ℕ → Finding → Type 0
 IsFirstSize geometry image (findings.TooLarge i) = IsPastLimited geometry image i × (IsSized geometry image i → ⊥)
 IsFirstSize geometry image (findings.TooManyLinks i) =

@@ -1,4 +1,4 @@
--- What directories name by `.` and `..`, and what is entered.
+-- The entries `.` and `..` of directories, and the entries for them.
 use Rattle.std.specs.Prelude.{◌≡◌, ℕ, ◌+◌, ◌<◌, List, Option, None, Some, length, slice_index_or}
 use Rattle.vol_dir.specs.Entries.{IsDirectory, HasEntry}
 use Rattle.vol_dir.specs.Names.{dot, dot_dot}
@@ -6,27 +6,27 @@ use Rattle.vol_layout.specs.declared.geometry.Geometry.{Geometry}
 use Rattle.vol_judge.specs.Directories.{root_of, Enters}
 use Rattle.vol_judge.specs.Stepping.{rank}
 
--- what directory d names by a name, if it has such an entry (manual section 5, directories)
+-- the i-number that directory d has for a name, if it has such an entry (manual section 5, directories)
 pub record IsNamed (geometry : Geometry) (image : List ℕ) (d : ℕ) (name : List ℕ) (number : Option ℕ) : Type 0 where
   pub all : (s i : ℕ) → HasEntry geometry image d s name i → number ≡ Some i
   pub only : (i : ℕ) → number ≡ Some i → (s : ℕ) × HasEntry geometry image d s name i
 
--- what the directories below d name by `..` (manual section 5, directories)
+-- the i-numbers that the directories below d name `..` (manual section 5, directories)
 pub record HasUpsBelow (geometry : Geometry) (image : List ℕ) (d : ℕ) (ups : List (Option ℕ)) : Type 0 where
   pub room : length ups ≡ geometry.last_inode + 1
   pub named : (e : ℕ) → e < d → IsDirectory geometry image e → IsNamed geometry image e dot_dot (slice_index_or ups e None)
 
--- what directory d names by a name in its slots below n, if it has such an entry there (manual section 5, directories)
+-- the i-number that directory d has for a name in its slots below n, if it has such an entry there (manual section 5, directories)
 pub record IsNamedUpTo (geometry : Geometry) (image : List ℕ) (d n : ℕ) (name : List ℕ) (number : Option ℕ) : Type 0 where
   pub all : (s i : ℕ) → s < n → HasEntry geometry image d s name i → number ≡ Some i
   pub only : (i : ℕ) → number ≡ Some i → (s : ℕ) × HasEntry geometry image d s name i
 
--- the directories below d name themselves by `.`, and this is what they name by `..` (rule 10)
+-- the directories below d have an entry `.` for themselves, and these are the i-numbers that they name `..` (rule 10)
 pub record NameThemselvesBelow (geometry : Geometry) (image : List ℕ) (d : ℕ) (ups : List (Option ℕ)) : Type 0 where
   pub itself : (e : ℕ) → e < d → IsDirectory geometry image e → (s : ℕ) × HasEntry geometry image e s dot e
   pub named : HasUpsBelow geometry image d ups
 
--- an entry for i-number i, other than `.` and `..`, stands before a place (this project)
+-- an entry for i-number i, other than `.` and `..`, is before a position (this project)
 pub record IsEnteredBefore (geometry : Geometry) (image : List ℕ) (place i : ℕ) : Type 0 where
   pub directory : ℕ
   pub slot : ℕ

@@ -1,4 +1,4 @@
--- What the rules ask of one i-node.
+-- The requirements of the rules on one i-node.
 use Rattle.std.specs.Prelude.{◌≡◌, ◌≢◌, ℕ, ◌≤◌, ◌⊎◌, List}
 use Rattle.vol_layout.specs.Edition.{constants}
 use Rattle.vol_layout.specs.Inode.{inode_of}

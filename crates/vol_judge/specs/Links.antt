@@ -1,4 +1,4 @@
--- What breaks the rule of link counts first.
+-- The first violation of the rule about link counts.
 use Rattle.std.specs.Prelude.{◌≡◌, ℕ, ◌<◌, ◌≤◌, List}
 use Rattle.vol_layout.specs.Inode.{inode_of}
 use Rattle.vol_judge.specs.Counting.{IsCounted}
@@ -7,7 +7,7 @@ use Rattle.vol_layout.specs.declared.geometry.Geometry.{Geometry}
 use Rattle.vol_judge.specs.declared.finding.Finding.{Finding}
 use Rattle.vol_judge.specs.declared.finding.Finding.TheVariants as findings
 
--- so many entries are for i-node i, whose link count is wrong, and those of the i-nodes before it are right (rule 12)
+-- i-node i has `entries` entries and a wrong link count, and those of the i-nodes before it are right (rule 12)
 pub record IsFirstUncounted (geometry : Geometry) (image : List ℕ) (i entries links : ℕ) : Type 0 where
   pub first : 1 ≤ i
   pub last : i ≤ geometry.last_inode
@@ -16,7 +16,7 @@ pub record IsFirstUncounted (geometry : Geometry) (image : List ℕ) (i entries 
   pub wrong : IsCounted geometry image i (entry_count geometry image i) → ⊥
   pub before : (j : ℕ) → 1 ≤ j → j < i → IsCounted geometry image j (entry_count geometry image j)
 
--- what breaks rule 12 first: the first i-node whose link count is wrong (this project)
+-- the first violation of rule 12: the first i-node whose link count is wrong (this project)
 abbrev pub IsFirstLink : Geometry → List ℕ → Finding → Type 0
 IsFirstLink geometry image (findings.BadLinks i entries links) = IsFirstUncounted geometry image i entries links
 IsFirstLink geometry image _ = ⊥

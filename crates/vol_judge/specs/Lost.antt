@@ -1,4 +1,4 @@
--- What breaks the rule that no block is lost first.
+-- The first violation of the rule that no block is lost.
 use Rattle.std.specs.Prelude.{◌≡◌, ℕ, ◌<◌, true, List}
 use Rattle.vol_layout.specs.Geometry.{in_zone}
 use Rattle.vol_layout.specs.Names.{NamesBlock}
@@ -18,7 +18,7 @@ pub record IsFirstLost (geometry : Geometry) (image : List ℕ) (b : ℕ) : Type
   pub lost : IsLost geometry image b
   pub before : (k : ℕ) → k < b → IsLost geometry image k → ⊥
 
--- what breaks rule 8 first: the first data block that is lost (this project)
+-- the first violation of rule 8: the first data block that is lost (this project)
 abbrev pub IsFirstUncovered : Geometry → List ℕ → Finding → Type 0
 IsFirstUncovered geometry image (findings.Lost b) = IsFirstLost geometry image b
 IsFirstUncovered geometry image _ = ⊥

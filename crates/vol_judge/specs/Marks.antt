@@ -7,14 +7,14 @@ use Rattle.vol_layout.specs.Names.{IsPlaceOf, named, pointer_in, NamesBlock}
 use Rattle.vol_free.specs.Stack.{IsIn}
 use Rattle.vol_layout.specs.declared.geometry.Geometry.{Geometry}
 
--- number b, if not 0, is that of a data block, and so is each that is found below it in d levels of indirect blocks (icheck)
+-- number b, if not 0, is that of a data block, and so are the numbers below it in d levels of indirect blocks (icheck)
 unfoldable pub IsInside : Geometry → List ℕ → ℕ → ℕ → Type 0
 IsInside geometry image zero b = b ≢ 0 → in_zone geometry b ≡ true
 IsInside geometry image (suc d) b =
     (b ≢ 0 → in_zone geometry b ≡ true)
     × ((j : ℕ) → j < (constants geometry.edition).pointers → IsInside geometry image d (pointer_in geometry image b j))
 
--- the number of levels in which all that is found below each data block is known to be inside the data zone (this project)
+-- each mark is a number of levels below its block in which all numbers are known to be in the data zone (this project)
 abbrev pub KnowsInside : Geometry → List ℕ → List ℕ → Type 0
 KnowsInside geometry image known = (b : ℕ) → in_zone geometry b ≡ true → IsInside geometry image (slice_index known b) b
 
@@ -23,13 +23,13 @@ abbrev pub IsFileZoned : Geometry → List ℕ → ℕ → Type 0
 IsFileZoned geometry image i = (p : List ℕ) → IsPlaceOf geometry image i p → named geometry image i p ≢ 0
     → in_zone geometry (named geometry image i p) ≡ true
 
--- number b and those found below it in d levels, in the order of the places, without those that are 0 (icheck)
+-- number b and the numbers below it in d levels, in the order of the places, without those that are 0 (icheck)
 unfoldable pub blocks_from : Geometry → List ℕ → ℕ → ℕ → List ℕ
 blocks_from geometry image zero b = if b == 0 then [] else b ∷ []
 blocks_from geometry image (suc d) b = if b == 0 then [] else
     b ∷ flat_map (λ j. blocks_from geometry image d (pointer_in geometry image b j)) (range_with_len 0 (constants geometry.edition).pointers)
 
--- the marks once some blocks are marked one after another; nothing where one of them is marked already (icheck)
+-- the marks after some blocks are marked one by one; None if one of them is marked already (icheck)
 unfoldable pub marked : List ℕ → List ℕ → Option (List ℕ)
 marked marks [] = Some marks
 marked marks (b ∷ blocks) = if slice_index marks b == 0 then marked (slice_set marks b 1) blocks else None
@@ -47,13 +47,13 @@ abbrev pub MarksZone : Geometry → List ℕ → List ℕ → Type 0
 MarksZone geometry image marks = (b : ℕ) → in_zone geometry b ≡ true
     → slice_index marks b ≢ 0 ↔ ((i : ℕ) × (p : List ℕ) × NamesBlock geometry image i p b)
 
--- of some blocks those that are data blocks are marked, and no others that weren't before (icheck)
+-- those of some blocks that are data blocks are marked, and no others that weren't before (icheck)
 pub record ExtendsMarks (geometry : Geometry) (blocks old new : List ℕ) : Type 0 where
   pub all : (x : ℕ) → IsIn x blocks → in_zone geometry x ≡ true → slice_index new x ≢ 0
   pub only : (x : ℕ) → slice_index new x ≢ 0 → (slice_index old x ≢ 0) ⊎ IsIn x blocks
   pub kept : (x : ℕ) → slice_index old x ≢ 0 → slice_index new x ≢ 0
 
--- what is found below a block in one level less than its mark is marked, so far as it is data blocks (this project)
+-- the data blocks below a block, in one level fewer than its mark, are marked (this project)
 abbrev pub KnowsMarked : Geometry → List ℕ → List ℕ → Type 0
 KnowsMarked geometry image marks = (b d : ℕ) → slice_index marks b ≡ d + 1 → (x : ℕ) → IsIn x (blocks_from geometry image d b)
     → in_zone geometry x ≡ true → slice_index marks x ≢ 0

@@ -1,4 +1,4 @@
--- The entries of one directory, as rule 9 asks for them.
+-- The entries of one directory, as rule 9 requires them.
 use Rattle.std.specs.Prelude.{◌≡◌, ◌≢◌, ℕ, ◌%◌, ◌<◌, ◌≤◌, ◌==◌, Bool, true, false, List, [], Some}
 use Rattle.std.specs.List.{list_any}
 use Rattle.std.specs.BTreeSet.{BTreeSet, contains}
@@ -39,7 +39,7 @@ pub record IsNamedBelow (geometry : Geometry) (image : List ℕ) (d n : ℕ) (na
   pub below : slot < n
   pub entry : entry_at geometry image d slot ≡ Some (name, inode)
 
--- whether a set of names, as slots store them, has a name (this project)
+-- true if a set of names, as slots store them, has a name (this project)
 abbrev pub is_in : BTreeSet (List ℕ) → List ℕ → Bool
 is_in names name = contains (slice_cmp nat_cmp) names name
 

@@ -1,4 +1,4 @@
--- What breaks the rule that no block is used twice first.
+-- The first violation of the rule that no block is used twice.
 use Rattle.std.specs.Prelude.{◌≡◌, ◌≢◌, ℕ, ◌-◌, ◌≤◌, ◌==◌, if◌then◌else◌, List, [], ◌∷◌, ◌++◌, slice_index, slice_set, Option, None, Some}
 use Rattle.std.specs.List.{flat_map, range_with_len}
 use Rattle.vol_layout.specs.Names.{NamesBlock}
@@ -10,11 +10,11 @@ use Rattle.vol_layout.specs.declared.geometry.Geometry.{Geometry}
 use Rattle.vol_judge.specs.declared.finding.Finding.{Finding}
 use Rattle.vol_judge.specs.declared.finding.Finding.TheVariants as findings
 
--- rule 7: no block is named by two places, and no free block by one (icheck)
+-- rule 7: no block is named by two places, and no free block is named (icheck)
 abbrev pub IsUsedOnce : Geometry → List ℕ → Type 0
 IsUsedOnce geometry image = IsApart geometry image × IsFreeApart geometry image
 
--- of blocks that are marked one after another, the first that is marked already (icheck)
+-- the first of some blocks, marked one by one, that is marked already (icheck)
 unfoldable pub again : List ℕ → List ℕ → Option ℕ
 again marks [] = None
 again marks (b ∷ blocks) = if slice_index marks b == 0 then again (slice_set marks b 1) blocks else Some b
@@ -35,7 +35,7 @@ pub record IsFirstMarked (marks blocks : List ℕ) (b : ℕ) : Type 0 where
 abbrev pub blocks_before : Geometry → List ℕ → ℕ → List ℕ
 blocks_before geometry image i = flat_map (blocks_of geometry image) (range_with_len 1 (i - 1))
 
--- i-node i names block b, which it or an i-node before it names already, and no block is named twice before that (rule 7)
+-- i-node i names block b, which it or an earlier i-node names already, and no block is named twice before that (rule 7)
 pub record IsTwiceNamed (geometry : Geometry) (image : List ℕ) (i b : ℕ) : Type 0 where
   pub first : 1 ≤ i
   pub last : i ≤ geometry.last_inode
@@ -45,7 +45,7 @@ pub record IsTwiceNamed (geometry : Geometry) (image : List ℕ) (i b : ℕ) : T
   pub once : Once (blocks_before geometry image i ++ before)
   pub again : IsIn b (blocks_before geometry image i ++ before)
 
--- no block is named twice; block b is free and named, and no block is that comes before it in the free list (rule 7)
+-- no block is named twice; block b is free and named, and no block before it in the free list is (rule 7)
 pub record IsNamedFree (geometry : Geometry) (image : List ℕ) (b : ℕ) : Type 0 where
   pub apart : IsApart geometry image
   pub before : List ℕ
@@ -54,7 +54,7 @@ pub record IsNamedFree (geometry : Geometry) (image : List ℕ) (b : ℕ) : Type
   pub named : (i : ℕ) × (p : List ℕ) × NamesBlock geometry image i p b
   pub unnamed : (k i : ℕ) (p : List ℕ) → IsIn k before → NamesBlock geometry image i p k → ⊥
 
--- what breaks rule 7 first: a block that is named twice, by i-number and in the order of the places, then one that is free and named (this project)
+-- the first violation of rule 7: a block that is named twice, by i-number and in the order of the places, then one that is free and named (this project)
 abbrev pub IsFirstTwice : Geometry → List ℕ → Finding → Type 0
 IsFirstTwice geometry image (findings.Twice i b) = IsTwiceNamed geometry image i b
 IsFirstTwice geometry image (findings.UsedAndFree b) = IsNamedFree geometry image b

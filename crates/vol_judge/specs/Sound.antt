@@ -1,4 +1,4 @@
--- When an image is sound: twelve rules, of which the least that fails is named.
+-- Soundness of an image: twelve rules, of which the first that fails is reported.
 use Rattle.std.specs.Prelude.{◌≡◌, ℕ, zero, suc, ◌<◌, Bool, true, false, List, [], ◌∷◌, ◌++◌, Option, None, Some}
 use Rattle.vol_layout.specs.Geometry.{geometry_of, is_whole, is_bounded}
 use Rattle.vol_free.specs.Stack.{IsFree, HasStack}
@@ -8,20 +8,20 @@ use Rattle.vol_judge.specs.Directories.{HasDots, IsTree, HasLinks}
 use Rattle.vol_layout.specs.declared.edition.Edition.{Edition}
 use Rattle.vol_layout.specs.declared.geometry.Geometry.{Geometry}
 
--- rule 7, of the free stack: no block in it is named by a place of a file (icheck)
+-- rule 7, for the free stack: no block in it is named by a place of a file (icheck)
 abbrev pub IsFreeApart : Geometry → List ℕ → Type 0
 IsFreeApart geometry image = (blocks : List ℕ) → IsFree geometry image blocks → IsOutside geometry image blocks
 
--- rule 8: each data block is named by a place or stands in the free stack (icheck)
+-- rule 8: each data block is named by a place or is in the free stack (icheck)
 abbrev pub IsNoneLost : Geometry → List ℕ → Type 0
 IsNoneLost geometry image = (blocks : List ℕ) → IsFree geometry image blocks → IsCovered geometry image blocks
 
--- a fact that is asked, or not (this project)
+-- a fact that is checked, or not (this project)
 abbrev pub Asked : Bool → Type 0 → Type 0
 Asked true fact = fact
 Asked false fact = Unit {0}
 
--- rules 6 to 8; where the free list isn't asked, what concerns it asks nothing (icheck)
+-- rules 6 to 8; if the free list isn't checked, the facts about it are left out (icheck)
 abbrev pub free_rules : Bool → Geometry → List ℕ → List (Type 0)
 free_rules free geometry image =
     Asked free (HasStack geometry image)
@@ -49,7 +49,7 @@ volume_rules free geometry image =
     ∷ HasSizes geometry image
     ∷ (block_rules free geometry image ++ directory_rules geometry image)
 
--- the rules, from number 0, which asks nothing; where the free list isn't asked, what concerns it asks nothing (this project)
+-- the rules, from number 0, which is always true; if the free list isn't checked, the facts about it are left out (this project)
 abbrev pub rules : Bool → Edition → List ℕ → Geometry → List (Type 0)
 rules free edition image geometry =
     Unit {0}
@@ -57,7 +57,7 @@ rules free edition image geometry =
     ∷ (is_bounded edition image ≡ true)
     ∷ volume_rules free geometry image
 
--- fact n of a list; there is nothing to ask past its end (this project)
+-- fact n of a list, true past its end (this project)
 abbrev pub nth_fact : List (Type 0) → ℕ → Type 0
 nth_fact [] n = Unit {0}
 nth_fact (fact ∷ facts) zero = fact
@@ -67,7 +67,7 @@ nth_fact (fact ∷ facts) (suc n) = nth_fact facts n
 unfoldable pub Rule : Bool → Edition → List ℕ → ℕ → Type 0
 Rule free edition image n = nth_fact (rules free edition image (geometry_of edition image)) n
 
--- all rules that are asked hold (icheck, dcheck)
+-- all rules that are checked hold (icheck, dcheck)
 abbrev pub KeepsRules : Bool → Edition → List ℕ → Type 0
 KeepsRules free edition image = (n : ℕ) → Rule free edition image n
 
@@ -75,12 +75,12 @@ KeepsRules free edition image = (n : ℕ) → Rule free edition image n
 abbrev pub IsSound : Edition → List ℕ → Type 0
 IsSound edition image = KeepsRules true edition image
 
--- n is the least rule that fails (this project)
+-- n is the first rule that fails (this project)
 pub record IsLeastBroken (free : Bool) (edition : Edition) (image : List ℕ) (n : ℕ) : Type 0 where
   pub broken : Rule free edition image n → ⊥
   pub before : (m : ℕ) → m < n → Rule free edition image m
 
--- what a judge answers of an image: the least rule that fails, or None where all hold (this project)
+-- the result of judging an image: the first rule that fails, or None if all hold (this project)
 abbrev pub IsJudged : Bool → Edition → List ℕ → Option ℕ → Type 0
 IsJudged free edition image None = KeepsRules free edition image
 IsJudged free edition image (Some n) = IsLeastBroken free edition image n

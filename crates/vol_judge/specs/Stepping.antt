@@ -1,21 +1,21 @@
--- Going over the entries of directories, one after the other.
+-- Iterating over the entries of directories.
 use Rattle.std.specs.Prelude.{ℕ, ◌+◌, ◌*◌, ◌<◌, ◌≤◌, List}
 use Rattle.vol_layout.specs.Slot.{name_of}
 use Rattle.vol_dir.specs.Entries.{HasEntry}
 use Rattle.vol_layout.specs.declared.geometry.Geometry.{Geometry}
 use Rattle.vol_layout.specs.declared.slot.Slot.{Slot}
 
--- where slot s of directory d stands among the slots of all directories, of which none has 2^32 (this project)
+-- the position of slot s of directory d among the slots of all directories, none of which has 2^32 slots (this project)
 abbrev pub rank : ℕ → ℕ → ℕ
 rank d s = 4294967296 * d + s
 
--- slot s of directory d is the first of all, from one place on, that has an entry, and this is what the slot holds (manual section 5, directories)
+-- slot s of directory d is the first of all, from a position on, that has an entry, and this slot has its content (manual section 5, directories)
 pub record IsNextSlot (geometry : Geometry) (image : List ℕ) (from d s : ℕ) (slot : Slot) : Type 0 where
   pub reached : from ≤ rank d s
   pub low : s < 67637568
   pub entry : HasEntry geometry image d s (name_of slot.name) slot.inode
   pub before : (e t i : ℕ) (name : List ℕ) → HasEntry geometry image e t name i → rank e t < rank d s → rank e t < from
 
--- no slot has an entry from a place on (manual section 5, directories)
+-- no slot from a position on has an entry (manual section 5, directories)
 abbrev pub IsPastEntries : Geometry → List ℕ → ℕ → Type 0
 IsPastEntries geometry image from = (e t i : ℕ) (name : List ℕ) → HasEntry geometry image e t name i → rank e t < from

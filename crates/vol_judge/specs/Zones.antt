@@ -1,4 +1,4 @@
--- What breaks the rule of the data zone first.
+-- The first violation of the rule about the data zone.
 use Rattle.std.specs.Prelude.{◌≡◌, ℕ, ◌<◌, ◌≤◌, not, List, Option, Some}
 use Rattle.std.specs.List.{find}
 use Rattle.vol_layout.specs.Geometry.{in_zone}
@@ -8,18 +8,18 @@ use Rattle.vol_layout.specs.declared.geometry.Geometry.{Geometry}
 use Rattle.vol_judge.specs.declared.finding.Finding.{Finding}
 use Rattle.vol_judge.specs.declared.finding.Finding.TheVariants as findings
 
--- the first of some numbers that is no data block's (icheck)
+-- the first of some numbers that is not that of a data block (icheck)
 abbrev pub first_outside : Geometry → List ℕ → Option ℕ
 first_outside geometry numbers = find (λ k. not (in_zone geometry k)) numbers
 
--- i-node i names a number that is no data block's, the first of its places that does, and no i-node before it does (rule 5)
+-- i-node i names a number that is not that of a data block, at the first of its places that does, and no i-node before it does (rule 5)
 pub record IsFirstOutOfZone (geometry : Geometry) (image : List ℕ) (i number : ℕ) : Type 0 where
   pub first : 1 ≤ i
   pub last : i ≤ geometry.last_inode
   pub before : (j : ℕ) → 1 ≤ j → j < i → IsFileZoned geometry image j
   pub outside : first_outside geometry (blocks_of geometry image i) ≡ Some number
 
--- what breaks rule 5 first: of the first i-node that names a number of no data block, the first (this project)
+-- the first violation of rule 5: of the first i-node that names a number of no data block, the first such number (this project)
 abbrev pub IsFirstOutside : Geometry → List ℕ → Finding → Type 0
 IsFirstOutside geometry image (findings.OutOfZone i number) = IsFirstOutOfZone geometry image i number
 IsFirstOutside geometry image _ = ⊥

@@ -1,4 +1,4 @@
-//! Rules 9 to 12: what directories make.
+//! Rules 9 to 12: the directories and their tree.
 ghost use Rattle.std.specs.Prelude.{IfOk};
 ghost use Rattle.vol_layout.specs.Geometry.{Fits};
 ghost use Rattle.vol_judge.specs.Judging.{IsFirstBroken};
@@ -18,12 +18,11 @@ use std::alloc::{AllocError, Global};
 pub use tree::find_tree;
 use vol_layout::Geometry;
 
-/// The least of rules 9 to 12 that a volume breaks, whose geometry fits; None where it breaks none of them. It fails only
-/// where memory is refused.
+/// Returns the first of rules 9 to 12 that a volume breaks, or `None` if it keeps them. Its geometry fits. Fails only if
+/// memory runs out.
 ///
-/// Costs some looks at each i-node and at each slot of each directory, and for each directory as much as
-/// sorting its names. Memory is taken for a few bytes an i-number, and for the names of one directory at
-/// a time.
+/// Costs a few reads of each i-node and of each slot of each directory, and sorting the names of each directory. Takes
+/// memory for a few bytes per i-number, and for the names of one directory at a time.
 pub(crate) fn judge_directories(
     alloc: Global,
     image: &Image,

@@ -17,11 +17,11 @@ use vol_layout::i_list::{kind, size};
 use vol_layout::slot::{NAME, SLOT};
 use vol_layout::{Geometry, Kind, Slot};
 
-/// What breaks rule 9 first: of the first directory that does, its size or the first of its slots.
+/// Returns the first violation of rule 9: of the first directory that breaks it, the size or the first slot that does.
 ///
-/// Costs a look at each slot of each directory, less those below blocks that were found without entries before, and for each directory
-/// as much as sorting its names. Memory is taken for the names of one directory at a time, and where the directories claim
-/// more blocks than there are for three bytes a block.
+/// Costs a read of each slot of each directory, except slots below blocks already found without entries, and sorting the
+/// names of each directory. Takes memory for the names of one directory at a time, and, if the directories claim more
+/// blocks than there are, for three bytes per block.
 pub fn find_entry(
     alloc: Global,
     image: &Image,
@@ -34,7 +34,7 @@ pub fn find_entry(
     find_marked(alloc, image, geometry, &mut marks)
 }
 
-/// The same, by marks of blocks below which no slot has an entry.
+/// Does what [`find_entry`] does, with marks of blocks below which no slot has an entry.
 fn find_marked(
     alloc: Global,
     image: &Image,
@@ -55,7 +55,7 @@ fn find_marked(
     Ok(None)
 }
 
-/// What breaks rule 9 first in directory `d`. Marks blocks below which no slot has an entry.
+/// Returns the first violation of rule 9 in directory `d`. Marks blocks below which no slot has an entry.
 fn find_in(
     alloc: Global,
     image: &Image,
@@ -86,7 +86,7 @@ fn find_in(
     Ok(None)
 }
 
-/// What is wrong with the entry in slot `s` of directory `d`, other than that its name comes twice.
+/// Returns the violation of rule 9 by the entry in slot `s` of directory `d`, not counting a name that occurs twice.
 fn find_wrong(image: &Image, geometry: &Geometry, d: u16, s: u32, slot: &Slot) -> Option<Finding>
     requires { Fits geometry.now image.now }
     ensures { Finds (IsValidEntry geometry.now image.now (name_of slot.now.name) slot.now.inode)
@@ -108,14 +108,14 @@ fn find_wrong(image: &Image, geometry: &Geometry, d: u16, s: u32, slot: &Slot) -
     None
 }
 
-/// Whether an i-number is one from the root's to the last.
+/// True if an i-number is from the root's to the last.
 fn is_numbered(geometry: &Geometry, i: u16) -> bool
     ensures { IsTrue result ↔ IsNumbered geometry.now i }
 {
     geometry.edition.constants().root <= i && i <= geometry.last_inode
 }
 
-/// The name of a slot with zero bytes behind it: what stands behind the first zero byte doesn't count.
+/// Returns the name of a slot, padded with zero bytes: the bytes after the first zero byte don't count.
 fn stored_name(slot: &Slot) -> [u8; NAME]
     ensures { result ≡ padded_name (name_of slot.now.name) }
 {

@@ -1,44 +1,44 @@
-//! What breaks a rule.
+//! Violations of the rules.
 use vol_free::FreeFault;
 
-/// What breaks a rule of soundness first. Directory and slot tell an entry.
+/// The first violation of a rule of soundness. A directory and a slot identify an entry.
 #[derive(Clone, Copy, Debug, PartialEq, Eq)]
 pub enum Finding {
-    /// Rule 1: the image has fewer bytes than a super-block needs, or than it says.
+    /// Rule 1: the image has fewer bytes than a super-block needs, or than its super-block says.
     TooShort,
-    /// Rule 2: the sizes in the super-block are no volume's.
+    /// Rule 2: the sizes in the super-block are not those of a volume.
     BadSizes,
-    /// Rule 3: the mode of this i-node is none of the edition's.
+    /// Rule 3: the mode of this i-node is not one of the edition's.
     OddMode(u16),
     /// Rule 3: the root is no directory.
     RootKind,
     /// Rule 3: i-number 1 of the seventh edition is neither free nor a regular file.
     BadBlocksKind,
-    /// Rule 4: this file is larger than one of its form can be.
+    /// Rule 4: this file is larger than a file of its form can be.
     TooLarge(u16),
     /// Rule 4: the link count of this i-node is above the limit.
     TooManyLinks(u16),
-    /// Rule 5: a place of this i-node names this number, which is no data block's.
+    /// Rule 5: a place of this i-node names this number, which is not that of a data block.
     OutOfZone(u16, u32),
-    /// Rule 6: the free list ends so, at this count or number.
+    /// Rule 6: the walk of the free list ends with this fault, at this count or number.
     FreeList(FreeFault, u32),
-    /// Rule 7: a place of this i-node names this block, which a place names already.
+    /// Rule 7: a place of this i-node names this block, which an earlier place names.
     Twice(u16, u32),
-    /// Rule 7: a place names this block, which stands in the free list.
+    /// Rule 7: a place names this block, which is also in the free list.
     UsedAndFree(u32),
     /// Rule 8: this data block is neither free nor named.
     Lost(u32),
-    /// Rule 9: the size of this directory is no whole number of slots.
+    /// Rule 9: the size of this directory is not a whole number of slots.
     PartSlot(u16),
     /// Rule 9: the entry in this slot of a directory has no name.
     NoName(u16, u32),
     /// Rule 9: the name of the entry in this slot of a directory has a slash.
     Slash(u16, u32),
-    /// Rule 9: the entry in this slot of a directory is for no i-number from the root's to the last.
+    /// Rule 9: the entry in this slot of a directory is for an i-number not from the root's to the last.
     BadNumber(u16, u32),
     /// Rule 9: the entry in this slot of a directory is for a free i-node.
     FreeInode(u16, u32),
-    /// Rule 9: the name of the entry in this slot of a directory comes before in the directory.
+    /// Rule 9: an earlier entry of the directory has the name of the entry in this slot.
     SameName(u16, u32),
     /// Rule 10: this directory has no entry `.` for itself.
     NoDot(u16),
@@ -46,10 +46,10 @@ pub enum Finding {
     NoDotDot(u16),
     /// Rule 11: the entry in this slot of a directory is for the root.
     RootEntered(u16, u32),
-    /// Rule 11: the entry in this slot of a directory is for a directory that an entry before it is for.
+    /// Rule 11: the entry in this slot of a directory is for a directory that has an earlier entry.
     EnteredTwice(u16, u32),
     /// Rule 11: this directory isn't reached from the root.
     Unreached(u16),
-    /// Rule 12: so many entries are for this i-node, which has another link count, or wants an entry.
+    /// Rule 12: this i-node has this number of entries, and another link count, or needs an entry.
     BadLinks(u16, u64, u16),
 }

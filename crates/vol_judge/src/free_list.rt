@@ -1,5 +1,5 @@
-//! Rule 6: the blocks of the free list form a stack, each of which is a data block and stands in it once. The blocks that it
-//! names are marked, and compared with those that files name.
+//! Rule 6: the free list is a stack of data blocks, in which each occurs once. Its blocks are marked, and compared with
+//! those that files name.
 ghost use Rattle.std.specs.Prelude.{◌≡◌, ℕ, ◌<◌, ◌++◌, ◌∷◌, [], false, length, slice_index_or, List, IfOk, MatchOption};
 ghost use Rattle.std.specs.Option.{option_map};
 ghost use Rattle.std.specs.Result.{result_err};
@@ -18,21 +18,21 @@ use pdp_words::Image;
 use vol_free::FreeWalk;
 use vol_layout::Geometry;
 
-/// What is found of a free list that is a stack.
+/// The blocks of a free list that is a stack.
 #[derive(Clone, Copy, Debug)]
 pub struct FreeStack {
     /// The number of free blocks.
     pub count: u32,
-    /// The first of them that is marked as named, in the order of the list. It breaks rule 7, if no two places of files name one
-    /// block.
+    /// The first of them, in the order of the list, that is marked as named. It breaks rule 7, if no two places of files
+    /// name one block.
     pub named: Option<Finding>,
 }
 
-/// What breaks rule 6 first: the first fault of the free list, from its top on; else the number of free blocks, and the first of
-/// them that is marked in `named`. There is a mark for each block: none of `free` is set before, and after an `Ok` those of the
-/// free blocks are. `named` may hold any marks, as it does if rule 5 or 7 fails.
+/// Returns the first violation of rule 6, from the top of the free list on, or else the number of free blocks and the first
+/// of them that is marked in `named`. Both slices have a mark for each block. No mark of `free` is set before; after an
+/// `Ok`, those of the free blocks are. `named` may hold any marks, as it does if rule 5 or 7 fails.
 ///
-/// Reads the free list, and no block of it twice. Takes no memory.
+/// Reads each block of the free list at most once. Takes no memory.
 pub fn find_fault(
     image: &Image,
     geometry: &Geometry,
@@ -65,7 +65,7 @@ pub fn find_fault(
     }
 }
 
-/// The first of some blocks that is marked, by the first of those before the last, which is block `b`.
+/// Returns the first of some blocks that is marked, where `first` is that of all but the last, which is block `b`.
 fn first_named(first: Option<u32>, named: &[u8], b: u32) -> Option<u32>
     requires { b < length named.now }
     ensures { (blocks : List ℕ) → MatchOption first (AreClear named.now blocks) (IsFirstMarked named.now blocks)
@@ -78,7 +78,7 @@ fn first_named(first: Option<u32>, named: &[u8], b: u32) -> Option<u32>
     }
 }
 
-/// What breaks rule 7 first, by the first free block that is marked as named.
+/// Returns the violation of rule 7 by the first free block that is marked as named.
 fn used_and_free(first: Option<u32>) -> Option<Finding>
     ensures { result ≡ option_map Finding.UsedAndFree first }
 {

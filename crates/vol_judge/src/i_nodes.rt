@@ -15,8 +15,8 @@ use vol_layout::{Edition, Form, Geometry, Kind, inode};
 /// The greatest size of a small file: eight blocks.
 const SMALL_BYTES: u32 = 4096;
 
-/// What breaks rule 3 first: an odd mode, then the kind of the root, then that of i-number 1. Reads the mode of each
-/// i-node. Takes no memory.
+/// Returns the first violation of rule 3: an odd mode, then the kind of the root, then that of i-number 1. Reads the mode
+/// of each i-node. Takes no memory.
 pub fn find_kind(image: &Image, geometry: &Geometry) -> Option<Finding>
     requires { Fits geometry.now image.now }
     ensures { Finds (HasKinds geometry.now image.now) (IsFirstKind geometry.now image.now) result }
@@ -35,8 +35,8 @@ pub fn find_kind(image: &Image, geometry: &Geometry) -> Option<Finding>
     None
 }
 
-/// What breaks rule 4 first: the first i-node that is too large or has too many links. Reads each i-node. Takes no
-/// memory.
+/// Returns the first violation of rule 4: the first i-node that is too large or has too many links. Reads each i-node.
+/// Takes no memory.
 pub fn find_size(image: &Image, geometry: &Geometry) -> Option<Finding>
     requires { Fits geometry.now image.now }
     ensures { Finds (HasSizes geometry.now image.now) (IsFirstSize geometry.now image.now) result }
@@ -52,7 +52,7 @@ pub fn find_size(image: &Image, geometry: &Geometry) -> Option<Finding>
     None
 }
 
-/// Whether the root is a directory.
+/// True if the root is a directory.
 fn has_root(image: &Image, geometry: &Geometry) -> bool
     requires { Fits geometry.now image.now }
     ensures { IsTrue result ↔ (kind_at geometry.now image.now (constants geometry.now.edition).root ≡ Kind.Directory) }
@@ -61,7 +61,7 @@ fn has_root(image: &Image, geometry: &Geometry) -> bool
     matches!(kind(image, geometry, root), Kind::Directory)
 }
 
-/// Whether i-number 1 is free or a regular file in the seventh edition, which keeps it for bad blocks.
+/// True if i-number 1 is free or a regular file in the seventh edition, which keeps it for bad blocks.
 fn has_bad_blocks(image: &Image, geometry: &Geometry) -> bool
     requires { Fits geometry.now image.now }
     ensures { IsTrue result ↔ KeepsBadBlocks geometry.now image.now }
@@ -72,7 +72,7 @@ fn has_bad_blocks(image: &Image, geometry: &Geometry) -> bool
     }
 }
 
-/// Whether i-node `i` isn't too large for its form.
+/// True if i-node `i` isn't too large for its form.
 fn is_sized(image: &Image, geometry: &Geometry, i: u16) -> bool
     requires fits { Fits geometry.now image.now }
     requires first { 1 ≤ i }
@@ -87,7 +87,7 @@ fn is_sized(image: &Image, geometry: &Geometry, i: u16) -> bool
     }
 }
 
-/// Whether the link count of i-node `i`, if it is allocated, isn't above the limit.
+/// True if the link count of i-node `i` isn't above the limit, or it is free.
 fn is_linked(image: &Image, geometry: &Geometry, i: u16) -> bool
     requires fits { Fits geometry.now image.now }
     requires first { 1 ≤ i }

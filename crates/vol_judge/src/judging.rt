@@ -1,4 +1,4 @@
-//! The twelve rules in their order, up to the first that fails.
+//! The twelve rules in order, up to the first that fails.
 ghost use Rattle.std.specs.Prelude.{◌≡◌, ℕ, false, true, IfNone, IfOk, List, length, slice_index_or};
 ghost use Rattle.std.specs.Result.{result_err};
 ghost use Rattle.vol_layout.specs.Geometry.{Fits, geometry_of};
@@ -21,7 +21,7 @@ use pdp_words::Image;
 use std::alloc::{AllocError, Global};
 use vol_layout::{Edition, Geometry, GeometryFault};
 
-/// What is found of a sound image while it is judged.
+/// The facts about a sound image that judging it finds.
 #[derive(Clone, Copy, Debug)]
 pub struct Examined {
     /// Its geometry.
@@ -30,13 +30,13 @@ pub struct Examined {
     pub free: u32,
 }
 
-/// The least of the twelve rules of soundness that an image breaks, or None where it keeps them all. The
-/// image may be any bytes. Where `free` is false, the free list is neither asked nor read: then rules 6 and
-/// 8 ask nothing, and rule 7 only of the places of files.
+/// Returns the first of the twelve rules of soundness that an image breaks, or `None` if it keeps them all. The image may
+/// be any bytes. If `free` is false, the free list is neither checked nor read: rules 6 and 8 are skipped, and rule 7
+/// checks only the places of files.
 ///
-/// The time grows with the image's blocks and the slots of its directories, whatever they hold, and with
-/// sorting the names of each directory. The memory is a few bytes for each block and i-number, and the names
-/// of one directory at a time. An error only where memory is refused.
+/// The time grows with the image's blocks, with the slots of its directories, whatever they hold, and with sorting the
+/// names of each directory. The memory is a few bytes for each block and i-number, and the names of one directory at a
+/// time. Fails only if memory runs out.
 pub fn judge(
     alloc: Global,
     edition: Edition,
@@ -48,10 +48,10 @@ pub fn judge(
     Ok(examine(alloc, edition, image, free)?.err())
 }
 
-/// The least of the twelve rules of soundness that an image breaks, as [`judge`] answers it, as an Err; where it
-/// keeps them all, what was found on the way. Where the free list isn't asked, the number of free blocks is 0.
+/// Returns the first rule that an image breaks, as [`judge`] does, as the inner error, or else what judging found. If the
+/// free list isn't checked, the number of free blocks is 0.
 ///
-/// Costs what [`judge`] does. An error only where memory is refused.
+/// Costs what [`judge`] does. Fails only if memory runs out.
 pub fn examine(
     alloc: Global,
     edition: Edition,
@@ -75,7 +75,8 @@ pub fn examine(
     }
 }
 
-/// The number of free blocks, where rules 3 to 12 hold, and the free list is asked; else the least that fails.
+/// Returns the number of free blocks if rules 3 to 12 hold (0 if the free list isn't checked), else the first rule that
+/// fails.
 fn judge_volume(
     alloc: Global,
     image: &Image,
@@ -102,8 +103,8 @@ fn judge_volume(
     }
 }
 
-/// The number of free blocks, where rules 5 to 8 hold, and the free list is asked; else the least that fails.
-/// Takes a byte for each block, and with the free list two.
+/// Returns the number of free blocks if rules 5 to 8 hold (0 if the free list isn't checked), else the first rule that
+/// fails. Takes a byte for each block, and two with the free list.
 fn judge_blocks(
     alloc: Global,
     image: &Image,
@@ -129,8 +130,8 @@ fn judge_blocks(
     }
 }
 
-/// The number of free blocks, where rules 6 to 8 hold, by the first block that two places of files name, and the
-/// marks of those that they name; else the least that fails.
+/// Returns the number of free blocks if rules 6 to 8 hold, else the first rule that fails. `twice` is the first block that
+/// two places of files name, and `named` marks the blocks that they name.
 fn judge_free(
     alloc: Global,
     image: &Image,
@@ -150,8 +151,9 @@ fn judge_free(
     Ok(judge_marks(image, geometry, twice, named, &mut free))
 }
 
-/// The number of free blocks, where rules 6 to 8 hold, by the first block that two places of files name, and the
-/// marks of those that they name; else the least that fails. Marks the free blocks in `free`, of which no mark is set before.
+/// Returns the number of free blocks if rules 6 to 8 hold, else the first rule that fails. `twice` is the first block that
+/// two places of files name, and `named` marks the blocks that they name. Marks the free blocks in `free`, where none is
+/// marked before.
 fn judge_marks(
     image: &Image,
     geometry: &Geometry,

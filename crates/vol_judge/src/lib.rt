@@ -1,4 +1,4 @@
-//! Whether a volume is sound: the least of twelve rules that an image breaks.
+//! The judge of volumes: the first of the twelve rules of soundness that an image breaks.
 #![tactic(auto)]
 
 mod directories;

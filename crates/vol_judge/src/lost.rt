@@ -10,7 +10,8 @@ ghost use Rattle.vol_judge.specs.Sound.{IsNoneLost};
 use crate::finding::Finding;
 use vol_layout::Geometry;
 
-/// What breaks rule 8 first: the first data block that is neither named nor free. Reads each of their marks once. Takes no memory.
+/// Returns the first violation of rule 8: the first data block that is neither named nor free. Reads each mark once. Takes
+/// no memory.
 pub fn find_lost(geometry: &Geometry, named: &[u8], free: &[bool]) -> Option<Finding>
     requires room { length named.now ≡ geometry.now.zone_end }
     requires free_room { length free.now ≡ geometry.now.zone_end }

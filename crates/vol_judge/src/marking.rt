@@ -1,4 +1,4 @@
-//! Rule 7, of files: no two places name the same block. The blocks that they name are marked.
+//! Rule 7, for files: no two places name the same block. The blocks that they name are marked.
 ghost use Rattle.std.specs.Prelude.{◌≡◌, ◌≢◌, ℕ, ◌≤◌, ◌↔◌, length, slice_index, slice_index_or, vec_len, IfNone, IfSome, IfOk, true, false, Some};
 ghost use Rattle.vol_layout.specs.Geometry.{Fits};
 ghost use Rattle.vol_file.specs.Rules.{IsZoned, IsApart};
@@ -14,10 +14,10 @@ use vol_file::next_pointer;
 use vol_layout::i_list::{address, mode};
 use vol_layout::{Form, Geometry, number};
 
-/// Whether a place names each block of the volume, where each number that a place names is a data block's, and
-/// none is named twice.
+/// Returns a flag for each block of the volume, true if a place names it. Each number that a place names is that of a data
+/// block, and none is named twice.
 ///
-/// Costs what [`find_twice`] does, and a look at each mark. Takes two bytes for each block.
+/// Costs what [`find_twice`] does, and a read of each mark. Takes two bytes for each block.
 pub fn named_blocks(
     alloc: Global,
     image: &Image,
@@ -49,16 +49,16 @@ fn set_marked(marks: &[u8], flags: &mut [bool])
     }
 }
 
-/// Makes all bytes 0.
+/// Clears all bytes.
 pub(crate) fn clear(marks: &mut [u8])
     ensures { (k : ℕ) → slice_index marks.new k ≡ 0 }
 {
     marks.fill(0);
 }
 
-/// What breaks rule 7 first, of files alone: the first block that two places name, by i-number and in the order of the places, where
-/// each number that they name is a data block's. There is a mark for each block, whose value at first doesn't matter; the blocks that
-/// places name are then marked, if none is named twice.
+/// Returns the first violation of rule 7 by files alone: the first block that two places name, by i-number and in the order
+/// of the places. Each number that they name is that of a data block. There is a mark for each block, with any value at
+/// first; if no block is named twice, those that places name are marked afterwards.
 ///
 /// Costs a read of each i-node, and at most two of each entry of the indirect blocks. Takes no memory.
 pub fn find_twice(image: &Image, geometry: &Geometry, marks: &mut [u8]) -> Option<Finding>
@@ -77,7 +77,7 @@ pub fn find_twice(image: &Image, geometry: &Geometry, marks: &mut [u8]) -> Optio
     None
 }
 
-/// Marks the blocks of i-node `i`, up to the first of them that was marked before.
+/// Marks the blocks of i-node `i`, and returns the first that was marked already, if any.
 fn again_in(image: &Image, geometry: &Geometry, i: u16, marks: &mut [u8]) -> Option<u32>
     requires fits { Fits geometry.now image.now }
     requires first { 1 ≤ i }
@@ -97,7 +97,8 @@ fn again_in(image: &Image, geometry: &Geometry, i: u16, marks: &mut [u8]) -> Opt
     None
 }
 
-/// Marks block `b` and those found below it in `level` levels, if `b` isn't 0, up to the first of them that was marked before.
+/// Marks block `b`, if it isn't 0, and the blocks below it in `level` levels, and returns the first that was marked
+/// already, if any.
 fn again_from(
     image: &Image,
     geometry: &Geometry,

@@ -1,4 +1,4 @@
-//! The data blocks that the places of files name, on any volume: also where rules 5 and 7 are broken.
+//! The data blocks that the places of files name, on any volume, even if rules 5 and 7 are broken.
 ghost use Rattle.std.specs.Prelude.{◌≡◌, ℕ, ◌≤◌, length};
 ghost use Rattle.vol_layout.specs.Geometry.{Fits};
 ghost use Rattle.vol_file.specs.Changes.{blocks_of};
@@ -10,10 +10,10 @@ use vol_file::next_pointer;
 use vol_layout::i_list::{address, mode};
 use vol_layout::{Form, Geometry, number};
 
-/// Marks the data blocks that places of files name, whatever else they name. There is a mark for each block, whose value at first
-/// doesn't matter.
+/// Marks the data blocks that places of files name, whatever else they name. There is a mark for each block, with any value
+/// at first.
 ///
-/// Costs a read of each i-node and at most four of each entry of the indirect blocks, however they lead to one another. Takes no
+/// Costs a read of each i-node and at most four of each entry of the indirect blocks, however they are linked. Takes no
 /// memory.
 pub fn mark_named(image: &Image, geometry: &Geometry, marks: &mut [u8])
     requires fits { Fits geometry.now image.now }
@@ -43,8 +43,8 @@ fn mark_file(image: &Image, geometry: &Geometry, i: u16, marks: &mut [u8])
     }
 }
 
-/// Marks block `b` and those found below it in `level` levels, so far as they are data blocks. A mark is one more than the levels
-/// below its block that were gone over.
+/// Marks block `b` and the blocks below it in `level` levels, if they are data blocks. A mark is one more than the number
+/// of levels below its block that were visited.
 fn mark_from(image: &Image, geometry: &Geometry, b: u32, level: u8, marks: &mut [u8])
     requires fits { Fits geometry.now image.now }
     requires low { level ≤ 3 }

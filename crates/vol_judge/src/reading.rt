@@ -1,4 +1,4 @@
-//! Reading the entries of directories, one after the other.
+//! Iterating over the entries of all directories.
 ghost use Rattle.std.specs.Prelude.{◌≡◌, ◌+◌, ◌<◌, ◌≤◌, MatchOption, IsTrue, ◌↔◌, IfOk};
 ghost use Rattle.vol_layout.specs.Geometry.{Fits};
 ghost use Rattle.vol_layout.specs.Slot.{name_of};
@@ -13,7 +13,7 @@ use vol_file::no_marks;
 use vol_layout::i_list::{kind, size};
 use vol_layout::{Geometry, Kind, Slot};
 
-/// Whether i-number `i` is that of a directory.
+/// True if i-number `i` is that of a directory.
 pub fn is_directory(image: &Image, geometry: &Geometry, i: u16) -> bool
     requires fits { Fits geometry.now image.now }
     requires first { 1 ≤ i }
@@ -23,7 +23,7 @@ pub fn is_directory(image: &Image, geometry: &Geometry, i: u16) -> bool
     kind(image, geometry, i) == Kind::Directory
 }
 
-/// A place among the slots of all directories, directory after directory.
+/// A position among the slots of all directories, directory by directory.
 #[derive(Clone, Copy, Debug)]
 pub struct Place {
     /// The directory's i-number, from 1 on.
@@ -32,19 +32,19 @@ pub struct Place {
     pub slot: u32,
 }
 
-/// An entry of a directory, with its place.
+/// An entry of a directory, with its position.
 #[derive(Clone, Copy, Debug)]
 pub struct Entry {
     /// The directory's i-number.
     pub directory: u16,
     /// The number of the slot.
     pub number: u32,
-    /// What the slot holds.
+    /// The content of the slot.
     pub slot: Slot,
 }
 
 impl Place {
-    /// The place before all entries.
+    /// Returns the position before all entries.
     pub fn first() -> Place
         ensures directory { result.directory ≡ 1 }
         ensures slot { result.slot ≡ 0 }
@@ -57,7 +57,7 @@ impl Place {
 }
 
 impl Entry {
-    /// The place after the entry.
+    /// Returns the position after the entry.
     pub fn next_place(&self) -> Place
         requires { self.now.number < 67637568 }
         ensures directory { result.directory ≡ self.now.directory }
@@ -69,7 +69,7 @@ impl Entry {
         }
     }
 
-    /// Whether the entry's name is `.` or `..`.
+    /// True if the entry's name is `.` or `..`.
     pub fn is_dots(&self) -> bool
         ensures { result ≡ is_dots (name_of self.now.slot.name) }
     {
@@ -77,10 +77,10 @@ impl Entry {
     }
 }
 
-/// Marks for searches over the slots of all directories, of which none is set: none at all if the directories don't claim more blocks
-/// than the volume has, so that no search of them takes long.
+/// Returns unset marks for searches over the slots of all directories, or none at all if the directories claim no more
+/// blocks than the volume has, since no search of them then takes long.
 ///
-/// Costs a look at each i-node. Takes three bytes a block, or nothing.
+/// Costs a read of each i-node. Takes three bytes per block, or nothing.
 pub(crate) fn marks_for(
     alloc: Global,
     image: &Image,
@@ -102,10 +102,9 @@ pub(crate) fn marks_for(
     }
 }
 
-/// The first entry from a place on, over all directories.
+/// Returns the first entry from a position on, over all directories.
 ///
-/// Costs a look at each i-node that is passed, and at each slot but for those below marked blocks: below these no slot has an
-/// entry.
+/// Costs a read of each i-node that is passed, and of each slot except those below marked blocks, which have no entries.
 pub fn next_entry(
     image: &Image,
     geometry: &Geometry,

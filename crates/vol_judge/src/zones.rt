@@ -1,4 +1,4 @@
-//! Rule 5: each number that a place of a file names is a data block's.
+//! Rule 5: each number that a place of a file names is that of a data block.
 ghost use Rattle.std.specs.Prelude.{◌≡◌, ℕ, ◌≤◌, length};
 ghost use Rattle.vol_layout.specs.Geometry.{Fits};
 ghost use Rattle.vol_file.specs.Rules.{IsZoned};
@@ -14,12 +14,12 @@ use vol_file::next_pointer;
 use vol_layout::i_list::{address, mode};
 use vol_layout::{Form, Geometry, number};
 
-/// What breaks rule 5 first: of the first i-node that names a number of no data block, the first in the order of its places.
-/// `known` has a byte for each block, whose value at first doesn't matter: in how many levels what lies below the block was found
-/// to be within the data zone, by which no block is read more than once for each level.
+/// Returns the first violation of rule 5: of the first i-node that names a number of no data block, the first such number
+/// in the order of its places. `known` has a byte for each block, with any value at first: the number of levels below the
+/// block that were found to be within the data zone. So no block is read more than once for each level.
 ///
-/// Costs two reads of each i-node and at most four of each entry of the indirect blocks, however they lead to one another.
-/// Takes no memory.
+/// Costs two reads of each i-node and at most four of each entry of the indirect blocks, however they are linked. Takes no
+/// memory.
 pub fn find_outside(image: &Image, geometry: &Geometry, known: &mut [u8]) -> Option<Finding>
     requires fits { Fits geometry.now image.now }
     requires len { length known.old ≡ geometry.now.zone_end }
@@ -34,7 +34,7 @@ pub fn find_outside(image: &Image, geometry: &Geometry, known: &mut [u8]) -> Opt
     None
 }
 
-/// The first number that a place of i-node `i` names and that is no data block's.
+/// Returns the first number that a place of i-node `i` names and that is not that of a data block.
 fn outside_in(image: &Image, geometry: &Geometry, i: u16, known: &mut [u8]) -> Option<u32>
     requires fits { Fits geometry.now image.now }
     requires first { 1 ≤ i }
@@ -54,7 +54,7 @@ fn outside_in(image: &Image, geometry: &Geometry, i: u16, known: &mut [u8]) -> O
     None
 }
 
-/// The first of number `b` and those found below it, in `level` levels, that is no data block's and isn't 0.
+/// Returns the first of number `b` and the numbers below it, in `level` levels, that is neither 0 nor that of a data block.
 fn outside_from(
     image: &Image,
     geometry: &Geometry,

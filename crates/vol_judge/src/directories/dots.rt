@@ -18,7 +18,7 @@ use pdp_words::Image;
 use std::alloc::{AllocError, Global};
 use vol_layout::{Geometry, Slot};
 
-/// What a directory names by `.` and by `..`; None where it has no such entry.
+/// The entries `.` and `..` of a directory, each `None` if it doesn't exist.
 #[derive(Clone, Copy)]
 struct Dots {
     /// The i-number of the entry `.`.
@@ -27,20 +27,20 @@ struct Dots {
     up: Option<u16>,
 }
 
-/// What the directories name by `..`, up to the first that doesn't name itself by `.`.
+/// The i-numbers that the directories name `..`, up to the first directory without an entry `.` for itself.
 #[derive(Drop)]
 pub struct Ups {
-    /// By i-number, what a directory names by `..`.
+    /// The i-number that each directory names `..`, by i-number.
     pub numbers: Vec<Option<u16>>,
-    /// The first directory that doesn't name itself by `.`.
+    /// The first directory without an entry `.` for itself.
     pub nameless: Option<u16>,
 }
 
-/// What breaks rule 10 first, where rule 9 holds: of the first directory that has no entry `.` for itself or `..` for its
-/// parent, the first of these. The root, which is its own parent, is asked whatever it is. It goes by what the directories name
-/// by `..`, and by the directory of an entry for each.
+/// Returns the first violation of rule 10 if rule 9 holds: the first directory without an entry `.` for itself or `..` for
+/// its parent. The root, which is its own parent, is checked whatever it is. Uses the `..` of each directory, and the
+/// directory that holds an entry for each directory.
 ///
-/// Costs a look at each i-node. Takes no memory.
+/// Costs a read of each i-node. Takes no memory.
 pub fn find_dots(
     image: &Image,
     geometry: &Geometry,
@@ -62,8 +62,7 @@ pub fn find_dots(
     None
 }
 
-/// What is wrong with the entries `.` and `..` of i-number `d`, which is a directory or the root, where no directory before it
-/// has no entry `.`.
+/// Returns the violation of rule 10 by i-number `d`, a directory or the root. All directories before it have an entry `.`.
 fn find_wrong(
     image: &Image,
     geometry: &Geometry,
@@ -89,7 +88,7 @@ fn find_wrong(
     }
 }
 
-/// Whether an i-number is that of a directory or of the root.
+/// True if an i-number is that of a directory or of the root.
 fn needs_dots(image: &Image, geometry: &Geometry, d: u16) -> bool
     requires fits { Fits geometry.now image.now }
     requires first { 1 ≤ d }
@@ -99,7 +98,7 @@ fn needs_dots(image: &Image, geometry: &Geometry, d: u16) -> bool
     d == geometry.edition.constants().root || is_directory(image, geometry, d)
 }
 
-/// Whether i-number `d` is that of a directory with an entry `.` for itself, where no directory before it has none.
+/// True if i-number `d` is that of a directory with an entry `.` for itself. All directories before it have one.
 fn names_itself(image: &Image, geometry: &Geometry, d: u16, ups: &Ups) -> bool
     requires fits { Fits geometry.now image.now }
     requires first { 1 ≤ d }
@@ -112,7 +111,8 @@ fn names_itself(image: &Image, geometry: &Geometry, d: u16, ups: &Ups) -> bool
     is_directory(image, geometry, d) && ups.nameless != Some(d)
 }
 
-/// Whether directory `d` has an entry `..` for its parent, by what it names so, and the directory of an entry for each.
+/// True if directory `d` has an entry `..` for its parent, given the `..` of each directory and the directory that holds an
+/// entry for each.
 fn names_parent(geometry: &Geometry, d: u16, ups: &[Option<u16>], parents: &[Option<u16>]) -> bool
     requires ups { d < length ups.now }
     requires parents { d < length parents.now }
@@ -130,10 +130,12 @@ fn names_parent(geometry: &Geometry, d: u16, ups: &[Option<u16>], parents: &[Opt
     }
 }
 
-/// What the directories name by `..`, of a volume on which rule 9 holds, up to the first that doesn't name itself by `.`.
+/// Returns the i-numbers that directories name `..`, up to the first directory without an entry `.` for itself. Rule 9
+/// holds on the volume.
 ///
-/// Costs a look at each slot of each directory, up to those two entries, less those below blocks that were found without entries before.
-/// Memory is taken for four bytes an i-number, and where the directories claim more blocks than there are for three a block.
+/// Costs a read of each slot of each directory up to those two entries, except slots below blocks already found without
+/// entries. Takes memory for four bytes per i-number, and, if the directories claim more blocks than there are, for three
+/// bytes per block.
 pub fn find_ups(alloc: Global, image: &Image, geometry: &Geometry) -> Result<Ups, AllocError>
     requires fits { Fits geometry.now image.now }
     requires entries { HasEntries geometry.now image.now }
@@ -143,7 +145,7 @@ pub fn find_ups(alloc: Global, image: &Image, geometry: &Geometry) -> Result<Ups
     note_ups(alloc, image, geometry, &mut marks)
 }
 
-/// The same, by marks of blocks below which no slot has an entry.
+/// Does what [`find_ups`] does, with marks of blocks below which no slot has an entry.
 fn note_ups(
     alloc: Global,
     image: &Image,
@@ -174,8 +176,8 @@ fn note_ups(
     })
 }
 
-/// What directory `d` names by `.` and by `..`. Looks at its slots up to those two entries, but for those below marked blocks: below
-/// these no slot has an entry.
+/// Returns the entries `.` and `..` of directory `d`. Reads its slots up to these two entries, except those below marked
+/// blocks, which have no entries.
 fn dots_in(image: &Image, geometry: &Geometry, d: u16, marks: &mut [bool]) -> Dots
     requires marks { MarksEmpty geometry.now image.now marks.old }
     requires fits { Fits geometry.now image.now }
@@ -199,7 +201,7 @@ fn dots_in(image: &Image, geometry: &Geometry, d: u16, marks: &mut [bool]) -> Do
     Dots { own, up }
 }
 
-/// The i-number of a slot, if it has a name; else what was known before.
+/// Returns the i-number of a slot if it has this name, else `before`.
 fn noted(slot: &Slot, name: &[u8], before: Option<u16>) -> Option<u16>
     ensures { result ≡ if bytes_eq name.now (name_of slot.now.name) then Some slot.now.inode else before }
 {

@@ -1,4 +1,4 @@
-//! What the entries of all directories say of each i-number, found by one pass over them.
+//! The entries for each i-number, found in one pass over all directories.
 ghost use Rattle.std.specs.Prelude.{◌≡◌, ℕ, ◌+◌, IfNone, IfSome, IfOk, IsTrue, ◌↔◌, length};
 ghost use Rattle.vol_layout.specs.Geometry.{Fits};
 ghost use Rattle.vol_dir.specs.Entries.{IsDirectory};
@@ -15,22 +15,22 @@ use pdp_words::Image;
 use std::alloc::{AllocError, Global};
 use vol_layout::Geometry;
 
-/// What the entries of all directories say.
+/// The entries for each i-number, over all directories.
 #[derive(Drop)]
 pub struct Entered {
-    /// By i-number, the directory of an entry for a directory, other than `.` and `..`: the one that it names by `..`, if that has
-    /// one.
+    /// The directory that holds an entry for each directory, other than `.` and `..`, by i-number: the one that it names
+    /// `..`, if that has such an entry.
     pub parents: Vec<Option<u16>>,
-    /// The first entry, other than `.` and `..`, for the root, or for a directory that an entry before it is for.
+    /// The first entry, other than `.` and `..`, for the root, or for a directory that has an earlier entry.
     pub again: Option<Finding>,
-    /// How many entries each i-number has.
+    /// The number of entries for each i-number.
     pub counts: Vec<u64>,
 }
 
-/// What the entries of all directories say, where it is known what directories name by `..`.
+/// Returns the entries for each i-number, given the `..` of each directory.
 ///
-/// Costs a look at each slot of each directory, less those below blocks that were found without entries before. Memory is taken for twelve
-/// bytes an i-number, and where the directories claim more blocks than there are for three a block.
+/// Costs a read of each slot of each directory, except slots below blocks already found without entries. Takes memory for
+/// twelve bytes per i-number, and, if the directories claim more blocks than there are, for three bytes per block.
 pub fn find_entered(
     alloc: Global,
     image: &Image,
@@ -48,7 +48,7 @@ pub fn find_entered(
     note_entries(alloc, image, geometry, ups, &mut marks)
 }
 
-/// The same, by marks of blocks below which no slot has an entry.
+/// Does what [`find_entered`] does, with marks of blocks below which no slot has an entry.
 fn note_entries(
     alloc: Global,
     image: &Image,
@@ -84,7 +84,7 @@ fn note_entries(
     })
 }
 
-/// The first of two findings.
+/// Returns the first of two findings.
 fn first_of(first: Option<Finding>, second: Option<Finding>) -> Option<Finding>
     ensures none { IfNone first (result ≡ second) }
     ensures some { IfSome first (λ _. result ≡ first) }
@@ -95,8 +95,8 @@ fn first_of(first: Option<Finding>, second: Option<Finding>) -> Option<Finding>
     }
 }
 
-/// Notes the directory of an entry as that of one for what it is for, if this is a directory, and none is noted or it names this
-/// one by `..`; what breaks rule 11, where it is the root, or one was noted.
+/// Notes the directory that holds an entry for a directory, unless one is noted and the child doesn't name this one `..`.
+/// Returns the violation of rule 11 if the entry is for the root, or is not the first one.
 fn note_parent(
     image: &Image,
     geometry: &Geometry,
@@ -140,7 +140,7 @@ fn note_parent(
     None
 }
 
-/// Whether a number is the i-number of a directory of the volume.
+/// True if a number is the i-number of a directory of the volume.
 fn is_numbered_directory(image: &Image, geometry: &Geometry, i: u16) -> bool
     requires { Fits geometry.now image.now }
     ensures { IsTrue result ↔ IsDirectory geometry.now image.now i }

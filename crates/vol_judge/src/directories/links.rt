@@ -11,9 +11,10 @@ use pdp_words::Image;
 use vol_layout::i_list::{inode, kind};
 use vol_layout::{Geometry, Kind};
 
-/// What breaks rule 12 first: the first i-node whose link count is wrong, by how many entries each i-number has.
+/// Returns the first violation of rule 12: the first i-node whose link count is wrong, given the number of entries for each
+/// i-number.
 ///
-/// Costs a look at each i-node. Takes no memory.
+/// Costs a read of each i-node. Takes no memory.
 pub fn find_link(image: &Image, geometry: &Geometry, counts: &[u64]) -> Option<Finding>
     requires fits { Fits geometry.now image.now }
     requires counts { HasCounts geometry.now image.now counts.now }
@@ -28,7 +29,7 @@ pub fn find_link(image: &Image, geometry: &Geometry, counts: &[u64]) -> Option<F
     None
 }
 
-/// Whether i-node `i` is free or has this link count, and at least 1 from the root's i-number on.
+/// True if i-node `i` is free or has this link count, and at least 1 from the root's i-number on.
 fn is_counted(image: &Image, geometry: &Geometry, i: u16, count: u64) -> bool
     requires fits { Fits geometry.now image.now }
     requires first { 1 ≤ i }

@@ -14,11 +14,11 @@ use pdp_words::Image;
 use std::alloc::{AllocError, Global};
 use vol_layout::Geometry;
 
-/// What breaks rule 11 first: in the order of directories and slots an entry, of a name other than `.` and `..`, that is for the
-/// root, or for a directory that an entry before it is for; then the first directory that isn't reached from the root. It goes by the
-/// first of such entries, and by the directory of an entry for each.
+/// Returns the first violation of rule 11: in the order of directories and slots, an entry other than `.` and `..` for the
+/// root or for a directory that has an earlier entry; then the first directory that isn't reached from the root. Uses the
+/// first of such entries, and the directory that holds an entry for each directory.
 ///
-/// Costs some looks at each i-node. Memory is taken for two bytes an i-number.
+/// Costs a few reads of each i-node. Takes memory for two bytes per i-number.
 pub fn find_tree(
     alloc: Global,
     image: &Image,
@@ -37,7 +37,8 @@ pub fn find_tree(
     find_unreached(alloc, image, geometry, parents)
 }
 
-/// The first directory that isn't reached from the root, where each is entered once, by the directory with an entry for each.
+/// Returns the first directory that isn't reached from the root. Each has at most one entry; `parents` has the directory
+/// that holds it.
 fn find_unreached(
     alloc: Global,
     image: &Image,
@@ -63,8 +64,8 @@ fn find_unreached(
     Ok(None)
 }
 
-/// Whether going up from directory `d`, from parent to parent, comes to the root, and not to a directory without an entry or into
-/// a ring. Each directory on the way is marked by `d`; it ends where an earlier way came by, which came to the root.
+/// True if the way up from directory `d`, from parent to parent, reaches the root, not a directory without an entry or a
+/// cycle. Each directory on the way is marked with `d`; the way ends where an earlier one passed, which reached the root.
 fn goes_to_root(
     image: &Image,
     geometry: &Geometry,

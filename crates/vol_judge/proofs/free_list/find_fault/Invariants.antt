@@ -3,7 +3,7 @@ use Rattle.vol_free.specs.Walking.{HasMet}
 use Rattle.vol_judge.proofs.NamedFree.{FindsMarked}
 use Rattle.vol_judge.proofs.free_list.find_fault.Given as goal
 
--- what was met is marked, and the first of it that is named is known
+-- the blocks met are marked, and the first of them that is named is known
 abbrev pub invariant-walk : goal.invariant-walk
 invariant-walk l = (met : List ℕ) × HasMet l.geometry l.image l.free l.walk met × FindsMarked l.named (reverse met) l.first
 

@@ -8,7 +8,7 @@ use Rattle.vol_judge.proofs.marking.+again_from.Given as goal
 abbrev pub decreases-again_from : goal.decreases-again_from
 decreases-again_from l = l.level
 
--- the block and what is found from the entries before j on is marked
+-- the block and the blocks found from the entries before j on are marked
 abbrev pub invariant-loop-j : goal.invariant-loop-j
 invariant-loop-j l = record {
   marked : marked (set l.fn.marks l.b 1) (entries_from l.geometry l.image (l.level - 1) l.b l.j) ≡ Some l.marks;

@@ -8,7 +8,7 @@ use Rattle.vol_judge.proofs.named.+mark_from.Given as goal
 abbrev pub decreases-mark_from : goal.decreases-mark_from
 decreases-mark_from l = l.level
 
--- what is found from the entries before j on is marked
+-- the blocks found from the entries before j on are marked
 abbrev pub invariant-loop-j : goal.invariant-loop-j
 invariant-loop-j l = record {
   entries : ExtendsMarks l.geometry (entries_from l.geometry l.image (l.level - 1) l.b l.j) l.fn.marks l.marks;

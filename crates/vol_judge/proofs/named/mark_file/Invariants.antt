@@ -2,7 +2,7 @@ use Rattle.vol_judge.specs.Marks.{ExtendsMarks, KnowsMarked}
 use Rattle.vol_judge.proofs.FileBlocks.{addresses_from}
 use Rattle.vol_judge.proofs.named.mark_file.Given as goal
 
--- what is found from the addresses before k on is marked
+-- the blocks found from the addresses before k on are marked
 abbrev pub invariant-loop-k : goal.invariant-loop-k
 invariant-loop-k l = record {
   addresses : ExtendsMarks l.geometry (addresses_from l.geometry l.image l.i l.k) l.fn.marks l.marks;

@@ -4,7 +4,7 @@ use Rattle.vol_judge.specs.Stepping.{rank}
 use Rattle.vol_judge.proofs.Passing.{IsPassed}
 use Rattle.vol_judge.proofs.reading.next_entry.Given as goal
 
--- no entry stands between the place and slot `start` of directory d
+-- no entry is between the position and slot `start` of directory d
 abbrev pub invariant-loop-d : goal.invariant-loop-d
 invariant-loop-d l = record {
   passed : IsPassed l.geometry l.image (rank l.fn.from.directory l.fn.from.slot) l.d l.start;

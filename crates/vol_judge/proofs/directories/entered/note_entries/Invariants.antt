@@ -5,7 +5,7 @@ use Rattle.vol_judge.specs.Stepping.{rank}
 use Rattle.vol_judge.specs.Tree.{NotesParentsBefore, HasOnceBefore, IsEnteredAgain}
 use Rattle.vol_judge.proofs.directories.entered.note_entries.Given as goal
 
--- the entries before the place are gone over
+-- the entries before the position are noted
 abbrev pub invariant-loop-entry : goal.invariant-loop-entry
 invariant-loop-entry l = record {
   first : 1 ≤ l.place.directory;

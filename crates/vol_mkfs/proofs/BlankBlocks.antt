@@ -13,7 +13,7 @@ use Rattle.vol_mkfs.proofs.BlankVolumes.{block_early, block_root, block_chain, b
 use Rattle.vol_mkfs.specs.Blank.{HasHead, block_byte, volume_byte}
 use Rattle.vol_mkfs.specs.Mkfs.{is_chain}
 
--- as many blocks as an array has numbers follow a chain block, and where more follow, as many again
+-- as many blocks as an array has numbers follow a chain block, and if more follow, as many again
 room_by : (edition : Edition) (b end : ℕ) → b < end → (end - b) % (constants edition).free_slots ≡ 0
     → (b + (constants edition).free_slots ≤ end)
     × (b + (constants edition).free_slots < end → b + (constants edition).free_slots + (constants edition).free_slots ≤ end)

@@ -119,7 +119,7 @@ unfolding listed
 listed_last geometry top count e =
     let same : (top == geometry.zone_end) ≡ true = grind (arith, nat_tests) in rw same
 
--- the other numbers of a head come down from the chain block
+-- the other numbers of a head descend from the chain block
 pub listed_below : (geometry : Geometry) (top count j : ℕ) → 0 < j → j < count → listed geometry top count j ≡ top - j
 unfolding listed
 listed_below geometry top count j some few =
@@ -129,7 +129,7 @@ listed_below geometry top count j some few =
 
 module _ (geometry : Geometry) (head : List ℕ) (at top count : ℕ) (small : (k : ℕ) → get_or head k 0 < 256) (counted : word head at ≡ count)
     (numbers : (j : ℕ) → j < (constants geometry.edition).free_slots → number geometry.edition head (at + 2) j ≡ listed geometry top count j) where
-  -- the words behind the count, of either edition
+  -- the words after the count, of either edition
   array_is : (edition : Edition) (number_at : ℕ → ℕ)
       → ((j : ℕ) → j < (constants edition).free_slots → number edition head (at + 2) j ≡ number_at j) → (w : ℕ) → w < 100
       → word head (at + 2 * (w + 1)) ≡ array_word edition number_at w

@@ -28,7 +28,7 @@ pub slots_few : (edition : Edition) → (constants edition).free_slots ≤ 100
 slots_few V6 = omega arith
 slots_few V7 = omega arith
 
--- where the blocks to the volume's end fill some arrays, none is left over
+-- if the blocks to the volume's end fill some arrays, none is left over
 rest_none : (edition : Edition) (k top end : ℕ) → top + (constants edition).free_slots * (k + 1) ≡ end
     → (end - top) % (constants edition).free_slots ≡ 0
 rest_none V6 k top end e = omega arith
@@ -41,7 +41,7 @@ chain_fills : (edition : Edition) (start end : ℕ) → start < end
 chain_fills V6 start end h = omega arith
 chain_fills V7 start end h = omega arith
 
--- a remainder is below what it was divided by
+-- a remainder is below its divisor
 rest_below : (edition : Edition) (n : ℕ) → n % (constants edition).free_slots < (constants edition).free_slots
 rest_below V6 n = omega arith
 rest_below V7 n = omega arith
@@ -53,18 +53,18 @@ pub chain_first : (geometry : Geometry) → geometry.zone_start < geometry.zone_
 unfolding first_chain
 chain_first geometry h = chain_fills geometry.edition geometry.zone_start geometry.zone_end h
 
--- it stands behind the root's block
+-- it is after the root's block
 pub chain_after : (geometry : Geometry) → geometry.zone_start + 1 ≤ first_chain geometry
 unfolding first_chain
 chain_after geometry = omega arith
 
--- no more blocks than an array has numbers stand before it
+-- no more blocks than an array has numbers are before it
 pub chain_near : (geometry : Geometry) → first_chain geometry ≤ geometry.zone_start + (constants geometry.edition).free_slots
 unfolding first_chain
 chain_near geometry =
     let below = rest_below geometry.edition (geometry.zone_end - geometry.zone_start - 1) in omega (arith, below)
 
--- it stands within the volume, or is its end
+-- it is within the volume, or is its end
 chain_by : (edition : Edition) (start end : ℕ) → start < end → start + (end - start - 1) % (constants edition).free_slots + 1 ≤ end
 chain_by V6 start end h = omega arith
 chain_by V7 start end h = omega arith
@@ -74,13 +74,13 @@ pub chain_within : (geometry : Geometry) → geometry.zone_start < geometry.zone
     → geometry.zone_start + (geometry.zone_end - geometry.zone_start - 1) % (constants geometry.edition).free_slots + 1 ≤ geometry.zone_end
 chain_within geometry h = chain_by geometry.edition geometry.zone_start geometry.zone_end h
 
--- where it isn't the volume's end, a full array's number of blocks follows it at least
+-- if it isn't the volume's end, a full array's number of blocks follows it at least
 chain_more : (edition : Edition) (start end : ℕ) → start < end → start + (end - start - 1) % (constants edition).free_slots + 1 < end
     → start + (end - start - 1) % (constants edition).free_slots + 1 + (constants edition).free_slots ≤ end
 chain_more V6 start end h more = omega arith
 chain_more V7 start end h more = omega arith
 
--- what putting the head of the super-block asks of the first chain block
+-- the requirements of writing the super-block's head on the first chain block
 pub chain_fits : (geometry : Geometry) (top : ℕ) → geometry.zone_start < geometry.zone_end → top ≡ first_chain geometry
     → (geometry.zone_start ≤ top) × (top ≤ geometry.zone_end) × (top - geometry.zone_start ≤ 100)
     × (top < geometry.zone_end → top + (constants geometry.edition).free_slots ≤ geometry.zone_end)

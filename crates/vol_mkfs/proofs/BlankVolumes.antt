@@ -1,4 +1,4 @@
--- The bytes of a new volume, block by block, are those that making one asks for.
+-- The bytes of a new volume, block by block, are those that making one requires.
 use Rattle.std.proofs.Common.{◌≡◌, ◌≢◌, ℕ, ◌+◌, ◌-◌, ◌*◌, ◌/◌, ◌%◌, ◌<◌, ◌≤◌, ◌==◌, ◌&&◌, List, length, refl, sym, ap, subst, ◌∙◌, arith, inl, inr, get_or, true, false, nat_lt}
 use Rattle.std.proofs.lemmas.Bool.{cases_lt, cases_eq, le-ltb}
 use Rattle.std.proofs.lemmas.Bool.Decides.{nat_tests}
@@ -27,7 +27,7 @@ pub root_end : (edition : Edition) → inode_place edition (constants edition).r
 root_end V6 = omega arith
 root_end V7 = omega arith
 
--- a chain block is a data block behind the root's
+-- a chain block is a data block after the root's
 pub chain_zone : (geometry : Geometry) (b : ℕ) → is_chain geometry b ≡ true → (geometry.zone_start < b) × (b < geometry.zone_end)
 unfolding is_chain
 chain_zone geometry b chain = grind (arith, nat_tests)
@@ -73,7 +73,7 @@ block_chain geometry first b r start chain h =
     let within : nat_lt r 202 ≡ true = grind (arith, nat_tests) in
     rw (high, other, chain, within)
 
--- what isn't said of a block is zero
+-- the other bytes of a block are zero
 pub block_rest : (geometry : Geometry) (first : List ℕ) (b r : ℕ) → 3 ≤ b → b ≢ geometry.zone_start
     → (is_chain geometry b && nat_lt r 202) ≡ false → block_byte geometry first b r ≡ 0
 unfolding block_byte
@@ -87,7 +87,7 @@ pub volume_len : (geometry : Geometry) (first : List ℕ) → length (volume_byt
 unfolding volume_bytes
 volume_len geometry first = length-map-range_with_len (volume_byte geometry first) 0 (512 * geometry.zone_end)
 
--- a byte of a volume is one of the block where it stands
+-- a byte of a volume is one of the block that it is in
 pub volume_at : (geometry : Geometry) (first : List ℕ) (k b r : ℕ) → b < geometry.zone_end → r < 512 → k ≡ 512 * b + r
     → get_or (volume_bytes geometry first) k 0 ≡ block_byte geometry first b r
 unfolding volume_bytes volume_byte
@@ -97,7 +97,7 @@ volume_at geometry first k b r within small place =
     let low : k < 512 * geometry.zone_end = omega arith in
     get_or-map-range_with_len (volume_byte geometry first) 0 (512 * geometry.zone_end) k k 0 low (omega arith) ∙ rw (block, offset)
 
--- what the super-block has ends within it
+-- the parts of the super-block end within it
 order_end : (edition : Edition) → (512 + sizes_bytes edition ≤ 1024) × (free_head edition + 202 ≤ 1024) × (time_place edition + 4 ≤ 1024)
 order_end V6 = (omega arith, omega arith, omega arith)
 order_end V7 = (omega arith, omega arith, omega arith)
@@ -173,7 +173,7 @@ module _ (geometry : Geometry) (uid gid now : ℕ) (first : List ℕ) (makeable 
             ]
       ]
 
-  -- a byte that has no part in what is put is zero
+  -- a byte that isn't written is zero
   rest : (k : ℕ) → k < 512 * geometry.zone_end → IsUnused geometry.edition (512 * geometry.zone_start) k
       → ((b : ℕ) → is_chain geometry b ≡ true → IsNoneOf (512 * b) 202 k) → get_or bytes k 0 ≡ 0
   unfolding bytes
@@ -256,7 +256,7 @@ module _ (geometry : Geometry) (uid gid now : ℕ) (first : List ℕ) (makeable 
   pub blank_made : IsMade (record { geometry = geometry; uid = uid; gid = gid; now = now }) (volume_bytes geometry first)
   blank_made = record { new = blank_new; sound = new_sound geometry uid gid now (volume_bytes geometry first) makeable blank_new }
 
--- blocks that say what a volume is are those of the volume that they say
+-- blocks that describe a volume are the blocks of that volume
 pub blank_stands : (geometry : Geometry) (uid gid now : ℕ) (first : List ℕ) → IsMakeable geometry → IsBlankFirst geometry uid gid now first
     → IsBlank geometry first
 blank_stands geometry uid gid now first makeable is =
@@ -275,7 +275,7 @@ zone_by : (edition : Edition) (start end : ℕ) → is_size edition end (start -
 zone_by V6 start end size low = grind (arith, nat_tests)
 zone_by V7 start end size low = grind (arith, nat_tests)
 
--- what every new volume keeps says that it is made as asked for
+-- the invariant of every new volume implies that it is made as described
 pub blank_is : (geometry : Geometry) (first : List ℕ) → IsBlank geometry first → IsMade (blank_in geometry first) (volume_bytes geometry first)
 blank_is geometry first blank =
     let makeable = blank.makeable in

@@ -36,14 +36,14 @@ module _ (geometry : Geometry) (first buffer : List ℕ) (next end : ℕ) (order
       ∙ (bytes k (omega arith)
       ∙ sym (get_or-slice_range (volume_bytes geometry first) (512 * next) count k low ∙ byte_at geometry first (512 * next + k) (omega arith))))
 
-  -- where a sink took the blocks before them, and then some of their bytes
+  -- if a sink took the blocks before them, and then some of their bytes
   pub written_more : (a b c : Option (List ℕ)) (m : ℕ) → m ≤ (end - next) * 512
       → Appends a b (take (512 * next) (volume_bytes geometry first)) → Appends b c (take m (take ((end - next) * 512) buffer))
       → Appends a c (take (512 * next + m) (volume_bytes geometry first))
   written_more a b c m few front more =
       Appends-more a b c (volume_bytes geometry first) (take ((end - next) * 512) buffer) (512 * next) ((end - next) * 512) m few gathered front more
 
-  -- where it took the blocks before them, and then a fault came
+  -- if it took the blocks before them, and then a fault came
   pub written_part : (a b c : Option (List ℕ)) (m n : ℕ) → n ≡ next * 512 + m
       → Appends a b (take (512 * next) (volume_bytes geometry first)) → AppendsFront b c (take ((end - next) * 512) buffer) m
       → AppendsFront a c (volume_bytes geometry first) n
@@ -56,7 +56,7 @@ module _ (geometry : Geometry) (first buffer : List ℕ) (next end : ℕ) (order
         subst (λ k. Appends a c (take k (volume_bytes geometry first))) place (written_more a b c m (omega arith) front more),
       )
 
-  -- where it took them all
+  -- if it took them all
   pub written_all : (a b c : Option (List ℕ)) → Appends a b (take (512 * next) (volume_bytes geometry first))
       → Appends b c (take ((end - next) * 512) buffer) → Appends a c (take (512 * end) (volume_bytes geometry first))
   written_all a b c front all =
@@ -84,12 +84,12 @@ gathered_volume geometry first buffer len bytes =
     bytes k (omega arith) ∙ (ap (volume_byte geometry first) place ∙ sym (byte_at geometry first k (omega arith))))
 
 module _ (geometry : Geometry) (first : List ℕ) (blank : IsBlank geometry first) (old new : Option (List ℕ)) where
-  -- who writes those bytes writes the volume
+  -- writing those bytes writes the volume
   pub writes_volume : {T E : Type 0} → (result : Result T E) → OnOk result (Appends old new (volume_bytes geometry first))
       → OnOk result (WritesVolume (blank_in geometry first) old new)
   writes_volume (Ok done) out = record { bytes = volume_bytes geometry first; made = blank_is geometry first blank; written = out }
   writes_volume (Err fault) out = out
 
-  -- who writes the first of them writes a front of the volume
+  -- writing the first of them writes a front of the volume
   pub writes_front : (count : ℕ) → AppendsFront old new (volume_bytes geometry first) count → WritesFront (blank_in geometry first) old new count
   writes_front count out = record { bytes = volume_bytes geometry first; made = blank_is geometry first blank; written = out }

@@ -32,7 +32,7 @@ use Rattle.vol_file.proofs.PlaceLists.{sum_none}
 use Rattle.vol_layout.proofs.EditionLaws.{dots_fit}
 use Rattle.vol_mkfs.proofs.NewFiles
 
--- the root's first logical block stands at its first address
+-- the place of the root's first logical block is its first address
 root_last : (edition : Edition) → last_place (form_of edition (root_mode edition)) 0 ≡ Some (0 ∷ [])
 unfolding kind_of last_place
 root_last V6 = refl
@@ -98,7 +98,7 @@ module _ (geometry : Geometry) (uid gid now : ℕ) (image : List ℕ) (new : IsN
       (ap (λ form. last_place form 0) (NewFiles.form_root geometry uid gid now image new fits start) ∙ root_last geometry.edition)
       ∙ NewFiles.named_root geometry uid gid now image new fits start
 
-  -- so a slot of it stands there
+  -- so a slot of it is there
   slot_root : (s : ℕ) → s < 2 → slot_at (body geometry image root) (16 * s) ≡ slot_at image (512 * geometry.zone_start + 16 * s)
   slot_root s low =
       let zone : in_zone geometry geometry.zone_start ≡ true = NewFiles.zone_first geometry uid gid now image new fits start in
@@ -118,7 +118,7 @@ module _ (geometry : Geometry) (uid gid now : ℕ) (image : List ℕ) (new : IsN
       })
       (omega arith) (omega arith)
 
-  -- an entry of the root stands where the slot of its number does
+  -- an entry of the root is in the slot with its number
   entry_root_at : (s : ℕ) → s < 2 → entry_at geometry image root s ≡ entry_in (slot_at (body geometry image root) (16 * s))
   unfolding entry_at
   entry_root_at s low =

@@ -30,7 +30,7 @@ unfolding kind_of
 root_kind V6 = refl
 root_kind V7 = refl
 
--- no place stands below the first address of the root
+-- no place is below the first address of the root
 root_leaf : (edition : Edition) → levels_below (form_of edition (root_mode edition)) (0 ∷ []) ≡ 0
 unfolding kind_of
 root_leaf V6 = refl
@@ -85,11 +85,11 @@ module _ (geometry : Geometry) (uid gid now : ℕ) (image : List ℕ) (new : IsN
       let none : mode_of geometry image i ≡ 0 = omega (arith, first_byte, high) in
       ap (kind_of geometry.edition) none ∙ kind_zero geometry.edition
 
-  -- so what is not free is the root
+  -- so an i-node that is not free is the root
   pub only_root : (i : ℕ) → 1 ≤ i → i ≤ geometry.last_inode → kind_at geometry image i ≢ kinds.Free → i ≡ root
   only_root i first last some = elim (cases_eq i root) [ inl e ↦ e | inr other ↦ absurd (some (kind_other i first last other)) ]
 
-  -- and so is what has places
+  -- and so is one with places
   pub only_file : (i : ℕ) → IsFile geometry image i → i ≡ root
   only_file i file =
       only_root i file.first file.last (λ none.
@@ -125,7 +125,7 @@ module _ (geometry : Geometry) (uid gid now : ℕ) (image : List ℕ) (new : IsN
     | inr none ↦ inr (named_stops geometry image root j a p (ap (in_zone geometry) none ∙ zero_out geometry image fits))
   ]
 
-  -- what a place names is the first data block, named by the root's first address
+  -- the name of a place is the first data block, and its place is the root's first address
   pub only_place : (i : ℕ) (p : List ℕ) → IsPlaceOf geometry image i p → named geometry image i p ≢ 0
       → (i ≡ root) × (p ≡ 0 ∷ []) × (named geometry image i p ≡ geometry.zone_start)
   only_place i p place some =

@@ -58,7 +58,7 @@ pub read_makeable : (geometry : Geometry) (image : List ℕ) → IsMakeable geom
 read_makeable geometry image makeable len first count =
     read_by geometry.edition geometry.zone_start geometry.zone_end geometry.last_inode image makeable.size makeable.start makeable.inodes len first count
 
--- the sizes stand before the free list
+-- the sizes are before the free list
 pub sizes_kept : (edition : Edition) (old new : List ℕ) → ((k : ℕ) → k < free_head edition → get_or new k 0 ≡ get_or old k 0)
     → (first_data_block edition new ≡ first_data_block edition old) × (block_count edition new ≡ block_count edition old)
 sizes_kept V6 old new same =
@@ -69,7 +69,7 @@ sizes_kept V7 old new same =
     let b4 = same 516 (omega arith) in let b5 = same 517 (omega arith) in
     (omega arith, omega arith)
 
--- the time stays where its bytes do
+-- the time stays if its bytes do
 pub time_kept : (edition : Edition) (old new : List ℕ) → IsCopy old new (time_place edition) (time_place edition) 4
     → long new (time_place edition) ≡ long old (time_place edition)
 time_kept edition old new copy =

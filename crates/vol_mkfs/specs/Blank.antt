@@ -1,4 +1,4 @@
--- A new volume that isn't in memory: what stands at each of its bytes. (mkfs and free of both editions.)
+-- A new volume that isn't in memory: the value of each of its bytes. (mkfs and free of both editions.)
 use Rattle.std.specs.Prelude.{◌≡◌, ℕ, ◌+◌, ◌-◌, ◌*◌, ◌/◌, ◌%◌, ◌<◌, ◌≤◌, ◌==◌, ◌&&◌, nat_lt, if◌then◌else◌, List, [], ◌∷◌, length, map, slice_index, Option}
 use Rattle.std.specs.List.{range_with_len}
 use Rattle.std.specs.Io.KnownBytes.{Appends}
@@ -16,14 +16,14 @@ use Rattle.vol_layout.specs.declared.edition.Edition.TheVariants.{V6, V7}
 use Rattle.vol_layout.specs.declared.geometry.Geometry.{Geometry}
 use Rattle.vol_mkfs.specs.declared.blank.NewVolume.{NewVolume}
 
--- a new volume as contracts see it: its sizes, the root's user and group, and the moment at which it is made (this project)
+-- a new volume as contracts see it: its sizes, the root's user and group, and the time at which it is made (this project)
 pub record Blank : Type 0 where
   pub geometry : Geometry
   pub uid : ℕ
   pub gid : ℕ
   pub now : ℕ
 
--- the volume that is asked for (this project)
+-- the volume that some parameters describe (this project)
 abbrev pub blank_of : NewVolume → Blank
 blank_of volume = record {
   geometry = volume_of volume.edition volume.blocks volume.list_blocks;
@@ -49,7 +49,7 @@ pub record WritesFront (blank : Blank) (old new : Option (List ℕ)) (count : �
   pub made : IsMade blank bytes
   pub written : AppendsFront old new bytes count
 
--- number j of an array whose number 0 chains to block `top`, or to none where the volume ends there: before it come, downwards, the blocks before that one, and past the count stands what the array before this one has left (free of both editions)
+-- number j of an array whose number 0 is chain block `top`, or 0 if the volume ends there: the numbers before the count are the blocks before that one, downwards, and those past the count are what the array before this one has left (free of both editions)
 unfoldable pub listed : Geometry → ℕ → ℕ → ℕ → ℕ
 listed geometry top count j =
     if nat_lt 0 j && nat_lt j count then top - j else if top == geometry.zone_end then 0
@@ -65,16 +65,16 @@ unfoldable pub head_word : Geometry → ℕ → ℕ → ℕ → ℕ
 head_word geometry top count w =
     if w == 0 then count else array_word geometry.edition (listed geometry top count) (w - 1)
 
--- byte r of the same (PDP-11)
+-- byte r of a count and such an array (PDP-11)
 unfoldable pub head_byte : Geometry → ℕ → ℕ → ℕ → ℕ
 head_byte geometry top count r =
     if r % 2 == 0 then head_word geometry top count (r / 2) % 256 else head_word geometry top count (r / 2) / 256
 
--- a count and such an array stand at byte `at` (filsys.h, fblk.h)
+-- a count and such an array are at byte `at` (filsys.h, fblk.h)
 pub record HasHead (geometry : Geometry) (image : List ℕ) (at top count : ℕ) : Type 0 where
   pub bytes : (r : ℕ) → r < 202 → slice_index image (at + r) ≡ head_byte geometry top count r
 
--- the first of them, or the volume's end where there is none (free of both editions)
+-- the first chain block, or the volume's end if there is none (free of both editions)
 unfoldable pub first_chain : Geometry → ℕ
 first_chain geometry =
     geometry.zone_start + (geometry.zone_end - geometry.zone_start - 1) % (constants geometry.edition).free_slots + 1
@@ -94,7 +94,7 @@ volume_byte geometry first k = block_byte geometry first (k / 512) (k % 512)
 unfoldable pub volume_bytes : Geometry → List ℕ → List ℕ
 volume_bytes geometry first = map (volume_byte geometry first) (range_with_len 0 (512 * geometry.zone_end))
 
--- the blocks 0, 1 and 2 of a new volume, and then the root's: the sizes, the time and the free list stand in the super-block, the root has its i-node and its two slots, and all other bytes are zeros (mkfs)
+-- the blocks 0, 1 and 2 of a new volume, and then the root's: the super-block has the sizes, the time and the free list, the root has its i-node and its two slots, and all other bytes are zeros (mkfs)
 pub record IsBlankFirst (geometry : Geometry) (uid gid now : ℕ) (first : List ℕ) : Type 0 where
   pub len : length first ≡ 2048
   pub start : first_data_block geometry.edition first ≡ geometry.zone_start
@@ -118,7 +118,7 @@ blank_in geometry first =
     let root = inode_of geometry.edition first (constants geometry.edition).root in
     record { geometry = geometry; uid = root.uid; gid = root.gid; now = long first (time_place geometry.edition) }
 
--- what every new volume keeps: its sizes are those of a volume, and its blocks say what it is (this project)
+-- the invariant of every new volume: its sizes are those of a volume, and its blocks are those of the new volume (this project)
 pub record IsBlank (geometry : Geometry) (first : List ℕ) : Type 0 where
   pub makeable : IsMakeable geometry
   pub stands : IsBlankFirst geometry (blank_in geometry first).uid (blank_in geometry first).gid (blank_in geometry first).now first

@@ -1,4 +1,4 @@
--- What `mkfs` makes: a volume with the root alone. (mkfs of the seventh edition, without its prototype file.)
+-- The volume that `mkfs` makes, with only the root. (mkfs of the seventh edition, without its prototype file.)
 use Rattle.std.specs.Prelude.{◌≡◌, ◌≢◌, ℕ, ◌+◌, ◌-◌, ◌*◌, ◌%◌, ◌<◌, ◌≤◌, ◌==◌, ◌&&◌, Bool, true, nat_lt, nat_le, List, [], ◌∷◌, length, replicate, slice_index, Ok}
 use Rattle.std.specs.List.{range_with_len}
 use Rattle.pdp_words.specs.Words.{long}
@@ -13,13 +13,13 @@ use Rattle.vol_layout.specs.declared.edition.Edition.TheVariants.{V6, V7}
 use Rattle.vol_layout.specs.declared.geometry.Geometry.{Geometry}
 use Rattle.vol_layout.specs.declared.i_node.Inode.{Inode}
 
--- whether a volume can have so many blocks, of which so many are the i-list: rule 2 holds, and the sixth edition's word has room for the number of blocks (filsys.h)
+-- true if a volume can have this number of blocks, and of blocks of the i-list: rule 2 holds, and the number of blocks fits the sixth edition's word (filsys.h)
 abbrev pub is_size : Edition → ℕ → ℕ → Bool
 is_size edition blocks list_blocks =
     nat_le 1 list_blocks && (nat_le list_blocks (constants edition).list_block_limit
     && (nat_lt (list_blocks + 2) blocks && nat_le blocks (constants edition).block_limit))
 
--- the geometry of a volume of so many blocks, of which so many are the i-list (filsys.h)
+-- the geometry of a volume with this number of blocks, and of blocks of the i-list (filsys.h)
 abbrev pub volume_of : Edition → ℕ → ℕ → Geometry
 volume_of edition blocks list_blocks = record {
   edition = edition;
@@ -44,7 +44,7 @@ pub record IsMakeable (geometry : Geometry) : Type 0 where
   pub start : 3 ≤ geometry.zone_start
   pub inodes : geometry.last_inode ≡ (constants geometry.edition).inodes_per_block * (geometry.zone_start - 2)
 
--- whether a block is one of those that the free list is chained by: a full array's number of blocks lies between two of them, and between the last and the volume's end (free of both editions)
+-- true if a block is a chain block of the free list: they are as many blocks apart as a full array has numbers, and the last is that far from the volume's end (free of both editions)
 unfoldable pub is_chain : Geometry → ℕ → Bool
 is_chain geometry b =
     nat_lt geometry.zone_start b && (nat_lt b geometry.zone_end && ((geometry.zone_end - b) % (constants geometry.edition).free_slots == 0))
@@ -53,12 +53,12 @@ is_chain geometry b =
 abbrev pub IsNoneOf : ℕ → ℕ → ℕ → Type 0
 IsNoneOf at count k = at ≤ k → k < at + count → ⊥
 
--- how many bytes the two sizes at the front of the super-block have: two words in the sixth edition, a word and a long in the seventh (filsys.h)
+-- the number of bytes of the two sizes at the front of the super-block: two words in the sixth edition, a word and a long in the seventh (filsys.h)
 abbrev pub sizes_bytes : Edition → ℕ
 sizes_bytes V6 = 4
 sizes_bytes V7 = 6
 
--- byte k of a new volume is none of the sizes, the free list's head, the time, the root's i-node, or the root's two slots, which stand at byte `slots` (mkfs)
+-- byte k of a new volume is none of the sizes, the free list's head, the time, the root's i-node, or the root's two slots at byte `slots` (mkfs)
 pub record IsUnused (edition : Edition) (slots k : ℕ) : Type 0 where
   pub sizes : IsNoneOf 512 (sizes_bytes edition) k
   pub free : IsNoneOf (free_head edition) 202 k
@@ -66,7 +66,7 @@ pub record IsUnused (edition : Edition) (slots k : ℕ) : Type 0 where
   pub root : IsNoneOf (inode_place edition (constants edition).root) (constants edition).inode_bytes k
   pub names : IsNoneOf slots 32 k
 
--- an image is that of a new volume: its geometry is the one asked for and it has no more bytes, its time is `now`, the root has its i-node and its two slots, both of which name it, each other i-node is all zeros, the free blocks are all data blocks but the root's, ascending, and all bytes that have no part in this are zero (mkfs)
+-- an image is that of a new volume: its geometry is the given one and it has no more bytes, its time is `now`, the root has its i-node and its two slots, both of which name it, each other i-node is all zeros, the free blocks are all data blocks except the root's, in ascending order, and all other bytes are zero (mkfs)
 pub record IsNewVolume (geometry : Geometry) (uid gid now : ℕ) (image : List ℕ) : Type 0 where
   pub len : length image ≡ 512 * geometry.zone_end
   pub sizes : geometry_read geometry.edition image ≡ Ok geometry

@@ -1,4 +1,4 @@
-//! A new volume that isn't written yet.
+//! New volumes that aren't written yet.
 ghost use Rattle.std.specs.Prelude.{◌≡◌, ◌↔◌, true, false, IfOk, IfErr, OnOk, OnErr, IsErrOf};
 ghost use Rattle.vol_mkfs.specs.Blank.{blank_of, IsMade, WritesVolume, WritesFront};
 ghost use Rattle.vol_mkfs.specs.Mkfs.{is_size};
@@ -16,18 +16,18 @@ use std::marker::Model;
 use thiserror::Error;
 use vol_layout::{Edition, Geometry, is_bad_id};
 
-/// How many blocks of a volume stand up to the first of the i-list.
+/// The number of blocks of a volume up to the first of the i-list.
 const FIRST_BLOCKS: u32 = 3;
 
-/// The volume that is to be made: its sizes, in blocks of 512 bytes, the root's user and group, and the
-/// moment, in seconds since the beginning of 1970.
+/// The parameters of a new volume: its sizes, in blocks of 512 bytes, the root's user and group, and the time, in seconds
+/// since the beginning of 1970.
 #[derive(Clone, Copy, Debug, PartialEq, Eq)]
 pub struct NewVolume {
     /// The edition of Unix.
     pub edition: Edition,
-    /// All blocks of the volume.
+    /// The number of blocks of the volume.
     pub blocks: u32,
-    /// The blocks of the i-list.
+    /// The number of blocks of the i-list.
     pub list_blocks: u16,
     /// The root's user.
     pub uid: u16,
@@ -37,23 +37,23 @@ pub struct NewVolume {
     pub now: u32,
 }
 
-/// Why no volume was made.
+/// The reason why no volume was made.
 #[derive(Clone, Copy, Debug, PartialEq, Eq, Error)]
 pub enum MkfsFault {
-    /// The sizes aren't those of a volume: rule 2 would fail, or a sixth edition volume would have more
-    /// than 65,535 blocks.
+    /// The sizes are not those of a volume: rule 2 would fail, or a sixth edition volume would have more than 65,535
+    /// blocks.
     #[error("bounds")]
     Bounds,
     /// The user or group number is above 255 in the sixth edition, or 32,767 in the seventh.
     #[error("104 BadId")]
     BadId,
-    /// An allocation was refused.
+    /// Memory ran out.
     #[error("12 NoMemory")]
     NoMemory,
 }
 
-/// A new volume whose bytes aren't in memory: the root alone is on it, and all other data blocks are
-/// free. Only its blocks 0, 1 and 2 and the root's are kept; all others follow from its sizes.
+/// A new volume whose bytes aren't in memory: it has only the root, and all other data blocks are free. Only blocks 0, 1
+/// and 2 and the root's block are stored; all others follow from the sizes.
 #[derive(Debug, Drop)]
 pub struct BlankVolume {
     geometry: Geometry,
@@ -71,8 +71,8 @@ impl Model for BlankVolume {
 }
 
 impl BlankVolume {
-    /// The volume that is to be made, whose root has permissions 0777. `Bounds` comes before `BadId`, and
-    /// `NoMemory` last.
+    /// Returns the new volume, whose root has permissions 0777. `Bounds` is checked before `BadId`, and `NoMemory` comes
+    /// last.
     ///
     /// Takes memory for four blocks.
     pub fn new(alloc: Global, volume: NewVolume) -> Result<BlankVolume, MkfsFault>
@@ -106,7 +106,7 @@ impl BlankVolume {
         Ok(BlankVolume { geometry, first })
     }
 
-    /// All bytes of the volume.
+    /// Returns all bytes of the volume.
     ///
     /// Takes memory for them, once.
     pub fn to_bytes(&self, alloc: Global) -> Result<Vec<u8>, AllocError>
@@ -123,10 +123,10 @@ impl BlankVolume {
         Ok(bytes)
     }
 
-    /// Writes the volume to `sink`, in the order of its bytes. A fault only where the sink failed, and
-    /// then the sink took exactly the first `written` bytes.
+    /// Writes the volume to `sink`, in the order of its bytes. Fails only if the sink fails, and then the sink took exactly
+    /// the first `written` bytes.
     ///
-    /// Takes no memory: the bytes go out through a buffer of 64 KiB.
+    /// Takes no memory: the bytes are written through a buffer of 64 KiB.
     pub fn write_to<W: Sink>(&self, sink: &mut W) -> Result<(), SaveFault>
         ensures ok { OnOk result (WritesVolume self.now (W.contents sink.old) (W.contents sink.new)) }
         ensures working { OnOk result (W.failed sink.new ≡ W.failed sink.old) }

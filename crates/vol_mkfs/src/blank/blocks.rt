@@ -1,4 +1,4 @@
-//! The blocks of a new volume, each from its number.
+//! The blocks of a new volume, each computed from its number.
 ghost use Rattle.std.specs.Prelude.{◌≡◌, ℕ, ◌+◌, ◌-◌, ◌*◌, ◌<◌, ◌≤◌, true, IfErr, OnErr, OnOk, length, slice_index};
 ghost use Rattle.std.specs.Io.KnownBytes.{Appends};
 ghost use Rattle.pdp_words.specs.Devices.{AppendsFront};
@@ -11,11 +11,11 @@ use crate::blank::FIRST_BLOCKS;
 use pdp_words::{BLOCK, Image, SaveFault, Sink, words, write_all};
 use vol_layout::{Edition, Geometry};
 
-/// Blocks of the buffer through which a volume goes out.
+/// The number of blocks in the buffer through which a volume is written.
 const BUFFER_BLOCKS: u32 = 128;
 
-/// Writes all blocks of a new volume to `sink`; `first` has the first blocks and the root's. A fault only
-/// where the sink failed, and then the sink took exactly the first `written` bytes.
+/// Writes all blocks of a new volume to `sink`; `first` has the first blocks and the root's. Fails only if the sink fails,
+/// and then the sink took exactly the first `written` bytes.
 pub fn write_blocks<W: Sink>(
     sink: &mut W,
     first: &Image,
@@ -44,8 +44,7 @@ pub fn write_blocks<W: Sink>(
     Ok(())
 }
 
-/// Gathers the blocks of a new volume from `from` up to `to` at the front of `buffer`; `first` has the
-/// first blocks and the root's.
+/// Fills the front of `buffer` with the blocks `from..to` of a new volume; `first` has the first blocks and the root's.
 pub fn gather(first: &Image, geometry: &Geometry, from: u32, to: u32, buffer: &mut [u8])
     requires makeable { IsMakeable geometry.now }
     requires first { length first.now ≡ 2048 }
@@ -59,7 +58,7 @@ pub fn gather(first: &Image, geometry: &Geometry, from: u32, to: u32, buffer: &m
     }
 }
 
-/// Puts block `b` of a new volume from byte `at` on.
+/// Writes block `b` of a new volume from byte `at` on.
 fn put_block(buffer: &mut [u8], at: usize, first: &Image, geometry: &Geometry, b: u32)
     requires makeable { IsMakeable geometry.now }
     requires first { length first.now ≡ 2048 }
@@ -81,8 +80,8 @@ fn put_block(buffer: &mut [u8], at: usize, first: &Image, geometry: &Geometry, b
     }
 }
 
-/// Whether block `b` is one of those that the free list is chained by: as many blocks as an array has
-/// numbers lie from one of them to the next, and from the last to the volume's end.
+/// True if block `b` is a chain block of the free list. They are as many blocks apart as an array has numbers, and the
+/// last is that far from the volume's end.
 #[tactic(auto, unfolding(crate::specs::Mkfs::is_chain))]
 fn is_chain(geometry: &Geometry, b: u32) -> bool
     ensures { result ≡ is_chain geometry.now b }
@@ -91,8 +90,8 @@ fn is_chain(geometry: &Geometry, b: u32) -> bool
     geometry.zone_start < b && b < geometry.zone_end && (geometry.zone_end - b) % slots == 0
 }
 
-/// The first chain block, or the volume's end where there is none. The super-block has the numbers of the
-/// free blocks up to it.
+/// Returns the first chain block, or the volume's end if there is none. The super-block has the numbers of the free blocks
+/// up to it.
 #[tactic(auto, unfolding(crate::specs::Blank::first_chain), using(crate::proofs::BlankStacks::chain_within))]
 pub fn first_chain(geometry: &Geometry) -> u32
     requires { geometry.now.zone_start < geometry.now.zone_end }
@@ -102,8 +101,8 @@ pub fn first_chain(geometry: &Geometry) -> u32
     geometry.zone_start + (geometry.zone_end - geometry.zone_start - 1) % slots + 1
 }
 
-/// Puts a count and an array of the free list from byte `at` on, where number 0 chains to block `top`, or
-/// to none where the volume ends there.
+/// Writes a count and an array of the free list from byte `at` on, where number 0 is chain block `top`, or 0 if the
+/// volume ends there.
 pub fn put_free_head(bytes: &mut [u8], at: usize, geometry: &Geometry, top: u32, count: u16)
     requires makeable { IsMakeable geometry.now }
     requires top { top ≤ geometry.now.zone_end }
@@ -120,7 +119,7 @@ pub fn put_free_head(bytes: &mut [u8], at: usize, geometry: &Geometry, top: u32,
     }
 }
 
-/// Number `j` of such an array: past the count stands what the array before it has left.
+/// Returns number `j` of such an array: past the count are the numbers that the array before it has left there.
 #[tactic(auto, unfolding(crate::specs::Blank::listed))]
 fn listed(geometry: &Geometry, top: u32, count: u16, j: u16) -> u32
     requires top { top ≤ geometry.now.zone_end }
@@ -141,7 +140,7 @@ fn listed(geometry: &Geometry, top: u32, count: u16, j: u16) -> u32
     }
 }
 
-/// Puts number `j` of the array that begins at byte `at`.
+/// Writes number `j` of the array that begins at byte `at`.
 fn put_number(bytes: &mut [u8], edition: Edition, at: usize, j: u16, value: u32)
     requires room { at + (constants edition).number_bytes * (j + 1) ≤ length bytes.old }
     requires range { edition ≡ Edition.V6 → value < 65536 }

@@ -1,5 +1,5 @@
-//! The blocks of a new volume that aren't alike: the boot block, the super-block, the first block of the
-//! i-list, and the root's block.
+//! The blocks of a new volume with content of their own: the boot block, the super-block, the first block of the i-list,
+//! and the root's block.
 ghost use Rattle.std.specs.Prelude.{◌≡◌, ℕ, ◌+◌, ◌-◌, ◌<◌, ◌≤◌, false, [], ◌∷◌, length, slice_index};
 ghost use Rattle.pdp_words.specs.Words.{SameOutside, word, long};
 ghost use Rattle.vol_layout.specs.Edition.{constants};
@@ -19,13 +19,13 @@ use vol_layout::slot::SLOT;
 use vol_layout::super_block::HEAD_BYTES;
 use vol_layout::{Edition, Geometry, Inode, Mode, Slot, Super, put_inode};
 
-/// Where the root's block stands behind the first blocks: at its place in the least volume, of four blocks.
+/// The position of the root's block, after the first blocks: that in the smallest volume, of four blocks.
 const ROOT_PLACE: usize = FIRST_BLOCKS as usize * BLOCK;
 
-/// Bytes of these blocks.
+/// The number of bytes in these blocks.
 pub const FIRST_BYTES: usize = ROOT_PLACE + BLOCK;
 
-/// Makes zeros the first blocks of a new volume, and then the root's.
+/// Turns zeros into the first blocks of a new volume, followed by the root's.
 pub fn fill(image: &mut Image, geometry: &Geometry, uid: u16, gid: u16, now: u32)
     requires makeable { IsMakeable geometry.now }
     requires id { is_bad_id geometry.now.edition uid gid ≡ false }
@@ -42,7 +42,7 @@ pub fn fill(image: &mut Image, geometry: &Geometry, uid: u16, gid: u16, now: u32
     );
 }
 
-/// Puts the free list's head into a super-block of zeros. It stays empty where no block is free.
+/// Writes the free list's head to a super-block of zeros. It stays empty if no block is free.
 fn put_free_list(image: &mut Image, geometry: &Geometry)
     requires makeable { IsMakeable geometry.now }
     requires len { length image.old ≡ 2048 }
@@ -68,7 +68,7 @@ fn put_free_list(image: &mut Image, geometry: &Geometry)
     }
 }
 
-/// Puts the sizes and the time into the super-block.
+/// Writes the sizes and the time to the super-block.
 fn put_super(image: &mut Image, geometry: &Geometry, now: u32)
     requires makeable { IsMakeable geometry.now }
     requires room { 1024 ≤ length image.old }
@@ -93,7 +93,7 @@ fn put_super(image: &mut Image, geometry: &Geometry, now: u32)
     super_block.put_time(image, now);
 }
 
-/// Puts the root's i-node, and its slots into the block behind the first of the i-list.
+/// Writes the root's i-node, and its slots to the block after the first of the i-list.
 fn put_root(image: &mut Image, edition: Edition, node: &Inode)
     requires len { length image.old ≡ 2048 }
     requires storable { IsStorable edition node.now }
@@ -115,7 +115,7 @@ fn put_root(image: &mut Image, edition: Edition, node: &Inode)
     image.put_bytes(ROOT_PLACE + SLOT, &Slot::new(root, b"..").to_bytes());
 }
 
-/// The root's i-node.
+/// Returns the root's i-node.
 fn root_inode(geometry: &Geometry, uid: u16, gid: u16, now: u32) -> Inode
     ensures { result ≡ root_inode geometry.now.edition geometry.now.zone_start uid gid now }
 {

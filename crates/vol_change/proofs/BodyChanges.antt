@@ -1,4 +1,4 @@
--- What a change of the bytes of a regular file leaves, as the tree says.
+-- The effects of a change of a regular file's bytes, stated for the tree.
 use Rattle.std.proofs.Common.{◌≡◌, ◌≢◌, ◌∙◌, sym, ap, ℕ, ◌≤◌, ◌++◌, drop, List, length}
 use Rattle.vol_layout.specs.Names.{IsFile}
 use Rattle.vol_layout.specs.Places.{has_places}
@@ -22,7 +22,7 @@ use Rattle.vol_change.proofs.OneNode.{only_file}
 use Rattle.vol_change.proofs.UnusedBytes.{file_unused}
 use Rattle.vol_change.proofs.WrittenStates.{IsKind, written_state, writes_keeps, written_kind, truncated_state, truncates_keeps, truncated_kind}
 
--- what changes alone leaves, beside the state: the graph, and the bytes that are not in use
+-- the rest that such a change keeps: the graph, and the unused bytes
 pub record Beside (geometry : Geometry) (old new : List ℕ) (i : ℕ) : Type 0 where
   pub kind : kind_at geometry new i ≢ kinds.Free
   pub graph : IsSameGraph (graph_of geometry old) (graph_of geometry new)

@@ -1,4 +1,4 @@
--- How the steps of a call leave an image: before the time of the volume is put, and after.
+-- The image after the steps of a call: before the time of the volume is set, and after.
 use Rattle.std.proofs.Common.{◌≡◌, ◌∙◌, ap, refl, ℕ, ◌≤◌, List, [], ◌∷◌, length, arith}
 use Rattle.vol_layout.specs.declared.geometry.Geometry.{Geometry}
 use Rattle.vol_dir.specs.Tree.{State, state}

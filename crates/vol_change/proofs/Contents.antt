@@ -1,5 +1,5 @@
--- What an i-node reads as: it stays where its mode, size and addresses do, its body, and what its places name; of the mode its
--- permission bits may change.
+-- The reading of an i-node: if its mode, size and addresses, its body, and the names of its places stay, so does the reading;
+-- of the mode the permission bits may change.
 use Rattle.std.proofs.Common.{◌≡◌, ◌∙◌, ap, refl, ℕ, ◌*◌, ◌/◌, ◌%◌, ◌≤◌, ◌==◌, ◌&&◌, nat_lt, min, true, false, if◌then◌else◌, not, List, [], map, None, Some}
 use Rattle.std.specs.List.{range_with_len}
 use Rattle.std.specs.Option.{option_map}
@@ -23,8 +23,8 @@ use Rattle.vol_change.specs.Alone.{KeepsContent}
 use Rattle.vol_dir.specs.Tree.{Body, Directory, Device, content_of, node_with, node_of, shape_of, is_place, is_named_place}
 use Rattle.vol_dir.proofs.PlaceTests.{place_passed}
 
--- what i-node i holds stays, whatever its permission bits are: its kind, the bits of its mode above those, its size and addresses,
--- its bytes, and what its places name
+-- the reading of i-node i stays, whatever its permission bits: its kind, the bits of its mode above those, its size and
+-- addresses, its bytes, and the names of its places
 pub record KeepsReading (geometry : Geometry) (old new : List ℕ) (i : ℕ) : Type 0 where
   pub kind : kind_at geometry new i ≡ kind_at geometry old i
   pub type : mode_of geometry new i / 4096 ≡ mode_of geometry old i / 4096
@@ -33,7 +33,7 @@ pub record KeepsReading (geometry : Geometry) (old new : List ℕ) (i : ℕ) : T
   pub bytes : IsFile geometry old i → body geometry new i ≡ body geometry old i
   pub names : (p : List ℕ) → IsPlaceOf geometry old i p → named geometry new i p ≡ named geometry old i p
 
--- so it does where the whole mode stays
+-- so it does if the whole mode stays
 pub reading : (geometry : Geometry) (old new : List ℕ) (i : ℕ) → KeepsContent geometry old new i → KeepsReading geometry old new i
 reading geometry old new i kept = record {
   kind = ap (kind_of geometry.edition) kept.mode;
@@ -66,7 +66,7 @@ form_by V7 mode other kind same = ap (λ k. if has_places k then Deep else Bare)
 pub form_reads : (geometry : Geometry) (old new : List ℕ) (i : ℕ) → KeepsReading geometry old new i → form_at geometry new i ≡ form_at geometry old i
 form_reads geometry old new i kept = form_by geometry.edition (mode_of geometry new i) (mode_of geometry old i) kept.kind kept.type
 
--- how many slots there are stays
+-- the number of slots stays
 slots_count : (geometry : Geometry) (old new : List ℕ) (i : ℕ) → KeepsReading geometry old new i
     → slot_count geometry new i ≡ slot_count geometry old i
 slots_count geometry old new i kept = ap (λ n. min n (constants geometry.edition).greatest / 16) kept.size
@@ -159,7 +159,7 @@ unfolding node_of
 node_of_reading geometry old new i kept first last =
     ap (option_map (node_with (inode_of geometry.edition new i))) (content_reads geometry old new i kept first last)
 
--- where the whole mode stays, so does the entry in each slot
+-- if the whole mode stays, so does the entry in each slot
 pub entry_same : (geometry : Geometry) (old new : List ℕ) (i s : ℕ) → KeepsContent geometry old new i → IsFile geometry old i
     → entry_at geometry new i s ≡ entry_at geometry old i s
 entry_same geometry old new i s kept = entry_reads geometry old new i s (reading geometry old new i kept)
@@ -169,7 +169,7 @@ pub shape_same : (geometry : Geometry) (old new : List ℕ) (i : ℕ) → KeepsC
     → shape_of geometry new i (kind_at geometry new i) ≡ shape_of geometry old i (kind_at geometry old i)
 shape_same geometry old new i kept = shape_reads geometry old new i (reading geometry old new i kept)
 
--- the node stays where the i-node does
+-- the node stays if the i-node does
 pub node_same : (geometry : Geometry) (old new : List ℕ) (i : ℕ) → KeepsContent geometry old new i → 1 ≤ i → i ≤ geometry.last_inode
     → inode_of geometry.edition new i ≡ inode_of geometry.edition old i → node_of geometry new i ≡ node_of geometry old i
 unfolding node_of

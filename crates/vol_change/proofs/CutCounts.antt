@@ -1,4 +1,4 @@
--- How many blocks a truncation gives back.
+-- The number of blocks that a truncation frees.
 use Rattle.std.proofs.Common.{◌≡◌, ◌∙◌, sym, ap, refl, ℕ, zero, suc, ◌+◌, ◌==◌, ◌&&◌, Bool, not, cond, true, false, List, [], ◌∷◌, length, filter, arith, inl, inr}
 use Rattle.std.specs.List.{count_by}
 use Rattle.std.proofs.lemmas.Bool.{cases_Bool}
@@ -21,7 +21,7 @@ use Rattle.vol_change.proofs.FreeCounts.{blocks_length, form_shape}
 use Rattle.vol_change.proofs.States.{shape_here}
 use Rattle.vol_change.proofs.WrittenStates.{IsKind}
 
--- what is counted of the items that pass a test
+-- the count of the items that pass a test
 count_passed : (names t : List ℕ → Bool) (ps : List (List ℕ)) → count_by names (filter t ps) ≡ count_by (λ p. names p && t p) ps
 count_passed names t [] = refl
 count_passed names t (p ∷ ps) =
@@ -45,7 +45,7 @@ count_passed names t (p ∷ ps) =
           omega (arith, rest, both, here, none)
     ]
 
--- a truncation gives back as many blocks as places of the shape go
+-- a truncation frees as many blocks as places of the shape no longer name one
 pub cut_number : (geometry : Geometry) (image : List ℕ) (i size : ℕ) → IsKind geometry image i kinds.Regular
     → cut_count geometry.edition (shapes geometry image i) size ≡ length (blocks_past geometry image i size)
 unfolding blocks_past blocks_at
@@ -67,7 +67,7 @@ one_of true true = refl
 one_of true false = refl
 one_of false t = refl
 
--- what passes two tests, and what passes the first alone
+-- the items that pass two tests, and those that pass only the first
 count_split : (names t : List ℕ → Bool) (ps : List (List ℕ))
     → count_by (λ p. names p && t p) ps + count_by (λ p. names p && not (t p)) ps ≡ count_by names ps
 count_split names t [] = refl

@@ -9,7 +9,7 @@ use Rattle.vol_change.specs.Beside.{StaysBeside}
 use Rattle.vol_change.specs.NodeGraphs.{AddsNode, SetsLinks}
 use Rattle.vol_change.specs.Dots.{AddsDots}
 
--- what is beside a directory, one change after the other
+-- changes of one directory's entries, one after the other, keep the rest of the graph
 beside_then : (old mid new : Graph) (d : ℕ) → StaysBeside old mid d → StaysBeside mid new d → StaysBeside old new d
 beside_then old mid new d a b = record {
   kind = λ x. b.kind x ∙ a.kind x;

@@ -1,4 +1,4 @@
--- What is known of the image of a directory whose entries, size and places the state says.
+-- The image of a directory whose entries, size and places the state gives.
 use Rattle.std.proofs.Common.{◌≡◌, ◌∙◌, sym, ap, subst, ℕ, ◌*◌, ◌≤◌, true≢false, List, [], length, None, arith}
 use Rattle.std.specs.Option.{unwrap_or}
 use Rattle.vol_layout.specs.declared.geometry.Geometry.{Geometry}
@@ -56,7 +56,7 @@ pub first_slot : (geometry : Geometry) (image : List ℕ) (i : ℕ) → IsDirect
     → new_slot (names_in (slots geometry image i)) ≡ 0
 first_slot geometry image i is has = ap new_slot (slots_held geometry image i 0 [] no_shape is has)
 
--- where a directory has no bytes, it has no entries
+-- if a directory has no bytes, it has no entries
 pub no_entry : (geometry : Geometry) (image : List ℕ) (i s : ℕ) (shape : Shape) → IsDirectory geometry image i
     → HoldsNames (state geometry image) i [] 0 shape → entry_at geometry image i s ≡ None
 no_entry geometry image i s shape is has =

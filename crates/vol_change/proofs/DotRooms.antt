@@ -13,7 +13,7 @@ use Rattle.vol_dir.specs.Names.{dot}
 use Rattle.vol_dir.specs.Tree.{no_shape}
 use Rattle.vol_change.specs.Shapes.{need_in, shape_with_entry}
 
--- what is asked and passed
+-- a check that is passed
 asked_twice : (t : Bool) → (t && not (false || t)) ≡ false
 asked_twice true = refl
 asked_twice false = refl

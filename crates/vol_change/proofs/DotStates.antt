@@ -15,7 +15,7 @@ use Rattle.vol_change.specs.Shapes.{new_directory_shape, shape_with_entry}
 use Rattle.vol_change.specs.Dots.{HoldsNames}
 use Rattle.vol_change.proofs.NodeEdits.{edit, set_here, with_entry, entry_here, entry_over, entry_apart}
 
--- a test that is asked twice
+-- a check that runs twice
 twice : (t : Bool) → ((false || t) || t) ≡ (false || t)
 twice true = refl
 twice false = refl
@@ -50,7 +50,7 @@ dots_put state cred now perm made d =
     ∙ (entry_over state made d dot_dot first shape
     ∙ ap (λ (x : Shape). edit made (Some (with_entry dot_dot d shape first)) x state) (dots_shape edition))
 
--- the entry in its parent comes first, as well as last
+-- the entry in the parent may be added first or last
 pub dots_made : (state : State) (cred : Cred) (now perm made d : ℕ) (name : List ℕ) → made ≢ d
     → put_entry made dot_dot d (put_entry made dot made
     (add_entry now d name made (edit made (Some (bare_directory state.tree.geometry.edition cred now perm)) no_shape state)))
@@ -79,7 +79,7 @@ bare_empty state cred edition now perm made d name apart =
       shape = ap (λ (x : State). x.shapes made) same ∙ set_here named.shapes made no_shape;
     }
 
--- what a directory has once it has one more entry
+-- a directory after one more entry is added
 pub entry_held : (state : State) (i k size : ℕ) (name : List ℕ) (names : Names) (shape : Shape) → HoldsNames state i names size shape
     → HoldsNames (put_entry i name k state) i (insert names name k) (max size (16 * new_slot shape.slots + 16))
     (shape_with_entry state.tree.geometry.edition shape name)

@@ -1,4 +1,4 @@
--- What a name in a directory of a sound image says of the node that it names.
+-- The node that a name in a directory of a sound image names.
 use Rattle.std.proofs.Common.{◌≡◌, ◌≢◌, ◌∙◌, sym, ap, ℕ, ◌<◌, ◌≤◌, not, true, false, true≢false, List, length, None, Some, inl, inr, arith}
 use Rattle.std.specs.List.{list_any}
 use Rattle.std.specs.Option.{IsSome, is_some, option_map}
@@ -36,7 +36,7 @@ pub name_there : (geometry : Geometry) (image name : List ℕ) (d i : ℕ) → I
     → get (names_at (tree geometry image) d) name ≡ Some i → IsSome (get (names_of (slots geometry image d)) name)
 name_there geometry image name d i is named = ap is_some (name_found geometry image name d i is named)
 
--- its entry stands in the slot of the name
+-- its entry is in the slot of the name
 pub named_entry : (geometry : Geometry) (image name : List ℕ) (d i : ℕ) → IsDirectory geometry image d
     → get (names_at (tree geometry image) d) name ≡ Some i
     → (graph_of geometry image).entry d (slot_named name (slots geometry image d)) ≡ Some (name, i)
@@ -46,7 +46,7 @@ named_entry geometry image name d i is named =
     entry_to geometry image name d (slot_named name (slots geometry image d)) i
     (record { directory = is; entry = holds.entry ∙ ap (option_map (λ (j : ℕ). (name, j))) found })
 
--- what a directory of a sound image has a name for is in use
+-- a node that a directory of a sound image names is in use
 pub named_used : (geometry : Geometry) (image name : List ℕ) (d i : ℕ) → Rules1To12 geometry image → IsDirectory geometry image d
     → get (names_at (tree geometry image) d) name ≡ Some i → IsInUse geometry image i
 named_used geometry image name d i ready is named =
@@ -54,11 +54,11 @@ named_used geometry image name d i ready is named =
     let inside = used_from geometry image i parts.1 in
     record { first = parts.0; last = inside.1; allocated = inside.2 }
 
--- what is in use has a number of the volume
+-- an i-number in use is one of the volume
 pub used_first : (geometry : Geometry) (image : List ℕ) (i : ℕ) → IsInUse geometry image i → 1 ≤ i
 used_first geometry image i used = let root = root_first geometry.edition in omega (arith, root, used.first)
 
--- what is in use and no directory stands above the root
+-- an i-number in use that is no directory is above the root's
 pub file_above : (geometry : Geometry) (image : List ℕ) (i : ℕ) → Rules1To12 geometry image → IsInUse geometry image i
     → kind_at geometry image i ≢ kinds.Directory → (constants geometry.edition).root < i
 file_above geometry image i ready used other = elim (cases_eq i (constants geometry.edition).root) [
@@ -66,7 +66,7 @@ file_above geometry image i ready used other = elim (cases_eq i (constants geome
   | inr apart ↦ let first = used.first in omega arith
 ]
 
--- a directory with a name that is neither `.` nor `..` stands above the root
+-- a directory with a name that is neither `.` nor `..` has an i-number above the root's
 pub directory_above : (geometry : Geometry) (image name : List ℕ) (d i : ℕ) → Rules1To12 geometry image → IsDirectory geometry image d
     → get (names_at (tree geometry image) d) name ≡ Some i → is_dots name ≡ false → (constants geometry.edition).root < i
 directory_above geometry image name d i ready is named plain =
@@ -88,7 +88,7 @@ directory_linked geometry image d ready is =
     let self = sound.itself d kind in
     sound.linked d (sound.allocated d self.0 d dot self.1).0 (not_free ((graph_of geometry image).kind d) kind)
 
--- where a search of the map for names other than `.` and `..` finds none, no slot has another
+-- if a search of the map for names other than `.` and `..` finds none, no slot has another
 other_none : (geometry : Geometry) (image : List ℕ) (i s : ℕ) → list_any holds_other (slots geometry image i) ≡ false
     → holds_other (entry_at geometry image i s) ≡ false
 other_none geometry image i s none = elim (cases_lt s (length (slots geometry image i))) [

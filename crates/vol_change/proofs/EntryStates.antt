@@ -160,7 +160,7 @@ held_entry : (name : List ℕ) (slot : Option (List ℕ × ℕ)) → holds name 
 held_entry name None held = refl
 held_entry name (Some entry) held = let same = sym (same_bytes name entry.0 held) in λ k. Some (same k, entry.1)
 
--- where directories are sound, none has a name twice
+-- if directories are sound, none has a name twice
 pub names_once : (geometry : Geometry) (image : List ℕ) (d : ℕ) → HasEntries geometry image → IsDirectory geometry image d → HasNamesOnce geometry image d
 names_once geometry image d entries is = record {
   once = λ name s t first second.

@@ -1,4 +1,4 @@
--- What a change of one file leaves of the graph that directories make.
+-- The graph of directories after a change of one file.
 use Rattle.std.proofs.Common.{◌≡◌, ◌≢◌, ◌∙◌, sym, ap, ℕ, ◌≤◌, List, inl, inr, Bool, true, false, true≢false}
 use Rattle.std.proofs.lemmas.Bool.{cases_eq}
 use Rattle.vol_layout.specs.Geometry.{Fits}
@@ -19,7 +19,7 @@ use Rattle.vol_change.specs.Beside.{StaysBeside}
 use Rattle.vol_change.specs.Alone.{KeepsContent}
 use Rattle.vol_change.proofs.OneNode.{alone_inode, entry_stays, only_file}
 
--- the kinds stay where file i's does
+-- the kinds stay if file i's does
 kinds_stay : (geometry : Geometry) (old new : List ℕ) (i x : ℕ) → Fits geometry old → ChangesFileAlone geometry old new i → 1 ≤ i
     → kind_at geometry new i ≡ kind_at geometry old i → 1 ≤ x → x ≤ geometry.last_inode → kind_at geometry new x ≡ kind_at geometry old x
 kinds_stay geometry old new i x fits alone one kind first last = elim (cases_eq x i) [
@@ -32,7 +32,7 @@ content_stays : (geometry : Geometry) (old new : List ℕ) (i x : ℕ) → Fits 
     → x ≢ i → IsDirectory geometry old x → KeepsContent geometry old new x
 content_stays geometry old new i x fits alone one other is = ((only_file geometry old new i fits alone one).others x is.first is.last other).content
 
--- whether a kind is that of regular files
+-- true if a kind is that of regular files
 abbrev is_regular : Kind → Bool
 is_regular kinds.Regular = true
 is_regular kinds.Directory = false
@@ -46,7 +46,7 @@ not_regular geometry image i x regular is same =
     let both : kinds.Regular ≡ kinds.Directory = sym regular ∙ (ap (kind_at geometry image) (sym same) ∙ is.kind) in
     true≢false (ap is_regular both)
 
--- the graph stays where a regular file changes
+-- the graph stays if a regular file changes
 pub regular_graph : (geometry : Geometry) (old new : List ℕ) (i : ℕ) → Fits geometry old → ChangesFileAlone geometry old new i → 1 ≤ i
     → kind_at geometry old i ≡ kinds.Regular → kind_at geometry new i ≡ kind_at geometry old i
     → IsSameGraph (graph_of geometry old) (graph_of geometry new)
@@ -56,7 +56,7 @@ regular_graph geometry old new i fits alone one regular kind =
     (λ x is. (content_stays geometry old new i x fits alone one (not_regular geometry old i x regular is) is).size)
     (λ x s is. entry_stays geometry old new x s (content_stays geometry old new i x fits alone one (not_regular geometry old i x regular is) is) is)
 
--- what is beside directory d stays where it changes
+-- a change of directory d keeps everything besides its entries
 pub directory_beside : (geometry : Geometry) (old new : List ℕ) (d : ℕ) → Fits geometry old → ChangesFileAlone geometry old new d → 1 ≤ d
     → kind_at geometry new d ≡ kind_at geometry old d → StaysBeside (graph_of geometry old) (graph_of geometry new) d
 directory_beside geometry old new d fits alone one kind = record {

@@ -1,4 +1,4 @@
--- What a change of one file leaves of its i-node.
+-- The i-node of a file after a change of the file.
 use Rattle.std.proofs.Common.{◌≡◌, ◌∙◌, sym, ap, refl, ℕ, zero, suc, ◌&&◌, not, ◌+◌, ◌*◌, ◌/◌, ◌%◌, ◌<◌, ◌≤◌, ◌==◌, Bool, if◌then◌else◌, nat_lt, List, get_or, true, false, true≢false, arith, inl, inr}
 use Rattle.std.specs.Prelude.{◌||◌, Some}
 use Rattle.std.proofs.lemmas.Bool.{cases_Bool}
@@ -17,13 +17,13 @@ use Rattle.vol_file.specs.Changes.{is_kept_byte, truncated_mode}
 use Rattle.vol_file.specs.Shape.{grows_large, fit_form}
 use Rattle.vol_dir.specs.Tree.{Content, node_with}
 
--- what a change of a file leaves of its mode: all but the large flag
+-- the bits of its mode that a change of a file keeps: all except the large flag
 pub record KeepsMode (edition : Edition) (old new : ℕ) (large : Bool) : Type 0 where
   pub kind : kind_of edition new ≡ kind_of edition old
   pub permissions : new % 4096 ≡ old % 4096
   pub flag : is_large edition new ≡ large
 
--- the kind that an allocated mode of the sixth edition stands for
+-- the kind of an allocated mode of the sixth edition
 kind_high : (mode : ℕ) → 32768 ≤ mode → kind_of V6 mode ≡ kind_of_type_v6 (mode / 8192 % 4)
 unfolding kind_of
 kind_high mode h =
@@ -82,7 +82,7 @@ pub none_passes : (t : Bool) → (t && false) ≡ false
 none_passes true = refl
 none_passes false = refl
 
--- what passes beside what always does
+-- a test together with one that always passes
 pub all_passes : (t : Bool) → (t && true) ≡ t
 all_passes true = refl
 all_passes false = refl
@@ -125,7 +125,7 @@ touched_form V7 old new blocks file keeps =
     let before = form_file V7 old file in
     form_file V7 new after ∙ sym (ap (λ f. fit_form f blocks) before)
 
--- what a change of a file leaves of its i-node: all but the size, the addresses and the large flag
+-- the fields of its i-node that a change of a file keeps: all except the size, the addresses and the large flag
 pub record KeepsFields (old new : Inode) : Type 0 where
   pub permissions : new.mode.bits % 4096 ≡ old.mode.bits % 4096
   pub links : new.links ≡ old.links
@@ -187,7 +187,7 @@ pub fields_kept : (edition : Edition) (old new : List ℕ) (at : ℕ) → KeepsB
 fields_kept V6 old new at keeps mode = fields_v6 old new at keeps mode
 fields_kept V7 old new at keeps mode = fields_v7 old new at keeps mode
 
--- a node of which the content and the size change
+-- a node whose content and size change
 pub node_changed : (old new : Inode) (before after : Content) (size : ℕ) → KeepsFields old new → new.size ≡ size
     → node_with new after ≡ record (node_with old before) { content = after; size = size }
 node_changed old new before after size fields is = λ k. record {

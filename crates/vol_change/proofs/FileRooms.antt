@@ -1,4 +1,4 @@
--- Whether there is room for a change of a file, as the state says.
+-- Room for a change of a file, as the state gives it.
 use Rattle.std.proofs.Common.{◌≡◌, ◌∙◌, sym, ap, ℕ, ◌*◌, ◌/◌, ◌≤◌, List, [], ◌∷◌, length, true, true≢false, arith}
 use Rattle.vol_layout.specs.Names.{mode_of, form_at, IsFile}
 use Rattle.vol_layout.specs.Places.{has_places}
@@ -23,7 +23,7 @@ use Rattle.vol_change.proofs.ShapePlaces.{need_places}
 use Rattle.vol_change.proofs.WrittenStates.{IsKind}
 use Rattle.vol_change.proofs.EntryStates.{slot_block, shape_is}
 
--- what a file of some kind needs
+-- the number of blocks that a file of some kind needs
 need_by : (geometry : Geometry) (image : List ℕ) (i : ℕ) (blocks : List ℕ) (kind : Kind) → has_places (kind_at geometry image i) ≡ true
     → has_places kind ≡ true → need_in geometry.edition (shape_of geometry image i kind) blocks ≡ need_of (form_at geometry image i) (is_named geometry image i) blocks
 need_by geometry image i blocks kinds.Regular file h =
@@ -43,7 +43,7 @@ need_is geometry image i blocks file =
     ap (λ shape. need_in geometry.edition shape blocks) (shape_here geometry image i file.first file.last)
     ∙ need_by geometry image i blocks (kind_at geometry image i) file.kind file.kind
 
--- what is within the free blocks that the shapes leave is within those of the image
+-- a number within the free blocks that the shapes leave is within those of the image
 pub room_is : (geometry : Geometry) (image : List ℕ) (n : ℕ) → Rules3To8 geometry image → n ≤ free_count geometry (shapes geometry image)
     → (blocks : List ℕ) → Rules3To7With geometry image blocks → n ≤ length blocks
 room_is geometry image n rules within blocks sound =
@@ -58,7 +58,7 @@ pub nothing_needed : (geometry : Geometry) (image : List ℕ) (i offset len : �
 nothing_needed geometry image i offset len file none =
     need_is geometry image i (touched offset len) file ∙ (ap (need geometry image i offset) none ∙ need_nothing (form_at geometry image i) (is_named geometry image i))
 
--- where the shapes leave room for a file's blocks, there is room
+-- if the shapes leave room for a file's blocks, there is room
 pub file_room : (geometry : Geometry) (image : List ℕ) (i : ℕ) (blocks : List ℕ) → Rules3To8 geometry image → IsFile geometry image i
     → need_in geometry.edition (shapes geometry image i) blocks ≤ free_count geometry (shapes geometry image)
     → (free : List ℕ) → Rules3To7With geometry image free → need_of (form_at geometry image i) (is_named geometry image i) blocks ≤ length free
@@ -77,7 +77,7 @@ entry_need_is geometry image d is =
     ap (need_of (form_at geometry image d) (is_named geometry image d)) (slot_block s)
     ∙ (sym (need_is geometry image d (s / 32 ∷ []) file) ∙ sym (ap (need_in geometry.edition (shapes geometry image d)) list))
 
--- where the shapes leave room for a new entry, there is room
+-- if the shapes leave room for a new entry, there is room
 pub entry_room : (geometry : Geometry) (image : List ℕ) (d : ℕ) → Rules3To8 geometry image → IsKind geometry image d kinds.Directory
     → need_in geometry.edition (shapes geometry image d) (entry_blocks (shapes geometry image d)) ≤ free_count geometry (shapes geometry image)
     → (free : List ℕ) → Rules3To7With geometry image free

@@ -29,7 +29,7 @@ use Rattle.vol_dir.proofs.PlaceTests.{place_test}
 use Rattle.vol_change.proofs.FreeLists.{one_list}
 use Rattle.vol_change.proofs.WrittenStates.{IsKind}
 
--- what is on the way of the first block is its place
+-- the way of the first block is its place alone
 on_first : (p : List ℕ) → ((bytes_eq p (0 ∷ []) || false) || false) ≡ true → p ≡ 0 ∷ []
 on_first p test = same_bytes p (0 ∷ []) (sym (or-false (bytes_eq p (0 ∷ []) || false) ∙ or-false (bytes_eq p (0 ∷ []))) ∙ test)
 
@@ -50,7 +50,7 @@ first_place geometry image i p is shape place some =
     ap (λ (x : Shape). x.names p) (sym (shape_is geometry image i is) ∙ shape) in
     new_names geometry.edition p (sym same ∙ here)
 
--- where one block was taken and nothing but file i has changed, whose one place is the first, that place names the block
+-- if one block was taken and nothing but file i has changed, whose one place is the first, that place names the block
 pub first_taken : (geometry : Geometry) (old new : List ℕ) (i : ℕ) (blocks : List ℕ) (before : Rules3To8 geometry old) → Rules3To8 geometry new
     → FreeBecomes geometry old new (drop 1) → ((j : ℕ) → 1 ≤ j → j ≤ geometry.last_inode → j ≢ i → KeepsContent geometry old new j)
     → IsKind geometry new i kinds.Directory → shapes geometry new i ≡ new_directory_shape geometry.edition
@@ -85,6 +85,6 @@ first_kept geometry old new i kept =
     sym (inode_address geometry.edition new (inode_place geometry.edition i) 0 (omega arith))
     ∙ (ap (λ xs. get_or xs 0 0) kept.addresses ∙ inode_address geometry.edition old (inode_place geometry.edition i) 0 (omega arith))
 
--- the first of what is left is the next
+-- the first of the blocks that are left is the next one
 pub first_left : (n : ℕ) (xs : List ℕ) → slice_index (drop n xs) 0 ≡ slice_index xs n
 first_left n xs = let same : n + 0 ≡ n = omega arith in get_or-drop n xs 0 0 ∙ ap (λ m. get_or xs m 0) same

@@ -1,4 +1,4 @@
--- How many blocks are free after each call.
+-- The number of free blocks after each call.
 use Rattle.std.proofs.Common.{◌≡◌, ◌≢◌, ◌∙◌, sym, ap, refl, ℕ, ◌+◌, ◌-◌, ◌≤◌, ◌==◌, Bool, true, false, if◌then◌else◌, List, [], ◌∷◌, length, Option, None, Some, arith, inl, inr}
 use Rattle.std.specs.Option.{option_map, unwrap_or}
 use Rattle.std.specs.Prelude.{nat_le}
@@ -43,7 +43,7 @@ free_other : (geometry : Geometry) (image : List ℕ) (i d : ℕ) → IsFreeNumb
 free_other geometry image i d free is =
     λ e. let same : kinds.Directory ≡ kinds.Free = sym is.kind ∙ (ap (kind_at geometry image) e ∙ free_kind geometry image i free) in cc
 
--- a node that goes gives back its blocks, whatever entry went before
+-- freeing a node frees its blocks, whatever entry was removed before
 lost_blocks : (geometry : Geometry) (image : List ℕ) (d i : ℕ) (name : List ℕ) → Rules1To12 geometry image
     → free_count geometry (set_at (set_at (shapes geometry image) d (shape_without_entry (shapes geometry image d) name)) i no_shape)
     ≡ free_count geometry (shapes geometry image) + place_count geometry.edition (shapes geometry image i)
@@ -123,7 +123,7 @@ links_kept state now d i name =
           ap (λ t. (unwrap_or (if t then change (state.tree.nodes d) else state.tree.nodes i) no_node).links) differ
     ]
 
--- an entry that goes leaves each file its blocks
+-- removing an entry leaves each file its blocks
 pub count_left : (geometry : Geometry) (old mid : List ℕ) (now i d : ℕ) (name : List ℕ) → state geometry mid ≡ remove_entry now d name (state geometry old)
     → place_count geometry.edition (shapes geometry mid i) ≡ place_count geometry.edition (shapes geometry old i)
 unfolding tree
@@ -132,7 +132,7 @@ count_left geometry old mid now i d name makes =
     ap (λ (s : State). place_count geometry.edition (s.shapes i)) makes
     ∙ set_count geometry.edition was d (shape_without_entry (was d) name) (gone_count geometry.edition (was d) name) i
 
--- what the loss of a name leaves of a node, by its links
+-- a node after it lost a name, by its link count
 released : (state : State) (now i d : ℕ) (name : List ℕ) (last : Bool) → nat_le (node_at state.tree i).links 1 ≡ last
     → free_in (at_time now (release now i (remove_entry now d name state)))
     ≡ free_in (if last then remove_node i (remove_entry now d name state) else drop_link now i (remove_entry now d name state))
@@ -140,7 +140,7 @@ released state now i d name last is =
     let mid = remove_entry now d name state in
     ap (λ t. free_in (at_time now (if t then remove_node i mid else drop_link now i mid))) (ap (λ n. nat_le n 1) (links_kept state now d i name) ∙ is)
 
--- a name that goes gives back nothing, where its node has another
+-- removing a name frees no blocks if its node has another
 pub free_after_unlink : (geometry : Geometry) (image : List ℕ) (now i d : ℕ) (name : List ℕ)
     → get (names_at (state geometry image).tree d) name ≡ Some i → 2 ≤ (node_at (state geometry image).tree i).links
     → free_in (at_time now (after_unlink (state geometry image) now d name)) ≡ free_in (state geometry image)
@@ -154,7 +154,7 @@ free_after_unlink geometry image now i d name named many =
     ∙ free_same geometry (set_at old d (shape_without_entry (old d) name)) old
     (set_count e old d (shape_without_entry (old d) name) (gone_count e (old d) name)))
 
--- and the blocks of the node, where it was its last
+-- and the blocks of the node if it was its last
 pub free_after_last_unlink : (geometry : Geometry) (image : List ℕ) (now i d : ℕ) (name : List ℕ) → Rules1To12 geometry image
     → get (names_at (state geometry image).tree d) name ≡ Some i → (node_at (state geometry image).tree i).links ≤ 1
     → free_in (at_time now (after_unlink (state geometry image) now d name))
@@ -166,7 +166,7 @@ free_after_last_unlink geometry image now i d name ready named few =
     ∙ (released (state geometry image) now i d name true last
     ∙ lost_blocks geometry image d i name ready)
 
--- a directory that goes gives back its blocks
+-- removing a directory frees its blocks
 pub free_after_rmdir : (geometry : Geometry) (image : List ℕ) (now i d : ℕ) (name : List ℕ) → Rules1To12 geometry image
     → get (names_at (state geometry image).tree d) name ≡ Some i
     → free_in (at_time now (after_rmdir (state geometry image) now d name))

@@ -35,7 +35,7 @@ use Rattle.vol_judge.proofs.GraphCounts.{sum_same}
 use Rattle.vol_judge.proofs.NamedOnce.{in_append, in_left, in_right, once_append}
 use Rattle.vol_dir.proofs.PlaceTests.{place_test}
 
--- a list without one number, where it first comes
+-- a list without the first occurrence of a number
 abbrev without : ℕ → List ℕ → List ℕ
 without k [] = []
 without k (x ∷ xs) = if k == x then xs else x ∷ without k xs
@@ -101,7 +101,7 @@ blocks_length geometry image i (p ∷ ps) =
           omega (arith, rest, step, one, here)
     ]
 
--- what a test says of places alone, it says of all places of a form
+-- a test counted over the places alone gives the same as over all places of a form
 test_places : (form : Form) (names : List ℕ → Bool) → count_by (λ p. is_place form p && names p) (places form) ≡ count_by names (places form)
 test_places form names =
     count_among (λ p. is_place form p && names p) names (places form) (λ p among.
@@ -116,7 +116,7 @@ form_shape V7 mode file = sym (ap (λ t. if t then file_form V7 mode else Bare) 
 count_false : (ps : List (List ℕ)) → count_by (λ (p : List ℕ). false) ps ≡ 0
 count_false ps = count_none (λ p. false) ps (λ p. refl)
 
--- the places of a file's shape, and of what has none
+-- the places of a file's shape, and of a shape without places
 count_file : (geometry : Geometry) (image : List ℕ) (i : ℕ) → has_places (kind_at geometry image i) ≡ true
     → count_by (is_named_place geometry image i) (places (form_in geometry.edition (is_large geometry.edition (mode_of geometry image i))))
     ≡ length (blocks_of geometry image i)
@@ -153,7 +153,7 @@ count_number geometry image i first last =
     ap (λ t. place_count geometry.edition (if t then shape_of geometry image i (kind_of geometry.edition (mode_of geometry image i)) else no_shape)) inside
     ∙ count_shape geometry image i (kind_at geometry image i) refl
 
--- what is no file has no blocks
+-- an i-node that is no file has no blocks
 pub count_none_bare : (geometry : Geometry) (image : List ℕ) (i : ℕ) → 1 ≤ i → i ≤ geometry.last_inode → has_places (kind_at geometry image i) ≡ false
     → place_count geometry.edition (shapes geometry image i) ≡ 0
 count_none_bare geometry image i first last bare =

@@ -1,4 +1,4 @@
--- What is free in the graph is an i-number that may be taken.
+-- An i-number that is free in the graph may be given to a new node.
 use Rattle.std.proofs.Common.{◌≡◌, ◌≢◌, ◌∙◌, sym, ap, ℕ, ◌/◌, ◌%◌, ◌==◌, Bool, true, false, nat_lt, if◌then◌else◌, List, inl, inr, arith, Option, None, Some, IfSome}
 use Rattle.std.specs.Option.{unwrap_or}
 use Rattle.std.proofs.lemmas.Bool.{cases_eq}

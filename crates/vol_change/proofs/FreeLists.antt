@@ -1,4 +1,4 @@
--- What becomes of the free list.
+-- The free list after each change.
 use Rattle.std.proofs.Common.{◌≡◌, ◌∙◌, sym, ap, subst, ℕ, ◌+◌, ◌*◌, ◌≤◌, List, [], ◌∷◌, ◌++◌, length, map, filter, drop, not, ◌==◌, if◌then◌else◌, true, false, inl, inr, refl, arith, zero, suc, add-one}
 use Rattle.std.proofs.Math.Seq.{drop-append_seam}
 use Rattle.pdp_words.specs.Words.{SameOutside}
@@ -24,7 +24,7 @@ use Rattle.vol_change.proofs.Contents.{kind_same}
 use Rattle.vol_layout.proofs.EditionLaws.{super_order}
 use Rattle.vol_change.proofs.WholeLaws.{zone_behind}
 
--- a write behind the free list's head and before the data zone leaves it
+-- a write after the free list's head and before the data zone leaves it
 free_below : (geometry : Geometry) (old new : List ℕ) (from to : ℕ) → SameOutside old new from to → free_head geometry.edition + 202 ≤ from
     → to ≤ 512 * geometry.zone_start → FreeBecomes geometry old new as_before
 free_below geometry old new from to same low high blocks free =
@@ -61,7 +61,7 @@ pub one_list : (geometry : Geometry) (image blocks : List ℕ) → (rules : Rule
 one_list geometry image blocks rules free =
     let behind = zone_behind geometry image rules.sound.fits in IsFree_unique (omega (arith, behind)) rules.sound.free free
 
--- a write takes what it needs off its front
+-- a write takes the blocks that it needs from the front of the list
 pub written_free : (geometry : Geometry) (old new : List ℕ) (i offset n : ℕ) (text : List ℕ) (rules : Rules3To8 geometry old)
     → Writes geometry old new i offset text rules.blocks → need geometry old i offset (length text) ≡ n → FreeBecomes geometry old new (drop n)
 written_free geometry old new i offset n text rules writes needed blocks free =
@@ -105,7 +105,7 @@ blocks_kept geometry old new i kept file =
     (map_among (named geometry new i) (named geometry old i) (places (form_at geometry old i))
     (λ p among. kept.names p (record { file = file; place = among_places (form_at geometry old i) p among })))
 
--- and so are those that would go back with it
+-- and so are those that would be freed with it
 pub freed_kept : (geometry : Geometry) (old new : List ℕ) (i : ℕ) → KeepsContent geometry old new i → 1 ≤ i → i ≤ geometry.last_inode
     → blocks_freed geometry new i ≡ blocks_freed geometry old i
 freed_kept geometry old new i kept first last =

@@ -1,4 +1,4 @@
--- A node that goes: its file is truncated, and its i-node cleared.
+-- Freeing a node: its file is truncated, and its i-node cleared.
 use Rattle.std.proofs.Common.{◌≡◌, ◌∙◌, sym, ap, subst, ℕ, ◌+◌, ◌<◌, ◌≤◌, ◌++◌, if◌then◌else◌, true, List, [], slice_index, None, inl, inr, arith}
 use Rattle.std.specs.Option.{option_map}
 use Rattle.std.proofs.lemmas.Bool.{cases_lt, lt-ltb, le-ltb, false≢true}
@@ -45,7 +45,7 @@ pub truncated_only : (geometry : Geometry) (old new : List ℕ) (i : ℕ) → (r
 truncated_only geometry old new i rules first truncates =
     only_file geometry old new i rules.sound.fits (truncates rules.blocks rules.sound).alone first
 
--- its blocks go back to the free list
+-- its blocks return to the free list
 pub truncated_list : (geometry : Geometry) (old new : List ℕ) (i : ℕ) → (rules : Rules3To8 geometry old) → has_places (kind_at geometry old i) ≡ true
     → ((blocks : List ℕ) → Rules3To7With geometry old blocks → Truncates geometry old new i 0 blocks)
     → FreeBecomes geometry old new (λ blocks. blocks_freed geometry old i ++ blocks)
@@ -101,7 +101,7 @@ cache_most edition image =
           omega (arith, all, few)
     ]
 
--- what a number is given to changes within the cache alone
+-- putting a number in the cache changes bytes in the cache alone
 pub given_inside : (edition : Edition) (old new : List ℕ) (i : ℕ)
     → (cache_len edition old < 100 → Cached edition old new (cache_len edition old) i) → (cache_len edition old ≡ 100 → new ≡ old)
     → SameOutside old new (cache_head edition) (cache_head edition + 202)
@@ -149,7 +149,7 @@ module _ (geometry : Geometry) (old mid low new : List ℕ) (i : ℕ) (frees : F
   freed_kind : kind_at geometry new i ≡ kinds.Free
   freed_kind = ap (kind_of geometry.edition) freed_mode ∙ kind_zero geometry.edition
 
-  -- the rules hold, and what no call changes stays
+  -- the rules hold, and the bytes that no call changes stay
   pub freed_keeps : Keeps geometry old new
   freed_keeps = record { rules = (cache_keeps geometry low new low_whole frees.given).rules; around = freed_only.around }
 

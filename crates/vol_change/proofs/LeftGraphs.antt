@@ -1,4 +1,4 @@
--- What the steps of a call that takes a name out of a directory make of the graph.
+-- The graph after the steps of a call that removes a name from a directory.
 use Rattle.std.proofs.Common.{◌≡◌, ◌≢◌, ◌∙◌, sym, ap, ℕ, ◌-◌, ◌%◌, ◌<◌, ◌≤◌, true≢false, false, true, List, None, Some, arith}
 use Rattle.vol_dir.specs.Names.{is_dots}
 use Rattle.vol_judge.specs.Graph.{Graph}
@@ -7,7 +7,7 @@ use Rattle.vol_layout.specs.declared.mode.Kind.TheVariants as kinds
 use Rattle.vol_change.specs.Beside.{StaysBeside}
 use Rattle.vol_change.specs.NodeGraphs.{SetsLinks, DropsNode}
 
--- the entry of a name, which i-number i has, goes from slot s of directory d
+-- the entry of a name, for i-number i, is removed from slot s of directory d
 pub record LeavesSlot (old mid : Graph) (i d s : ℕ) (name : List ℕ) : Type 0 where
   pub slot : ChangesSlot old mid d s (Some (name, i)) None
   pub beside : StaysBeside old mid d
@@ -23,7 +23,7 @@ slot_linked old mid new i d s x count name leaves sets = record {
   whole = ap (λ n. n % 16) (sets.size d (leaves.beside.kind d ∙ leaves.slot.directory)) ∙ leaves.slot.whole;
 }
 
--- and keeps what is beside
+-- and keeps the rest
 others_linked : (old mid new : Graph) (i d s x count : ℕ) (name : List ℕ) → LeavesSlot old mid i d s name → SetsLinks mid new x count
     → KeepsOthers old new d i
 others_linked old mid new i d s x count name leaves sets = record {
@@ -32,11 +32,11 @@ others_linked old mid new i d s x count name leaves sets = record {
   entry = λ y t away other. sets.entry y t ∙ leaves.beside.entry y t away;
 }
 
--- what is used stays used
+-- nodes in use stay in use
 still_used : (old mid : Graph) (d x : ℕ) → StaysBeside old mid d → old.kind x ≢ kinds.Free → mid.kind x ≢ kinds.Free
 still_used old mid d x beside used free = used (sym (beside.kind x) ∙ free)
 
--- with one link less, what isn't a directory has lost a name
+-- with one link fewer, a node that isn't a directory has lost a name
 pub left_name : (old mid new : Graph) (i d s count : ℕ) (name : List ℕ) → LeavesSlot old mid i d s name → SetsLinks mid new i count
     → count ≡ mid.links i - 1 → old.kind i ≢ kinds.Free → old.kind i ≢ kinds.Directory → 1 < mid.links i → DropsName old new i d s name
 left_name old mid new i d s count name leaves sets less used other most =

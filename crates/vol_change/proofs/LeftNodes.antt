@@ -1,4 +1,4 @@
--- What a name that goes leaves of an image, with the node that it named.
+-- The image after a name is removed, and perhaps the node that it named.
 use Rattle.std.proofs.Common.{◌≡◌, ◌≢◌, ◌∙◌, sym, ap, subst, ℕ, ◌-◌, ◌<◌, ◌≤◌, nat_le, if◌then◌else◌, not, true, false, refl, List, None, Some, arith}
 use Rattle.std.specs.List.{list_any}
 use Rattle.std.specs.Option.{option_map, unwrap_or}
@@ -31,7 +31,7 @@ use Rattle.vol_change.proofs.LeftGraphs.{LeavesSlot, other_directory, left_name,
 use Rattle.vol_change.proofs.NodeLinks.{links_is}
 use Rattle.vol_change.proofs.ReadyLaws.{ready_graph}
 
--- the entry of a name, which i-number i has, goes from directory d of a sound image
+-- the entry of a name, for i-number i, is removed from directory d of a sound image
 pub record LeavesEntry (geometry : Geometry) (old mid : List ℕ) (d i : ℕ) (name : List ℕ) (now : ℕ) : Type 0 where
   pub ready : Rules1To12 geometry old
   pub directory : IsDirectory geometry old d
@@ -42,7 +42,7 @@ pub record LeavesEntry (geometry : Geometry) (old mid : List ℕ) (d i : ℕ) (n
       (option_map (λ (j : ℕ). (name, j)) (get (names_of (slots geometry old d)) name)) None
   pub beside : StaysBeside (graph_of geometry old) (graph_of geometry mid) d
 
--- so it goes from the graph
+-- so it is removed from the graph
 leaves_slot : (geometry : Geometry) (old mid : List ℕ) (d i : ℕ) (name : List ℕ) (now : ℕ) → LeavesEntry geometry old mid d i name now
     → LeavesSlot (graph_of geometry old) (graph_of geometry mid) i d (slot_named name (slots geometry old d)) name
 leaves_slot geometry old mid d i name now leaves = record {
@@ -51,7 +51,7 @@ leaves_slot geometry old mid d i name now leaves = record {
   beside = leaves.beside;
 }
 
--- a directory that has `.` and `..` alone is another than the one from which its entry goes
+-- a directory with only `.` and `..` is not the one from which its entry is removed
 pub left_apart : (geometry : Geometry) (old mid : List ℕ) (d i : ℕ) (name : List ℕ) (now : ℕ) → LeavesEntry geometry old mid d i name now
     → is_dots name ≡ false → IsDirectory geometry old i
     → list_any (λ (entry : List ℕ × ℕ). not (is_dots entry.0)) (names_at (tree geometry old) i) ≡ false → d ≢ i
@@ -65,7 +65,7 @@ kind_beside : (geometry : Geometry) (old mid : List ℕ) (d x : ℕ) → StaysBe
 kind_beside geometry old mid d x beside first last =
     sym (kind_inside geometry mid x first last) ∙ (beside.kind x ∙ kind_inside geometry old x first last)
 
--- what is named stays used
+-- a node that is named stays in use
 pub left_used : (geometry : Geometry) (old mid : List ℕ) (d i : ℕ) (name : List ℕ) (now : ℕ) → LeavesEntry geometry old mid d i name now
     → kind_at geometry mid i ≢ kinds.Free
 left_used geometry old mid d i name now leaves free =
@@ -84,7 +84,7 @@ pub left_same : (geometry : Geometry) (old mid : List ℕ) (d i : ℕ) (name : L
     → (inode_of geometry.edition mid i).links ≡ (inode_of geometry.edition old i).links
 left_same geometry old mid d i name now leaves = leaves.beside.links i (used_graph geometry old mid d i name now leaves)
 
--- what is no directory is none in the graph
+-- a node that is no directory is none in the graph
 other_graph : (geometry : Geometry) (old mid : List ℕ) (d i : ℕ) (name : List ℕ) (now : ℕ) → LeavesEntry geometry old mid d i name now
     → kind_at geometry old i ≢ kinds.Directory → (graph_of geometry old).kind i ≢ kinds.Directory
 other_graph geometry old mid d i name now leaves other is =
@@ -101,7 +101,7 @@ left_linked geometry old mid d i name now leaves =
     leaves.beside.links d (λ free. let clash : kinds.Directory ≡ kinds.Free = sym (directory_to geometry old d is) ∙ free in cc) in
     omega (arith, links, same)
 
--- with its last link a node goes
+-- a node is removed with its last link
 release_last : (state : State) (now i : ℕ) → (node_at state.tree i).links ≤ 1 → remove_node i state ≡ release now i state
 release_last state now i last =
     let test : nat_le (node_at state.tree i).links 1 ≡ true = grind (arith, nat_tests) in
@@ -127,7 +127,7 @@ released geometry old mid d i name now leaves =
     let entry : number_of_name (tree geometry old) d name ≡ i = ap (λ o. unwrap_or o 0) leaves.named in
     ap (λ s. release now i s) leaves.makes ∙ ap (λ j. release now j (remove_entry now d name (state geometry old))) (sym entry)
 
--- the name goes, and the node has another
+-- the name is removed, and the node has another
 pub made_unnamed : (geometry : Geometry) (old mid new : List ℕ) (d i : ℕ) (name : List ℕ) (now : ℕ) → LeavesEntry geometry old mid d i name now
     → kind_at geometry old i ≢ kinds.Directory → 1 < (inode_of geometry.edition mid i).links → Keeps geometry mid new
     → state geometry new ≡ drop_link now i (state geometry mid)
@@ -147,7 +147,7 @@ made_unnamed geometry old mid new d i name now leaves other most keeps makes set
           ∙ (release_one (state geometry mid) now i (omega (arith, links, most)) ∙ released geometry old mid d i name now leaves);
     }
 
--- the name goes, and with it the node
+-- the name is removed, and with it the node
 pub made_unlinked : (geometry : Geometry) (old mid new : List ℕ) (d i : ℕ) (name : List ℕ) (now : ℕ) → LeavesEntry geometry old mid d i name now
     → kind_at geometry old i ≢ kinds.Directory → (inode_of geometry.edition mid i).links ≤ 1 → Keeps geometry mid new
     → state geometry new ≡ remove_node i (state geometry mid) → DropsNode (graph_of geometry mid) (graph_of geometry new) i
@@ -166,7 +166,7 @@ made_unlinked geometry old mid new d i name now leaves other last keeps makes go
           ∙ (release_last (state geometry mid) now i (omega (arith, links, last)) ∙ released geometry old mid d i name now leaves);
     }
 
--- the name of a directory goes, and the directory
+-- the name of a directory is removed, and the directory
 pub made_emptied : (geometry : Geometry) (old mid low new : List ℕ) (d i : ℕ) (name : List ℕ) (now : ℕ) → LeavesEntry geometry old mid d i name now
     → is_dots name ≡ false → IsDirectory geometry old i
     → list_any (λ (entry : List ℕ × ℕ). not (is_dots entry.0)) (names_at (tree geometry old) i) ≡ false

@@ -1,4 +1,4 @@
--- What writes below the data zone, of the super-block's time or of one i-node, leave of the nodes.
+-- Nodes after a write before the data zone: of the super-block's time, or of one i-node.
 use Rattle.std.proofs.Common.{◌≡◌, ◌≢◌, ◌∙◌, sym, ap, refl, ℕ, ◌+◌, ◌*◌, ◌/◌, ◌≤◌, List, Option, None, Some, get_or, min, inl, inr, arith}
 use Rattle.std.specs.Option.{option_map}
 use Rattle.std.proofs.lemmas.Bool.{cases_eq}
@@ -33,7 +33,7 @@ use Rattle.vol_change.proofs.States.{makes_node, makes_time}
 use Rattle.vol_layout.proofs.EditionLaws.{super_order}
 use Rattle.vol_change.proofs.WholeLaws.{whole_kept, whole_reading, around_list, zone_behind, place_before}
 
--- the places stay where the form and the addresses do
+-- the places stay if the form and the addresses do
 places_by : (geometry : Geometry) (old new : List ℕ) (i : ℕ) → form_at geometry new i ≡ form_at geometry old i
     → (inode_of geometry.edition new i).addresses ≡ (inode_of geometry.edition old i).addresses → KeepsPlaces geometry old new i
 places_by geometry old new i form addresses = record {
@@ -43,8 +43,8 @@ places_by geometry old new i form addresses = record {
       ∙ (ap (λ xs. get_or xs k 0) addresses ∙ inode_address geometry.edition old (inode_place geometry.edition i) k h);
 }
 
--- a write below the data zone keeps what i-node i holds, where its kind, the bits of its mode above the permissions, its size and its
--- addresses stay
+-- a write below the data zone keeps the reading of i-node i, if its kind, the bits of its mode above the permissions, its size
+-- and its addresses stay
 reading_fields : (geometry : Geometry) (old new : List ℕ) (from to i : ℕ) → SameOutside old new from to → to ≤ 512 * geometry.zone_start
     → kind_at geometry new i ≡ kind_at geometry old i → mode_of geometry new i / 4096 ≡ mode_of geometry old i / 4096
     → size_of geometry new i ≡ size_of geometry old i
@@ -61,7 +61,7 @@ reading_fields geometry old new from to i same below kind type size addresses =
       names = λ p place. named_list_kept geometry old new from to i p places same below place.place;
     }
 
--- and what it stands for, where its whole mode stays
+-- and its content, if its whole mode stays
 content_fields : (geometry : Geometry) (old new : List ℕ) (from to i : ℕ) → IsZoned geometry old → SameOutside old new from to → to ≤ 512 * geometry.zone_start
     → mode_of geometry new i ≡ mode_of geometry old i → size_of geometry new i ≡ size_of geometry old i
     → (inode_of geometry.edition new i).addresses ≡ (inode_of geometry.edition old i).addresses → KeepsContent geometry old new i
@@ -78,14 +78,14 @@ content_fields geometry old new from to i zoned same below mode size addresses =
           same.above (512 * named geometry old i p + r) (omega (arith, below, zone.0));
     }
 
--- and so it does where the i-node itself stays
+-- and so it does if the i-node itself stays
 pub content_kept : (geometry : Geometry) (old new : List ℕ) (from to i : ℕ) → IsZoned geometry old → SameOutside old new from to → to ≤ 512 * geometry.zone_start
     → KeepsInode geometry old new i → KeepsContent geometry old new i
 content_kept geometry old new from to i zoned same below kept =
     content_fields geometry old new from to i zoned same below (mode_kept geometry old new i kept) (size_kept geometry old new i kept)
     (ap (λ node. node.addresses) (inode_of_kept geometry old new i kept))
 
--- and what a truncation kept of file i is kept by such a write too
+-- and such a write also keeps the part of file i that a truncation kept
 pub stored_then : (geometry : Geometry) (old mid new : List ℕ) (from to i left : ℕ) → KeepsStored geometry old mid i left → KeepsContent geometry mid new i
     → SameOutside mid new from to → to ≤ 512 * geometry.zone_start → KeepsStored geometry old new i left
 stored_then geometry old mid new from to i left stored kept same below =
@@ -99,7 +99,7 @@ stored_then geometry old mid new from to i left stored kept same below =
           ∙ stored.bytes n h;
     }
 
--- the entries of directories stay where what all i-nodes hold does
+-- the entries of directories stay if all i-nodes read the same
 entries_stay : (geometry : Geometry) (old new : List ℕ) (x s : ℕ)
     → ((j : ℕ) → 1 ≤ j → j ≤ geometry.last_inode → KeepsReading geometry old new j) → IsDirectory geometry old x
     → entry_at geometry new x s ≡ entry_at geometry old x s
@@ -115,7 +115,7 @@ time_inode geometry old new j same =
     copy_above old new (time_place geometry.edition) (time_place geometry.edition + 4) (inode_place geometry.edition j)
     (constants geometry.edition).inode_bytes same (omega (arith, order, start))
 
--- and what it stands for
+-- and its content
 pub time_content : (geometry : Geometry) (old new : List ℕ) (j : ℕ) → Rules3To8 geometry old
     → SameOutside old new (time_place geometry.edition) (time_place geometry.edition + 4) → KeepsContent geometry old new j
 time_content geometry old new j rules same =
@@ -124,7 +124,7 @@ time_content geometry old new j rules same =
     content_kept geometry old new (time_place geometry.edition) (time_place geometry.edition + 4) j rules.sound.zoned same (omega (arith, order, behind))
     (time_inode geometry old new j same)
 
--- a write of the time keeps the rules and what no call changes
+-- a write of the time keeps the rules and the bytes that no call changes
 pub time_keeps : (geometry : Geometry) (old new : List ℕ) → Rules3To8 geometry old
     → SameOutside old new (time_place geometry.edition) (time_place geometry.edition + 4) → Keeps geometry old new
 time_keeps geometry old new rules same =
@@ -190,7 +190,7 @@ size_put geometry old new i node puts =
     sym (inode_size geometry.edition new (inode_place geometry.edition i))
     ∙ (ap (λ n. n.size) puts.is ∙ (puts.size ∙ inode_size geometry.edition old (inode_place geometry.edition i)))
 
--- then every i-node but i stands for what it did
+-- then every i-node except i keeps its content
 pub put_beside : (geometry : Geometry) (old new : List ℕ) (i j : ℕ) (node : Inode) → Rules3To8 geometry old → PutsInode geometry old new i node
     → 1 ≤ j → j ≢ i → KeepsContent geometry old new j
 put_beside geometry old new i j node rules puts first other =
@@ -198,7 +198,7 @@ put_beside geometry old new i j node rules puts first other =
     rules.sound.zoned puts.same (place_room geometry old i rules.sound.fits puts.first puts.last)
     (inode_apart geometry old new i j puts.first first other puts.same)
 
--- and i too, where its whole mode stays
+-- and so does i, if its whole mode stays
 pub put_content : (geometry : Geometry) (old new : List ℕ) (i j : ℕ) (node : Inode) → Rules3To8 geometry old → PutsInode geometry old new i node
     → node.mode ≡ (inode_of geometry.edition old i).mode → 1 ≤ j → j ≤ geometry.last_inode → KeepsContent geometry old new j
 put_content geometry old new i j node rules puts mode first last =
@@ -214,7 +214,7 @@ put_content geometry old new i j node rules puts mode first last =
       | inr other ↦ put_beside geometry old new i j node rules puts first other
     ]
 
--- in any case all i-nodes hold what they did
+-- in any case all i-nodes read the same
 pub put_reading : (geometry : Geometry) (old new : List ℕ) (i j : ℕ) (node : Inode) → Rules3To8 geometry old → PutsInode geometry old new i node
     → 1 ≤ j → j ≤ geometry.last_inode → KeepsReading geometry old new j
 put_reading geometry old new i j node rules puts first last =
@@ -237,7 +237,7 @@ put_other : (geometry : Geometry) (old new : List ℕ) (i j : ℕ) (node : Inode
 put_other geometry old new i j node puts first other =
     inode_of_kept geometry old new j (inode_apart geometry old new i j puts.first first other puts.same)
 
--- the time of the super-block stands before the i-nodes
+-- the time of the super-block is before the i-nodes
 put_time : (geometry : Geometry) (old new : List ℕ) (i : ℕ) (node : Inode) → PutsInode geometry old new i node
     → long new (time_place geometry.edition) ≡ long old (time_place geometry.edition)
 put_time geometry old new i node puts =
@@ -248,7 +248,7 @@ put_time geometry old new i node puts =
     long_copied old new (time_place geometry.edition) (time_place geometry.edition) 4 0 (time_place geometry.edition) (time_place geometry.edition) copy
     (omega arith) (omega arith) (omega arith)
 
--- such a put keeps the rules and what no call changes, where the links are within the limit
+-- such a write keeps the rules and the bytes that no call changes, if the link counts are within the limit
 pub put_keeps : (geometry : Geometry) (old new : List ℕ) (i : ℕ) (node : Inode) → Rules3To8 geometry old → PutsInode geometry old new i node
     → node.links ≤ (constants geometry.edition).link_limit → Keeps geometry old new
 put_keeps geometry old new i node rules puts limit =
@@ -294,7 +294,7 @@ put_makes geometry old new i node change rules puts each =
       places = shape_reads geometry old new i (kept i puts.first puts.last) puts.first puts.last;
     })
 
--- and leaves the graph but for the links of i
+-- and keeps the graph except the links of i
 pub put_graph : (geometry : Geometry) (old new : List ℕ) (i : ℕ) (node : Inode) → Rules3To8 geometry old → PutsInode geometry old new i node
     → SetsLinks (graph_of geometry old) (graph_of geometry new) i node.links
 put_graph geometry old new i node rules puts =
@@ -310,7 +310,7 @@ put_graph geometry old new i node rules puts =
           ap (λ n. n.links) (put_other geometry old new i x node puts inside.0 other);
     }
 
--- where the links stay too, the graph is the same
+-- if the links stay too, the graph is the same
 pub put_same : (geometry : Geometry) (old new : List ℕ) (i : ℕ) (node : Inode) → Rules3To8 geometry old → PutsInode geometry old new i node
     → node.links ≡ (inode_of geometry.edition old i).links → IsSameGraph (graph_of geometry old) (graph_of geometry new)
 put_same geometry old new i node rules puts links =

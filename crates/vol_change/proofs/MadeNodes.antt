@@ -40,7 +40,7 @@ use Rattle.vol_change.proofs.UnusedBytes.{other_unused}
 use Rattle.vol_change.proofs.NewRules.{bare_whole}
 use Rattle.vol_change.proofs.OneNode.{only_inode, only_makes, only_graph, only_links}
 
--- what is odd has no places
+-- an odd i-node has no places
 odd_none : (kind : Kind) → has_places kind ≡ true → kind ≢ kinds.Odd
 odd_none kind file odd = false≢true (sym (ap has_places odd) ∙ file)
 
@@ -81,7 +81,7 @@ module _ (geometry : Geometry) (old new : List ℕ) (i : ℕ) (node : Inode) (ru
   none_old : (p : List ℕ) → IsPlaceOf geometry old i p → named geometry old i p ≡ 0
   none_old p place = absurd (false≢true (sym (ap has_places kind_old) ∙ place.file.kind))
 
-  -- the rules hold, and what no call changes stays
+  -- the rules hold, and the bytes that no call changes stay
   pub made_keeps : Keeps geometry old new
   made_keeps =
       let room = place_room geometry old i rules.sound.fits first makes.last in
@@ -103,7 +103,7 @@ module _ (geometry : Geometry) (old new : List ℕ) (i : ℕ) (node : Inode) (ru
   pub made_free : FreeBecomes geometry old new as_before
   made_free = inode_free geometry old new i rules first makes.last makes.same
 
-  -- and what isn't used of the other i-nodes
+  -- and so do the unused bytes of the other i-nodes
   pub made_unused : (j : ℕ) → 1 ≤ j → j ≢ i → KeepsUnused geometry old new j
   made_unused j low other = other_unused geometry old new i j first low other makes.same
 

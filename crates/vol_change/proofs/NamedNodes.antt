@@ -22,7 +22,7 @@ use Rattle.vol_change.specs.Ready.{Rules1To12, TakesName}
 use Rattle.vol_change.proofs.ReadyLaws.{ready_graph, ready_from}
 use Rattle.vol_change.proofs.SideStates.{KeepsDirectory}
 
--- a directory isn't what was free
+-- a directory isn't the node that was free
 pub not_made : (graph : Graph) (d made : ℕ) → graph.kind d ≡ kinds.Directory → graph.kind made ≡ kinds.Free → d ≢ made
 not_made graph d made is free same = let clash : kinds.Directory ≡ kinds.Free = sym is ∙ (ap graph.kind same ∙ free) in cc
 
@@ -52,7 +52,7 @@ slot_then old mid new d s was is kept directory slot = record {
   whole = slot.whole;
 }
 
--- what stays beside node i, and then beside directory d, stays beside both
+-- everything besides node i that one change keeps, and everything besides directory d that the next keeps, is kept by both
 pub others_then : (old mid new : Graph) (d i : ℕ) → KeepsOthers old mid i i → StaysBeside mid new d → KeepsOthers old new d i
 others_then old mid new d i others beside = record {
   kind = λ x away. beside.kind x ∙ others.kind x away;
@@ -60,7 +60,7 @@ others_then old mid new d i others beside = record {
   entry = λ x t other away. beside.entry x t other ∙ others.entry x t away away;
 }
 
--- link counts that stay but for node i's, and then beside a directory
+-- link counts that stay except node i's, and then those that a change of a directory keeps
 kept_then : (old mid new : Graph) (d i : ℕ) → ((x : ℕ) → x ≢ i → mid.kind x ≡ old.kind x)
     → ((x : ℕ) → x ≢ i → old.kind x ≢ kinds.Free → mid.links x ≡ old.links x) → StaysBeside mid new d
     → (x : ℕ) → x ≢ i → old.kind x ≢ kinds.Free → new.links x ≡ old.links x
@@ -107,7 +107,7 @@ new_name geometry image d name is takes component =
       plain = component.plain;
     }
 
--- an image in which a directory took a name stays sound, where its graph does
+-- an image in which a directory took a name stays sound if its graph does
 pub named_ready : (geometry : Geometry) (old new : List ℕ) (d : ℕ) (name : List ℕ) → Rules1To12 geometry old → IsDirectory geometry old d
     → TakesName (state geometry old) d name → IsComponent name → Keeps geometry old new
     → (IsGraphSound (graph_of geometry old) (root_of geometry) geometry.last_inode → IsNewName (graph_of geometry old) d name

@@ -1,4 +1,4 @@
--- The i-node of a new node reads as what was asked for.
+-- The i-node of a new node reads as the node described.
 use Rattle.std.proofs.Common.{◌≡◌, ◌∙◌, refl, ℕ, ◌+◌, ◌%◌, ◌<◌, ◌≤◌, true, false, List, slice_index, arith}
 use Rattle.pdp_words.specs.Words.{SameOutside}
 use Rattle.pdp_words.proofs.Outside.{join}
@@ -34,7 +34,7 @@ reads_new edition bits count owner now permissions content same =
       changed = first_change edition now;
     }
 
--- it is put where all bytes of a free i-node were cleared
+-- it is written after all bytes of a free i-node were cleared
 pub makes_new : (geometry : Geometry) (old mid new : List ℕ) (i : ℕ) (bits : Mode) (count uid gid now : ℕ) → count ≤ 2 → IsFreeNumber geometry old i
     → has_places (kind_of geometry.edition bits.bits) ≡ true → is_large geometry.edition bits.bits ≡ false
     → SameOutside old mid (inode_place geometry.edition i) (inode_place geometry.edition i + (constants geometry.edition).inode_bytes)

@@ -1,4 +1,4 @@
--- A state of which one node and its shape are put: what it has, and how changes of two nodes go together.
+-- States in which one node and its shape were changed: their parts, and changes of two nodes.
 use Rattle.std.proofs.Common.{◌≡◌, ◌≢◌, ◌∙◌, sym, ap, refl, ℕ, ◌*◌, ◌+◌, ◌==◌, if◌then◌else◌, max, List, eq-eqb, inl, inr, Option, Some}
 use Rattle.std.specs.Option.{option_map, unwrap_or}
 use Rattle.std.proofs.lemmas.Bool.{cases_eq}

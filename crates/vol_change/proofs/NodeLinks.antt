@@ -15,7 +15,7 @@ use Rattle.vol_change.specs.Nodes.{no_node, node_at}
 use Rattle.vol_dir.proofs.WalkLaws.{node_inside}
 use Rattle.vol_change.proofs.WrittenStates.{node_holds}
 
--- what is in use and not odd holds something
+-- an i-node in use that is not odd has a content
 pub content_there : (geometry : Geometry) (image : List ℕ) (i : ℕ) (kind : Kind) → kind ≢ kinds.Free → kind ≢ kinds.Odd
     → (content : Content) × (content_of geometry image i kind ≡ Some content)
 content_there geometry image i kinds.Free used known = absurd (used refl)

@@ -1,4 +1,4 @@
--- Changes of one node alone: one after another, and what all others keep.
+-- Changes of one node alone: one after another, and the other nodes that they keep.
 use Rattle.std.proofs.Common.{◌≡◌, ◌≢◌, ◌∙◌, sym, ap, subst, refl, ℕ, ◌+◌, ◌*◌, ◌≤◌, List, slice_index, Option, None, Some, inr, arith}
 use Rattle.pdp_words.specs.Words.{long, SameOutside}
 use Rattle.vol_layout.specs.Edition.{constants}
@@ -35,7 +35,7 @@ use Rattle.vol_change.proofs.States.{shape_at, makes_both, makes_time}
 use Rattle.vol_layout.proofs.EditionLaws.{super_order}
 use Rattle.vol_change.proofs.WholeLaws.{around_then, around_list, whole_kept, zone_behind}
 
--- what stays by one change and by the next stays by both
+-- content that each of two changes keeps is kept by both
 pub content_then : (geometry : Geometry) (old mid new : List ℕ) (j : ℕ) → KeepsContent geometry old mid j → KeepsContent geometry mid new j
     → KeepsContent geometry old new j
 content_then geometry old mid new j a b = record {
@@ -70,7 +70,7 @@ pub bytes_put : (geometry : Geometry) (old mid low new : List ℕ) (d at : ℕ) 
 bytes_put geometry old mid low new d at text before is puts after still =
     bytes_stay geometry low new d after still ∙ (puts ∙ ap (λ xs. spliced xs at text) (bytes_stay geometry old mid d before is))
 
--- what an i-node stands for stays where nothing changes
+-- the content of an i-node stays if nothing changes
 pub content_refl : (geometry : Geometry) (image : List ℕ) (j : ℕ) → KeepsContent geometry image image j
 content_refl geometry image j = record {
   mode = refl;
@@ -117,7 +117,7 @@ only_inode geometry old new i rules first last same =
           record { content = content_kept geometry old new from to j rules.sound.zoned same room kept; inode = inode_of_kept geometry old new j kept };
     }
 
--- the bytes of another i-node stay where a file is changed
+-- the bytes of another i-node stay if a file is changed
 pub alone_inode : (geometry : Geometry) (old new : List ℕ) (i j : ℕ) → Fits geometry old → ChangesFileAlone geometry old new i → 1 ≤ i → 1 ≤ j
     → j ≤ geometry.last_inode → j ≢ i → KeepsInode geometry old new j
 alone_inode geometry old new i j fits alone first low high other =
@@ -167,7 +167,7 @@ only_file geometry old new i fits alone first = record {
       };
 }
 
--- a change of i alone is the edit that puts there what is read then
+-- a change of i alone is the edit that puts there the node as it now reads
 pub only_makes : (geometry : Geometry) (old new : List ℕ) (i : ℕ) (node : Option Node) (shape : Shape) → 1 ≤ i → i ≤ geometry.last_inode
     → ChangesOnly geometry old new i → node_of geometry new i ≡ node → shape_at geometry new i ≡ shape
     → state geometry new ≡ put_shape i shape (put_node i node (state geometry old))
@@ -183,13 +183,13 @@ only_makes geometry old new i node shape first last only is places =
       places = places;
     })
 
--- entries stay where the content of a directory does
+-- entries stay if the content of a directory does
 pub entry_stays : (geometry : Geometry) (old new : List ℕ) (x s : ℕ) → KeepsContent geometry old new x → IsDirectory geometry old x
     → entry_at geometry new x s ≡ entry_at geometry old x s
 entry_stays geometry old new x s kept is =
     entry_same geometry old new x s kept (record { first = is.first; last = is.last; kind = ap has_places is.kind })
 
--- a change of i alone leaves the graph beside i
+-- a change of i alone keeps the graph except at i
 pub only_graph : (geometry : Geometry) (old new : List ℕ) (i : ℕ) → ChangesOnly geometry old new i
     → KeepsOthers (graph_of geometry old) (graph_of geometry new) i i
 only_graph geometry old new i only =
@@ -206,7 +206,7 @@ only_links geometry old new i x only other used =
 
 module _ (geometry : Geometry) (old new : List ℕ) (rules : Rules3To8 geometry old)
     (same : SameOutside old new (cache_head geometry.edition) (cache_head geometry.edition + 202)) where
-  -- the cache stands before the i-nodes and the time, and behind the free list
+  -- the cache is before the i-nodes and the time, and after the free list
   cache_order : (free_head geometry.edition + 202 ≡ cache_head geometry.edition) × (cache_head geometry.edition + 202 ≤ time_place geometry.edition)
       × (time_place geometry.edition + 4 ≤ 1024)
   cache_order = let order = super_order geometry.edition in (order.0, omega (arith, order), order.3)
@@ -223,7 +223,7 @@ module _ (geometry : Geometry) (old new : List ℕ) (rules : Rules3To8 geometry 
         inode = inode_of_kept geometry old new j kept;
       }
 
-  -- and what no call changes, and the time
+  -- and the bytes that no call changes, and the time
   pub cache_only : (i : ℕ) → ChangesOnly geometry old new i
   cache_only i =
       let behind = zone_behind geometry old rules.sound.fits in

@@ -1,4 +1,4 @@
--- How the counts of places and of free blocks change, as shapes do.
+-- The counts of places and of free blocks as shapes change.
 use Rattle.std.proofs.Common.{◌≡◌, ◌≢◌, ◌∙◌, sym, ap, refl, ℕ, zero, suc, ◌+◌, ◌-◌, ◌<◌, ◌≤◌, ◌==◌, ◌&&◌, Bool, true, false, not, cond, if◌then◌else◌, nat_lt, List, [], ◌∷◌, arith, inl, inr}
 use Rattle.std.specs.Prelude.{◌||◌}
 use Rattle.std.specs.List.{count_by, sum_by, flat_map, range_with_len}
@@ -31,7 +31,7 @@ use Rattle.vol_change.proofs.FreeCounts.{used_within}
 one_more : (t : List ℕ → Bool) (p : List ℕ) (ps : List (List ℕ)) → count_by t (p ∷ ps) ≡ cond (t p) 1 0 + count_by t ps
 one_more t p ps = sum_by-cons (λ q. cond (t q) 1 0) p ps
 
--- what passes one test or another: each that passes the first, and each that passes the second alone
+-- an item passes one test or another: the first, or the second alone
 either_one : (x y : Bool) → ◌≡◌ {A = ℕ} (cond (x || y) 1 0) (cond x 1 0 + cond (y && not x) 1 0)
 either_one true true = refl
 either_one true false = refl
@@ -91,7 +91,7 @@ moved_low names k h = let low : nat_lt k 8 ≡ true = grind (arith, nat_tests) i
 moved_high : (names : List ℕ → Bool) (k : ℕ) → 8 ≤ k → moved_down names (k ∷ (0 ∷ [])) ≡ false
 moved_high names k h = let high : nat_lt k 8 ≡ false = grind (arith, nat_tests) in ap (λ t. t && names (k ∷ [])) high
 
--- the entries of that block, of which there are eight or more
+-- the entries of that block, eight or more
 count_moved : (names : List ℕ → Bool) (n : ℕ)
     → sum_by (λ j. cond (moved_down names (j ∷ (0 ∷ []))) 1 0) (range_with_len 0 (8 + n)) ≡ sum_by (λ k. cond (names (k ∷ [])) 1 0) (range_with_len 0 8)
 count_moved names n =
@@ -102,7 +102,7 @@ count_moved names n =
     sum_none f (0 + 8) n (λ k from to. ap (λ t. cond t 1 0) (moved_high names k (omega arith))) in
     sum_split f 0 8 n ∙ omega (arith, low, high)
 
--- what another address than the first leads to names nothing
+-- the places below any address other than the first name nothing
 moved_other : (names : List ℕ → Bool) (k : ℕ) (p : List ℕ) → k ≢ 0 → IsFront (k ∷ []) p → moved_down names p ≡ false
 moved_other names k [] some front = refl
 moved_other names k (a ∷ []) some (inl e) =
@@ -116,11 +116,11 @@ moved_other names k (j ∷ (a ∷ [])) some (inr (inl e)) =
 moved_other names k (j ∷ (a ∷ [])) some (inr (inr none)) = absurd none
 moved_other names k (j ∷ (h ∷ (a ∷ p))) some front = refl
 
--- where a test holds of nothing in a list, nothing is counted
+-- if a test holds of nothing in a list, nothing is counted
 count_nowhere : (t : List ℕ → Bool) (ps : List (List ℕ)) → ((p : List ℕ) → IsAmong p ps → t p ≡ false) → count_by t ps ≡ 0
 count_nowhere t ps none = count_among t (λ p. false) ps none ∙ count_none (λ p. false) ps (λ p. refl)
 
--- the first address of a file made large, with what it leads to
+-- the first address of a file made large, and the places below it
 count_first : (names : List ℕ → Bool)
     → count_by (moved_down names) (places_from 256 (0 ∷ []) 1) ≡ 1 + sum_by (λ k. cond (names (k ∷ [])) 1 0) (range_with_len 0 8)
 count_first names =
@@ -143,7 +143,7 @@ count_large names =
     sum_by-cons (λ k. count_by t (f k)) 0 (range_with_len 1 7) in
     counted_flat t f (range_with_len 0 8) ∙ omega (arith, small, first, rest, step)
 
--- before blocks are added a file has the places it had, and one more where it becomes large
+-- before blocks are added a file has the places it had, and one more if it becomes large
 count_fit : (form : Form) (names : List ℕ → Bool) (blocks : List ℕ)
     → count_by (fit_names form names blocks) (places (fit_form form blocks)) ≡ count_by names (places form) + (if grows_large form blocks then 1 else 0)
 count_fit Large names blocks = omega arith
@@ -158,7 +158,7 @@ count_fit Small names blocks = elim (cases_Bool (grows_large Small blocks)) [
       ∙ (omega arith ∙ sym (ap (λ t. count_by names (places Small) + (if t then 1 else 0)) stays))
 ]
 
--- what names something once blocks are touched: what did, and what was missing
+-- the places that name a block once blocks are touched: those that did, and those that were missing
 count_filled : (form : Form) (names : List ℕ → Bool) (blocks : List ℕ)
     → count_by (filled form names blocks) (places (fit_form form blocks)) ≡ count_by names (places form) + need_of form names blocks
 unfolding need_of missing_count
@@ -187,7 +187,7 @@ stored_count edition shape blocks =
     ap (λ f. count_by (filled (form_in edition shape.large) shape.names blocks) (places f)) (form_stored edition shape.large blocks)
     ∙ count_filled (form_in edition shape.large) shape.names blocks
 
--- a directory with one more entry takes the block of its slot, where that is missing
+-- a directory with one more entry takes the block of its slot if that is missing
 pub entry_count : (edition : Edition) (shape : Shape) (name : List ℕ)
     → place_count edition (shape_with_entry edition shape name) ≡ place_count edition shape + need_in edition shape (entry_blocks shape)
 unfolding place_count
@@ -211,7 +211,7 @@ pub first_in : (edition : Edition) → need_in edition no_shape (0 ∷ []) ≡ 1
 first_in V6 = first_needed Small (λ e. cc) (λ e. cc)
 first_in V7 = first_needed Deep (λ e. cc) (λ e. cc)
 
--- what has no places takes no blocks
+-- a node without places takes no blocks
 pub none_count : (edition : Edition) → place_count edition no_shape ≡ 0
 unfolding place_count
 none_count edition = count_none (λ p. false) (places (form_in edition false)) (λ p. refl)
@@ -231,7 +231,7 @@ set_same shapes i shape = let same : (i == i) ≡ true = grind (arith, nat_tests
 pub set_other : (shapes : ℕ → Shape) (i : ℕ) (shape : Shape) (k : ℕ) → k ≢ i → set_at shapes i shape k ≡ shapes k
 set_other shapes i shape k other = let differ : (k == i) ≡ false = grind (arith, nat_tests) in ap (λ t. if t then shape else shapes k) differ
 
--- how many blocks all files have, by their shapes
+-- the number of blocks of all files, by their shapes
 abbrev pub used_count : Geometry → (ℕ → Shape) → ℕ
 used_count geometry shapes = sum_by (λ i. place_count geometry.edition (shapes i)) (range_with_len 1 geometry.last_inode)
 
@@ -239,7 +239,7 @@ used_count geometry shapes = sum_by (λ i. place_count geometry.edition (shapes 
 pub sum_within : (geometry : Geometry) (image : List ℕ) → Rules3To8 geometry image → used_count geometry (shapes geometry image) ≤ geometry.zone_end - geometry.zone_start
 sum_within geometry image rules = used_within geometry image rules.blocks rules.sound
 
--- how many blocks files have where one of them has another shape
+-- the number of blocks of all files when one of them has another shape
 pub used_with : (geometry : Geometry) (shapes : ℕ → Shape) (i : ℕ) (shape : Shape) → 1 ≤ i → i ≤ geometry.last_inode
     → used_count geometry (set_at shapes i shape) + place_count geometry.edition (shapes i) ≡ used_count geometry shapes + place_count geometry.edition shape
 used_with geometry shapes i shape first last =
@@ -277,7 +277,7 @@ free_all geometry shapes i first last within =
     let none : place_count geometry.edition no_shape ≡ 0 = none_count geometry.edition in
     free_more geometry shapes i no_shape (place_count geometry.edition (shapes i)) first last within (omega (arith, none))
 
--- where each file has as many blocks, all have as many, and as many are free
+-- if each file has as many blocks, all have as many, and as many are free
 pub used_same : (geometry : Geometry) (f g : ℕ → Shape) → ((k : ℕ) → place_count geometry.edition (f k) ≡ place_count geometry.edition (g k))
     → used_count geometry f ≡ used_count geometry g
 used_same geometry f g same =

@@ -1,4 +1,4 @@
--- What is known of a sound image with its geometry, and how an image stays sound.
+-- Facts about a sound image with its geometry, and steps that keep it sound.
 use Rattle.std.proofs.Common.{◌≡◌, ◌∙◌, sym, ap, subst, ℕ, ◌+◌, ◌*◌, ◌%◌, ◌&&◌, nat_le, nat_lt, true, List, length, Option, arith}
 use Rattle.vol_layout.specs.Geometry.{Fits, geometry_of, is_whole, is_bounded, block_count, list_size}
 use Rattle.vol_layout.specs.declared.edition.Edition.{Edition}
@@ -58,7 +58,7 @@ ready_graph geometry image ready =
     let links = subst (λ g. HasLinks g image) (sym ready.sizes) (sound_links geometry.edition image ready.sound) in
     graph_from_rules geometry image (ready_whole geometry image ready).sound.sizes (ready_entries geometry image ready) dots tree links
 
--- the sizes stay within bounds where they are the same
+-- the sizes stay within bounds if they are the same
 pub bounded_kept : (edition : Edition) (old new : List ℕ) → geometry_of edition new ≡ geometry_of edition old → is_bounded edition old ≡ true
     → is_bounded edition new ≡ true
 bounded_kept V6 old new same bounded =
@@ -73,7 +73,7 @@ bounded_kept V7 old new same bounded =
     ap (λ n. nat_le 3 n && (nat_le n 8193 && (nat_lt n (block_count V7 new) && nat_le (block_count V7 new) 16777216))) size
     ∙ (ap (λ m. nat_le 3 (list_size old) && (nat_le (list_size old) 8193 && (nat_lt (list_size old) m && nat_le m 16777216))) count ∙ bounded)
 
--- the image is whole where its length and its sizes are the same
+-- the image is whole if its length and its sizes are the same
 pub whole_kept : (edition : Edition) (old new : List ℕ) → geometry_of edition new ≡ geometry_of edition old → length new ≡ length old
     → is_whole edition old ≡ true → is_whole edition new ≡ true
 whole_kept edition old new same len rules =
@@ -81,7 +81,7 @@ whole_kept edition old new same len rules =
     ap (λ n. nat_le 1024 n && nat_le (512 * block_count edition new) n) len
     ∙ (ap (λ m. nat_le 1024 (length old) && nat_le (512 * m) (length old)) count ∙ rules)
 
--- an image is sound where rules 1 and 2 hold, and, for the geometry that is its own, the geometry fits, rules 3 to 8 hold,
+-- an image is sound if rules 1 and 2 hold, and, for the geometry that is its own, the geometry fits, rules 3 to 8 hold,
 -- and so do the rules that speak of the graph
 pub sound_by : (edition : Edition) (geometry : Geometry) (new : List ℕ) → geometry_of edition new ≡ geometry → is_whole edition new ≡ true
     → is_bounded edition new ≡ true → Rules3To8 geometry new
@@ -93,7 +93,7 @@ sound_by edition geometry new same rules bounded files graph =
     (subst (λ g. IsTree g new) (sym same) graph.2) (subst (λ g. HasLinks g new) (sym same) graph.3)
 
 -- a change after which the geometry fits, rules 3 to 8 hold, and the bytes that no call changes are as they were leaves
--- a sound image where it makes a sound graph
+-- a sound image if it makes a sound graph
 pub ready_from : (geometry : Geometry) (old new : List ℕ) → Rules1To12 geometry old → Keeps geometry old new
     → IsGraphSound (graph_of geometry new) (root_of geometry) geometry.last_inode → Rules1To12 geometry new
 ready_from geometry old new ready keeps graph =
@@ -115,7 +115,7 @@ ready_same geometry old new ready keeps same =
     (same_sound (graph_of geometry old) (graph_of geometry new) (root_of geometry) geometry.last_inode (graph_within geometry old)
     (graph_within geometry new) (ready_graph geometry old ready) same)
 
--- a directory stays one where its kind in the graph does
+-- a directory stays one if its kind in the graph does
 pub directory_kept : (geometry : Geometry) (old new : List ℕ) (d : ℕ) → (graph_of geometry new).kind d ≡ (graph_of geometry old).kind d
     → IsDirectory geometry old d → IsDirectory geometry new d
 directory_kept geometry old new d same is = directory_from geometry new d (same ∙ directory_to geometry old d is)
@@ -133,7 +133,7 @@ slot_same old mid new d s was is slot same kind =
       whole = ap (λ n. n % 16) size ∙ slot.whole;
     }
 
--- what is beside a directory, and then a graph that is the same
+-- a change of a directory's entries, and then one that keeps the graph
 pub beside_same : (old mid new : Graph) (d : ℕ) → StaysBeside old mid d → IsSameGraph mid new → StaysBeside old new d
 beside_same old mid new d beside same = record {
   kind = λ x. same.kind x ∙ beside.kind x;

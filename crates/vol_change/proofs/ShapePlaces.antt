@@ -1,4 +1,4 @@
--- What the shape of a file says of its places, it says as the image does; and how many blocks they need.
+-- The shape of a file gives the same places, and the same need of blocks, as the image.
 use Rattle.std.proofs.Common.{◌≡◌, ◌∙◌, sym, ap, refl, ℕ, ◌+◌, ◌&&◌, Bool, not, if◌then◌else◌, nat_lt, List, [], ◌∷◌, true, false, true≢false, arith, inl, inr, ◌==◌}
 use Rattle.std.specs.Prelude.{◌||◌, Some, None}
 use Rattle.std.specs.Option.{option_map_or}
@@ -21,12 +21,12 @@ use Rattle.vol_dir.proofs.PlaceTests.{place_test}
 abbrev pub at_places : Form → (List ℕ → Bool) → List ℕ → Bool
 at_places form names p = is_place form p && names p
 
--- tests that agree where another passes
+-- tests that agree if another passes
 pub guarded : (t x y : Bool) → (t ≡ true → x ≡ y) → (t && x) ≡ (t && y)
 guarded true x y same = same refl
 guarded false x y same = refl
 
--- the same of a choice, where what is chosen passes
+-- the same for a choice, if the chosen one passes
 guarded_or : (t x on : Bool) → (on ≡ true → t ≡ true) → (t && (x || on)) ≡ ((t && x) || on)
 guarded_or true x on h = refl
 guarded_or false x true h = absurd (true≢false (sym (h refl)))
@@ -74,7 +74,7 @@ grows_small Large blocks h = absurd (true≢false (sym h))
 grows_small Deep blocks h = absurd (true≢false (sym h))
 grows_small Bare blocks h = absurd (true≢false (sym h))
 
--- what names something before blocks are touched, of places alone
+-- the places alone that name a block before blocks are touched
 pub fit_places : (form : Form) (names : List ℕ → Bool) (blocks p : List ℕ)
     → fit_names form (at_places form names) blocks p ≡ (is_place (fit_form form blocks) p && fit_names form names blocks p)
 fit_places form names blocks p = elim (cases_Bool (grows_large form blocks)) [
@@ -88,7 +88,7 @@ fit_places form names blocks p = elim (cases_Bool (grows_large form blocks)) [
       ∙ sym (ap (λ t. is_place (if t then Large else form) p && (if t then moved_down names else names) p) stays)
 ]
 
--- what is found among the fronts of a place is one
+-- a list found among the fronts of a place is a place
 front_passed : (p q : List ℕ) → list_any (bytes_eq p) (fronts q) ≡ true → IsFront p q
 front_passed p [] h = true≢false (sym h)
 front_passed p (j ∷ q) h = elim (cases_Bool (bytes_eq p (j ∷ q))) [
@@ -96,7 +96,7 @@ front_passed p (j ∷ q) h = elim (cases_Bool (bytes_eq p (j ∷ q))) [
   | inr other ↦ inr (front_passed p q (sym (ap (λ t. t || list_any (bytes_eq p) (fronts q)) other) ∙ h))
 ]
 
--- what is on the way of a block is a place
+-- a list of indexes on the way of a block is a place
 way_place : (form : Form) (b : ℕ) (p : List ℕ) → list_any (bytes_eq p) (way form b) ≡ true → IsPlace form p
 way_place form b p h =
     elim (last_place form b) as (λ o. last_place form b ≡ o → list_any (bytes_eq p) (option_map_or fronts o []) ≡ true → IsPlace form p) [
@@ -104,7 +104,7 @@ way_place form b p h =
       | Some q ↦ λ e passes. place_front form q p (last_leaf form b q e).place (front_passed p q passes)
     ] refl h
 
--- what is on the ways of blocks is a place
+-- a list of indexes on the ways of blocks is a place
 pub ways_place : (form : Form) (blocks p : List ℕ) → is_on_ways form blocks p ≡ true → IsPlace form p
 ways_place form [] p h = absurd (true≢false (sym h))
 ways_place form (b ∷ blocks) p h = elim (cases_Bool (list_any (bytes_eq p) (way form b))) [
@@ -112,7 +112,7 @@ ways_place form (b ∷ blocks) p h = elim (cases_Bool (list_any (bytes_eq p) (wa
   | inr there ↦ ways_place form blocks p (sym (ap (λ t. t || is_on_ways form blocks p) there) ∙ h)
 ]
 
--- what names something once blocks are touched, of places alone
+-- the places alone that name a block once blocks are touched
 pub filled_places : (form : Form) (names : List ℕ → Bool) (blocks p : List ℕ)
     → filled form (at_places form names) blocks p ≡ (is_place (fit_form form blocks) p && filled form names blocks p)
 filled_places form names blocks p =
@@ -121,7 +121,7 @@ filled_places form names blocks p =
     ∙ sym (guarded_or (is_place fit p) (fit_names form names blocks p) (is_on_ways fit blocks p)
     (λ on. place_test fit p (ways_place fit blocks p on)))
 
--- a file needs as many blocks whether all is asked or places alone
+-- a file needs the same number of blocks whether all lists of indexes are checked or places alone
 pub need_places : (form : Form) (names : List ℕ → Bool) (blocks : List ℕ) → need_of form (at_places form names) blocks ≡ need_of form names blocks
 unfolding need_of missing_count
 need_places form names blocks =

@@ -1,4 +1,4 @@
--- What a change of another node leaves of a directory that takes a name.
+-- A directory that takes a name, after a change of another node.
 use Rattle.std.proofs.Common.{◌≡◌, ◌≢◌, ◌∙◌, sym, ap, subst, ℕ, ◌+◌, ◌*◌, ◌%◌, ◌≤◌, max, if◌then◌else◌, List, [], Option, inl, inr, eq-eqb, arith}
 use Rattle.std.specs.Option.{unwrap_or}
 use Rattle.std.proofs.lemmas.Bool.{cases_eq, ne_eqb}
@@ -22,7 +22,7 @@ use Rattle.vol_change.proofs.States.{shape_here}
 use Rattle.vol_change.specs.Ready.{Rules1To12, TakesName, entry_need, free_in}
 use Rattle.vol_change.proofs.ReadyLaws.{ready_slots, ready_once, directory_kept}
 
--- values by i-number, with another one at i, are the same beside i
+-- values by i-number, with another one at i, are the same except at i
 pub set_beside : {X : Type 0} (values : ℕ → X) (i : ℕ) (value : X) (j : ℕ) → j ≢ i → set_at values i value j ≡ values j
 set_beside values i value j other = ap (λ t. if t then value else values j) (ne_eqb j i other)
 
@@ -37,7 +37,7 @@ set_there values i value is j = elim (cases_eq j i) [
 pub shape_there : (state : State) (i : ℕ) (shape : Shape) → state.shapes i ≡ shape → put_shape i shape state ≡ state
 shape_there state i shape is = λ k. record { tree = state.tree; shapes = λ j. set_there state.shapes i shape is j k }
 
--- what is free has no shape
+-- a free i-number has no shape
 pub free_shape : (geometry : Geometry) (image : List ℕ) (i : ℕ) → IsFreeNumber geometry image i → shapes geometry image i ≡ no_shape
 free_shape geometry image i free =
     shape_here geometry image i (omega (arith, free.above)) free.within
@@ -48,7 +48,7 @@ pub made_state : (geometry : Geometry) (image : List ℕ) (i : ℕ) (node : Opti
     → put_shape i no_shape (put_node i node (state geometry image)) ≡ put_node i node (state geometry image)
 made_state geometry image i node free = shape_there (put_node i node (state geometry image)) i no_shape (free_shape geometry image i free)
 
--- with another node beside it, a directory takes the names that it took
+-- after another node is changed, a directory takes the names that it took
 pub takes_beside : (state : State) (d i : ℕ) (node : Option Node) (name : List ℕ) → d ≢ i → TakesName state d name
     → TakesName (put_node i node state) d name
 takes_beside state d i node name other takes =
@@ -81,7 +81,7 @@ once_kept geometry old new d is kept has =
       once = λ name s t first second. has.once name s t (ap (holds name) (sym (same s)) ∙ first) (ap (holds name) (sym (same t)) ∙ second);
     }
 
--- what a new entry needs of its directory
+-- the requirements of a new entry on its directory
 pub record TakesEntry (geometry : Geometry) (image : List ℕ) (d : ℕ) (name : List ℕ) : Type 0 where
   pub directory : IsDirectory geometry image d
   pub slots : size_of geometry image d % 16 ≡ 0
@@ -89,7 +89,7 @@ pub record TakesEntry (geometry : Geometry) (image : List ℕ) (d : ℕ) (name :
   pub takes : TakesName (state geometry image) d name
   pub room : entry_need (state geometry image) d ≤ free_in (state geometry image)
 
--- what a call requires of the directory
+-- the requirements of a call on the directory
 pub takes_ready : (geometry : Geometry) (image : List ℕ) (d : ℕ) (name : List ℕ) → Rules1To12 geometry image → IsDirectory geometry image d
     → TakesName (state geometry image) d name → entry_need (state geometry image) d ≤ free_in (state geometry image)
     → TakesEntry geometry image d name
@@ -101,7 +101,7 @@ takes_ready geometry image d name ready is takes room = record {
   room = room;
 }
 
--- it stays with another node beside the directory
+-- it stays if another node than the directory is changed
 pub takes_kept : (geometry : Geometry) (old new : List ℕ) (d i : ℕ) (node : Option Node) (name : List ℕ) → d ≢ i
     → KeepsDirectory (graph_of geometry old) (graph_of geometry new) d → state geometry new ≡ put_node i node (state geometry old)
     → TakesEntry geometry old d name → TakesEntry geometry new d name

@@ -23,7 +23,7 @@ pub shape_here : (geometry : Geometry) (image : List ℕ) (i : ℕ) → 1 ≤ i 
 unfolding shapes
 shape_here geometry image i first last = ap (λ t. if t then shape_at geometry image i else no_shape) (number_is geometry i first last)
 
--- an image reads as a state where time, nodes and shapes agree
+-- an image reads as a state if time, nodes and shapes agree
 state_is : (geometry : Geometry) (image : List ℕ) (state_then : State) → geometry ≡ state_then.tree.geometry
     → long image (time_place geometry.edition) ≡ state_then.tree.time
     → ((j : ℕ) → (tree geometry image).nodes j ≡ state_then.tree.nodes j) → ((j : ℕ) → shapes geometry image j ≡ state_then.shapes j)
@@ -91,7 +91,7 @@ makes_both geometry old new i node shape changes =
     state_is geometry new (put_shape i shape (put_node i node (state geometry old))) refl changes.time
     (λ j. nodes_are geometry old new i j node shape changes) (λ j. shapes_are geometry old new i j node shape changes)
 
--- where the shape of i stays, it is the edit that puts another node there
+-- if the shape of i stays, it is the edit that puts another node there
 pub makes_node : (geometry : Geometry) (old new : List ℕ) (i : ℕ) (node : Option Node)
     → ChangesNode geometry old new i node (shape_at geometry old i) → state geometry new ≡ put_node i node (state geometry old)
 unfolding tree
@@ -106,7 +106,7 @@ makes_node geometry old new i node changes =
       | inr other ↦ ap (λ t. if t then shape_at geometry old i else shapes geometry old j) (ne_eqb j i other)
     ])
 
--- where all nodes and shapes stay, only the time is another
+-- if all nodes and shapes stay, only the time is another
 pub makes_time : (geometry : Geometry) (old new : List ℕ) (now : ℕ) → long new (time_place geometry.edition) ≡ now
     → ((j : ℕ) → 1 ≤ j → j ≤ geometry.last_inode
     → (node_of geometry new j ≡ node_of geometry old j) × (shape_at geometry new j ≡ shape_at geometry old j))

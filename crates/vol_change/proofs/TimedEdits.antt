@@ -1,4 +1,4 @@
--- A change of a node and the times put after it are the change of which calls are made.
+-- A change of a node followed by setting its times is the change from which calls are built.
 use Rattle.std.proofs.Common.{◌≡◌, ◌∙◌, sym, ap, refl, ℕ, ◌≤◌, ◌==◌, if◌then◌else◌, List, [], ◌∷◌, length, eq-eqb, arith, inl, inr, Option, None, Some}
 use Rattle.std.specs.Option.{option_map}
 use Rattle.std.proofs.lemmas.Bool.{cases_Bool}
@@ -11,7 +11,7 @@ map_twice : (f g : Node → Node) (node : Option Node) → option_map f (option_
 map_twice f g None = refl
 map_twice f g (Some node) = refl
 
--- nodes of which one is changed twice
+-- nodes, one of which is changed twice
 set_twice : (nodes : ℕ → Option Node) (i : ℕ) (f g : Node → Node) (j : ℕ)
     → set_at (set_at nodes i (option_map g (nodes i))) i (option_map f (set_at nodes i (option_map g (nodes i)) i)) j
     ≡ set_at nodes i (option_map (λ x. f (g x)) (nodes i)) j
@@ -30,7 +30,7 @@ set_twice nodes i f g j =
           ∙ sym (ap (λ t. if t then option_map (λ x. f (g x)) (nodes i) else nodes j) other)
     ])
 
--- a state of which one node is changed twice
+-- a state in which one node is changed twice
 pub change_twice : (state : State) (i : ℕ) (shape : Shape) (f g : Node → Node)
     → change_node i f (put_shape i shape (change_node i g state)) ≡ put_shape i shape (change_node i (λ node. f (g node)) state)
 change_twice state i shape f g = λ k. record {

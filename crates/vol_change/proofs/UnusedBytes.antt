@@ -18,7 +18,7 @@ use Rattle.vol_change.specs.Unused.{KeepsUnused, IsCleared}
 use Rattle.vol_change.proofs.OneNode.{alone_inode}
 use Rattle.vol_layout.proofs.EditionLaws.{super_order}
 
--- where all bytes of an i-node stay, so does that one
+-- if all bytes of an i-node stay, so does that one
 byte_kept : (edition : Edition) (old new : List ℕ) (j : ℕ)
     → ((r : ℕ) → r < (constants edition).inode_bytes → slice_index new (inode_place edition j + r) ≡ slice_index old (inode_place edition j + r))
     → edition ≡ V7 → slice_index new (inode_place V7 j + 51) ≡ slice_index old (inode_place V7 j + 51)
@@ -28,7 +28,7 @@ byte_kept V7 old new j same v7 = same 51 (omega arith)
 pub kept_unused : (geometry : Geometry) (old new : List ℕ) (j : ℕ) → KeepsInode geometry old new j → KeepsUnused geometry old new j
 kept_unused geometry old new j kept = record { stays = byte_kept geometry.edition old new j kept.bytes; free = λ is. kept.bytes }
 
--- where all bytes of an i-node stay, so does its kind
+-- if all bytes of an i-node stay, so does its kind
 kind_kept : (geometry : Geometry) (old new : List ℕ) (j : ℕ) → KeepsInode geometry old new j → kind_at geometry new j ≡ kind_at geometry old j
 kind_kept geometry old new j kept = ap (kind_of geometry.edition) (mode_kept geometry old new j kept)
 
@@ -71,7 +71,7 @@ put_unused geometry old new i j first second used same unused = elim (cases_eq j
   | inr other ↦ other_unused geometry old new i j first second other same
 ]
 
--- the cache and the time stand before the i-list
+-- the cache and the time are before the i-list
 pub cache_low : (edition : Edition) → cache_head edition + 202 ≤ 1024
 cache_low edition = let order = super_order edition in omega (arith, order)
 

@@ -1,4 +1,4 @@
--- The bytes of i-nodes that no field has, and those beside an i-node, after the steps of a call.
+-- The unused bytes of i-nodes, and those of all others, after the steps of a call.
 use Rattle.std.proofs.Common.{◌∙◌, ℕ, ◌+◌, List, arith}
 use Rattle.pdp_words.specs.Words.{SameOutside}
 use Rattle.vol_layout.specs.Edition.{constants}

@@ -38,13 +38,13 @@ pub record IsKind (geometry : Geometry) (image : List ℕ) (i : ℕ) (wanted : K
   pub last : i ≤ geometry.last_inode
   pub kind : kind_at geometry image i ≡ wanted
 
--- what a node of some content reads as
+-- the node that some content reads as
 pub node_holds : (geometry : Geometry) (image : List ℕ) (i : ℕ) (content : Content) → content_of geometry image i (kind_at geometry image i) ≡ Some content
     → node_of geometry image i ≡ Some (node_with (inode_of geometry.edition image i) content)
 unfolding node_of
 node_holds geometry image i content is = ap (option_map (node_with (inode_of geometry.edition image i))) is
 
--- a node of which the content and the size change
+-- a node whose content and size change
 pub node_edited : (geometry : Geometry) (old new : List ℕ) (i : ℕ) (change : Node → Node) (before after : Content) (size : ℕ) → 1 ≤ i
     → i ≤ geometry.last_inode → content_of geometry old i (kind_at geometry old i) ≡ Some before
     → content_of geometry new i (kind_at geometry new i) ≡ Some after
@@ -59,7 +59,7 @@ node_edited geometry old new i change before after size first last was is fields
     ∙ (ap Some (node_changed old_node new_node before after size fields is_size ∙ made)
     ∙ sym (ap (option_map change) (node_inside geometry old i first last ∙ node_holds geometry old i before was)))
 
--- the shape of a file once blocks are stored, but for the slots
+-- the shape of a file once blocks are stored, except the slots
 pub shape_stored : (geometry : Geometry) (old new blocks : List ℕ) (i : ℕ) (slots : List (Option (List ℕ))) → StoresBlocks geometry old new i blocks
     → record {
       names = is_named_place geometry new i;
@@ -73,7 +73,7 @@ pub shape_stored : (geometry : Geometry) (old new blocks : List ℕ) (i : ℕ) (
 shape_stored geometry old new blocks i slots stores =
     λ k. record { names = λ p. stores.names p k; large = stores.large k; slots = slots }
 
--- what a write keeps
+-- the invariants that a write keeps
 pub writes_keeps : (geometry : Geometry) (old new : List ℕ) (i offset : ℕ) (text : List ℕ) (rules : Rules3To8 geometry old)
     → Writes geometry old new i offset text rules.blocks → Keeps geometry old new
 writes_keeps geometry old new i offset text rules writes = record {
@@ -81,7 +81,7 @@ writes_keeps geometry old new i offset text rules writes = record {
   around = alone_around geometry old new i writes.alone;
 }
 
--- what a truncation keeps
+-- the invariants that a truncation keeps
 pub truncates_keeps : (geometry : Geometry) (old new : List ℕ) (i size : ℕ) (rules : Rules3To8 geometry old)
     → Truncates geometry old new i size rules.blocks → Keeps geometry old new
 truncates_keeps geometry old new i size rules cuts = record {
@@ -179,18 +179,18 @@ truncated_state geometry old new free i size is fits cuts =
     ∙ ((λ k. record { names = λ p. names p k; large = mode.flag k; slots = [] })
     ∙ sym (ap (λ shape. cut_shape edition shape size) (shape_here geometry old i is.first is.last ∙ ap (shape_of geometry old i) is.kind))))
 
--- what a truncation leaves of the kind
+-- the kind of a file after a truncation
 pub truncated_kind : (geometry : Geometry) (old new free : List ℕ) (i size : ℕ) → IsKind geometry old i kinds.Regular
     → Truncates geometry old new i size free → kind_at geometry new i ≡ kind_at geometry old i
 truncated_kind geometry old new free i size is cuts =
     ap (kind_of geometry.edition) cuts.mode ∙ (cut_mode geometry.edition size (mode_of geometry old i) (ap has_places is.kind)).kind
 
--- what a write leaves of the kind
+-- the kind of a file after a write
 pub written_kind : (geometry : Geometry) (old new free : List ℕ) (i offset : ℕ) (text : List ℕ) → IsFile geometry old i
     → Writes geometry old new i offset text free → kind_at geometry new i ≡ kind_at geometry old i
 written_kind geometry old new free i offset text file writes = (stores_blocks geometry old new free i offset text file writes).kind
 
--- where nothing is done, nothing changes
+-- if nothing is done, nothing changes
 pub nothing_keeps : (geometry : Geometry) (old new : List ℕ) → Rules3To8 geometry old → new ≡ old → Keeps geometry old new
 nothing_keeps geometry old new rules same = subst (Keeps geometry old) (sym same) (record {
   rules = rules;

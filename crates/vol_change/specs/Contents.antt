@@ -1,9 +1,9 @@
--- Changes of a file's bytes and of a directory's entries, before the times of the node are put.
+-- Changes of a file's bytes and of a directory's entries, before the node's times are set.
 use Rattle.std.specs.Prelude.{ℕ, List}
 use Rattle.vol_dir.specs.Tree.{Node, State}
 use Rattle.vol_change.specs.Edits.{entry_added, entry_removed, bytes_written, bytes_cut}
 
--- the node as it is: its times stay (this project)
+-- the node itself: its times stay (this project)
 abbrev pub untimed : Node → Node
 untimed node = node
 
@@ -11,7 +11,7 @@ untimed node = node
 abbrev pub write_body : ℕ → ℕ → List ℕ → State → State
 write_body = bytes_written untimed
 
--- of the bytes of file i the first stay, as many as `size`, and the places on their ways; its times stay (Lions on itrunc; that bytes may stay is this project's)
+-- file i is cut to its first `size` bytes and the places that they need, and its times stay (Lions on itrunc; that bytes may stay is this project's)
 abbrev pub cut_body : ℕ → ℕ → State → State
 cut_body = bytes_cut untimed
 
@@ -19,6 +19,6 @@ cut_body = bytes_cut untimed
 abbrev pub put_entry : ℕ → List ℕ → ℕ → State → State
 put_entry = entry_added untimed
 
--- an entry of directory d goes, and its times stay (Lions on unlink)
+-- an entry of directory d is removed, and its times stay (Lions on unlink)
 abbrev pub drop_entry : ℕ → List ℕ → State → State
 drop_entry = entry_removed untimed

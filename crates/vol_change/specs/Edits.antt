@@ -1,4 +1,4 @@
--- Changes of one node of the tree, of which calls are made.
+-- Changes of one node of the tree, from which the effects of calls are built.
 use Rattle.std.specs.Prelude.{ℕ, ◌+◌, ◌-◌, ◌%◌, ◌==◌, max, nat_le, if◌then◌else◌, List, [], ◌∷◌, length, take, Option, None}
 use Rattle.std.specs.Option.{option_map}
 use Rattle.vol_file.specs.Changes.{spliced}
@@ -35,7 +35,7 @@ remove_node i state = put_shape i no_shape (put_node i None state)
 abbrev pub at_time : ℕ → State → State
 at_time now state = record state { tree = record state.tree { time = now } }
 
--- a node whose i-node was changed: the seventh edition keeps the time of that (ino.h)
+-- a node whose i-node was changed; the seventh edition stores the time of that (ino.h)
 abbrev pub stamped : ℕ → Node → Node
 stamped now node = record node { changed = option_map (λ _. now) node.changed }
 
@@ -57,13 +57,13 @@ new_node edition cred now perm content links size = record {
   changed = first_change edition now;
 }
 
--- what a directory holds, with its map changed (manual section 5, directories)
+-- the content of a directory, with its map changed (manual section 5, directories)
 abbrev pub change_names : (Names → Names) → Content → Content
 change_names change (Directory names) = Directory (change names)
 change_names change (Body bytes) = Body bytes
 change_names change (Device type addresses) = Device type addresses
 
--- directory d gets an entry, a name for i: the map, the size, the slot, and the block of the slot where it is missing; its times change as `timed` says (Lions on wdir)
+-- directory d gets an entry, a name for i: in its map, its size, its slot, and the block of the slot if that is missing; its times change by `timed` (Lions on wdir)
 abbrev pub entry_added : (Node → Node) → ℕ → List ℕ → ℕ → State → State
 entry_added timed d name i state =
     put_shape d (shape_with_entry state.tree.geometry.edition (state.shapes d) name)
@@ -76,7 +76,7 @@ entry_added timed d name i state =
 abbrev pub add_entry : ℕ → ℕ → List ℕ → ℕ → State → State
 add_entry now = entry_added (modified now)
 
--- an entry of directory d goes, and its slot becomes empty; the size stays, and the times change as `timed` says (Lions on unlink)
+-- an entry of directory d is removed, and its slot becomes empty; the size stays, and the times change by `timed` (Lions on unlink)
 abbrev pub entry_removed : (Node → Node) → ℕ → List ℕ → State → State
 entry_removed timed d name state =
     put_shape d (shape_without_entry (state.shapes d) name)
@@ -84,49 +84,49 @@ entry_removed timed d name state =
       content = change_names (λ names. remove names name) node.content;
     }) state)
 
--- an entry of directory d goes, and its entries were last changed now (Lions on unlink)
+-- an entry of directory d is removed, and its entries were last changed now (Lions on unlink)
 abbrev pub remove_entry : ℕ → ℕ → List ℕ → State → State
 remove_entry now = entry_removed (modified now)
 
--- a node with another link count, whose i-node was changed by that (Lions on link)
+-- a node with another link count, which changes its i-node (Lions on link)
 abbrev pub with_links : ℕ → ℕ → Node → Node
 with_links now links node = record (stamped now node) { links = links }
 
--- a node with other permission bits, of which those under octal 7777 count, whose i-node was changed by that (chmod, section 2 of the manual)
+-- a node with other permission bits, those in octal 7777, which changes its i-node (chmod, section 2 of the manual)
 abbrev pub with_permission_bits : ℕ → ℕ → Node → Node
 with_permission_bits now perm node = record (stamped now node) { permissions = perm % 4096 }
 
--- a node of another user and group, whose i-node was changed by that (chown, section 2 of the manual)
+-- a node of another user and group, which changes its i-node (chown, section 2 of the manual)
 abbrev pub with_owner : ℕ → ℕ → ℕ → Node → Node
 with_owner now uid gid node = record (stamped now node) { uid = uid; gid = gid }
 
--- a node of other times, of the last reading and of the last change of what it holds, whose i-node was changed by that (utime, section 2 of the manual)
+-- a node with other times of its last access and last modification; its i-node's change has the time of the call (utime, section 2 of the manual)
 abbrev pub with_times : ℕ → ℕ → ℕ → Node → Node
 with_times now accessed modified node = record (stamped now node) { accessed = accessed; modified = modified }
 
--- node i gets one link more (Lions on link)
+-- node i gets one more link (Lions on link)
 abbrev pub add_link : ℕ → ℕ → State → State
 add_link now i state = change_node i (λ node. record (stamped now node) { links = node.links + 1 }) state
 
--- node i gets one link less (Lions on unlink)
+-- node i loses a link (Lions on unlink)
 abbrev pub drop_link : ℕ → ℕ → State → State
 drop_link now i state = change_node i (λ node. record (stamped now node) { links = node.links - 1 }) state
 
--- node i gets one link less, and with the last one it goes (Lions on iput)
+-- node i loses a link, and is removed with its last one (Lions on iput)
 abbrev pub release : ℕ → ℕ → State → State
 release now i state = if nat_le (node_at state.tree i).links 1 then remove_node i state else drop_link now i state
 
--- the bytes of a regular file; what is none has none (manual section 5, file system)
+-- the bytes of a regular file; none for other nodes (manual section 5, file system)
 abbrev pub body_of : Content → List ℕ
 body_of (Body bytes) = bytes
 body_of (Directory names) = []
 body_of (Device type addresses) = []
 
--- what a new directory holds: `.` for itself and `..` for its parent (mkdir)
+-- the content of a new directory: `.` for itself and `..` for its parent (mkdir)
 abbrev pub new_directory : ℕ → ℕ → Content
 new_directory made d = Directory (insert (insert [] dot made) dot_dot d)
 
--- bytes are written into file i from an offset on, and its times change as `timed` says (Lions on writei)
+-- bytes are written into file i from an offset on, and its times change by `timed` (Lions on writei)
 abbrev pub bytes_written : (Node → Node) → ℕ → ℕ → List ℕ → State → State
 bytes_written timed i offset bytes state =
     put_shape i (stored_shape state.tree.geometry.edition (state.shapes i) (touched offset (length bytes)))
@@ -140,12 +140,12 @@ abbrev pub after_write : State → ℕ → ℕ → List ℕ → ℕ → State
 after_write state now offset [] i = state
 after_write state now offset (byte ∷ bytes) i = bytes_written (modified now) i offset (byte ∷ bytes) state
 
--- of the bytes of file i the first stay, as many as `size`, and the places on their ways; its times change as `timed` says (Lions on itrunc; that bytes may stay is this project's)
+-- file i is cut to its first `size` bytes and the places that they need; its times change by `timed` (Lions on itrunc; that bytes may stay is this project's)
 abbrev pub bytes_cut : (Node → Node) → ℕ → ℕ → State → State
 bytes_cut timed i size state =
     put_shape i (cut_shape state.tree.geometry.edition (state.shapes i) size)
     (change_node i (λ node. record (timed node) { content = Body (take size (body_of node.content)); size = size }) state)
 
--- of the bytes of file i the first stay, as many as `size`, and the places on their ways; its bytes were last changed now (Lions on itrunc; that bytes may stay is this project's)
+-- file i is cut to its first `size` bytes and the places that they need; its bytes were last changed now (Lions on itrunc; that bytes may stay is this project's)
 abbrev pub after_truncate : State → ℕ → ℕ → ℕ → State
 after_truncate state now size i = bytes_cut (modified now) i size state

@@ -1,4 +1,4 @@
--- One node of the tree, as it is read.
+-- Reading one node of the tree.
 use Rattle.std.specs.Prelude.{ℕ, ◌+◌, ◌*◌, max, List, [], None}
 use Rattle.std.specs.Option.{unwrap_or}
 use Rattle.vol_dir.specs.Names.{Names, get}
@@ -6,7 +6,7 @@ use Rattle.vol_dir.specs.Tree.{Body, Node, Tree, State}
 use Rattle.vol_dir.specs.Walk.{map_of}
 use Rattle.vol_dir.specs.Searching.{new_slot}
 
--- what stands for a node where there is none; no walk ends there (this project)
+-- the value for a node that doesn't exist; no walk ends there (this project)
 abbrev pub no_node : Node
 no_node = record { content = Body []; permissions = 0; links = 0; uid = 0; gid = 0; size = 0; accessed = 0; modified = 0; changed = None }
 
@@ -18,10 +18,10 @@ node_at tree i = unwrap_or (tree.nodes i) no_node
 abbrev pub names_at : Tree → ℕ → Names
 names_at tree i = unwrap_or (map_of (node_at tree i).content) []
 
--- the i-number that directory d has for a name, 0 where it has none (Lions on namei)
+-- the i-number that directory d has for a name, or 0 if it has none (Lions on namei)
 abbrev pub number_of_name : Tree → ℕ → List ℕ → ℕ
 number_of_name tree d name = unwrap_or (get (names_at tree d) name) 0
 
--- a directory's size with one more entry: the first empty slot lies within it, or at its end (Lions on wdir)
+-- a directory's size with one more entry: the first empty slot is within it, or at its end (Lions on wdir)
 abbrev pub size_with_entry : State → ℕ → ℕ
 size_with_entry state d = max (node_at state.tree d).size (16 * new_slot (state.shapes d).slots + 16)

@@ -1,4 +1,4 @@
--- What is known of an image before a call is made on it, and after.
+-- The state of an image before and after a call.
 use Rattle.std.specs.Prelude.{◌≡◌, ℕ, ◌≤◌, List, None}
 use Rattle.vol_layout.specs.Edition.{constants}
 use Rattle.vol_layout.specs.Geometry.{Fits, geometry_of}
@@ -16,20 +16,20 @@ pub record Rules1To12 (geometry : Geometry) (image : List ℕ) : Type 0 where
   pub sizes : geometry ≡ geometry_of geometry.edition image
   pub sound : IsSound geometry.edition image
 
--- directory d doesn't have the name yet, and isn't too great with one more entry (Lions on wdir)
+-- directory d doesn't have the name yet, and isn't too large with one more entry (Lions on wdir)
 pub record TakesName (state : State) (d : ℕ) (name : List ℕ) : Type 0 where
   pub fresh : get (names_at state.tree d) name ≡ None
   pub greatest : size_with_entry state d ≤ (constants state.tree.geometry.edition).greatest
 
--- how many blocks one more entry in directory d needs (Lions on bmap)
+-- the number of blocks that one more entry in directory d needs (Lions on bmap)
 abbrev pub entry_need : State → ℕ → ℕ
 entry_need state d = need_in state.tree.geometry.edition (state.shapes d) (entry_blocks (state.shapes d))
 
--- how many blocks are free (icheck)
+-- the number of free blocks (icheck)
 abbrev pub free_in : State → ℕ
 free_in state = free_count state.tree.geometry state.shapes
 
--- the image has become that of another state, it is sound as it was, and the bytes that no call changes stay (this project)
+-- the image now reads as another state, is still sound, and keeps the bytes that no call changes (this project)
 pub record Becomes (geometry : Geometry) (old new : List ℕ) (made : State) : Type 0 where
   pub ready : Rules1To12 geometry new
   pub around : StaysAround geometry old new

@@ -1,4 +1,4 @@
--- What every change of a node keeps: the rules that speak of i-nodes, files and the free list, and the bytes that no call changes.
+-- The invariants of every change of a node: the rules about i-nodes, files and the free list, and the bytes that no call changes.
 use Rattle.std.specs.Prelude.{◌≡◌, ◌≢◌, ℕ, ◌+◌, ◌*◌, ◌%◌, ◌<◌, ◌≤◌, List, length, slice_index}
 use Rattle.vol_layout.specs.Super.{free_head, time_place}
 use Rattle.vol_file.specs.Rules.{kind_at, size_of, Rules3To7With, IsCovered}
@@ -13,21 +13,21 @@ pub record Rules3To8 (geometry : Geometry) (image : List ℕ) : Type 0 where
   pub sound : Rules3To7With geometry image blocks
   pub covered : IsCovered geometry image blocks
 
--- rules 3 to 8 hold, and i-number i is one of the volume's, of an i-node that isn't free (this project)
+-- rules 3 to 8 hold, and i-number i is one of the volume's and not free (this project)
 pub record HasNode (geometry : Geometry) (image : List ℕ) (i : ℕ) : Type 0 where
   pub rules : Rules3To8 geometry image
   pub first : 1 ≤ i
   pub last : i ≤ geometry.last_inode
   pub used : kind_at geometry image i ≢ kinds.Free
 
--- rules 3 to 8 hold, and i-number d is a directory of whole slots, no two of which have the same name (this project)
+-- rules 3 to 8 hold, and i-number d is a directory of whole slots with no name twice (this project)
 pub record HasDirectory (geometry : Geometry) (image : List ℕ) (d : ℕ) : Type 0 where
   pub rules : Rules3To8 geometry image
   pub is : IsDirectory geometry image d
   pub slots : size_of geometry image d % 16 ≡ 0
   pub once : HasNamesOnce geometry image d
 
--- the bytes that no call changes are as they were: block 0, the sizes and the flags of the super-block and what follows its time, and what lies behind the volume; the free list and the i-number cache, 202 bytes each, stand side by side (filsys.h)
+-- the bytes that no call changes are as they were: block 0, the sizes and flags of the super-block and the bytes after its time, and all bytes past the volume; the free list and the i-number cache, 202 bytes each, are next to each other (filsys.h)
 pub record StaysAround (geometry : Geometry) (old new : List ℕ) : Type 0 where
   pub len : length new ≡ length old
   pub before : (k : ℕ) → k < free_head geometry.edition → slice_index new k ≡ slice_index old k

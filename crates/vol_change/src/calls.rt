@@ -1,4 +1,4 @@
-//! The ten calls, once their paths are walked.
+//! The changes of the ten calls, once their paths are walked.
 
 pub mod chmod;
 pub mod chown;

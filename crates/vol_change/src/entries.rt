@@ -1,4 +1,4 @@
-//! The entries of a directory: one that comes, and one that goes; with and without the times of the directory.
+//! Adding and removing the entries of a directory, with and without its times.
 ghost use Rattle.std.specs.Prelude.{◌≡◌, ◌≢◌, ℕ, ◌+◌, ◌*◌, ◌%◌, ◌<◌, ◌≤◌, List, None, Some, length, slice_index, IsSome, false, drop, [], ◌∷◌};
 ghost use Rattle.std.specs.Option.{option_map};
 ghost use Rattle.vol_layout.specs.Edition.{constants};
@@ -26,8 +26,8 @@ use pdp_words::Image;
 use vol_dir::{add_at, remove_at};
 use vol_layout::Geometry;
 
-/// Gives `name`, which isn't there yet, to i-number `i` in directory `dir`, as [`add_at`] does, in the slot
-/// where a new entry goes. The times of the directory stay, and so does the link count of `i`.
+/// Adds an entry for i-number `i` to directory `dir`, as [`add_at`] does, in the slot for a new entry. The directory
+/// doesn't have `name` yet. Its times and the link count of `i` stay.
 ///
 /// Costs as much as [`add_at`].
 pub fn add_name(image: &mut Image, geometry: &Geometry, dir: u16, slot: u32, name: &[u8], i: u16)
@@ -52,8 +52,8 @@ pub fn add_name(image: &mut Image, geometry: &Geometry, dir: u16, slot: u32, nam
     add_at(image, geometry, dir, slot, name, i);
 }
 
-/// Takes `name`, which is there, out of its slot of directory `dir`, as [`remove_at`] does. The size and
-/// the times of the directory stay, and so does the link count of what was named.
+/// Removes `name`, which directory `dir` has, from its slot, as [`remove_at`] does. The size and times of the directory
+/// stay, and so does the link count of the node that was named.
 ///
 /// Costs as much as [`remove_at`].
 pub fn remove_name(image: &mut Image, geometry: &Geometry, dir: u16, slot: u32, name: &[u8])
@@ -73,8 +73,8 @@ pub fn remove_name(image: &mut Image, geometry: &Geometry, dir: u16, slot: u32, 
     remove_at(image, geometry, dir, slot, name);
 }
 
-/// Gives `name`, which isn't there yet, to i-number `i` in directory `dir`, in the slot where a new entry
-/// goes. The directory's bytes were then last changed at `moment`, in seconds.
+/// Adds an entry for i-number `i` to directory `dir`, in the slot for a new entry, and makes `moment`, in seconds, the time
+/// of the directory's last change. The directory doesn't have `name` yet.
 pub(crate) fn enter(
     image: &mut Image,
     geometry: &Geometry,
@@ -103,8 +103,8 @@ pub(crate) fn enter(
     touch(image, geometry, dir, moment);
 }
 
-/// Takes `name`, which is there, out of its slot of directory `dir`, whose bytes were then last changed at
-/// `moment`, in seconds.
+/// Removes `name`, which directory `dir` has, from its slot, and makes `moment`, in seconds, the time of the directory's
+/// last change.
 pub(crate) fn leave(
     image: &mut Image,
     geometry: &Geometry,

@@ -1,4 +1,4 @@
-//! Nodes that go.
+//! Freeing nodes.
 ghost use Rattle.std.specs.Prelude.{◌≡◌, ◌≢◌, ℕ, ◌<◌, ◌≤◌, List, ◌++◌};
 ghost use Rattle.vol_layout.specs.Edition.{constants};
 ghost use Rattle.vol_layout.specs.Names.{IsPlaceOf, named};
@@ -18,9 +18,8 @@ use vol_free::give_inode;
 use vol_layout::i_list::kind;
 use vol_layout::{Geometry, Kind, clear_inode};
 
-/// Frees node `i`, which isn't the root: its blocks go back to the free list, all bytes of its i-node are
-/// zero then, and its i-number goes to the cache, if there is room. Answers how many blocks were given
-/// back. Takes no memory.
+/// Frees node `i`, which isn't the root: puts its blocks on the free list, clears all bytes of its i-node, and puts its
+/// i-number in the cache if there is room. Returns the number of blocks freed. Takes no memory.
 ///
 /// Costs what the truncation of its file does, if it has one.
 pub fn free_node(image: &mut Image, geometry: &Geometry, i: u16) -> u32
@@ -40,7 +39,7 @@ pub fn free_node(image: &mut Image, geometry: &Geometry, i: u16) -> u32
     given
 }
 
-/// Truncates file `i`, if `i` is one, and answers how many blocks were given back.
+/// Truncates `i` to no bytes if it is a file, and returns the number of blocks freed.
 fn free_blocks(image: &mut Image, geometry: &Geometry, i: u16) -> u32
     requires rules { Rules3To8 geometry.now image.old }
     requires first { 1 ≤ i }

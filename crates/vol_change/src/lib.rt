@@ -1,4 +1,4 @@
-//! The change that each of the ten calls makes of a volume, once its paths are walked.
+//! The changes that the ten calls make to a volume, once their paths are walked.
 #![tactic(auto)]
 
 mod calls;

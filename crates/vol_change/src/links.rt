@@ -1,4 +1,4 @@
-//! The link counts.
+//! Link counts.
 ghost use Rattle.std.specs.Prelude.{◌≡◌, ◌≢◌, ℕ, ◌+◌, ◌-◌, ◌<◌, ◌≤◌};
 ghost use Rattle.vol_layout.specs.Edition.{constants};
 ghost use Rattle.vol_layout.specs.Inode.{inode_of};
@@ -17,8 +17,8 @@ use pdp_words::Image;
 use vol_layout::i_list::inode;
 use vol_layout::{Geometry, Inode, put_inode};
 
-/// Makes the link count of i-node `i`, which isn't free, the given one, and in the seventh edition `now`
-/// the time, in seconds, at which it was last changed.
+/// Sets the link count of i-node `i`, which isn't free, and in the seventh edition also the time of its last change, to
+/// `now` in seconds.
 pub fn put_links(image: &mut Image, geometry: &Geometry, i: u16, links: u16, now: u32)
     requires node { HasNode geometry.now image.old i }
     requires limit { links ≤ (constants geometry.now.edition).link_limit }
@@ -36,7 +36,7 @@ pub fn put_links(image: &mut Image, geometry: &Geometry, i: u16, links: u16, now
     put_inode(image, geometry, i, &linked);
 }
 
-/// Gives i-node `i`, which isn't free and has fewer links than the limit, one link more, as `put_links` does.
+/// Adds a link to i-node `i`, which isn't free and has fewer links than the limit, as `put_links` does.
 pub fn add_link(image: &mut Image, geometry: &Geometry, i: u16, now: u32)
     requires node { HasNode geometry.now image.old i }
     requires room { (inode_of geometry.now.edition image.old i).links < (constants geometry.now.edition).link_limit }
@@ -50,7 +50,7 @@ pub fn add_link(image: &mut Image, geometry: &Geometry, i: u16, now: u32)
     put_links(image, geometry, i, links + 1, now);
 }
 
-/// Takes a link from i-node `i`, which isn't free and has one at least, as `put_links` does.
+/// Removes a link from i-node `i`, which isn't free and has at least one, as `put_links` does.
 pub fn drop_link(image: &mut Image, geometry: &Geometry, i: u16, now: u32)
     requires node { HasNode geometry.now image.old i }
     requires some { 1 ≤ (inode_of geometry.now.edition image.old i).links }

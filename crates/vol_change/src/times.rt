@@ -1,4 +1,4 @@
-//! The times: of the volume's last change, and of a node's.
+//! The times of a volume's and of a node's last change.
 ghost use Rattle.std.specs.Prelude.{◌≡◌, ◌≢◌, ℕ, ◌+◌, ◌≤◌};
 ghost use Rattle.std.specs.Option.{option_map};
 ghost use Rattle.pdp_words.specs.Words.{SameOutside};
@@ -19,7 +19,7 @@ use pdp_words::Image;
 use vol_layout::i_list::inode;
 use vol_layout::{Geometry, Inode, Super, put_inode};
 
-/// Makes `now` the time at which the volume was last changed, in seconds. No other byte changes.
+/// Sets the time of the volume's last change to `now`, in seconds. No other byte changes.
 pub fn put_time(image: &mut Image, geometry: &Geometry, now: u32)
     requires rules { Rules3To8 geometry.now image.old }
     ensures changed { Changed geometry.now image.old image.new IsAny
@@ -33,8 +33,8 @@ pub fn put_time(image: &mut Image, geometry: &Geometry, now: u32)
     super_block.put_time(image, now);
 }
 
-/// Makes `now` the time, in seconds, at which what node `i` holds was last changed, and in the seventh
-/// edition that of its i-node too. Node `i` is any that isn't free.
+/// Sets the time of the last change of node `i`'s bytes or entries to `now`, in seconds, and in the seventh edition also
+/// that of its i-node's last change. Node `i` isn't free.
 pub fn touch(image: &mut Image, geometry: &Geometry, i: u16, now: u32)
     requires node { HasNode geometry.now image.old i }
     ensures changed { Changed geometry.now image.old image.new IsAny
@@ -53,8 +53,8 @@ pub fn touch(image: &mut Image, geometry: &Geometry, i: u16, now: u32)
     put_inode(image, geometry, i, &touched);
 }
 
-/// Makes `accessed` and `modified` the times, in seconds, at which node `i` was last read and what it holds
-/// was last changed, and in the seventh edition `now` that of its i-node. Node `i` is any that isn't free.
+/// Sets the times of node `i`, in seconds: `accessed` for its last access, `modified` for its last modification, and in the
+/// seventh edition `now` for its i-node's change. Node `i` is any that isn't free.
 pub fn put_times(
     image: &mut Image,
     geometry: &Geometry,
@@ -81,7 +81,7 @@ pub fn put_times(
     put_inode(image, geometry, i, &timed);
 }
 
-/// The time of an i-node's change, now: the sixth edition has none.
+/// Returns the time of an i-node's change, set to `now`, or `None` for the sixth edition, which has none.
 pub(crate) fn stamp(changed: Option<u32>, now: u32) -> Option<u32>
     ensures { result ≡ option_map (λ _. now) changed }
 {

@@ -1,4 +1,4 @@
-//! Another owner.
+//! Changing the owner.
 ghost use Rattle.std.specs.Prelude.{◌≤◌};
 ghost use Rattle.vol_layout.specs.Edition.{constants};
 ghost use Rattle.vol_dir.specs.Entries.{IsInUse};
@@ -15,8 +15,7 @@ use crate::times::put_time;
 use pdp_words::Image;
 use vol_layout::Geometry;
 
-/// Gives node `i`, of any kind, to user `uid` and group `gid`, at `moment`, in seconds. Its permission bits
-/// stay.
+/// Gives node `i`, of any kind, to user `uid` and group `gid`, at time `moment` in seconds. Its permission bits stay.
 pub fn chown(image: &mut Image, geometry: &Geometry, i: u16, uid: u16, gid: u16, moment: u32)
     requires ready { Rules1To12 geometry.now image.old }
     requires used { IsInUse geometry.now image.old i }

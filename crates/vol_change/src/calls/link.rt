@@ -1,4 +1,4 @@
-//! A further name.
+//! Adding a name.
 ghost use Rattle.std.specs.Prelude.{◌≡◌, ◌≢◌, ℕ, ◌<◌, ◌≤◌, false, drop, ◌*◌};
 ghost use Rattle.vol_layout.specs.Edition.{constants};
 ghost use Rattle.vol_layout.specs.declared.mode.Kind.TheVariants as kinds;
@@ -21,8 +21,8 @@ use crate::times::put_time;
 use pdp_words::Image;
 use vol_layout::Geometry;
 
-/// Gives node `i`, which is no directory, the further `name` in directory `dir`, in the slot where a new entry
-/// goes, at `moment`, in seconds.
+/// Gives node `i`, which is not a directory, another `name` in directory `dir`, in the slot for a new entry, at time
+/// `moment` in seconds.
 ///
 /// Costs the write of the entry.
 pub fn link(

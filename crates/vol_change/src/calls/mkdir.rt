@@ -1,4 +1,4 @@
-//! A new directory.
+//! Making a directory.
 ghost use Rattle.std.specs.Prelude.{List, ◌∷◌, ◌≡◌, ◌≢◌, ℕ, ◌+◌, ◌<◌, ◌≤◌, false, [], IfSome, slice_index, drop, ◌*◌};
 ghost use Rattle.vol_layout.specs.Edition.{constants};
 ghost use Rattle.vol_layout.specs.Inode.{inode_place};
@@ -30,12 +30,11 @@ use crate::times::put_time;
 use pdp_words::Image;
 use vol_layout::Geometry;
 
-/// Makes a directory with `name` in directory `dir`, in the slot where a new entry goes, with `.` and `..`
-/// alone. Its i-number is the
-/// recorded one, if there is one, and else one that is free; the answer is that number. The blocks of
-/// the entry in `dir` are taken first, then that of the new directory.
+/// Makes a directory that has only `.` and `..`, with `name` in directory `dir`, in the slot for a new entry, and returns
+/// its i-number: the recorded one if given, else a free one. The blocks for the entry in `dir` are taken first, then the
+/// new directory's block.
 ///
-/// Costs the writes of the entries; the i-list is searched only where no cached i-number is free.
+/// Costs the writes of the entries; the i-list is searched only if no cached i-number is free.
 pub fn mkdir(
     image: &mut Image,
     geometry: &Geometry,
@@ -78,8 +77,8 @@ pub fn mkdir(
     made
 }
 
-/// Gives directory `i`, which has no slots, its entries `.` and `..`, the latter for directory `dir`.
-/// The times of `i` stay, and so do the link counts. That takes one block.
+/// Adds the entries `.` and `..` to directory `i`, which has no slots; `..` names directory `dir`. Takes one block. The
+/// times and link counts stay.
 fn add_dots(image: &mut Image, geometry: &Geometry, i: u16, dir: u16)
     requires rules { Rules3To8 geometry.now image.old }
     requires directory { IsDirectory geometry.now image.old i }

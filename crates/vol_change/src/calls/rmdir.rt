@@ -1,4 +1,4 @@
-//! A directory that goes.
+//! Removing a directory.
 ghost use Rattle.std.specs.Prelude.{◌≡◌, ◌≢◌, ℕ, ◌≤◌, List, not, false, Some, ◌++◌, [], ◌∷◌, ◌*◌};
 ghost use Rattle.std.specs.List.{list_any};
 ghost use Rattle.vol_dir.specs.Entries.{IsDirectory, slots};
@@ -19,9 +19,9 @@ use crate::times::put_time;
 use pdp_words::Image;
 use vol_layout::Geometry;
 
-/// Frees directory `i`, which has `.` and `..` alone and is `name` in its slot of directory `dir`, at
-/// `moment`, in seconds: its blocks, its i-node and its i-number. `dir` loses the link that `..` was.
-/// Answers how many blocks were given back.
+/// Removes directory `i`, which has only `.` and `..` and is `name` in its slot of directory `dir`, at time `moment` in
+/// seconds: frees its blocks, its i-node and its i-number. `dir` loses the link of `..`. Returns the number of blocks
+/// freed.
 ///
 /// Costs the write of the slot, and what freeing the node does.
 pub fn rmdir(

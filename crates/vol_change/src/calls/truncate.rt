@@ -1,4 +1,4 @@
-//! A regular file of which the first bytes stay.
+//! Shortening a file.
 ghost use Rattle.std.specs.Prelude.{◌≡◌, ℕ, ◌≤◌, ◌++◌};
 ghost use Rattle.vol_layout.specs.declared.mode.Kind.TheVariants as kinds;
 ghost use Rattle.vol_file.specs.Rules.{kind_at, size_of};
@@ -14,8 +14,8 @@ use crate::times::{put_time, touch};
 use pdp_words::Image;
 use vol_layout::Geometry;
 
-/// Keeps the first `size` bytes of the regular file `i` and the blocks on their ways, at `moment`, in
-/// seconds. The rest goes, and the answer is how many blocks were given back.
+/// Cuts the regular file `i` to its first `size` bytes, at time `moment` in seconds. Keeps the blocks that these bytes
+/// need, frees the others and returns their number.
 ///
 /// Costs as much as [`vol_file::truncate`].
 pub fn truncate(image: &mut Image, geometry: &Geometry, i: u16, size: u32, moment: u32) -> u32

@@ -1,4 +1,4 @@
-//! A name that goes.
+//! Removing a name.
 ghost use Rattle.std.specs.Prelude.{◌≡◌, ◌≢◌, ℕ, ◌<◌, ◌≤◌, Some, ◌++◌, [], ◌∷◌, ◌*◌, nat_le, if◌then◌else◌};
 ghost use Rattle.vol_layout.specs.Inode.{inode_of};
 ghost use Rattle.vol_layout.specs.declared.mode.Kind.TheVariants as kinds;
@@ -23,11 +23,11 @@ use pdp_words::Image;
 use vol_layout::Geometry;
 use vol_layout::i_list::inode;
 
-/// Takes `name`, which node `i` has and which is no directory, out of its slot of directory `dir`, at `moment`,
-/// in seconds. With its last name the node is freed: its blocks, its i-node and its i-number. Answers how
-/// many blocks were given back.
+/// Removes `name`, a name of node `i`, which is not a directory, from its slot of directory `dir`, at time `moment` in
+/// seconds. With its last name the node is freed: its blocks, its i-node and its i-number. Returns the number of blocks
+/// freed.
 ///
-/// Costs the write of the slot, and with the last name what freeing the node does.
+/// Costs the write of the slot and, with the last name, what freeing the node does.
 pub fn unlink(
     image: &mut Image,
     geometry: &Geometry,

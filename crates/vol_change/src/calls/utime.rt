@@ -1,4 +1,4 @@
-//! Other times.
+//! Changing a node's times.
 ghost use Rattle.vol_dir.specs.Entries.{IsInUse};
 ghost use Rattle.vol_dir.specs.Tree.{state};
 ghost use Rattle.vol_change.specs.Alone.{ChangesInode};
@@ -12,8 +12,8 @@ use crate::times::{put_time, put_times};
 use pdp_words::Image;
 use vol_layout::Geometry;
 
-/// Makes `accessed` and `modified` the times, in seconds, at which node `i`, of any kind, was last read and
-/// what it holds was last changed, at `moment`, which becomes that of its i-node's change.
+/// Sets the times of node `i`, of any kind, in seconds: `accessed` for its last access, `modified` for its last modification,
+/// and `moment` for its i-node's change.
 pub fn utime(
     image: &mut Image,
     geometry: &Geometry,

@@ -1,4 +1,4 @@
-//! Bytes that are written into a regular file.
+//! Writing to a file.
 ghost use Rattle.std.specs.Prelude.{◌≡◌, ℕ, ◌+◌, ◌≤◌, length, drop};
 ghost use Rattle.vol_layout.specs.Edition.{constants};
 ghost use Rattle.vol_layout.specs.declared.mode.Kind.TheVariants as kinds;
@@ -15,8 +15,8 @@ use crate::times::{put_time, touch};
 use pdp_words::Image;
 use vol_layout::Geometry;
 
-/// Writes `bytes` into the regular file `i` from byte `offset` on, at `moment`, in seconds. Of a write of
-/// no bytes only the volume's time is left.
+/// Writes `bytes` to the regular file `i` from byte `offset` on, at time `moment` in seconds. A write of no bytes sets
+/// only the volume's time.
 ///
 /// Costs as much as [`vol_file::write`].
 pub fn write(image: &mut Image, geometry: &Geometry, i: u16, offset: u32, bytes: &[u8], moment: u32)

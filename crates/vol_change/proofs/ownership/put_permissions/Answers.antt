@@ -42,7 +42,7 @@ kind_stays c =
     (λ free. c.requires.node.used (sym (ap (kind_of geometry.edition) mode) ∙ free))
     (λ odd. c.requires.node.rules.sound.kinds.known c.args.i c.requires.node.first c.requires.node.last (sym (ap (kind_of geometry.edition) mode) ∙ odd))
 
--- what the put leaves
+-- the image after the i-node is written
 puts : (c : After-put_inode) → PutsInode c.args.geometry.now c.args.image.now c.put_inode.new.image c.args.i (put_node c)
 puts c =
     puts_permitted c.args.geometry.now c.args.image.now c.put_inode.new.image c.args.i c.inode-node.result (put_node c) c.requires.node.first c.requires.node.last
@@ -75,7 +75,7 @@ returns-clause-graph c =
     put_same c.args.geometry.now c.args.image.now c.put_inode.new.image c.args.i (put_node c) c.requires.node.rules (puts c)
     (ap (λ node. node.links) c.inode-node.ensures.value)
 
--- the node holds what it did
+-- the node reads the same
 held : (c : After-put_inode) → KeepsReading c.args.geometry.now c.args.image.now c.put_inode.new.image c.args.i
 held c =
     put_reading c.args.geometry.now c.args.image.now c.put_inode.new.image c.args.i c.args.i (put_node c) c.requires.node.rules (puts c)

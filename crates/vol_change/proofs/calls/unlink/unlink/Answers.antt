@@ -66,7 +66,7 @@ put_time-requires c = record {
   ];
 }
 
--- the entry goes
+-- the entry is removed
 leaves : (c : After-put_time)
     → LeavesEntry c.args.geometry.now c.args.image.now c.leave.new.image c.args.dir c.args.i c.args.name.now c.args.moment
 leaves c = record {
@@ -79,7 +79,7 @@ leaves c = record {
   beside = c.leave.ensures.beside;
 }
 
--- what goes, before the time of the volume is put
+-- the name is removed, before the time of the volume is set
 unlinked : (c : After-put_time)
     → HasMade c.args.geometry.now c.args.image.now c.if-inode-le1.image
     (after_unlink (state c.args.geometry.now c.args.image.now) c.args.moment c.args.dir c.args.name.now)
@@ -100,11 +100,11 @@ unlinked c = elim c.if-inode-le1.branch [
       (leaves c) c.requires.other most w.drop_link.ensures.changed.keeps w.drop_link.ensures.changed.makes w.drop_link.ensures.graph)
 ]
 
--- the node that goes, or stays, is another than the directory
+-- the node that is freed, or stays, is not the directory
 apart : (c : After-put_time) → c.args.i ≢ c.args.dir
 apart c same = c.requires.other (ap (kind_at c.args.geometry.now c.args.image.now) same ∙ c.requires.directory.kind)
 
--- with its last link its blocks go back to the free list
+-- with its last link its blocks return to the free list
 freed : (c : After-put_time) → (inode_of c.args.geometry.now.edition c.args.image.now c.args.i).links ≤ 1 → 1 ≤ c.args.i
     → c.args.i ≤ c.args.geometry.now.last_inode
     → FreeBecomes c.args.geometry.now c.leave.new.image c.if-inode-le1.image (λ blocks. blocks_freed c.args.geometry.now c.args.image.now c.args.i ++ blocks)
@@ -122,14 +122,14 @@ freed c last low high = elim c.if-inode-le1.branch [
       absurd (omega (arith, most, last, same))
 ]
 
--- whether a link count is the last
+-- a test for the last link
 last_test : (n : ℕ) → n ≤ 1 → nat_le n 1 ≡ true
 last_test n few = grind (arith, nat_tests)
 
 more_test : (n : ℕ) → 1 < n → nat_le n 1 ≡ false
 more_test n many = grind (arith, nat_tests)
 
--- so many they are
+-- their number
 counted : (c : After-put_time) → c.if-inode-le1.given
     ≡ (if nat_le (inode_of c.args.geometry.now.edition c.args.image.now c.args.i).links 1
     then place_count c.args.geometry.now.edition (shapes c.args.geometry.now c.args.image.now c.args.i) else 0)
@@ -187,7 +187,7 @@ cleared c last = elim c.if-inode-le1.branch [
       absurd (omega (arith, most, last, same))
 ]
 
--- with another it keeps what has no use
+-- if it has another, its unused bytes stay
 unused : (c : After-put_time) → 1 < (inode_of c.args.geometry.now.edition c.args.image.now c.args.i).links → 1 ≤ c.args.i
     → c.args.i ≤ c.args.geometry.now.last_inode → KeepsUnused c.args.geometry.now c.leave.new.image c.if-inode-le1.image c.args.i
 unused c more low high = elim c.if-inode-le1.branch [

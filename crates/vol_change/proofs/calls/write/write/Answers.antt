@@ -59,7 +59,7 @@ put_time-requires c = record {
   ];
 }
 
--- what is left before the time of the volume is put
+-- the image before the time of the volume is set
 record Left (geometry : Geometry) (old new : List ℕ) (i offset moment : ℕ) (bytes : List ℕ) : Type 0 where
   pub made : HasMade geometry old new (after_write (state geometry old) moment offset bytes i)
   pub list : FreeBecomes geometry old new (drop (need_in geometry.edition (shapes geometry old i) (touched offset (length bytes))))

@@ -1,4 +1,4 @@
--- What an accepted call passed: the tests of its verdict, one after the other.
+-- The checks that an accepted call passed, one after the other.
 use Rattle.std.proofs.Common.{◌≡◌, ℕ, ◌+◌, ◌<◌, ◌≤◌, ◌∙◌, ap, refl, sym, Bool, true, false, not, nat_lt, nat_le, if◌then◌else◌, List, [], ◌∷◌, Option, None, Some, Ok, arith}
 use Rattle.std.specs.List.{list_any}
 use Rattle.std.specs.Option.{is_some}
@@ -22,7 +22,7 @@ passed : (test : Bool) (refusal : Refusal) (others : Option Refusal) → (if tes
 passed true refusal others none = absurd (cc)
 passed false refusal others none = (refl, none)
 
--- one that asked for the contrary
+-- one that checked the contrary
 not_not : (test : Bool) → not test ≡ false → test ≡ true
 not_not true e = refl
 not_not false e = sym e
@@ -32,7 +32,7 @@ none_there : (found : Option ℕ) → is_some found ≡ false → found ≡ None
 none_there None e = refl
 none_there (Some i) e = absurd (cc)
 
--- what is asked first, of the caller's numbers and of the paths
+-- the first checks, of the caller's numbers and of the paths
 pub record PassesFirst (tree : Tree) (cred : Cred) (paths : List (List ℕ)) (rest : Option Refusal) : Type 0 where
   pub user : cred.uid ≤ (constants tree.geometry.edition).id_limit
   pub group : cred.gid ≤ (constants tree.geometry.edition).id_limit
@@ -51,17 +51,17 @@ first_passed tree cred paths others none =
     let ids = or_parts (nat_lt limit cred.uid) (nat_lt limit cred.gid) bad.0 in
     record { user = below limit cred.uid ids.0; group = below limit cred.gid ids.1; plain = zeros.0; others = zeros.1 }
 
--- whose tests were passed
+-- the checks that were passed
 parent_asked : (tree : Tree) (cred : Cred) (path : List ℕ) (bare : Refusal) (tests : ℕ → List ℕ → List (Bool × Refusal)) (d : ℕ) (name : List ℕ)
     → walk_parent tree cred path ≡ Some (Ok (d, name)) → of_parent (walk_parent tree cred path) bare tests ≡ None → first_of (tests d name) ≡ None
 parent_asked tree cred path bare tests d name walked none = ap (λ w. of_parent w bare tests) (sym walked) ∙ none
 
--- of which the rest was asked
+-- the rest is checked
 node_asked : (tree : Tree) (cred : Cred) (path : List ℕ) (others : ℕ → Option Refusal) (i : ℕ)
     → walk tree cred path ≡ Ok i → of_node (walk tree cred path) others ≡ None → others i ≡ None
 node_asked tree cred path others i walked none = ap (λ w. of_node w others) (sym walked) ∙ none
 
--- a new entry: who makes it may be its node's owner, and the directory takes it, with room for what is needed
+-- a new entry: the caller may own the node, and the directory takes the entry, with enough room for it
 pub record MayEnter (state : State) (cred : Cred) (d : ℕ) (name : List ℕ) (needed : ℕ) : Type 0 where
   pub user : cred.uid ≤ (constants state.tree.geometry.edition).id_limit
   pub group : cred.gid ≤ (constants state.tree.geometry.edition).id_limit
@@ -152,7 +152,7 @@ link_passed state cred source target i d name none walked led =
       room = below _ _ room.0;
     }
 
--- a name that goes
+-- removing a name
 pub unlink_passed : (state : State) (cred : Cred) (path : List ℕ) (d : ℕ) (name : List ℕ)
     → then_others state.tree cred (path ∷ []) (of_parent (walk_parent state.tree cred path) refusals.IsDirectory (unlink_tests state cred)) ≡ None
     → walk_parent state.tree cred path ≡ Some (Ok (d, name))

@@ -1,4 +1,4 @@
--- What a volume is after a call that was performed and recorded.
+-- A volume after a call that was performed and recorded.
 use Rattle.std.proofs.Common.{◌≡◌, ℕ, ◌∙◌, sym, subst, refl, List, [], ◌∷◌, ◌++◌, None, Some, Option, unwrap_or, Result, Ok, Err, IfErr}
 use Rattle.vol_layout.specs.Geometry.{geometry_of}
 use Rattle.vol_layout.specs.declared.edition.Edition.{Edition}
@@ -51,7 +51,7 @@ counts_new : (geometry : Geometry) (old new : List ℕ) (call : Call) (done : Do
     → free ≡ free_count geometry (shapes geometry new)
 counts_new geometry old new call done free performed = performed.counted ∙ counted geometry new
 
--- what every volume keeps of its fields
+-- the invariant of a volume, from that of its fields
 pub fields_kept : (geometry : Geometry) (old new base : List ℕ) (journal longer : List Record) (first : ℕ) (call : Call) (done : Done) (free : ℕ)
     → geometry ≡ geometry_of geometry.edition old → verdict (state geometry old) call ≡ None → IsPerformed geometry old new call done free
     → longer ≡ journal ++ record { call = call; done = done } ∷ [] → IsConsistent (volume_of geometry.edition old base journal first)
@@ -64,13 +64,13 @@ fields_kept geometry old new base journal longer first call done free sizes acce
   counts_new geometry old new call done free performed,
 )
 
--- a call that is refused is so of what the image reads as
+-- a refused call is refused by the state that the image reads as
 pub refused : (geometry : Geometry) (image : List ℕ) (call : Call) (refusal : Refusal) → geometry ≡ geometry_of geometry.edition image
     → verdict (state geometry image) call ≡ Some refusal → Refuses (reads_as geometry.edition image) call refusal
 refused geometry image call refusal sizes says =
     refused_so (reads_as geometry.edition image) call refusal (subst (λ g. verdict (state g image) call ≡ Some refusal) sizes says)
 
--- a call that is refused without room for its record is so for want of memory where nothing else speaks against it
+-- a call without room for its record is refused with NoMemory only if no check fails
 refused_by : (geometry : Geometry) (image : List ℕ) (call : Call) (refusal : Refusal) (verdict_is : Option Refusal) → geometry ≡ geometry_of geometry.edition image
     → verdict (state geometry image) call ≡ verdict_is → refusal ≡ unwrap_or verdict_is refusals.NoMemory
     → Refuses (reads_as geometry.edition image) call refusal

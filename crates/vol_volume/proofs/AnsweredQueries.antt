@@ -1,4 +1,4 @@
--- Answers to queries: what is refused, what is replied, and where memory is wanted.
+-- Answers to queries: the refusals, the replies, and the queries that need memory.
 use Rattle.std.proofs.Common.{◌≡◌, ℕ, ◌+◌, ◌-◌, min, Bool, true, false, ◌||◌, if◌then◌else◌, List, [], ◌∷◌, ◌++◌, take, drop, length, Option, None, Some, Result, Ok, Err, refl, ap, sym, ◌∙◌, arith}
 use Rattle.std.specs.Prelude.{MatchResult, slice_range}
 use Rattle.std.proofs.lemmas.List.{take_all, drop_all, take_min, append-nil, length-drop}
@@ -22,7 +22,7 @@ use Rattle.vol_volume.specs.declared.queries.Reply.TheVariants as replies
 use Rattle.vol_volume.specs.declared.queries.Stat.{Stat}
 use Rattle.vol_volume.proofs.Refusals.{query_other}
 
--- what is asked before the walk, of what is known of numbers and zero bytes
+-- the checks before the walk, from what is known of numbers and zero bytes
 abbrev pub asked_first : Bool → Bool → Option Refusal → Option Refusal
 asked_first bad zero others = if bad then Some refusals.BadId else if zero then Some refusals.Invalid else others
 
@@ -44,7 +44,7 @@ pub first_refused : (geometry : Geometry) (image : List ℕ) (cred : Cred) (path
 unfolding tree
 first_refused geometry image cred path refusal is others = refused_by (is_bad_id geometry.edition cred.uid cred.gid) (has_zero path) others refusal is
 
--- what is asked after these
+-- the checks after these
 pub asked : (geometry : Geometry) (image : List ℕ) (cred : Cred) (path : List ℕ) (others : Option Refusal)
     → None ≡ (if is_bad_id geometry.edition cred.uid cred.gid then Some refusals.BadId else if has_zero path then Some refusals.Invalid else None)
     → then_others (tree geometry image) cred (path ∷ []) others ≡ others
@@ -81,7 +81,7 @@ refused tree query refusals.NotRegular is = sym (ap (λ refusal. refused_or refu
 refused tree query refusals.NoInode is = sym (ap (λ refusal. refused_or refusal (reply_of tree query)) is)
 refused tree query refusals.BadId is = sym (ap (λ refusal. refused_or refusal (reply_of tree query)) is)
 
--- a reply is the answer where nothing is refused
+-- a reply is the answer if nothing is refused
 replied : (tree : Tree) (query : Query) (reply : Reply) → query_refusal tree query ≡ None → reply_of tree query ≡ Ok reply
     → Answers tree query (Ok reply)
 replied tree query reply none is = sym (ap (λ refusal. refused_or refusal (reply_of tree query)) none ∙ is)
@@ -114,7 +114,7 @@ unfolding query_refusal
 read_tested tree cred path offset len i refusal leads denied =
     refused tree (queries.Read cred path offset len) refusal (leads.asked (λ i. first_of (body_tests tree may_read cred i)) ∙ sym denied)
 
--- want of memory
+-- NoMemory
 pub read_unmade : (tree : Tree) (cred : Cred) (path : List ℕ) (offset len i : ℕ) → LeadsTo tree cred path i
     → None ≡ first_of (body_tests tree may_read cred i) → Answers tree (queries.Read cred path offset len) (Err refusals.NoMemory)
 unfolding query_refusal
@@ -145,7 +145,7 @@ unfolding query_refusal
 list_tested tree cred path i refusal leads denied =
     refused tree (queries.List cred path) refusal (leads.asked (λ i. first_of (list_tests tree cred i)) ∙ sym denied)
 
--- want of memory
+-- NoMemory
 pub list_unmade : (tree : Tree) (cred : Cred) (path : List ℕ) (i : ℕ) → LeadsTo tree cred path i
     → None ≡ first_of (list_tests tree cred i) → Answers tree (queries.List cred path) (Err refusals.NoMemory)
 unfolding query_refusal

@@ -1,4 +1,4 @@
--- Whether an i-number can be taken.
+-- Which i-numbers are free for a new node.
 use Rattle.std.proofs.Common.{◌≡◌, ◌≢◌, ℕ, ◌+◌, ◌<◌, ◌≤◌, ◌==◌, ◌&&◌, ◌∙◌, ap, refl, sym, Bool, true, false, nat_lt, nat_le, List, zero, suc, arith}
 use Rattle.std.specs.Prelude.{IsTrue, ◌↔◌, IfSome, Option, None, Some}
 use Rattle.std.specs.Option.{option_map, is_none}
@@ -51,7 +51,7 @@ module _ (geometry : Geometry) (image : List ℕ) (files : Rules3To7 geometry im
   none_by i kinds.Special is known = sym (used_mode i kinds.Special is special_used)
   none_by i kinds.Odd is known = absurd (known refl)
 
-  -- an i-number of the volume has no node where its mode is 0
+  -- an i-number of the volume has no node if its mode is 0
   none_is : (i : ℕ) → 1 ≤ i → i ≤ geometry.last_inode → is_none ((tree geometry image).nodes i) ≡ (mode_of geometry image i == 0)
   none_is i first last =
       ap is_none (node_inside geometry image i first last ∙ node_of_kind geometry image i (kind_at geometry image i) refl)
@@ -63,7 +63,7 @@ module _ (geometry : Geometry) (image : List ℕ) (files : Rules3To7 geometry im
       let zero_mode : (mode_of geometry image i == 0) ≡ true = grind (arith, nat_tests, free.mode) in
       none_is i (omega (arith, free.above)) free.within ∙ zero_mode
 
-  -- an i-number can be taken where its i-node is free
+  -- an i-number can be taken if its i-node is free
   number_is : (i : ℕ) → 1 ≤ i → i ≤ geometry.last_inode
       → is_free_number (tree geometry image) i ≡ (nat_lt (constants geometry.edition).root i && (nat_le i geometry.last_inode && (mode_of geometry image i == 0)))
   unfolding tree
@@ -93,7 +93,7 @@ module _ (geometry : Geometry) (image : List ℕ) (files : Rules3To7 geometry im
             ] refl
       ] refl
 
-  -- whether any can is whether an i-node above the root's is free
+  -- some i-number is free for a new node if and only if an i-node above the root's is free
   pub any_free : (found : Bool) → IsTrue found ↔ ((i : ℕ) × IsFreeNumber geometry image i) → found ≡ has_free_number (tree geometry image)
   unfolding tree
   any_free true is =
@@ -104,7 +104,7 @@ module _ (geometry : Geometry) (image : List ℕ) (files : Rules3To7 geometry im
       sym (none_passes (is_free_number (tree geometry image)) 1 geometry.last_inode (λ i from to.
       number_used i from (omega arith) (λ free. let found : false ≡ true = is.1 (i, free) in cc)))
 
-  -- where some number can be taken, some i-node is free
+  -- if some number can be taken, some i-node is free
   pub some_free : has_free_number (tree geometry image) ≡ true → ((i : ℕ) → IsFreeNumber geometry image i → ⊥) → ⊥
   unfolding tree
   some_free some none =
@@ -112,7 +112,7 @@ module _ (geometry : Geometry) (image : List ℕ) (files : Rules3To7 geometry im
       none_passes (is_free_number (tree geometry image)) 1 geometry.last_inode (λ i from to. number_used i from (omega arith) (none i))
       in true≢false (sym some ∙ all)
 
-  -- what passes the test is a free number
+  -- an i-number that passes the test is free
   pub free_of : (i : ℕ) → is_free_number (tree geometry image) i ≡ true → IsFreeNumber geometry image i
   unfolding tree
   free_of i passes =
@@ -133,6 +133,6 @@ module _ (geometry : Geometry) (image : List ℕ) (files : Rules3To7 geometry im
   pub number_has : (i : ℕ) → IsFreeNumber geometry image i → has_free_number (tree geometry image) ≡ true
   number_has i free = sym (any_free true ((λ e. (i, free)), (λ found. refl)))
 
-  -- where no i-node is free, none can
+  -- if no i-node is free, none can
   pub none_has : ((i : ℕ) → IsFreeNumber geometry image i → ⊥) → has_free_number (tree geometry image) ≡ false
   none_has none = sym (any_free false ((λ e. absurd cc), (λ found. absurd (none found.0 found.1))))

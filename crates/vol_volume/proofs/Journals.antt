@@ -1,4 +1,4 @@
--- Journals in parts, and what an accepted call keeps.
+-- Journals in parts, and the invariant under accepted calls.
 use Rattle.std.proofs.Common.{◌≡◌, ◌↔◌, ℕ, List, [], ◌∷◌, ◌++◌, refl, ap, sym, ◌∙◌, subst, Result, Ok, Err}
 use Rattle.vol_layout.specs.Geometry.{geometry_of}
 use Rattle.vol_dir.specs.Tree.{State, state}
@@ -12,7 +12,7 @@ use Rattle.vol_volume.specs.declared.calls.Call.{Call}
 use Rattle.vol_volume.specs.declared.calls.Done.{Done}
 use Rattle.vol_volume.specs.declared.calls.Record.{Record}
 
--- a write of no bytes leaves the state, wherever its walk leads
+-- a write of no bytes keeps the state, wherever its walk leads
 pub write_nothing : (state : State) (now offset : ℕ) (walked : Result ℕ Refusal) → on_node state walked (after_write state now offset []) ≡ state
 write_nothing state now offset (Ok i) = refl
 write_nothing state now offset (Err refusal) = refl
@@ -41,12 +41,12 @@ pub legal-in-parts : (state : State) (front rest : List Record)
     → IsLegal state (front ++ rest) ↔ (IsLegal state front × IsLegal (after state front) rest)
 legal-in-parts state front rest = (legal-parts state front rest, λ both. legal-append state front rest both.0 both.1)
 
--- what an accepted call made of an image, by the sizes that it states then
+-- the state that an accepted call made of an image, by the sizes that it now states
 pub reads_made : (edition : Edition) (old new : List ℕ) (call : Call) (done : Done) → Performs (geometry_of edition old) old new call done
     → reads_as edition new ≡ step (reads_as edition old) call done
 reads_made edition old new call done performed = ap (λ g. state g new) (sym performed.changes.ready.sizes) ∙ performed.changes.makes
 
--- an accepted call keeps a volume consistent; `now` is what the journal made before
+-- an accepted call keeps a volume consistent; `now` is the state that the journal made before
 keep_same : (now : State) (old : Mounted) (new : List ℕ) (call : Call) (done : Done) → IsConsistent old
     → now ≡ reads_as old.edition old.image
     → MayFollow now (record { call = call; done = done })
@@ -69,7 +69,7 @@ keep_same now old new call done was reads follows made performed = record {
       ∙ sym (after-append (reads_as old.edition old.base) old.journal (record { call = call; done = done } ∷ []));
 }
 
--- what every volume keeps is kept
+-- the invariant of every volume is kept
 pub kept_consistent : (old new : Mounted) (call : Call) (done : Done) → IsConsistent old → Accepts old new call done → IsConsistent new
 kept_consistent old new call done was accepts =
     let same : IsConsistent (record {

@@ -20,11 +20,11 @@ use Rattle.vol_change.proofs.NodeEdits.{set_here}
 use Rattle.vol_change.proofs.SideStates.{set_beside}
 use Rattle.vol_volume.specs.Inodes.{is_free, KeepsInodes}
 
--- whether no node of a state has an i-number
+-- true if no node of a state has an i-number
 abbrev free_at : State → ℕ → Bool
 free_at state j = is_none (state.tree.nodes j)
 
--- a change of what there may be
+-- a change of a node that may not exist
 mapped_free : (change : Node → Node) (node : Option Node) → is_none (option_map change node) ≡ is_none node
 mapped_free change None = refl
 mapped_free change (Some node) = refl
@@ -38,7 +38,7 @@ changed_free state i change j = elim (cases_eq j i) [
   | inr other ↦ ap is_none (set_beside state.tree.nodes i (option_map change (state.tree.nodes i)) j other)
 ]
 
--- nor does an entry that comes
+-- nor does adding an entry
 added_free : (state : State) (now d : ℕ) (name : List ℕ) (i j : ℕ) → free_at (add_entry now d name i state) j ≡ free_at state j
 added_free state now d name i j =
     changed_free state d (λ node. record (modified now node) {
@@ -46,7 +46,7 @@ added_free state now d name i j =
       size = size_with_entry state d;
     }) j
 
--- or one that goes
+-- or one that is removed
 removed_free : (state : State) (now d : ℕ) (name : List ℕ) (j : ℕ) → free_at (remove_entry now d name state) j ≡ free_at state j
 removed_free state now d name j =
     changed_free state d (λ node. record (modified now node) { content = change_names (λ names. remove names name) node.content }) j
@@ -67,13 +67,13 @@ write_free state now offset (byte ∷ bytes) i j =
       size = max node.size (offset + length (byte ∷ bytes));
     }) j
 
--- or a file of which the first bytes stay
+-- or shortening a file
 truncate_free : (state : State) (now size i j : ℕ) → free_at (after_truncate state now size i) j ≡ free_at state j
 truncate_free state now size i j =
     changed_free state i (λ node. record (modified now node) { content = Body (take size (body_of node.content)); size = size }) j
 
 module _ (geometry : Geometry) (old new : List ℕ) where
-  -- what an image reads as says which i-numbers are free
+  -- the state that an image reads as determines which i-numbers are free
   free_as : (made : State) → state geometry new ≡ made → (j : ℕ) → is_free geometry new j ≡ free_at made j
   free_as made makes j = ap (λ s. free_at s j) makes
 
@@ -150,7 +150,7 @@ module _ (geometry : Geometry) (old new : List ℕ) where
   write_inodes now offset bytes i makes kept =
       inodes_same (λ j. free_as _ makes j ∙ write_free (state geometry old) now offset bytes i j) kept
 
-  -- a file of which the first bytes stay
+  -- shortening a file
   pub truncate_inodes : (now size i : ℕ) → state geometry new ≡ at_time now (after_truncate (state geometry old) now size i)
       → ((j : ℕ) → 1 ≤ j → j ≤ geometry.last_inode → KeepsUnused geometry old new j) → KeepsInodes geometry old new
   truncate_inodes now size i makes kept = inodes_same (λ j. free_as _ makes j ∙ truncate_free (state geometry old) now size i j) kept
@@ -192,7 +192,7 @@ module _ (geometry : Geometry) (old new : List ℕ) where
       ∙ (link_free last now d j ∙ (added_free put now d name i j ∙ ap is_none (set_beside was.tree.nodes i node j other))))
       zero kept
 
-  -- a directory that goes
+  -- removing a directory
   pub rmdir_inodes : (now i d : ℕ) (name : List ℕ) → state geometry new ≡ at_time now (after_rmdir (state geometry old) now d name)
       → get (names_at (state geometry old).tree d) name ≡ Some i → is_free geometry old i ≡ false → IsCleared geometry new i
       → ((j : ℕ) → 1 ≤ j → j ≤ geometry.last_inode → j ≢ i → KeepsUnused geometry old new j) → KeepsInodes geometry old new
@@ -208,7 +208,7 @@ module _ (geometry : Geometry) (old new : List ℕ) where
       ∙ (ap is_none (set_beside low.tree.nodes i None j other) ∙ (unlink_free mid now d j ∙ removed_free was now d name j)))
       zero kept
 
-  -- a name that goes, and with the last one its node
+  -- removing a name, and with the last one its node
   pub unlink_inodes : (now i d links : ℕ) (name : List ℕ) → state geometry new ≡ at_time now (after_unlink (state geometry old) now d name)
       → get (names_at (state geometry old).tree d) name ≡ Some i → is_free geometry old i ≡ false → 1 ≤ i → i ≤ geometry.last_inode
       → (node_at (state geometry old).tree i).links ≡ links → (links ≤ 1 → IsCleared geometry new i)

@@ -1,4 +1,4 @@
--- What calls leave, once their paths are walked.
+-- The rest of the image that calls keep, once their paths are walked.
 use Rattle.std.proofs.Common.{◌≡◌, ◌∙◌, ap, sym, subst, ℕ, ◌+◌, ◌<◌, ◌≤◌, nat_le, true, false, if◌then◌else◌, List, [], ◌∷◌, ◌*◌, ◌++◌, length, drop, IfSome, None, Some, Ok, inl, inr, refl, arith}
 use Rattle.std.proofs.lemmas.Bool.{cases_eq}
 use Rattle.std.proofs.lemmas.Bool.Decides.{nat_tests}
@@ -25,7 +25,7 @@ use Rattle.vol_volume.specs.declared.calls.Done.{Done}
 use Rattle.vol_volume.specs.declared.calls.Done.TheVariants.{Made, Plain}
 
 module _ (geometry : Geometry) (old new : List ℕ) where
-  -- what is left beside what a call reaches
+  -- everything besides the reach of a call is kept
   left_beside : (call : Call) (done : Done) (reach : Reach) → reached_by geometry old call done ≡ reach
       → FreeBecomes geometry old new reach.listed → KeepsFilesBut geometry old new reach.file reach.other
       → IfSome reach.put (λ put. PutsInBody geometry old new reach.file (16 * put.0) put.1) → KeepsBytes geometry old new call
@@ -68,7 +68,7 @@ module _ (geometry : Geometry) (old new : List ℕ) where
           (ap (λ w. reach_of_parent w (λ e text. with_entry geometry old e text made (takes e made (entry_need (state geometry old) e + 1)))) walked)
           free files (slot_put d slot _ (slot_bytes name made) is bytes) tt
 
-      -- a further name, of what another path leads to
+      -- another name of the node at another path
       pub link_leaves : (source : List ℕ) (i : ℕ) → walk (tree geometry old) cred source ≡ Ok i → slot ≡ new_slot (shapes geometry old d).slots
           → FreeBecomes geometry old new (drop (entry_need (state geometry old) d))
           → KeepsFilesBut geometry old new d d → PutsInBody geometry old new d (16 * slot) (slot_bytes name i)
@@ -82,7 +82,7 @@ module _ (geometry : Geometry) (old new : List ℕ) where
           free files (slot_put d slot _ (slot_bytes name i) is bytes) tt
 
       module _ (i : ℕ) (named : get (names_at (tree geometry old) d) name ≡ Some i) (found : slot ≡ slot_named name (slots geometry old d)) where
-        -- a directory that goes
+        -- removing a directory
         pub rmdir_leaves : FreeBecomes geometry old new (λ blocks. blocks_freed geometry old i ++ blocks)
             → KeepsFilesBut geometry old new d i → PutsInBody geometry old new d (16 * slot) (0 ∷ 0 ∷ [])
             → LeavesTheRest geometry old new (Rmdir cred now path) Plain
@@ -93,14 +93,14 @@ module _ (geometry : Geometry) (old new : List ℕ) where
             ∙ ap (λ j. without_entry geometry old d name (removed geometry old d j)) (entry_is (state geometry old) d i name named))
             free files (slot_put d slot _ (0 ∷ 0 ∷ []) found bytes) tt
 
-        -- what is reached where a name goes
+        -- the reach of a call that removes a name
         unlink_reached : reached_by geometry old (Unlink cred now path) Plain ≡ without_entry geometry old d name (unlinked geometry old d i)
         unfolding reached_by
         unlink_reached =
             ap (λ w. reach_of_parent w (λ e text. without_entry geometry old e text (unlinked geometry old e (number_of_name (tree geometry old) e text)))) walked
             ∙ ap (λ j. without_entry geometry old d name (unlinked geometry old d j)) (entry_is (state geometry old) d i name named)
 
-        -- a name that goes, and with the last one its node
+        -- removing a name, and with the last one its node
         pub unlink_leaves : (links : ℕ) → (node_at (tree geometry old) i).links ≡ links
             → (links ≤ 1 → FreeBecomes geometry old new (λ blocks. blocks_freed geometry old i ++ blocks))
             → (1 < links → FreeBecomes geometry old new as_before) → (1 < links → KeepsContent geometry old new i)
@@ -141,7 +141,7 @@ module _ (geometry : Geometry) (old new : List ℕ) where
           (ap (λ w. reach_of_node w (λ j. takes j j (need_in geometry.edition (shapes geometry old j) (touched offset (length bytes))))) walked)
           free files tt tt
 
-      -- a file of which the first bytes stay
+      -- shortening a file
       pub truncate_leaves : (left : ℕ) → FreeBecomes geometry old new (λ blocks. blocks_past geometry old i left ++ blocks)
           → KeepsFilesBut geometry old new i i → KeepsStored geometry old new i left → LeavesTheRest geometry old new (Truncate cred now path left) Plain
       unfolding reached_by KeepsBytes

@@ -27,7 +27,7 @@ pub slots_are : (geometry : Geometry) (image : List ℕ) (d : ℕ) → IsDirecto
 slots_are geometry image d directory =
     ap (λ shape. shape.slots) (shape_is geometry image d (kind_of_directory geometry image d directory))
 
--- a further entry needs what a write of its slot needs
+-- another entry needs as many blocks as a write of its slot
 pub entry_need_is : (geometry : Geometry) (image : List ℕ) (d : ℕ) → IsDirectory geometry image d
     → entry_need (state geometry image) d ≡ need geometry image d (16 * new_slot (names_in (slots geometry image d))) 16
 unfolding tree
@@ -38,14 +38,14 @@ entry_need_is geometry image d directory =
     (ap (λ s. (new_slot s / 32) ∷ []) (slots_are geometry image d directory)
     ∙ sym (slot_block (new_slot (names_in (slots geometry image d)))))
 
--- and a write what its blocks need
+-- and a write as many as its blocks need
 pub write_need_is : (geometry : Geometry) (image : List ℕ) (i offset len : ℕ) → 1 ≤ i → i ≤ geometry.last_inode
     → has_places (kind_at geometry image i) ≡ true → write_need (state geometry image) i offset len ≡ need geometry image i offset len
 unfolding tree
 write_need_is geometry image i offset len first last file =
     need_is geometry image i (touched offset len) (record { first = first; last = last; kind = file })
 
--- whether a directory with one more entry is too great
+-- a directory with one more entry is too large if and only if its new size is
 pub too_great_is : (geometry : Geometry) (image : List ℕ) (d : ℕ) → IsDirectory geometry image d
     → is_too_great (tree geometry image) (size_with_entry (state geometry image) d)
     ≡ nat_lt (constants geometry.edition).greatest (max (size_of geometry image d) (16 * new_slot (names_in (slots geometry image d)) + 16))

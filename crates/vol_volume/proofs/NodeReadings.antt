@@ -1,4 +1,4 @@
--- What the tree of an image says of one i-node.
+-- One i-node in the tree of an image.
 use Rattle.std.proofs.Common.{◌≡◌, ◌≢◌, ℕ, ◌≤◌, ◌∙◌, ap, refl, sym, true, false, List, Some, arith}
 use Rattle.std.specs.Option.{option_map, unwrap_or, is_none}
 use Rattle.std.proofs.lemmas.Bool.{false≢true}
@@ -31,7 +31,7 @@ module _ (geometry : Geometry) (image : List ℕ) where
   unfolding tree
   tree_geometry = refl
 
-  -- what an i-node of some kind reads as
+  -- the node that an i-node of some kind reads as
   pub node_of_kind : (i : ℕ) (kind : Kind) → kind_at geometry image i ≡ kind
       → node_of geometry image i ≡ option_map (node_with (inode_of geometry.edition image i)) (content_of geometry image i kind)
   unfolding node_of
@@ -40,7 +40,7 @@ module _ (geometry : Geometry) (image : List ℕ) where
   pub node_is : (i : ℕ) (kind : Kind) → 1 ≤ i → i ≤ geometry.last_inode → kind_at geometry image i ≡ kind → node_at (tree geometry image) i ≡ node_by geometry image i kind
   node_is i kind first last is = ap (λ n. unwrap_or n no_node) (node_inside geometry image i first last ∙ node_of_kind i kind is)
 
-  -- a node is a directory where its i-node is one
+  -- a node is a directory if its i-node is one
   pub directory_is : (i : ℕ) → 1 ≤ i → i ≤ geometry.last_inode → kind_at geometry image i ≡ kinds.Directory → is_directory (node_at (tree geometry image) i) ≡ true
   directory_is i first last is = ap is_directory (node_is i kinds.Directory first last is)
 
@@ -55,7 +55,7 @@ module _ (geometry : Geometry) (image : List ℕ) where
   directory_not i first last other =
       ap is_directory (node_is i (kind_at geometry image i) first last refl) ∙ no_directory_by i (kind_at geometry image i) other
 
-  -- a node is that of a special file where its i-node is
+  -- a node is that of a special file if its i-node is
   pub device_is : (i : ℕ) → 1 ≤ i → i ≤ geometry.last_inode → kind_at geometry image i ≡ kinds.Special → is_device (node_at (tree geometry image) i).content ≡ true
   device_is i first last is = ap (λ (n : Node). is_device n.content) (node_is i kinds.Special first last is)
 
@@ -96,7 +96,7 @@ module _ (geometry : Geometry) (image : List ℕ) where
   pub names_are : (d : ℕ) → IsDirectory geometry image d → names_at (tree geometry image) d ≡ names_of (slots geometry image d)
   names_are d directory = names_is geometry image d (kind_of_directory d directory)
 
-  -- where the node is no special file, the i-node is none
+  -- if the node is no special file, the i-node is none
   pub other_device : (i : ℕ) → 1 ≤ i → i ≤ geometry.last_inode → is_device (node_at (tree geometry image) i).content ≡ false → kind_at geometry image i ≢ kinds.Special
   other_device i first last other is = false≢true (sym other ∙ device_is i first last is)
 
@@ -140,7 +140,7 @@ module _ (geometry : Geometry) (image : List ℕ) where
       ap (λ n. (unwrap_or n no_node).size) (node_inside geometry image i first used.last ∙ is)
       ∙ inode_size geometry.edition image (inode_place geometry.edition i)
 
-  -- of the kinds of what is in use, a regular file is left
+  -- of the kinds of an i-node in use, only a regular file is left
   regular_by : (kind : Kind) → kind ≢ kinds.Free → kind ≢ kinds.Odd → kind ≢ kinds.Directory → kind ≢ kinds.Special → kind ≡ kinds.Regular
   regular_by kinds.Free used known directory special = absurd (used refl)
   regular_by kinds.Regular used known directory special = refl
@@ -148,7 +148,7 @@ module _ (geometry : Geometry) (image : List ℕ) where
   regular_by kinds.Special used known directory special = absurd (special refl)
   regular_by kinds.Odd used known directory special = absurd (known refl)
 
-  -- what is in use, and neither directory nor special file, is a regular file
+  -- an i-node in use that is neither a directory nor a special file is a regular file
   pub regular_left : (i : ℕ) → 1 ≤ i → Rules3To7 geometry image → IsInUse geometry image i → kind_at geometry image i ≢ kinds.Directory
       → kind_at geometry image i ≢ kinds.Special → kind_at geometry image i ≡ kinds.Regular
   regular_left i first files used directory special =

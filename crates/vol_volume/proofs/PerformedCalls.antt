@@ -1,4 +1,4 @@
--- What a call makes of an image, once its change is made.
+-- An image once a call has made its change.
 use Rattle.std.proofs.Common.{◌≡◌, ℕ, ◌+◌, ◌^◌, ◌<◌, ◌≤◌, ◌∙◌, ap, sym, subst, nat_le, if◌then◌else◌, true, false, List, Some, Ok, refl, arith}
 use Rattle.std.proofs.lemmas.Bool.Decides.{nat_tests}
 use Rattle.vol_layout.specs.Edition.{constants}
@@ -25,7 +25,7 @@ use Rattle.vol_volume.specs.declared.calls.Call.TheVariants.{Create, Mkdir, Link
 use Rattle.vol_volume.specs.declared.calls.Done.{Done}
 use Rattle.vol_volume.specs.declared.calls.Done.TheVariants.{Made, Plain}
 
--- a call is performed where its change is made
+-- a call is performed if its change is made
 pub performed_by : (geometry : Geometry) (old new : List ℕ) (call : Call) (done : Done) (made : State) (free : ℕ)
     → step (state geometry old) call done ≡ made → MayAnswer (state geometry old) call done → Becomes geometry old new made → KeepsInodes geometry old new
     → LeavesTheRest geometry old new call done → free ≡ free_in made → IsPerformed geometry old new call done free
@@ -61,13 +61,13 @@ module _ (state : State) (cred : Cred) (now : ℕ) (path : List ℕ) where
       ap (λ w. at_time now (on_node state w (λ j. on_parent state (walk_parent state.tree cred target) (after_link state now j)))) walked
       ∙ ap (λ w. at_time now (on_parent state w (after_link state now i))) led
 
-  -- a name that goes
+  -- removing a name
   pub step_unlink : (d : ℕ) (name : List ℕ) → walk_parent state.tree cred path ≡ Some (Ok (d, name))
       → step state (Unlink cred now path) Plain ≡ at_time now (after_unlink state now d name)
   unfolding changed_by
   step_unlink d name walked = ap (λ w. at_time now (on_parent state w (after_unlink state now))) walked
 
-  -- a directory that goes
+  -- removing a directory
   pub step_rmdir : (d : ℕ) (name : List ℕ) → walk_parent state.tree cred path ≡ Some (Ok (d, name))
       → step state (Rmdir cred now path) Plain ≡ at_time now (after_rmdir state now d name)
   unfolding changed_by
@@ -79,7 +79,7 @@ module _ (state : State) (cred : Cred) (now : ℕ) (path : List ℕ) where
   unfolding changed_by
   step_write offset bytes i done walked = ap (λ w. at_time now (on_node state w (after_write state now offset bytes))) walked
 
-  -- a file of which the first bytes stay
+  -- shortening a file
   pub step_truncate : (size i : ℕ) → walk state.tree cred path ≡ Ok i
       → step state (Truncate cred now path size) Plain ≡ at_time now (after_truncate state now size i)
   unfolding changed_by
@@ -115,19 +115,19 @@ free_low geometry image made same fits =
     let end : made.tree.geometry.zone_end ≤ 16777216 = omega (arith, fits.limit, limit_low geometry.edition, ap (λ (g : Geometry). g.zone_end) same) in
     omega arith
 
--- how many blocks become free where a node loses a name: with the last one all of its blocks
+-- the number of blocks that are freed when a node loses a name: with the last one all of its blocks
 abbrev pub freed_blocks : Geometry → List ℕ → ℕ → ℕ
 freed_blocks geometry image i =
     if nat_le (node_at (tree geometry image) i).links 1 then place_count geometry.edition (shapes geometry image i) else 0
 
--- so many by the links of its i-node
+-- their number, by the links of its i-node
 pub freed_by : (geometry : Geometry) (image : List ℕ) (i freed links : ℕ)
     → freed ≡ (if nat_le links 1 then place_count geometry.edition (shapes geometry image i) else 0) → (node_at (tree geometry image) i).links ≡ links
     → freed ≡ freed_blocks geometry image i
 freed_by geometry image i freed links counted same =
     counted ∙ ap (λ n. if nat_le n 1 then place_count geometry.edition (shapes geometry image i) else 0) (sym same)
 
--- what is free after a name went
+-- the free blocks after a name was removed
 pub free_unlinked : (geometry : Geometry) (image : List ℕ) (now i d : ℕ) (name : List ℕ) → Rules1To12 geometry image
     → get (names_at (state geometry image).tree d) name ≡ Some i
     → free_in (at_time now (after_unlink (state geometry image) now d name)) ≡ free_in (state geometry image) + freed_blocks geometry image i

@@ -1,4 +1,4 @@
--- The nodes that queries are asked of, as the i-nodes of a sound image.
+-- The nodes that queries read, as the i-nodes of a sound image.
 use Rattle.std.proofs.Common.{◌≡◌, ◌≢◌, ℕ, ◌%◌, List, refl, ap, sym}
 use Rattle.vol_layout.specs.Body.{body}
 use Rattle.vol_layout.specs.Inode.{inode_of}
@@ -15,7 +15,7 @@ use Rattle.vol_volume.specs.Answer.{stat_of}
 use Rattle.vol_volume.specs.declared.queries.Stat.{Stat}
 use Rattle.vol_volume.proofs.NodeReadings.{node_is, used_first}
 
--- what is told of i-node i
+-- the attributes of i-node i
 abbrev pub told : ℕ → ℕ → Kind → Inode → Stat
 told i permissions kind node = record {
   number = i;
@@ -30,7 +30,7 @@ told i permissions kind node = record {
   changed = node.changed;
 }
 
--- what is told of an i-node of some kind is told of its node
+-- the attributes of an i-node of some kind are those of its node
 told_of : (geometry : Geometry) (image : List ℕ) (i : ℕ) (kind : Kind) → IsInUse geometry image i → kind_at geometry image i ≡ kind
     → kind ≢ kinds.Free → kind ≢ kinds.Odd
     → told i ((inode_of geometry.edition image i).mode.bits % 4096) kind (inode_of geometry.edition image i) ≡ stat_of i (node_at (tree geometry image) i)
@@ -46,7 +46,7 @@ known_kind : (geometry : Geometry) (image : List ℕ) (i : ℕ) → Rules3To7 ge
 known_kind geometry image i files used =
     files.sound.kinds.known i (used_first geometry image i used) used.last
 
--- what is told of an i-node is told of its node
+-- the attributes of an i-node are those of its node
 pub stat_is : (geometry : Geometry) (image : List ℕ) (i permissions : ℕ) (kind : Kind) (node : Inode) → Rules3To7 geometry image
     → IsInUse geometry image i → kind ≡ kind_at geometry image i → node ≡ inode_of geometry.edition image i → permissions ≡ node.mode.bits % 4096
     → told i permissions kind node ≡ stat_of i (node_at (tree geometry image) i)

@@ -1,4 +1,4 @@
--- Want of memory is no refusal that a tree is the reason for.
+-- No tree is a reason to refuse with NoMemory.
 use Rattle.std.proofs.Common.{◌≡◌, ◌≢◌, ℕ, Bool, true, false, if◌then◌else◌, List, [], ◌∷◌, Option, None, Some, Result, Ok, Err, refl, ap, sym, ◌∙◌, subst, length}
 use Rattle.std.specs.List.{list_any}
 use Rattle.std.specs.Option.{option_map, option_map_or, ok_or}
@@ -20,17 +20,17 @@ use Rattle.vol_volume.specs.declared.calls.Call.TheVariants.{Create, Mkdir, Link
 use Rattle.vol_volume.specs.declared.queries.Query.{Query}
 use Rattle.vol_volume.specs.declared.queries.Query.TheVariants as queries
 
--- whether a refusal is want of memory
+-- true if a refusal is NoMemory
 abbrev is_memory : Refusal → Bool
 is_memory refusals.NoMemory = true
 is_memory _ = false
 
--- whether a result is want of memory
+-- true if a result is NoMemory
 abbrev fails : {X : Type 0} → Result X Refusal → Bool
 fails (Ok x) = false
 fails (Err refusal) = is_memory refusal
 
--- whether a refusal, if any, is want of memory
+-- true if a refusal, if any, is NoMemory
 abbrev says : Option Refusal → Bool
 says None = false
 says (Some refusal) = is_memory refusal
@@ -47,7 +47,7 @@ search_option : (cred : Cred) (node : Option Node) → fails (option_map_or (sea
 search_option cred None = refl
 search_option cred (Some node) = search_names (map_of node.content) (grants may_execute cred node)
 
--- what comes after a result
+-- the next step after a result
 fails_and_then : {X Y : Type 0} (result : Result X Refusal) (next : X → Result Y Refusal) → fails result ≡ false
     → ((x : X) → fails (next x) ≡ false) → fails (and_then result next) ≡ false
 fails_and_then (Ok x) next first rest = rest x
@@ -79,7 +79,7 @@ fails_parent tree cred names =
     (fails_walk_from tree cred (root tree) names.0)
     (λ i. fails_and_then (search tree cred i) (λ _. Ok (i, names.1)) (search_option cred (tree.nodes i)) (λ _. refl))
 
--- no refusal of a list of tests is want of memory
+-- no refusal of a list of tests is NoMemory
 abbrev AreOther : List (Bool × Refusal) → Type 0
 AreOther [] = Unit {0}
 AreOther (test ∷ tests) = (is_memory test.1 ≡ false) × AreOther tests
@@ -95,7 +95,7 @@ says_first : (tests : List (Bool × Refusal)) → AreOther tests → says (first
 says_first [] all = refl
 says_first (test ∷ tests) all = says_if test.0 test.1 (first_of tests) all.0 (says_first tests all.1)
 
--- what is asked of each call first
+-- the first checks of each call
 says_then : (tree : Tree) (cred : Cred) (paths : List (List ℕ)) (others : Option Refusal) → says others ≡ false
     → says (then_others tree cred paths others) ≡ false
 says_then tree cred paths others rest =
@@ -103,13 +103,13 @@ says_then tree cred paths others rest =
     (if list_any has_zero paths then Some refusals.Invalid else others) refl
     (says_if (list_any has_zero paths) refusals.Invalid others refl rest)
 
--- what a walk and its node are asked
+-- the checks of a walk and its node
 says_node : (walked : Result ℕ Refusal) (others : ℕ → Option Refusal) → fails walked ≡ false → ((i : ℕ) → says (others i) ≡ false)
     → says (of_node walked others) ≡ false
 says_node (Ok i) others first rest = rest i
 says_node (Err refusal) others first rest = first
 
--- what a parent walk, the parent and the last name are asked
+-- the checks of a parent walk, the parent and the last name
 says_walked : (walked : Option (Result (ℕ × List ℕ) Refusal)) (bare : Refusal) (tests : ℕ → List ℕ → List (Bool × Refusal))
     → is_memory bare ≡ false → ((found : Result (ℕ × List ℕ) Refusal) → walked ≡ Some found → fails found ≡ false)
     → ((d : ℕ) (name : List ℕ) → AreOther (tests d name)) → says (of_parent walked bare tests) ≡ false
@@ -124,7 +124,7 @@ parent_split tree cred None found e = absurd (cc)
 parent_split tree cred (Some names) found e =
     let same : parent_from tree cred names ≡ found = cc in subst (λ result. fails result ≡ false) same (fails_parent tree cred names)
 
--- what a path is asked, its parent and its last name
+-- the checks of a path, its parent and its last name
 says_parent : (tree : Tree) (cred : Cred) (path : List ℕ) (bare : Refusal) (tests : ℕ → List ℕ → List (Bool × Refusal))
     → is_memory bare ≡ false → ((d : ℕ) (name : List ℕ) → AreOther (tests d name))
     → says (of_parent (walk_parent tree cred path) bare tests) ≡ false
@@ -188,7 +188,7 @@ says_query tree (queries.List cred path) =
     (says_node (walk tree cred path) (λ i. first_of (list_tests tree cred i)) (fails_walk tree cred path)
     (λ i. says_first (list_tests tree cred i) (refl, (refl, tt))))
 
--- no call is refused for want of memory by what stands on a volume
+-- no state of a volume is a reason to refuse a call with NoMemory
 pub verdict_other : (state : State) (call : Call) → verdict state call ≢ Some refusals.NoMemory
 verdict_other state call e = false≢true (sym (says_verdict state call) ∙ ap says e)
 
@@ -196,7 +196,7 @@ verdict_other state call e = false≢true (sym (says_verdict state call) ∙ ap 
 pub query_other : (tree : Tree) (query : Query) → query_refusal tree query ≢ Some refusals.NoMemory
 query_other tree query e = false≢true (sym (says_query tree query) ∙ ap says e)
 
--- what a verdict says, a call may be refused as
+-- a call may be refused with its verdict
 pub refused_so : (state : State) (call : Call) (refusal : Refusal) → verdict state call ≡ Some refusal → Refuses state call refusal
 refused_so state call refusals.NotOwner says_so = says_so
 refused_so state call refusals.NoEntry says_so = says_so

@@ -1,4 +1,4 @@
--- A sound image stands, with the number of its free blocks.
+-- A sound image keeps the rules that calls rely on, and has a number of free blocks.
 use Rattle.std.proofs.Common.{◌≡◌, ℕ, ◌<◌, ◌≤◌, true, List, arith, length, sym, subst, ◌∙◌}
 use Rattle.std.proofs.lemmas.Bool.Decides.{nat_tests}
 use Rattle.pdp_words.specs.Words.{word}
@@ -18,7 +18,7 @@ use Rattle.vol_volume.specs.Standing.{Rules3To7And9}
 pub sound_length : (edition : Edition) (image : List ℕ) → IsSound edition image → 1024 ≤ length image
 sound_length edition image sound = let whole : is_whole edition image ≡ true = sound_whole edition image sound in grind (arith, nat_tests)
 
--- and no more blocks than the edition's numbers, where a word is below 65536
+-- and no more blocks than the edition's numbers, given that a word is below 65536
 block_limit_by : (edition : Edition) (image : List ℕ) → IsSound edition image → word image 514 < 65536
     → block_count edition image ≤ (constants edition).number_limit
 block_limit_by V6 image sound low = omega arith
@@ -34,7 +34,7 @@ sound_stands : (edition : Edition) (image : List ℕ) → Fits (geometry_of edit
 sound_stands edition image fits sound =
     record { fits = fits; files = sound_files edition image fits sound; entries = sound_entries edition image sound }
 
--- a sound image stands, with the geometry that is its own
+-- a sound image, with its own geometry, keeps the rules that calls rely on
 pub stands : (geometry : Geometry) (image : List ℕ) → geometry ≡ geometry_of geometry.edition image → Fits geometry image
     → IsSound geometry.edition image → Rules3To7And9 geometry image
 stands geometry image sizes fits sound =
@@ -48,7 +48,7 @@ sound_count edition image count fits sound counted =
     counted files.blocks files.sound.free
     ∙ free_blocks (geometry_of edition image) image files.blocks files.sound (sound_covered edition image files.blocks sound files.sound.free)
 
--- and the number of its free blocks is what its shapes leave
+-- and the number of its free blocks is the one that its shapes leave
 pub counts : (edition : Edition) (geometry : Geometry) (image : List ℕ) (count : ℕ) → geometry ≡ geometry_of edition image → Fits geometry image
     → IsSound edition image → ((blocks : List ℕ) → IsFree geometry image blocks → count ≡ length blocks)
     → count ≡ free_count geometry (shapes geometry image)

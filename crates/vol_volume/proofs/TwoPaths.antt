@@ -1,4 +1,4 @@
--- What a call of two paths is asked first: numbers of the user and group, and zero bytes in both.
+-- The first checks of a call with two paths: numbers of the user and group, and zero bytes in both.
 use Rattle.std.proofs.Common.{◌≡◌, ℕ, Bool, true, false, ◌||◌, if◌then◌else◌, List, [], ◌∷◌, Option, None, Some, refl, sym}
 use Rattle.vol_layout.specs.Ids.{is_bad_id}
 use Rattle.vol_layout.specs.declared.geometry.Geometry.{Geometry}
@@ -46,7 +46,7 @@ module _ (geometry : Geometry) (image : List ℕ) (cred : Cred) (source target :
   unfolding tree
   target_refused none is = zero_by (is_bad_id geometry.edition cred.uid cred.gid) (has_zero source) (has_zero target) others none is
 
-  -- and then the rest is asked
+  -- and then the rest is checked
   pub rest_asked :
       None ≡ (if is_bad_id geometry.edition cred.uid cred.gid then Some refusals.BadId else if has_zero source then Some refusals.Invalid else None)
       → has_zero target ≡ false → then_others (tree geometry image) cred (source ∷ target ∷ []) others ≡ others

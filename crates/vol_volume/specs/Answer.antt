@@ -1,4 +1,4 @@
--- What a query is answered.
+-- The answers to queries.
 use Rattle.std.specs.Prelude.{◌≡◌, ℕ, Bool, true, false, not, List, [], ◌∷◌, take, drop, Option, None, Some, Result, Ok, Err}
 use Rattle.vol_dir.specs.Access.{grants, may_read}
 use Rattle.vol_dir.specs.Tree.{Content, Body, Directory, Device, Node, Tree}
@@ -17,13 +17,13 @@ use Rattle.vol_volume.specs.declared.queries.Reply.{Reply}
 use Rattle.vol_volume.specs.declared.queries.Reply.TheVariants as replies
 use Rattle.vol_volume.specs.declared.queries.Stat.{Stat}
 
--- what a node with some content is (manual section 5, file system)
+-- the kind of a node with some content (manual section 5, file system)
 abbrev pub kind_of_content : Content → Kind
 kind_of_content (Body bytes) = kinds.Regular
 kind_of_content (Directory names) = kinds.Directory
 kind_of_content (Device type addresses) = kinds.Special
 
--- what is told of node i (stat)
+-- the attributes of node i (stat)
 abbrev pub stat_of : ℕ → Node → Stat
 stat_of i node = record {
   number = i;
@@ -38,14 +38,14 @@ stat_of i node = record {
   changed = node.changed;
 }
 
--- what is asked of a node whose names are to be listed (Lions on access)
+-- the checks of a node whose names are listed (Lions on access)
 abbrev pub list_tests : Tree → Cred → ℕ → List (Bool × Refusal)
 list_tests tree cred i =
     (not (is_directory (node_at tree i)), refusals.NotDirectory)
     ∷ (not (grants may_read cred (node_at tree i)), refusals.Access)
     ∷ []
 
--- the refusal of a query: the first that applies, of those beside want of memory (this project)
+-- the refusal of a query: the first that applies, other than NoMemory (this project)
 unfoldable pub query_refusal : Tree → Query → Option Refusal
 query_refusal tree (queries.Stat cred path) = then_others tree cred (path ∷ []) (of_node (walk tree cred path) (λ i. None))
 query_refusal tree (queries.Read cred path offset len) =
@@ -53,23 +53,23 @@ query_refusal tree (queries.Read cred path offset len) =
 query_refusal tree (queries.List cred path) =
     then_others tree cred (path ∷ []) (of_node (walk tree cred path) (λ i. first_of (list_tests tree cred i)))
 
--- the reply of the node that a walk leads to (Lions on namei)
+-- the reply for the node that a walk leads to (Lions on namei)
 abbrev pub reply_at : Result ℕ Refusal → (ℕ → Reply) → Result Reply Refusal
 reply_at (Err refusal) reply = Err refusal
 reply_at (Ok i) reply = Ok (reply i)
 
--- the bytes of a body from an offset on, at most so many; none at or past its end (Lions on readi)
+-- at most `len` bytes of a body from an offset on; none at or past its end (Lions on readi)
 abbrev pub read_bytes : List ℕ → ℕ → ℕ → List ℕ
 read_bytes body offset len = take len (drop offset body)
 
--- the reply to a query that is not refused (stat, read; names in ascending order of their bytes are this project's)
+-- the reply to a query that is not refused (stat, read; listing the names in ascending order of their bytes is this project's)
 unfoldable pub reply_of : Tree → Query → Result Reply Refusal
 reply_of tree (queries.Stat cred path) = reply_at (walk tree cred path) (λ i. replies.Stat (stat_of i (node_at tree i)))
 reply_of tree (queries.Read cred path offset len) =
     reply_at (walk tree cred path) (λ i. replies.Bytes (read_bytes (body_of (node_at tree i).content) offset len))
 reply_of tree (queries.List cred path) = reply_at (walk tree cred path) (λ i. replies.Names (names_at tree i))
 
--- a refusal, or else a reply (this project)
+-- the refusal, or else the reply (this project)
 abbrev pub refused_or : Option Refusal → Result Reply Refusal → Result Reply Refusal
 refused_or (Some refusal) reply = Err refusal
 refused_or None reply = reply
@@ -78,13 +78,13 @@ refused_or None reply = reply
 abbrev pub answer : Tree → Query → Result Reply Refusal
 answer tree query = refused_or (query_refusal tree query) (reply_of tree query)
 
--- whether the reply to a query takes memory (this project)
+-- true if the reply to a query takes memory (this project)
 abbrev pub takes_memory : Query → Bool
 takes_memory (queries.Stat cred path) = false
 takes_memory (queries.Read cred path offset len) = true
 takes_memory (queries.List cred path) = true
 
--- a query comes out as its answer, or, where the reply takes memory and there is no other refusal, as want of memory (this project)
+-- a query returns its answer, or, if the reply takes memory and there is no other refusal, possibly NoMemory (this project)
 abbrev pub Answers : Tree → Query → Result Reply Refusal → Type 0
 Answers tree query (Err refusals.NoMemory) = (takes_memory query ≡ true) × (query_refusal tree query ≡ None)
 Answers tree query result = result ≡ answer tree query

@@ -1,11 +1,11 @@
--- Why bytes aren't mounted.
+-- Why an image isn't mounted.
 use Rattle.std.specs.Prelude.{ℕ, true, List}
 use Rattle.vol_judge.specs.Sound.{IsLeastBroken}
 use Rattle.vol_layout.specs.declared.edition.Edition.{Edition}
 use Rattle.vol_volume.specs.declared.volume.MountFault.{MountFault}
 use Rattle.vol_volume.specs.declared.volume.MountFault.TheVariants as faults
 
--- a fault of mounting bytes: want of memory, or the least rule that fails (this project)
+-- a fault of mounting bytes: NoMemory, or the first rule that fails (this project)
 abbrev pub IsFaultOf : Edition → List ℕ → MountFault → Type 0
 IsFaultOf edition bytes faults.NoMemory = Unit {0}
 IsFaultOf edition bytes (faults.Unsound n) = IsLeastBroken true edition bytes n

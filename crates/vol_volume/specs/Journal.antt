@@ -1,4 +1,4 @@
--- The journal of accepted calls: which records may follow one another, and what they make of a volume.
+-- The journal of accepted calls: which records may follow one another, and the volume that they lead to.
 use Rattle.std.specs.Prelude.{◌≡◌, true, List, [], ◌∷◌, length, None, Some}
 use Rattle.vol_dir.specs.Tree.{State}
 use Rattle.vol_volume.specs.Verdict.{verdict, is_free_number}
@@ -11,7 +11,7 @@ use Rattle.vol_volume.specs.declared.calls.Done.{Done}
 use Rattle.vol_volume.specs.declared.calls.Done.TheVariants.{Made, Wrote, Plain}
 use Rattle.vol_volume.specs.declared.calls.Record.{Record}
 
--- what an accepted call may answer: the number of what it made is any that can be taken, and a write writes all bytes (this project)
+-- the possible answers of an accepted call: a new node may get any free i-number, and a write writes all bytes (this project)
 abbrev pub MayAnswer : State → Call → Done → Type 0
 MayAnswer state (Create cred now path perm) (Made i) = is_free_number state.tree i ≡ true
 MayAnswer state (Mkdir cred now path perm) (Made i) = is_free_number state.tree i ≡ true
@@ -25,7 +25,7 @@ MayAnswer state (Chown cred now path uid gid) Plain = Unit {0}
 MayAnswer state (Times cred now path atime mtime) Plain = Unit {0}
 MayAnswer state _ _ = ⊥
 
--- a record may come next: its call isn't refused, and may answer so (this project)
+-- a record may come next: its call isn't refused, and may have its answer (this project)
 pub record MayFollow (state : State) (entry : Record) : Type 0 where
   pub accepted : verdict state entry.call ≡ None
   pub answered : MayAnswer state entry.call entry.done
@@ -40,7 +40,7 @@ abbrev pub IsLegal : State → List Record → Type 0
 IsLegal state [] = Unit {0}
 IsLegal state (entry ∷ entries) = MayFollow state entry × IsLegal (step state entry.call entry.done) entries
 
--- a call may be refused so: for want of memory where there is no other refusal, else by the first that applies (this project)
+-- a call may be refused with this refusal: with NoMemory if there is no other, else with the first that applies (this project)
 abbrev pub Refuses : State → Call → Refusal → Type 0
 Refuses state call refusals.NoMemory = verdict state call ≡ None
 Refuses state call refusal = verdict state call ≡ Some refusal

@@ -1,4 +1,4 @@
--- Statements of the laws of calls and journals.
+-- The laws of calls and journals, as statements.
 use Rattle.std.specs.Prelude.{◌≡◌, ◌≢◌, ◌↔◌, ℕ, List, [], ◌∷◌, ◌++◌, Some, Ok}
 use Rattle.vol_dir.specs.Tree.{Tree, State}
 use Rattle.vol_dir.specs.Walk.{root, walk}
@@ -16,28 +16,28 @@ use Rattle.vol_volume.specs.declared.calls.Done.{Done}
 use Rattle.vol_volume.specs.declared.calls.Record.{Record}
 use Rattle.vol_volume.specs.declared.queries.Query.{Query}
 
--- a volume that is consistent is so after each accepted call (this project)
+-- each accepted call keeps a consistent volume consistent (this project)
 abbrev pub KeepsConsistent : Type 0
 KeepsConsistent = (old new : Mounted) (call : Call) (done : Done) → IsConsistent old → Accepts old new call done → IsConsistent new
 
--- a journal leads where its second part leads from where its first part led (this project)
+-- replaying a journal is replaying its first part and then its second (this project)
 abbrev pub LeadsInParts : Type 0
 LeadsInParts = (state : State) (front rest : List Record) → after state (front ++ rest) ≡ after (after state front) rest
 
--- a journal is legal if and only if its first part is, and its second of what the first leads to (this project)
+-- a journal is legal if and only if its first part is, and its second part is from the state that the first leads to (this project)
 abbrev pub IsLegalInParts : Type 0
 IsLegalInParts = (state : State) (front rest : List Record)
     → IsLegal state (front ++ rest) ↔ (IsLegal state front × IsLegal (after state front) rest)
 
--- no tree is a reason for want of memory in a call (this project)
+-- no state of a volume is a reason to refuse a call with NoMemory (this project)
 abbrev pub HasMemory : Type 0
 HasMemory = (state : State) (call : Call) → verdict state call ≢ Some refusals.NoMemory
 
--- no tree is a reason for want of memory in a query (this project)
+-- no tree is a reason to refuse a query with NoMemory (this project)
 abbrev pub HasMemoryForQueries : Type 0
 HasMemoryForQueries = (tree : Tree) (query : Query) → query_refusal tree query ≢ Some refusals.NoMemory
 
--- a write of no bytes changes nothing but the super-block's time (Lions on writei; the time is this project's)
+-- a write of no bytes changes only the super-block's time (Lions on writei; the time is this project's)
 abbrev pub WritesNothing : Type 0
 WritesNothing = (state : State) (cred : Cred) (now offset : ℕ) (path : List ℕ) (done : Done)
     → step state (Write cred now path offset []) done ≡ at_time now state

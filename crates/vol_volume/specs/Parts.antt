@@ -1,11 +1,11 @@
--- What a mounted volume is made of, and what is kept of it.
+-- The parts of a mounted volume, and the invariant that they keep.
 use Rattle.std.specs.Prelude.{◌≡◌}
 use Rattle.vol_layout.specs.Geometry.{geometry_of}
 use Rattle.vol_dir.specs.Tree.{free_count, shapes}
 use Rattle.vol_volume.specs.Volume.{Mounted, IsConsistent}
 use Rattle.vol_volume.specs.declared.volume.Parts.{Parts}
 
--- the volume that parts make (this project)
+-- the volume made of these parts (this project)
 abbrev pub held : Parts → Mounted
 held parts = record {
   edition = parts.geometry.edition;
@@ -15,7 +15,7 @@ held parts = record {
   first = parts.first;
 }
 
--- what is kept of parts between calls: the geometry is the image's, the volume is consistent, and the free blocks are counted (this project)
+-- the invariant of parts between calls: the geometry is the image's, the volume is consistent, and the count of free blocks is right (this project)
 abbrev pub IsKept : Parts → Type 0
 IsKept parts =
     (parts.geometry ≡ geometry_of parts.geometry.edition parts.current) × IsConsistent (held parts)

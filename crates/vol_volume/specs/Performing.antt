@@ -1,4 +1,4 @@
--- How an accepted call is performed: where its paths lead, and what is known of the image then.
+-- Carrying out an accepted call: the nodes to which its paths lead, and its result.
 use Rattle.std.specs.Prelude.{◌≡◌, ℕ, false, List, Option, None, Some, Ok}
 use Rattle.vol_dir.specs.Entries.{IsDirectory, IsInUse, slots}
 use Rattle.vol_dir.specs.Names.{get}
@@ -31,12 +31,12 @@ pub record LeadsToNode (geometry : Geometry) (image : List ℕ) (cred : Cred) (p
   pub walked : walk (tree geometry image) cred path ≡ Ok i
   pub used : IsInUse geometry image i
 
--- where a new entry of directory d goes, and how many blocks it needs (Lions on wdir)
+-- the slot of a new entry of directory d, and the number of blocks that it needs (Lions on wdir)
 pub record IsEntryPlace (geometry : Geometry) (image : List ℕ) (d : ℕ) (place : Place) : Type 0 where
   pub slot : place.slot ≡ new_slot (shapes geometry image d).slots
   pub needed : place.needed ≡ entry_need (state geometry image) d
 
--- the entry that a name has in directory d (Lions on namei)
+-- the entry of a name in directory d (Lions on namei)
 pub record IsEntry (geometry : Geometry) (image : List ℕ) (d : ℕ) (name : List ℕ) (entry : Entry) : Type 0 where
   pub slot : entry.slot ≡ slot_named name (slots geometry image d)
   pub named : get (names_at (tree geometry image) d) name ≡ Some entry.inode
@@ -55,18 +55,18 @@ cred_of (Chmod cred now path perm) = cred
 cred_of (Chown cred now path uid gid) = cred
 cred_of (Times cred now path atime mtime) = cred
 
--- who makes a call, and when (this project)
+-- the user and the time of a call (this project)
 abbrev pub caller_of : Call → Caller
 caller_of call = record { cred = cred_of call; moment = moment_of call }
 
--- the i-number of what a call made, where its answer is recorded (this project)
+-- the i-number in a recorded answer, if there is one (this project)
 abbrev pub recorded_number : Option Done → Option ℕ
 recorded_number None = None
 recorded_number (Some (Made i)) = Some i
 recorded_number (Some (Wrote n)) = None
 recorded_number (Some Plain) = None
 
--- a call was performed with this answer, and so many blocks are free (this project)
+-- a call was made with this answer, and `free` blocks are free now (this project)
 pub record IsPerformed (geometry : Geometry) (old new : List ℕ) (call : Call) (done : Done) (free : ℕ) : Type 0 where
   pub performed : Performs geometry old new call done
   pub counted : free ≡ free_in (state geometry new)

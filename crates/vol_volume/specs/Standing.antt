@@ -1,4 +1,4 @@
--- What is known of an image of which a verdict on a call, or the answer to a query, is asked.
+-- Assumptions about an image for the checks of a call and the answers to a query.
 use Rattle.std.specs.Prelude.{ℕ, List}
 use Rattle.vol_layout.specs.Geometry.{Fits}
 use Rattle.vol_file.specs.Rules.{Rules3To7}

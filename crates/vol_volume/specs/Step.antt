@@ -1,4 +1,4 @@
--- What an accepted call makes of a tree and of the shapes of its files.
+-- The effect of an accepted call on a tree and on the shapes of its files.
 use Rattle.std.specs.Prelude.{ℕ, List, Option, None, Some, Result, Ok, Err}
 use Rattle.vol_dir.specs.Tree.{State}
 use Rattle.vol_dir.specs.Walk.{walk, walk_parent}
@@ -10,24 +10,24 @@ use Rattle.vol_volume.specs.declared.calls.Call.TheVariants.{Create, Mkdir, Link
 use Rattle.vol_volume.specs.declared.calls.Done.{Done}
 use Rattle.vol_volume.specs.declared.calls.Done.TheVariants.{Made, Wrote, Plain}
 
--- the state changed at the node that a walk leads to; where it leads nowhere, the state as it is (this project)
+-- the state changed at the node that a walk leads to, or unchanged if the walk is refused (this project)
 abbrev pub on_node : State → Result ℕ Refusal → (ℕ → State) → State
 on_node state (Err refusal) change = state
 on_node state (Ok i) change = change i
 
--- the state changed at the parent and the name that a walk leads to; where it leads nowhere, the state as it is (this project)
+-- the state changed at the parent and the name that a walk leads to, or unchanged if it leads to none (this project)
 abbrev pub on_parent : State → Option (Result (ℕ × List ℕ) Refusal) → (ℕ → List ℕ → State) → State
 on_parent state None change = state
 on_parent state (Some (Err refusal)) change = state
 on_parent state (Some (Ok found)) change = change found.0 found.1
 
--- the i-number that a call made, and 0 for one that makes none (this project)
+-- the i-number that a call made, or 0 if it made none (this project)
 abbrev pub made_number : Done → ℕ
 made_number (Made i) = i
 made_number (Wrote n) = 0
 made_number Plain = 0
 
--- the state after a call, but for the super-block's time (Lions; mkdir, rmdir)
+-- the state after a call, except for the super-block's time (Lions; mkdir, rmdir)
 unfoldable pub changed_by : State → Call → Done → State
 changed_by state (Create cred now path perm) done =
     on_parent state (walk_parent state.tree cred path) (after_create state cred now perm (made_number done))
@@ -43,7 +43,7 @@ changed_by state (Chmod cred now path perm) done = on_node state (walk state.tre
 changed_by state (Chown cred now path uid gid) done = on_node state (walk state.tree cred path) (after_chown state now uid gid)
 changed_by state (Times cred now path atime mtime) done = on_node state (walk state.tree cred path) (after_utime state now atime mtime)
 
--- the moment of a call (this project)
+-- the time of a call (this project)
 abbrev pub moment_of : Call → ℕ
 moment_of (Create cred now path perm) = now
 moment_of (Mkdir cred now path perm) = now

@@ -1,4 +1,4 @@
--- Which refusal a call meets, if any. The refusals are asked in a fixed order, and the first that applies is the answer.
+-- Which refusal a call gets, if any. The checks run in a fixed order, and the first that fails gives the refusal.
 use Rattle.std.specs.Prelude.{ℕ, ◌+◌, ◌==◌, ◌&&◌, ◌||◌, Bool, true, false, not, nat_lt, nat_le, if◌then◌else◌, List, [], ◌∷◌, ◌++◌, length, Option, None, Some, is_none, is_some, Result, Ok, Err}
 use Rattle.std.specs.List.{list_any, range_with_len}
 use Rattle.vol_layout.specs.Edition.{constants}
@@ -22,62 +22,62 @@ abbrev pub first_of : List (Bool × Refusal) → Option Refusal
 first_of [] = None
 first_of (test ∷ tests) = if test.0 then Some test.1 else first_of tests
 
--- whether a directory has a name (Lions on namei)
+-- true if a directory has a name (Lions on namei)
 abbrev pub has_name : Tree → ℕ → List ℕ → Bool
 has_name tree d name = is_some (get (names_at tree d) name)
 
--- whether a directory has entries other than `.` and `..` (rmdir)
+-- true if a directory has entries other than `.` and `..` (rmdir)
 abbrev pub has_others : Tree → ℕ → Bool
 has_others tree d = list_any (λ (entry : List ℕ × ℕ). not (is_dots entry.0)) (names_at tree d)
 
--- whether what a node holds is that of a special file (manual section 5, file system)
+-- true if the content of a node is a special file's (manual section 5, file system)
 abbrev pub is_device : Content → Bool
 is_device (Device type addresses) = true
 is_device (Body bytes) = false
 is_device (Directory names) = false
 
--- whether an i-number can be taken: it is above the root's, up to the last, and free (Lions on ialloc)
+-- true if a new node may get an i-number: above the root's, at most the last, and free (Lions on ialloc)
 abbrev pub is_free_number : Tree → ℕ → Bool
 is_free_number tree i = nat_lt (root tree) i && (nat_le i tree.geometry.last_inode && is_none (tree.nodes i))
 
--- whether any i-number can be taken (Lions on ialloc)
+-- true if there is an i-number for a new node (Lions on ialloc)
 abbrev pub has_free_number : Tree → Bool
 has_free_number tree = list_any (is_free_number tree) (range_with_len 1 tree.geometry.last_inode)
 
--- whether a size is past the greatest of a file (manual section 5, file system)
+-- true if a size is past the greatest of a file (manual section 5, file system)
 abbrev pub is_too_great : Tree → ℕ → Bool
 is_too_great tree size = nat_lt (constants tree.geometry.edition).greatest size
 
--- whether a node's link count is at the limit (this project)
+-- true if a node's link count is at the limit (this project)
 abbrev pub is_full : Tree → Node → Bool
 is_full tree node = nat_le (constants tree.geometry.edition).link_limit node.links
 
--- how many blocks a write of some bytes from an offset on into file i needs (Lions on bmap)
+-- the number of blocks that a write of some bytes from an offset on into file i needs (Lions on bmap)
 abbrev pub write_need : State → ℕ → ℕ → ℕ → ℕ
 write_need state i offset len = need_in state.tree.geometry.edition (state.shapes i) (touched offset len)
 
--- whether more blocks are needed than are free (Lions on alloc)
+-- true if more blocks are needed than are free (Lions on alloc)
 abbrev pub is_above_free : State → ℕ → Bool
 is_above_free state needed = nat_lt (free_in state) needed
 
--- what every call and query is asked first, and then others: the numbers of the user and group, and zero bytes in its paths (this project)
+-- the first checks of every call and query (the numbers of the user and group, and zero bytes in its paths), and then the others (this project)
 abbrev pub then_others : Tree → Cred → List (List ℕ) → Option Refusal → Option Refusal
 then_others tree cred paths others =
     if is_bad_id tree.geometry.edition cred.uid cred.gid then Some refusals.BadId
     else if list_any has_zero paths then Some refusals.Invalid else others
 
--- the refusal of a walk, or else what is asked of the node that it leads to (Lions on namei)
+-- the refusal of a walk, or else that of the checks of the node that it leads to (Lions on namei)
 abbrev pub of_node : Result ℕ Refusal → (ℕ → Option Refusal) → Option Refusal
 of_node (Err refusal) others = Some refusal
 of_node (Ok i) others = others i
 
--- the refusal of a path without component, or else that of the walk to its parent, or else what is asked of the parent and the last name (Lions on namei)
+-- the refusal of a path without components, else that of the walk to its parent, else that of the checks of the parent and the last name (Lions on namei)
 abbrev pub of_parent : Option (Result (ℕ × List ℕ) Refusal) → Refusal → (ℕ → List ℕ → List (Bool × Refusal)) → Option Refusal
 of_parent None bare tests = Some bare
 of_parent (Some (Err refusal)) bare tests = Some refusal
 of_parent (Some (Ok found)) bare tests = first_of (tests found.0 found.1)
 
--- what is asked of the parent d and the name of a new file (Lions on creat)
+-- the checks of the parent d and the name of a new file (Lions on creat)
 abbrev pub create_tests : State → Cred → ℕ → List ℕ → List (Bool × Refusal)
 create_tests state cred d name =
     (has_name state.tree d name, refusals.Exists)
@@ -87,7 +87,7 @@ create_tests state cred d name =
     ∷ (is_above_free state (entry_need state d), refusals.NoSpace)
     ∷ []
 
--- what is asked of the parent d and the name of a new directory, which is a link more to its parent, and needs a block of its own (mkdir)
+-- the checks of the parent d and the name of a new directory, which adds a link to its parent and needs a block of its own (mkdir)
 abbrev pub mkdir_tests : State → Cred → ℕ → List ℕ → List (Bool × Refusal)
 mkdir_tests state cred d name =
     (has_name state.tree d name, refusals.Exists)
@@ -98,7 +98,7 @@ mkdir_tests state cred d name =
     ∷ (is_above_free state (entry_need state d + 1), refusals.NoSpace)
     ∷ []
 
--- what is asked of the parent d and the name that node i is to have too (Lions on link)
+-- the checks of the parent d and another name of node i (Lions on link)
 abbrev pub link_tests : State → Cred → ℕ → ℕ → List ℕ → List (Bool × Refusal)
 link_tests state cred i d name =
     (has_name state.tree d name, refusals.Exists)
@@ -108,7 +108,7 @@ link_tests state cred i d name =
     ∷ (is_above_free state (entry_need state d), refusals.NoSpace)
     ∷ []
 
--- what is asked of the parent d and the name that goes (Lions on unlink)
+-- the checks of the parent d and the name that is removed (Lions on unlink)
 abbrev pub unlink_tests : State → Cred → ℕ → List ℕ → List (Bool × Refusal)
 unlink_tests state cred d name =
     (not (has_name state.tree d name), refusals.NoEntry)
@@ -116,7 +116,7 @@ unlink_tests state cred d name =
     ∷ (is_directory (node_at state.tree (number_of_name state.tree d name)), refusals.IsDirectory)
     ∷ []
 
--- what is asked of the parent d and the name of a directory that goes (rmdir)
+-- the checks of the parent d and the name of a directory that is removed (rmdir)
 abbrev pub rmdir_tests : State → Cred → ℕ → List ℕ → List (Bool × Refusal)
 rmdir_tests state cred d name =
     (is_dots name, refusals.Invalid)
@@ -126,7 +126,7 @@ rmdir_tests state cred d name =
     ∷ (has_others state.tree (number_of_name state.tree d name), refusals.NotEmpty)
     ∷ []
 
--- what is asked of a node whose bytes are used, by a right to them: whether it is a regular file that grants it (Lions on access)
+-- the checks of a node whose bytes are used: that it is a regular file that grants a right (Lions on access)
 abbrev pub body_tests : Tree → ℕ → Cred → ℕ → List (Bool × Refusal)
 body_tests tree right cred i =
     (is_directory (node_at tree i), refusals.IsDirectory)
@@ -134,7 +134,7 @@ body_tests tree right cred i =
     ∷ (not (grants right cred (node_at tree i)), refusals.Access)
     ∷ []
 
--- what is asked of a file that some bytes are written to from an offset on (Lions on writei)
+-- the checks of a file that some bytes are written to from an offset on (Lions on writei)
 abbrev pub write_tests : State → Cred → ℕ → ℕ → ℕ → List (Bool × Refusal)
 write_tests state cred offset len i =
     body_tests state.tree may_write cred i
@@ -142,30 +142,30 @@ write_tests state cred offset len i =
     ∷ (is_above_free state (write_need state i offset len), refusals.NoSpace)
     ∷ []
 
--- what is asked of a file of which the first bytes are to stay, as many as `size` (Lions on itrunc; that bytes may stay is this project's)
+-- the checks of a file that is cut to its first `size` bytes (Lions on itrunc; that bytes may stay is this project's)
 abbrev pub truncate_tests : Tree → Cred → ℕ → ℕ → List (Bool × Refusal)
 truncate_tests tree cred size i =
     body_tests tree may_write cred i ++ (nat_lt (node_at tree i).size size, refusals.Invalid) ∷ []
 
--- what is asked of a call for a further name, once its source is found: whether that is a directory, and then the parent of the new name (Lions on link)
+-- the checks of a link once its source is found: that the source is no directory, and then the parent of the new name (Lions on link)
 abbrev pub link_refusal : State → Cred → List ℕ → ℕ → Option Refusal
 link_refusal state cred target i =
     if is_directory (node_at state.tree i) then Some refusals.IsDirectory
     else of_parent (walk_parent state.tree cred target) refusals.Exists (link_tests state cred i)
 
--- whether a user may change a node as its owner: user 0 may, and who owns it (Lions on owner)
+-- true if a user may change a node as its owner: user 0 and the owner may (Lions on owner)
 abbrev pub is_owner : Cred → Node → Bool
 is_owner cred node = cred.uid == 0 || cred.uid == node.uid
 
--- what is asked of a node that is to have other permission bits or other times (chmod and utime, section 2 of the manual)
+-- the checks of a node whose permission bits or times are changed (chmod and utime, section 2 of the manual)
 abbrev pub owner_tests : Tree → Cred → ℕ → List (Bool × Refusal)
 owner_tests tree cred i = (not (is_owner cred (node_at tree i)), refusals.NotOwner) ∷ []
 
--- what is asked of who gives a node to another user and group, whatever the node (chown, section 2 of the manual)
+-- the checks of a user who changes the owner of any node (chown, section 2 of the manual)
 abbrev pub chown_tests : Cred → List (Bool × Refusal)
 chown_tests cred = (not (cred.uid == 0), refusals.NotOwner) ∷ []
 
--- the refusal of a call: the first that applies, of those beside want of memory (this project)
+-- the refusal of a call: the first that applies, other than NoMemory (this project)
 unfoldable pub verdict : State → Call → Option Refusal
 verdict state (Create cred now path perm) =
     then_others state.tree cred (path ∷ [])

@@ -1,4 +1,4 @@
--- A mounted volume, and what its calls promise.
+-- A mounted volume, and what its calls ensure.
 use Rattle.std.specs.Prelude.{◌≡◌, ℕ, ◌+◌, List, [], ◌∷◌, ◌++◌, length, None}
 use Rattle.vol_layout.specs.Geometry.{geometry_of}
 use Rattle.vol_dir.specs.Tree.{State, state}
@@ -15,7 +15,7 @@ use Rattle.vol_volume.specs.declared.calls.Call.{Call}
 use Rattle.vol_volume.specs.declared.calls.Done.{Done}
 use Rattle.vol_volume.specs.declared.calls.Record.{Record}
 
--- a volume as contracts see it: its bytes, those that were mounted or left by the last cut, the calls that were accepted since, and how many records were cut before (this project)
+-- a volume as contracts see it: its bytes, those that were mounted or left by the last cut, the calls accepted since, and the number of records cut before (this project)
 pub record Mounted : Type 0 where
   pub edition : Edition
   pub image : List ℕ
@@ -27,7 +27,7 @@ pub record Mounted : Type 0 where
 abbrev pub reads_as : Edition → List ℕ → State
 reads_as edition image = state (geometry_of edition image) image
 
--- what every volume keeps between calls: it is sound, and reads as exactly the tree that the journal makes of the sound one that was mounted or left by the last cut (this project)
+-- the invariant of every volume between calls: it is sound, and reads as exactly the tree that replaying the journal makes of the sound image that was mounted or left by the last cut (this project)
 pub record IsConsistent (volume : Mounted) : Type 0 where
   pub image_sound : IsSound volume.edition volume.image
   pub base_sound : IsSound volume.edition volume.base
@@ -39,7 +39,7 @@ pub record IsConsistent (volume : Mounted) : Type 0 where
 abbrev pub mounted : Edition → List ℕ → Mounted
 mounted edition bytes = record { edition = edition; image = bytes; base = bytes; journal = []; first = 0 }
 
--- a volume whose journal is cut: its records go, and what they made of it is what the next ones start from (this project)
+-- a volume after its journal is cut: the records are dropped, and later ones start from the present image (this project)
 abbrev pub after_cut : Mounted → Mounted
 after_cut volume = record {
   edition = volume.edition;

@@ -1,4 +1,4 @@
-//! The answers to queries.
+//! Answering queries.
 ghost use Rattle.std.specs.Prelude.{◌≡◌, OnOk, IfOk};
 ghost use Rattle.std.specs.Result.{result_err};
 ghost use Rattle.vol_layout.specs.Body.{body};
@@ -21,11 +21,11 @@ use vol_dir::{Access, Cred, Refusal, list_names};
 use vol_layout::i_list::{kind, size};
 use vol_layout::{Geometry, inode};
 
-/// The answer to a query of a sound image with this geometry: that of the tree that it reads as, and
-/// NoMemory where the reply to Read or List finds no room. [`Volume::ask`](crate::Volume::ask) lists the refusals.
+/// Answers a query of a sound image with this geometry from the tree that the image reads as. NoMemory comes only
+/// from Read and List, if the reply cannot be allocated. [`Volume::ask`](crate::Volume::ask) lists the refusals.
 ///
-/// Stat takes no memory. Costs the walk of the path, and then: for Read as much as [`vol_file::read`], for List a look at each
-/// slot and as much as sorting the names.
+/// Stat takes no memory. Costs the walk of the path. Besides, Read costs as much as [`vol_file::read`], and List reads
+/// each slot and sorts the names.
 pub fn ask_image(
     alloc: Global,
     image: &Image,
@@ -57,7 +57,7 @@ pub fn ask_image(
     }
 }
 
-/// The answer to Stat.
+/// Answers Stat.
 fn answer_stat(
     image: &Image,
     geometry: &Geometry,
@@ -71,7 +71,7 @@ fn answer_stat(
     Ok(Reply::Stat(stat(image, geometry, i)))
 }
 
-/// The answer to Read.
+/// Answers Read.
 fn answer_read(
     alloc: Global,
     image: &Image,
@@ -90,7 +90,7 @@ fn answer_read(
     Ok(Reply::Bytes(Bytes::from_vec(bytes)))
 }
 
-/// The answer to List.
+/// Answers List.
 fn answer_list(
     alloc: Global,
     image: &Image,
@@ -107,7 +107,7 @@ fn answer_list(
     Ok(Reply::Names(Listing::from_vec(names)))
 }
 
-/// What is told of i-node `i`.
+/// Returns the `Stat` of i-node `i`.
 fn stat(image: &Image, geometry: &Geometry, i: u16) -> Stat
     requires stands { Rules3To7And9 geometry.now image.now }
     requires used { IsInUse geometry.now image.now i }
@@ -128,7 +128,7 @@ fn stat(image: &Image, geometry: &Geometry, i: u16) -> Stat
     }
 }
 
-/// What is asked of i-node `i`, which is in use, where the names of a directory are to be listed.
+/// Checks that i-node `i`, which is in use, is a directory that grants read, so that its names may be listed.
 fn list_tests(image: &Image, geometry: &Geometry, cred: Cred, i: u16) -> Result<(), Refusal>
     requires stands { Rules3To7And9 geometry.now image.now }
     requires used { IsInUse geometry.now image.now i }
@@ -142,7 +142,7 @@ fn list_tests(image: &Image, geometry: &Geometry, cred: Cred, i: u16) -> Result<
     )
 }
 
-/// The bytes of the regular file `i` from byte `offset` on, at most `len`.
+/// Returns the bytes of the regular file `i` from byte `offset` on, at most `len`.
 fn read(
     alloc: Global,
     image: &Image,

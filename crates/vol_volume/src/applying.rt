@@ -1,4 +1,4 @@
-//! Records that are made on an image alone.
+//! Applying journal records to a bare image.
 ghost use Rattle.std.specs.Prelude.{◌≡◌, ◌↔◌, IsTrue, true, false};
 ghost use Rattle.vol_layout.specs.Geometry.{geometry_of};
 ghost use Rattle.vol_dir.specs.Tree.{state, free_count, shapes};
@@ -11,11 +11,11 @@ use crate::steps::{make, may_answer, stands};
 use pdp_words::Image;
 use vol_layout::Geometry;
 
-/// Makes a record on a sound image with this geometry and so many free blocks, where it may come next, the
-/// i-number of what it made included; true where it did. Else nothing changes. The image is sound then too, and the
-/// number is that of its free blocks.
+/// Applies a record to a sound image with this geometry and `free` free blocks, and returns true, if the record may come
+/// next; a new node gets the recorded i-number. Else returns false and changes nothing. The image stays sound, and `free`
+/// stays the number of its free blocks.
 ///
-/// Takes no memory, and counts no free blocks. Costs what [`Volume::call`](crate::Volume::call) does.
+/// Takes no memory, and doesn't count the free blocks. Costs what [`Volume::call`](crate::Volume::call) does.
 pub fn apply(image: &mut Image, geometry: &Geometry, free: &mut u32, entry: &Record) -> bool
     requires sound { IsSound geometry.now.edition image.old }
     requires sizes { geometry.now ≡ geometry_of geometry.now.edition image.old }

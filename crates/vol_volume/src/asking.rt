@@ -1,4 +1,4 @@
-//! Queries of a volume that isn't mounted.
+//! Queries of an image that isn't mounted.
 ghost use Rattle.std.specs.Prelude.{OnOk, IfOk, IfErr};
 ghost use Rattle.vol_judge.specs.Sound.{IsSound};
 ghost use Rattle.vol_volume.specs.Answer.{Answers};
@@ -14,10 +14,10 @@ use vol_dir::Refusal;
 use vol_judge::examine;
 use vol_layout::Edition;
 
-/// The answer to a query of the volume in an image: what [`Volume::ask`](crate::Volume::ask) answers once
-/// the same bytes are mounted. An unsound image is asked nothing.
+/// Answers a query of the volume in an image, exactly as [`Volume::ask`](crate::Volume::ask) would once the same bytes
+/// are mounted. An unsound image is a fault, and the query isn't answered.
 ///
-/// Takes memory to judge the image, and for the reply; no copy of the image is made.
+/// Takes memory to judge the image and for the reply; the image isn't copied.
 pub fn ask(
     alloc: Global,
     edition: Edition,

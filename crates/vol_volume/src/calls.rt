@@ -1,123 +1,121 @@
-//! What is asked of a volume to change it.
+//! Calls, which change a volume, and the journal's records of them.
 use pdp_words::Bytes;
 use vol_dir::Cred;
 
-/// A call, in the name of a user and at a moment in seconds, which becomes the time of the super-block
-/// and of what the call changes. Paths start at the root, whether or not they begin with a slash.
+/// A call by a user at a given time in seconds, which becomes the time of the super-block and of what the call
+/// changes. Paths start at the root, with or without a leading slash.
 ///
-/// Each variant lists its refusals in their order. A walk is refused where it meets what is no directory
-/// (NotDirectory), a directory that doesn't grant execute (Access), or one that hasn't the name (NoEntry).
+/// Each variant lists its refusals in the order in which they are checked. A walk is refused if it meets something
+/// that is not a directory (NotDirectory), a directory that doesn't grant execute (Access), or a directory without the
+/// name (NoEntry).
 #[derive(Clone, Debug, PartialEq, Eq, Drop)]
 pub enum Call {
-    /// Makes an empty regular file. Refused: a path without component (Exists); the walk to the parent; a
-    /// name that is there (Exists); a parent that doesn't grant write (Access), or whose size is past the
-    /// greatest with the name (TooBig); where no i-number (NoInode) or too few blocks (NoSpace) are free.
+    /// Makes an empty regular file. Refused: a path without components (Exists); the walk to the parent; a name that
+    /// exists (Exists); a parent that doesn't grant write (Access), or that the new name would make larger than a file may
+    /// be (TooBig); no free i-number (NoInode); too few free blocks (NoSpace).
     Create {
-        /// Who calls; the file is theirs.
+        /// The calling user, who owns the file.
         cred: Cred,
-        /// The moment.
+        /// The time of the call.
         now: u32,
         /// The file's path.
         path: Bytes,
-        /// Its permission bits, of which those under octal 7777 count.
+        /// Its permission bits; only those in octal 7777 count.
         perm: u16,
     },
-    /// Makes a directory that has `.` and `..` alone. Refused: as Create, and between Access and
-    /// TooBig a parent whose links are at the limit (TooManyLinks).
+    /// Makes a directory with only `.` and `..`. Refused as Create is, and, between Access and TooBig, if the parent's
+    /// link count is at the limit (TooManyLinks).
     Mkdir {
-        /// Who calls; the directory is theirs.
+        /// The calling user, who owns the directory.
         cred: Cred,
-        /// The moment.
+        /// The time of the call.
         now: u32,
         /// The directory's path.
         path: Bytes,
-        /// Its permission bits, of which those under octal 7777 count.
+        /// Its permission bits; only those in octal 7777 count.
         perm: u16,
     },
-    /// Gives what is no directory a further name. Refused: the walk of the source; a source that is a
-    /// directory (IsDirectory); a target without component (Exists); the walk to the target's parent; a name
-    /// that is there (Exists); a parent that doesn't grant write (Access); a source whose links are at the
-    /// limit (TooManyLinks); a parent whose size is past the greatest with the name (TooBig); where too few
-    /// blocks are free (NoSpace).
+    /// Adds another name for a node that is not a directory. Refused: the walk of the source; a source that is a
+    /// directory (IsDirectory); a target without components (Exists); the walk to the target's parent; a name that exists
+    /// (Exists); a parent that doesn't grant write (Access); a source whose link count is at the limit (TooManyLinks); a
+    /// parent that the new name would make larger than a file may be (TooBig); too few free blocks (NoSpace).
     Link {
-        /// Who calls.
+        /// The calling user.
         cred: Cred,
-        /// The moment.
+        /// The time of the call.
         now: u32,
-        /// A path to it.
+        /// The path of the existing node.
         source: Bytes,
         /// The path of the new name.
         target: Bytes,
     },
-    /// Takes a name away from what is no directory, which is freed with its last name. Refused: a path without
-    /// component (IsDirectory); the walk to the parent; a name that isn't there (NoEntry); a parent that
-    /// doesn't grant write (Access); a directory (IsDirectory).
+    /// Removes a name of a node that is not a directory; removing the last name frees the node. Refused: a path without
+    /// components (IsDirectory); the walk to the parent; a name that doesn't exist (NoEntry); a parent that doesn't grant
+    /// write (Access); a directory (IsDirectory).
     Unlink {
-        /// Who calls.
+        /// The calling user.
         cred: Cred,
-        /// The moment.
+        /// The time of the call.
         now: u32,
         /// The path of the name.
         path: Bytes,
     },
-    /// Frees a directory that has `.` and `..` alone. Refused: a path without component (Invalid); the walk to
-    /// the parent; the last name `.` or `..` (Invalid); a name that isn't there (NoEntry); a parent that
-    /// doesn't grant write (Access); what is no directory (NotDirectory), or has other names (NotEmpty).
+    /// Removes a directory that has only `.` and `..`. Refused: a path without components (Invalid); the walk to the
+    /// parent; the last name `.` or `..` (Invalid); a name that doesn't exist (NoEntry); a parent that doesn't grant write
+    /// (Access); a node that is not a directory (NotDirectory), or a directory with other names (NotEmpty).
     Rmdir {
-        /// Who calls.
+        /// The calling user.
         cred: Cred,
-        /// The moment.
+        /// The time of the call.
         now: u32,
         /// The directory's path.
         path: Bytes,
     },
-    /// Writes bytes into a regular file, all or none. Bytes between its end and the offset become zeros.
-    /// Refused: the walk; a directory (IsDirectory); a special file (NotRegular); a file that doesn't grant
-    /// write (Access); an end of the bytes past the greatest size (TooBig); where too few blocks are free
-    /// (NoSpace).
+    /// Writes bytes into a regular file, all or none. Bytes between its end and the offset become zeros. Refused: the
+    /// walk; a directory (IsDirectory); a special file (NotRegular); a file that doesn't grant write (Access); bytes that
+    /// would end past the greatest file size (TooBig); too few free blocks (NoSpace).
     Write {
-        /// Who calls.
+        /// The calling user.
         cred: Cred,
-        /// The moment.
+        /// The time of the call.
         now: u32,
         /// The file's path.
         path: Bytes,
-        /// Where the first of the bytes goes, counted from the file's first.
+        /// The position of the first byte written, counted from 0.
         offset: u32,
-        /// The bytes. A write of none changes nothing but the super-block's time.
+        /// The bytes. If there are none, only the super-block's time changes.
         bytes: Bytes,
     },
-    /// Cuts a regular file to its first bytes. Refused: the walk; a directory (IsDirectory); a special file
+    /// Shortens a regular file to its first `length` bytes. Refused: the walk; a directory (IsDirectory); a special file
     /// (NotRegular); a file that doesn't grant write (Access); a length above the file's size (Invalid).
     Truncate {
-        /// Who calls.
+        /// The calling user.
         cred: Cred,
-        /// The moment.
+        /// The time of the call.
         now: u32,
         /// The file's path.
         path: Bytes,
-        /// How many bytes stay.
+        /// The number of bytes to keep.
         length: u32,
     },
-    /// Gives a node of any kind other permission bits. Refused: the walk; a user who is neither 0 nor the
-    /// node's owner (NotOwner).
+    /// Changes the permission bits of a node of any kind. Refused: the walk; a user who is neither 0 nor the node's
+    /// owner (NotOwner).
     Chmod {
-        /// Who calls.
+        /// The calling user.
         cred: Cred,
-        /// The moment.
+        /// The time of the call.
         now: u32,
         /// The node's path.
         path: Bytes,
-        /// The permission bits, of which those under octal 7777 count.
+        /// The permission bits; only those in octal 7777 count.
         perm: u16,
     },
-    /// Gives a node of any kind to another user and group; its permission bits stay. Refused: numbers of the
-    /// new user or group that are above the edition's (BadId, before all else); the walk; a user other than 0
-    /// (NotOwner).
+    /// Changes the user and group of a node of any kind; its permission bits stay. Refused: a new user or group number
+    /// above the edition's limit (BadId, before all others); the walk; a user other than 0 (NotOwner).
     Chown {
-        /// Who calls.
+        /// The calling user.
         cred: Cred,
-        /// The moment.
+        /// The time of the call.
         now: u32,
         /// The node's path.
         path: Bytes,
@@ -126,34 +124,34 @@ pub enum Call {
         /// The new group.
         gid: u16,
     },
-    /// Gives a node of any kind other times; in the seventh edition that of its i-node's change becomes the
-    /// call's, as with every call. Refused: the walk; a user who is neither 0 nor the node's owner (NotOwner).
+    /// Sets the times of a node of any kind. In the seventh edition its i-node's change gets the time of the call, as in every
+    /// call. Refused: the walk; a user who is neither 0 nor the node's owner (NotOwner). (utime, section 2 of the manual.)
     Times {
-        /// Who calls.
+        /// The calling user.
         cred: Cred,
-        /// The moment.
+        /// The time of the call.
         now: u32,
         /// The node's path.
         path: Bytes,
-        /// When it was last read, in seconds since the beginning of 1970.
+        /// The time of its last access, in seconds since the beginning of 1970.
         atime: u32,
-        /// When what it holds was last changed, in seconds since the beginning of 1970.
+        /// The time of its last modification, in seconds since the beginning of 1970.
         mtime: u32,
     },
 }
 
-/// What an accepted call answers.
+/// The answer to an accepted call.
 #[derive(Clone, Copy, Debug, PartialEq, Eq)]
 pub enum Done {
-    /// The i-number of the file or directory that was made.
+    /// The i-number of the new file or directory.
     Made(u16),
-    /// How many bytes were written, which are all.
+    /// The number of bytes written, which is all of them.
     Wrote(u32),
-    /// Of other calls.
+    /// The answer to all other calls.
     Plain,
 }
 
-/// A call that was accepted, and what it answered.
+/// An accepted call and its answer.
 #[derive(Clone, Debug, PartialEq, Eq, Drop)]
 pub struct Record {
     /// The call.

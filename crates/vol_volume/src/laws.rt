@@ -1,5 +1,5 @@
-//! Laws about the definitions of calls and journals. A call does nothing: what matters is the contract,
-//! which is proved.
+//! Laws about the definitions of calls and journals. These functions do nothing: the contract, which is proved, is
+//! the point.
 ghost use Rattle.vol_volume.specs.Laws.{
   KeepsConsistent,
   LeadsInParts,
@@ -10,29 +10,29 @@ ghost use Rattle.vol_volume.specs.Laws.{
   LeadsToRoot,
 };
 
-/// What every volume keeps is kept by each accepted call.
+/// Each accepted call keeps the volume consistent.
 pub fn accepted_calls_keep_volumes_consistent()
     ensures { KeepsConsistent }
 {}
 
-/// A journal can be taken in parts.
+/// A journal may be replayed in parts.
 pub fn journals_come_in_parts()
     ensures leads { LeadsInParts }
     ensures legal { IsLegalInParts }
 {}
 
-/// No call and no query is refused for want of memory by what stands on the volume.
+/// The state of a volume is never a reason for NoMemory, in a call or in a query.
 pub fn no_verdict_is_want_of_memory()
     ensures calls { HasMemory }
     ensures queries { HasMemoryForQueries }
 {}
 
-/// A write of no bytes changes the super-block's time alone.
+/// A write of no bytes changes only the super-block's time.
 pub fn no_bytes_change_nothing()
     ensures { WritesNothing }
 {}
 
-/// The empty path is the root, and so is a slash.
+/// The empty path is the root, and so is `/`.
 pub fn the_empty_path_is_the_root()
     ensures { LeadsToRoot }
 {}

@@ -1,4 +1,4 @@
-//! Volumes: mounted, and what may be asked of them.
+//! Mounted volumes, their calls and their queries.
 #![tactic(auto)]
 
 pub mod answering;

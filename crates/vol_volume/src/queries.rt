@@ -1,4 +1,4 @@
-//! What is asked of a volume without changing it.
+//! Queries, which change nothing, and their replies.
 ghost use Rattle.std.specs.Prelude.{◌≡◌, ◌==◌};
 ghost use Rattle.std.specs.Cmp.Lexicographic.{pointwise};
 ghost use Rattle.std.specs.Cmp.Rules.{comparing};
@@ -10,30 +10,30 @@ use std::marker::Model;
 use vol_dir::Cred;
 use vol_layout::Kind;
 
-/// A query, in the name of a user. Paths start at the root, whether or not they begin with a slash.
+/// A query by a user. Paths start at the root, with or without a leading slash.
 #[derive(Debug, PartialEq, Eq, Drop)]
 pub enum Query {
-    /// Asks what a node is.
+    /// Asks for the attributes of a node.
     Stat {
-        /// Who asks.
+        /// The user that the query runs as.
         cred: Cred,
         /// The node's path.
         path: Bytes,
     },
     /// Asks for bytes of a regular file.
     Read {
-        /// Who asks.
+        /// The user that the query runs as.
         cred: Cred,
         /// The file's path.
         path: Bytes,
-        /// Where the first of the bytes stands, counted from the file's first.
+        /// The position of the first byte to read, counted from 0.
         offset: u32,
-        /// How many bytes are asked for; there are fewer where the file ends before.
+        /// The number of bytes to read; the reply is shorter if the file ends first.
         len: u32,
     },
     /// Asks for the names in a directory.
     List {
-        /// Who asks.
+        /// The user that the query runs as.
         cred: Cred,
         /// The directory's path.
         path: Bytes,
@@ -43,7 +43,7 @@ pub enum Query {
 /// The reply to a query.
 #[derive(Debug, PartialEq, Eq, Drop)]
 pub enum Reply {
-    /// What a node is.
+    /// The attributes of a node.
     Stat(Stat),
     /// The bytes read, none at or past the file's end.
     Bytes(Bytes),
@@ -51,14 +51,14 @@ pub enum Reply {
     Names(Listing),
 }
 
-/// What a node is. Times are in seconds since the beginning of 1970.
+/// The attributes of a node. Times are in seconds since the beginning of 1970.
 #[derive(Clone, Copy, Debug, PartialEq, Eq)]
 pub struct Stat {
     /// The i-number.
     pub number: u16,
-    /// What it is: regular, a directory or special.
+    /// Regular, directory or special.
     pub kind: Kind,
-    /// The permission bits, those under octal 7777.
+    /// The permission bits, those in octal 7777.
     pub permissions: u16,
     /// The link count.
     pub links: u16,
@@ -68,15 +68,15 @@ pub struct Stat {
     pub gid: u16,
     /// The size in bytes.
     pub size: u32,
-    /// When it was last read, as far as the volume says.
+    /// When it was last read, as stored on the volume.
     pub accessed: u32,
     /// When its bytes or entries last changed.
     pub modified: u32,
-    /// When its i-node last changed, which the sixth edition doesn't keep.
+    /// When its i-node last changed, or `None` in the sixth edition, which doesn't store it.
     pub changed: Option<u32>,
 }
 
-/// The names in a directory, `.` and `..` among them, each with its i-number. A caller sees a list.
+/// The names in a directory, `.` and `..` among them, each with its i-number. Contracts see it as a list.
 #[derive(Debug, Drop)]
 pub struct Listing {
     entries: Vec<(Bytes, u16)>,
@@ -91,21 +91,21 @@ impl Model for Listing {
 }
 
 impl Listing {
-    /// These names. Takes no memory.
+    /// Wraps these names. Takes no memory.
     pub fn from_vec(entries: Vec<(Bytes, u16)>) -> Listing
         ensures { result ≡ entries.items }
     {
         Listing { entries }
     }
 
-    /// The names, given back. Takes no memory.
+    /// Returns the names. Takes no memory.
     pub fn into_vec(self) -> Vec<(Bytes, u16)>
         ensures { result.items ≡ self }
     {
         self.entries
     }
 
-    /// All the names, in ascending order of their bytes where a query answered them.
+    /// Returns all the names. In a reply they are in ascending order of their bytes.
     pub fn as_slice(&self) -> &[(Bytes, u16)]
         ensures { result.now ≡ self.now }
     {
@@ -118,7 +118,7 @@ impl PartialEq for Listing {
 
     ghost laws = { Prim.search (comparing, rules) };
 
-    /// Whether they are the same names with the same i-numbers, in the same order.
+    /// True if both have the same names with the same i-numbers, in the same order.
     fn eq(&self, other: &Listing) -> bool {
         self.as_slice() == other.as_slice()
     }

@@ -1,4 +1,4 @@
-//! Volumes whose journal has room.
+//! Volumes with room for a record in the journal.
 ghost use Rattle.std.specs.Prelude.{◌≡◌, IfOk, IfErr};
 ghost use Rattle.vol_volume.specs.Journal.{MayFollow};
 ghost use Rattle.vol_volume.specs.Volume.{Accepts, reads_as};
@@ -8,7 +8,7 @@ use crate::volume::{Parts, Volume, accept};
 use std::alloc::{AllocError, Global};
 use std::marker::Model;
 
-/// A volume whose journal has room for one record more, which is made without memory.
+/// A volume whose journal has room for one more record, so that recording it takes no memory.
 #[derive(Debug, Drop)]
 pub struct Reserved {
     parts: Parts,
@@ -27,12 +27,12 @@ impl Model for Reserved {
 }
 
 impl Volume {
-    /// The volume with room in its journal for one record more. Where memory runs out, it comes back as it was.
+    /// Reserves room for one more record in the journal. If memory runs out, returns the volume as it was.
     pub fn reserve(self, alloc: Global) -> Result<Reserved, (AllocError, Volume)>
         ensures reserved { IfOk result (λ reserved. reserved ≡ self) }
         ensures handed_back { IfErr result (λ (error, same). same ≡ self) }
     {
-        // The journal grows by the allocator that it was made with.
+        // The journal grows in the allocator that it was created with.
         let _ = alloc;
         let Volume { mut parts } = self;
         if parts.records.reserve(1).is_err() {
@@ -43,8 +43,8 @@ impl Volume {
 }
 
 impl Reserved {
-    /// Makes a call with the answer that is recorded for it, as [`Volume::redo`] does, and appends that record to the
-    /// journal. The record is one that may come next.
+    /// Makes a call with its recorded answer, as [`Volume::redo`] does, and appends the record to the journal. The record
+    /// must be one that may come next.
     ///
     /// Takes no memory. Costs what [`Volume::call`] does.
     pub fn redo(self, entry: Record) -> Volume
@@ -59,7 +59,7 @@ impl Reserved {
         }
     }
 
-    /// The volume as it was.
+    /// Returns the volume as it was.
     pub fn release(self) -> Volume
         ensures { result ≡ self }
     {

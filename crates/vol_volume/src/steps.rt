@@ -1,5 +1,5 @@
-//! Calls, each in a module of its own: what speaks against it, and the change that it makes. The check of a call
-//! walks its paths and searches the last directory once, and the change takes what was found.
+//! Calls, each in a module of its own: its checks, and the change that it makes. The checks walk each path once and
+//! search the last directory once, and the change uses what they found.
 ghost use Rattle.std.specs.Prelude.{◌≡◌, ◌↔◌, IsTrue, IfSome, IfOk, OnErr};
 ghost use Rattle.std.specs.Result.{result_err};
 ghost use Rattle.vol_layout.specs.Geometry.{geometry_of};
@@ -32,7 +32,7 @@ use vol_dir::{Cred, Refusal};
 use vol_layout::Geometry;
 use vol_layout::super_block::SUPER;
 
-/// What a performed call answers, and how many blocks are free then.
+/// The answer to a call that was made, and the number of free blocks after it.
 #[derive(Clone, Copy, Debug)]
 pub(crate) struct Performed {
     /// The answer.
@@ -41,21 +41,21 @@ pub(crate) struct Performed {
     pub free: u32,
 }
 
-/// Who makes a call, and when.
+/// The caller: the user of a call, and its time.
 #[derive(Clone, Copy, Debug)]
 pub(crate) struct Caller {
     /// The user and group.
     pub cred: Cred,
-    /// The moment, in seconds since the beginning of 1970.
+    /// The time, in seconds since the beginning of 1970.
     pub moment: u32,
 }
 
-/// What a call answers where nothing speaks against it; else its refusal, of those beside want of memory the
-/// first that applies, in the order of the definition. `free` is the number of free blocks.
+/// Returns the answer that a call would get, or the first refusal that applies, in the order of the definition
+/// `verdict`. NoMemory is not among them. `free` is the number of free blocks.
 ///
-/// Costs the walks of the call's paths, and one search of the last directory. A new node costs a search for a
-/// free i-number, a directory that goes a look at its slots, and a write one way for each logical block that it
-/// touches.
+/// Costs the walks of the call's paths, and one search of the last directory. A new node costs a search for a free
+/// i-number, removing a directory costs a read of its slots, and a write costs one block-map lookup for each logical
+/// block that it touches.
 #[tactic(auto, unfolding(crate::specs::Verdict::verdict))]
 pub(crate) fn check(
     image: &Image,
@@ -137,10 +137,10 @@ pub(crate) fn check(
     }
 }
 
-/// Makes a call, where nothing speaks against it; else the refusal of [`check`], and nothing changes. `free` is
-/// the number of free blocks. Where an answer is recorded, it is that one.
+/// Makes a call; if [`check`] refuses it, returns that refusal and changes nothing. `free` is the number of free blocks. A
+/// recorded answer, if given, becomes the answer.
 ///
-/// Costs what [`check`] does, once, and the change.
+/// Costs one [`check`], and the change.
 pub(crate) fn make(
     image: &mut Image,
     geometry: &Geometry,
@@ -205,7 +205,7 @@ pub(crate) fn make(
     }
 }
 
-/// Whether a call that nothing speaks against may answer so.
+/// True if `done` may be the answer to the call, once it is accepted.
 pub(crate) fn may_answer(image: &Image, geometry: &Geometry, call: &Call, done: Done) -> bool
     requires { Rules3To7And9 geometry.now image.now }
     ensures { IsTrue result ↔ MayAnswer (state geometry.now image.now) call.now done }
@@ -229,7 +229,7 @@ pub(crate) fn may_answer(image: &Image, geometry: &Geometry, call: &Call, done: 
     }
 }
 
-/// Who makes a call, and when.
+/// Returns the user and the time of a call.
 fn caller_of(call: &Call) -> Caller
     ensures { result ≡ caller_of call.now }
 {
@@ -251,7 +251,7 @@ fn caller_of(call: &Call) -> Caller
     }
 }
 
-/// What a call says of the node that it makes.
+/// Returns the new node that a call describes.
 fn new_node(caller: Caller, permissions: u16) -> NewNode
     ensures owner { result.owner ≡ caller.cred }
     ensures moment { result.moment ≡ caller.moment }
@@ -264,7 +264,7 @@ fn new_node(caller: Caller, permissions: u16) -> NewNode
     }
 }
 
-/// The user and group that a node is given to.
+/// Returns the user and group that a node is given to.
 fn new_owner(uid: u16, gid: u16) -> Cred
     ensures user { result.uid ≡ uid }
     ensures group { result.gid ≡ gid }
@@ -272,7 +272,7 @@ fn new_owner(uid: u16, gid: u16) -> Cred
     Cred { uid, gid }
 }
 
-/// The i-number that is recorded, if one is.
+/// Returns the recorded i-number, or `None` if there is none.
 fn recorded_number(recorded: Option<Done>) -> Option<u16>
     ensures { result ≡ recorded_number recorded }
 {
@@ -282,23 +282,23 @@ fn recorded_number(recorded: Option<Done>) -> Option<u16>
     }
 }
 
-/// Does nothing: what a sound image stands for.
+/// Does nothing: the contract says what holds of a sound image.
 pub(crate) fn ready_stands(image: &Image, geometry: &Geometry)
     requires { Rules1To12 geometry.now image.now }
     ensures { Rules3To7And9 geometry.now image.now }
 {
-    // The contract speaks of both, and the body needs neither.
+    // Only the contract uses the parameters.
     let _ = image;
     let _ = geometry;
 }
 
-/// Does nothing: a sound image stands, with the geometry that is its own.
+/// Does nothing: the contract says what holds of a sound image with its own geometry.
 pub(crate) fn stands(image: &Image, geometry: &Geometry)
     requires sound { IsSound geometry.now.edition image.now }
     requires sizes { geometry.now ≡ geometry_of geometry.now.edition image.now }
     ensures { Rules3To7And9 geometry.now image.now }
 {
-    // No rule bounds the number of blocks in the sixth edition. It is a word, and that it is read brings into
-    // the proof that words are below 65536.
+    // No rule bounds the number of blocks in the sixth edition. It is a word, and reading it tells the proof that it
+    // is below 65536.
     let _ = image.word(SUPER + 2);
 }

@@ -23,42 +23,41 @@ use vol_dir::Refusal;
 use vol_judge::{Examined, examine};
 use vol_layout::{Edition, Geometry};
 
-/// Why a volume wasn't mounted.
+/// The reason why a volume wasn't mounted.
 #[derive(Clone, Copy, Debug, PartialEq, Eq, Error)]
 pub enum MountFault {
-    /// The image isn't sound. The least of the twelve rules that it breaks.
+    /// The image isn't sound: the first of the twelve rules that it breaks.
     #[error("unsound, rule {0}")]
     Unsound(u8),
-    /// An allocation was refused.
+    /// Memory ran out.
     #[error("12 NoMemory")]
     NoMemory,
 }
 
-/// The next record after a cut would have no number below 2^64.
+/// A cut that would number the next record 2^64 or higher.
 #[derive(Clone, Copy, Debug, PartialEq, Eq, Error)]
 #[error("too many records")]
 pub struct TooManyRecords;
 
-/// What a mounted volume is made of.
+/// The parts of a mounted volume.
 #[derive(Debug, Drop)]
 pub(crate) struct Parts {
     /// The volume's geometry.
     pub(crate) geometry: Geometry,
     /// The image as the calls have left it.
     pub(crate) current: Image,
-    /// How many blocks of it are free.
+    /// The number of its free blocks.
     pub(crate) free: u32,
     /// The bytes that were mounted or left by the last cut.
     pub(crate) base: Vec<u8>,
-    /// The calls that were accepted since.
+    /// The calls accepted since then.
     pub(crate) records: Vec<Record>,
-    /// How many records were cut before.
+    /// The number of records that earlier cuts removed.
     pub(crate) first: u64,
 }
 
-/// A mounted volume: a sound image, the bytes that were mounted or left by the last cut, and the journal of
-/// the calls accepted since. The image always reads as exactly the tree that the journal makes of the one
-/// mounted or last cut.
+/// A mounted volume: a sound image, the bytes that were mounted or left by the last cut, and the journal of the
+/// calls accepted since. The image always reads as exactly the tree that replaying the journal on those bytes gives.
 #[derive(Debug, Drop)]
 pub struct Volume {
     pub(crate) parts: Parts,
@@ -76,8 +75,8 @@ impl Model for Volume {
 }
 
 impl Volume {
-    /// Mounts the bytes of a volume, with an empty journal. Whatever stands past the volume's last block
-    /// is kept. An unsound image isn't mounted; on each fault the same bytes come back.
+    /// Mounts the bytes of a volume, with an empty journal. Bytes past the volume's last block are kept. An unsound image
+    /// isn't mounted; each fault hands the same bytes back.
     ///
     /// Takes memory to judge the image, and for a copy of its bytes.
     pub fn mount(
@@ -98,7 +97,7 @@ impl Volume {
         }
     }
 
-    /// Mounts a sound image, of which this was found.
+    /// Mounts an image that was examined and found sound.
     fn mount_sound(
         alloc: Global,
         edition: Edition,
@@ -126,83 +125,82 @@ impl Volume {
         Ok(Volume { parts })
     }
 
-    /// The edition whose layout the volume has.
+    /// Returns the volume's edition.
     pub fn edition(&self) -> Edition
         ensures { result ≡ self.now.edition }
     {
         self.parts.geometry.edition
     }
 
-    /// The volume's geometry.
+    /// Returns the volume's geometry.
     pub fn geometry(&self) -> &Geometry
         ensures { result.now ≡ geometry_of self.now.edition self.now.image }
     {
         &self.parts.geometry
     }
 
-    /// How many blocks are free. It is kept beside the image, and nothing is counted.
+    /// Returns the number of free blocks. It is stored, so nothing is counted.
     pub fn free_blocks(&self) -> u32
         ensures { result ≡ free_count (geometry_of self.now.edition self.now.image) (shapes (geometry_of self.now.edition self.now.image) self.now.image) }
     {
         self.parts.free
     }
 
-    /// The bytes that were mounted or left by the last cut.
+    /// Returns the bytes that were mounted or left by the last cut.
     pub fn base(&self) -> &[u8]
         ensures { result.now ≡ self.now.base }
     {
         &self.parts.base
     }
 
-    /// The image as the calls have left it.
+    /// Returns the image as the calls have left it.
     pub fn image(&self) -> &Image
         ensures { result.now ≡ self.now.image }
     {
         &self.parts.current
     }
 
-    /// The calls that were accepted since, in their order.
+    /// Returns the calls accepted since the mount or the last cut, in order.
     pub fn journal(&self) -> &[Record]
         ensures { result.now ≡ self.now.journal }
     {
         &self.parts.records
     }
 
-    /// How many records were cut since the volume was mounted, which is the number of the journal's first.
+    /// Returns the number of records cut since the mount, which is the number of the journal's first record.
     pub fn first(&self) -> u64
         ensures { result ≡ self.now.first }
     {
         self.parts.first
     }
 
-    /// The answer to a query: that of the tree which the image reads as, and no other. BadId comes first,
-    /// then Invalid for a path with a zero byte, then what the walk of the path meets: NotDirectory,
-    /// Access, NoEntry. Stat asks nothing more. Read asks that the node is a regular file (IsDirectory,
-    /// NotRegular) that grants read (Access); List that it is a directory (NotDirectory) that grants read
-    /// (Access). NoMemory is only for Read and List, and comes last.
+    /// Answers a query from the tree that the image reads as. BadId is checked first, then a path with a zero byte
+    /// (Invalid), then the walk of the path (NotDirectory, Access, NoEntry). Stat checks nothing more. Read then checks
+    /// that the node is a regular file (IsDirectory, NotRegular) that grants read (Access), and List that it is a directory
+    /// (NotDirectory) that grants read (Access). NoMemory comes last, and only from Read and List.
     ///
-    /// Stat takes no memory, Read one buffer of just the bytes that it replies with, List some for each
-    /// name. Costs the walk of the path, and then: for Read as much as [`vol_file::read`], for List a look
-    /// at each slot and as much as sorting the names.
+    /// Stat takes no memory, Read one buffer of exactly the bytes in its reply, List some for each name. Costs the walk
+    /// of the path. Besides, Read costs as much as [`vol_file::read`], and List reads each slot and sorts the names.
     pub fn ask(&self, alloc: Global, query: &Query) -> Result<Reply, Refusal>
         ensures { Answers (reads_as self.now.edition self.now.image).tree query.now result }
     {
         ask_image(alloc, &self.parts.current, &self.parts.geometry, query)
     }
 
-    /// What speaks against a call as the volume stands: the refusal that [`Volume::call`] would meet first, of
-    /// those beside NoMemory. None where nothing does. Nothing changes.
+    /// Returns the refusal that [`Volume::call`] would meet first, other than NoMemory, or `None` if no check fails.
+    /// Changes nothing.
     ///
-    /// Takes no memory. Costs the walks of the call's paths, and one search of the last directory; a new node
-    /// costs a search for a free i-number, and a write one way for each logical block that it touches.
+    /// Takes no memory. Costs the walks of the call's paths, and one search of the last directory. A new node costs a
+    /// search for a free i-number, removing a directory costs a read of its slots, and a write costs one block-map lookup
+    /// for each logical block that it touches.
     pub fn refusal(&self, call: &Call) -> Option<Refusal>
         ensures { result ≡ verdict (reads_as self.now.edition self.now.image) call.now }
     {
         refusal_of(&self.parts, call)
     }
 
-    /// What a call would answer as the volume stands: the answer with which it would be recorded, or what speaks
-    /// against it. Nothing changes. The i-number of a new node is the one that [`Volume::call`] would take.
+    /// Returns the answer that a call would get and be recorded with, or its first refusal other than NoMemory. Changes
+    /// nothing. The i-number of a new node is the one that [`Volume::call`] would use.
     ///
     /// Takes no memory, and costs what [`Volume::refusal`] does.
     pub fn foresee(&self, call: &Call) -> Result<Done, Refusal>
@@ -212,27 +210,25 @@ impl Volume {
         foresee(&self.parts, call)
     }
 
-    /// Makes a call, where nothing speaks against it, and appends it to the journal; the answer says what
-    /// was made. A call that is refused comes back, and changes nothing. One that is accepted takes the next
-    /// blocks of the free list alone, or puts on it what it gives back; every file that it doesn't change keeps
-    /// all bytes of its blocks.
+    /// Makes a call, if no check fails, appends it to the journal, and returns its answer. A refused call is handed back
+    /// and changes nothing. An accepted call takes blocks only from the front of the free list, or puts there the blocks
+    /// that it frees; every file that it doesn't change keeps all bytes of its blocks.
     ///
-    /// The refusals are asked in this order. BadId: the numbers of the user or the group are above the
-    /// edition's. Invalid: a path has a zero byte. Then what the variant of [`Call`] lists, in that order.
-    /// NoMemory comes last, before the first byte changes, and only where the journal has no room for one
-    /// record more.
+    /// The checks run in this order. BadId: the number of the user or the group is above the edition's limit. Invalid: a
+    /// path has a zero byte. Then the refusals that the variant of [`Call`] lists, in its order. NoMemory comes last,
+    /// before the first byte changes, and only if the journal cannot get room for one more record.
     ///
-    /// Takes memory for the journal alone, also where the call is refused then. Costs one walk of each path, one
-    /// search of the last directory, and the change. A new node costs two searches of the i-list, where no cached
-    /// i-number is free. A write costs a copy of its bytes, three times the ways of their blocks, and once those
-    /// of the blocks between the old size and the offset; what becomes free costs the places of the file.
+    /// Takes memory for the journal alone, even if the call is then refused. Costs one walk of each path, one search of the
+    /// last directory, and the change. A new node costs two searches of the i-list, unless a cached i-number is free. A
+    /// write costs a copy of its bytes, three block-map lookups for each block that it touches, and one for each stored
+    /// block between the old size and the offset. Freeing blocks costs a read of each place of the file.
     pub fn call(&mut self, alloc: Global, call: Call) -> Result<Done, (Refusal, Call)>
         ensures accepted { IfOk result (λ done. Accepts self.old self.new call done) }
         ensures refused { IfErr result (λ (refusal, same). Refuses (reads_as self.old.edition self.old.image) call refusal) }
         ensures handed_back { IfErr result (λ (refusal, same). same ≡ call) }
         ensures unchanged { IfErr result (λ (refusal, same). self.new ≡ self.old) }
     {
-        // The journal grows by the allocator that it was made with.
+        // The journal grows in the allocator that it was created with.
         let _ = alloc;
         if self.parts.records.reserve(1).is_err() {
             let refusal = refusal_without_room(&self.parts, &call);
@@ -241,9 +237,9 @@ impl Volume {
         accept(&mut self.parts, call, None)
     }
 
-    /// Makes a call with the answer that is recorded for it, the i-number of what it made included, and
-    /// appends that record to the journal. The record is one that may come next. Where the journal has no
-    /// room for it, the record comes back and nothing changes.
+    /// Makes a call with its recorded answer (a new node gets the recorded i-number), and appends the record to the
+    /// journal. The record must be one that may come next. If memory runs out, the record is handed back and nothing
+    /// changes.
     ///
     /// Takes memory for the journal alone. Costs what [`Volume::call`] does.
     pub fn redo(&mut self, alloc: Global, entry: Record) -> Result<(), (AllocError, Record)>
@@ -263,11 +259,10 @@ impl Volume {
         }
     }
 
-    /// Cuts the journal: its records go, the base becomes the present image, and the first record's number
-    /// grows by as many. The image stays. Where the records' numbers would reach 2^64, nothing changes.
+    /// Cuts the journal: drops its records, makes the present image the base, and adds their number to that of the first
+    /// record. The image stays. If a record's number would reach 2^64, nothing changes.
     ///
-    /// Takes no memory, and gives back all that the journal took. Costs a copy of the image's bytes, and the
-    /// journal's drop.
+    /// Takes no memory, and gives back all that the journal took. Costs a copy of the image's bytes, and dropping the journal.
     pub fn cut(&mut self) -> Result<(), TooManyRecords>
         ensures cut { OnOk result (self.new ≡ after_cut self.old) }
         ensures fault { OnErr result (2 ^ 64 ≤ self.old.first + length self.old.journal) }
@@ -276,7 +271,7 @@ impl Volume {
         cut_journal(&mut self.parts)
     }
 
-    /// Gives the image's bytes back. The journal goes. Takes no memory.
+    /// Returns the image's bytes and drops the journal. Takes no memory.
     pub fn unmount(self) -> Vec<u8>
         ensures bytes { result.items ≡ self.image }
         ensures consistent { IsConsistent self }
@@ -284,17 +279,17 @@ impl Volume {
         self.parts.current.into_bytes()
     }
 
-    /// Does nothing: what every volume keeps is in the contract.
+    /// Does nothing: the contract says what every volume keeps.
     pub fn check(&self)
         ensures { IsConsistent self.now }
     {
-        // What is read of a volume brings what every volume keeps into the proof.
+        // Reading a field tells the proof what every volume keeps.
         let _ = &self.parts.geometry;
     }
 }
 
-/// Makes a call, where nothing speaks against it, and appends its record, for which there is room; else the call
-/// comes back, and nothing changes. Where an answer is recorded, it is that one.
+/// Makes a call, if no check fails, and appends its record, for which the journal has room; else hands the call back
+/// and changes nothing. A recorded answer, if given, becomes the answer.
 pub(crate) fn accept(
     parts: &mut Parts,
     call: Call,
@@ -329,7 +324,7 @@ pub(crate) fn accept(
     Ok(done)
 }
 
-/// Cuts the journal, and keeps no room for records. Where their numbers would reach 2^64, nothing changes.
+/// Cuts the journal, and keeps no room for records. If a record's number would reach 2^64, nothing changes.
 fn cut_journal(parts: &mut Parts) -> Result<(), TooManyRecords>
     requires kept { IsKept parts.old }
     ensures kept { IsKept parts.new }
@@ -348,7 +343,7 @@ fn cut_journal(parts: &mut Parts) -> Result<(), TooManyRecords>
     Ok(())
 }
 
-/// The refusal of a call for whose record a full journal has no room: what speaks against it, else NoMemory.
+/// Returns the refusal of a call when the journal is full and cannot grow: the first failing check, else NoMemory.
 fn refusal_without_room(parts: &Parts, call: &Call) -> Refusal
     requires kept { IsKept parts.now }
     requires full { vec_capacity parts.now.records < vec_len parts.now.records + 1 }
@@ -357,7 +352,7 @@ fn refusal_without_room(parts: &Parts, call: &Call) -> Refusal
     refusal_of(parts, call).unwrap_or(Refusal::NoMemory)
 }
 
-/// What speaks against a call, of what is asked beside want of memory the first, if anything does.
+/// Returns the first refusal of a call other than NoMemory, or `None` if no check fails.
 fn refusal_of(parts: &Parts, call: &Call) -> Option<Refusal>
     requires { IsKept parts.now }
     ensures { result ≡ verdict (state parts.now.geometry parts.now.current) call.now }
@@ -365,8 +360,7 @@ fn refusal_of(parts: &Parts, call: &Call) -> Option<Refusal>
     foresee(parts, call).err()
 }
 
-/// What a call would answer where nothing speaks against it; else what does, of what is asked beside want of memory
-/// the first.
+/// Returns the answer that a call would get, or its first refusal other than NoMemory.
 fn foresee(parts: &Parts, call: &Call) -> Result<Done, Refusal>
     requires { IsKept parts.now }
     ensures refusal { result_err result ≡ verdict (state parts.now.geometry parts.now.current) call.now }

@@ -1,4 +1,4 @@
-//! What is asked of calls one by one: facts of i-nodes, names and free blocks.
+//! Checks that calls share: tests of i-nodes, names and free blocks.
 ghost use Rattle.std.specs.Prelude.{◌≡◌, ◌≢◌, ℕ, ◌*◌, ◌≤◌, if◌then◌else◌, Bool, true, false, List, [], ◌∷◌, None, Some, Ok, OnOk, IfOk, IfErr, IsTrue, ◌↔◌, MatchResult};
 ghost use Rattle.std.specs.Result.{result_err};
 ghost use Rattle.vol_layout.specs.Geometry.{Fits};
@@ -25,7 +25,7 @@ use vol_layout::i_list::{kind, size};
 use vol_layout::slot::SLOT;
 use vol_layout::{Geometry, Kind, inode, is_bad_id};
 
-/// Whether i-node `i` is a directory.
+/// True if i-node `i` is a directory.
 #[tactic(auto, using(crate::proofs::NodeReadings::directory_is, crate::proofs::NodeReadings::directory_not))]
 pub(crate) fn is_directory(image: &Image, geometry: &Geometry, i: u16) -> bool
     requires fits { Fits geometry.now image.now }
@@ -38,7 +38,7 @@ pub(crate) fn is_directory(image: &Image, geometry: &Geometry, i: u16) -> bool
     kind(image, geometry, i) == Kind::Directory
 }
 
-/// Whether i-node `i` is a special file.
+/// True if i-node `i` is a special file.
 #[tactic(auto, using(crate::proofs::NodeReadings::device_is, crate::proofs::NodeReadings::device_not))]
 pub(crate) fn is_device(image: &Image, geometry: &Geometry, i: u16) -> bool
     requires fits { Fits geometry.now image.now }
@@ -50,7 +50,7 @@ pub(crate) fn is_device(image: &Image, geometry: &Geometry, i: u16) -> bool
     kind(image, geometry, i) == Kind::Special
 }
 
-/// Whether i-node `i`, which is in use, grants an access.
+/// True if i-node `i`, which is in use, grants an access.
 #[tactic(auto, using(crate::proofs::NodeReadings::node_stored))]
 pub(crate) fn is_granted(
     image: &Image,
@@ -66,7 +66,7 @@ pub(crate) fn is_granted(
     grants(image, geometry, i, access, cred)
 }
 
-/// Whether the link count of i-node `i`, which is in use, is at its limit.
+/// True if the link count of i-node `i`, which is in use, is at its limit.
 #[tactic(auto, using(crate::proofs::NodeReadings::links_are, crate::proofs::NodeReadings::tree_geometry))]
 pub(crate) fn is_full(image: &Image, geometry: &Geometry, i: u16) -> bool
     requires stands { Rules3To7And9 geometry.now image.now }
@@ -76,7 +76,7 @@ pub(crate) fn is_full(image: &Image, geometry: &Geometry, i: u16) -> bool
     geometry.edition.constants().link_limit <= inode(image, geometry, i).links
 }
 
-/// Whether a user may change i-node `i`, which is in use, as its owner: user 0 may, and who owns it.
+/// True if a user may change i-node `i`, which is in use, as its owner: user 0 and the owner may.
 #[tactic(auto, using(crate::proofs::NodeReadings::owner_is))]
 pub(crate) fn is_owner(image: &Image, geometry: &Geometry, i: u16, cred: Cred) -> bool
     requires stands { Rules3To7And9 geometry.now image.now }
@@ -86,7 +86,7 @@ pub(crate) fn is_owner(image: &Image, geometry: &Geometry, i: u16, cred: Cred) -
     cred.uid == 0 || cred.uid == inode(image, geometry, i).uid
 }
 
-/// The entry that `name` has in directory `dir`; NoEntry where the name isn't there.
+/// Returns the entry of `name` in directory `dir`, or NoEntry if it has none.
 #[tactic(auto, using(crate::proofs::NodeReadings::names_are, vol_dir::proofs::WalkLaws::found_in_use))]
 pub(crate) fn entry_of(
     image: &Image,
@@ -108,7 +108,7 @@ pub(crate) fn entry_of(
     }
 }
 
-/// The slot of directory `dir` where an entry of the new `name` goes; Exists where the name is there.
+/// Returns the slot of directory `dir` for an entry of the new `name`, or Exists if it has the name.
 #[tactic(auto, using(crate::proofs::NodeReadings::names_are))]
 pub(crate) fn vacant(
     image: &Image,
@@ -129,7 +129,7 @@ pub(crate) fn vacant(
     }
 }
 
-/// Whether directory `dir` has entries other than `.` and `..`.
+/// True if directory `dir` has entries other than `.` and `..`.
 #[tactic(auto, using(crate::proofs::NodeReadings::names_are))]
 pub(crate) fn has_others(image: &Image, geometry: &Geometry, dir: u16) -> bool
     requires fits { Fits geometry.now image.now }
@@ -139,7 +139,7 @@ pub(crate) fn has_others(image: &Image, geometry: &Geometry, dir: u16) -> bool
     !is_empty_dir(image, geometry, dir)
 }
 
-/// The i-number that the next new node gets; NoInode where none can be taken.
+/// Returns the i-number that the next new node gets, or NoInode if none is free.
 #[tactic(auto, using(crate::proofs::FreeNumbers::number_has, crate::proofs::FreeNumbers::number_free, crate::proofs::FreeNumbers::none_has))]
 pub(crate) fn free_number(image: &Image, geometry: &Geometry) -> Result<u16, Refusal>
     requires { Rules3To7And9 geometry.now image.now }
@@ -154,7 +154,7 @@ pub(crate) fn free_number(image: &Image, geometry: &Geometry) -> Result<u16, Ref
     }
 }
 
-/// Whether i-number `i`, which may be any, can be taken.
+/// True if i-number `i`, which may be any number, is free for a new node.
 #[tactic(auto, using(crate::proofs::FreeNumbers::number_free, crate::proofs::FreeNumbers::free_of))]
 pub(crate) fn is_free_number(image: &Image, geometry: &Geometry, i: u16) -> bool
     requires { Rules3To7And9 geometry.now image.now }
@@ -163,8 +163,7 @@ pub(crate) fn is_free_number(image: &Image, geometry: &Geometry, i: u16) -> bool
     is_free_inode(image, geometry, i)
 }
 
-/// Whether directory `dir`, whose next entry goes to `slot`, would be greater than the greatest file with that
-/// entry.
+/// True if directory `dir`, with its next entry in `slot`, would be larger than the greatest file.
 #[tactic(auto, using(crate::proofs::NeedReadings::too_great_is))]
 pub(crate) fn is_too_great_with_entry(
     image: &Image,
@@ -182,7 +181,7 @@ pub(crate) fn is_too_great_with_entry(
         < u64::from(size(image, geometry, dir)).max(end)
 }
 
-/// How many blocks the next entry of directory `dir` needs, which goes to `slot`.
+/// Returns the number of blocks that the next entry of directory `dir` needs, in `slot`.
 #[tactic(auto, using(crate::proofs::NeedReadings::entry_need_is, vol_dir::proofs::Finding::slots_low, vol_dir::proofs::NewEntries::new_within))]
 pub(crate) fn entry_need(image: &Image, geometry: &Geometry, dir: u16, slot: u32) -> u32
     requires fits { Fits geometry.now image.now }
@@ -193,21 +192,21 @@ pub(crate) fn entry_need(image: &Image, geometry: &Geometry, dir: u16, slot: u32
     need(image, geometry, dir, SLOT as u32 * slot, SLOT as u32)
 }
 
-/// Whether a path holds a zero byte.
+/// True if a path has a zero byte.
 pub(crate) fn has_zero(path: &[u8]) -> bool
     ensures { result ≡ has_zero path.now }
 {
     path.contains(&0)
 }
 
-/// Refuses with `refusal` where `is_met` holds.
+/// Returns `refusal` as an error if `is_met` is true.
 pub(crate) fn refuse_if(is_met: bool, refusal: Refusal) -> Result<(), Refusal>
     ensures { MatchResult result (λ _. is_met ≡ false) (λ error. (is_met ≡ true) × (error ≡ refusal)) }
 {
     if is_met { Err(refusal) } else { Ok(()) }
 }
 
-/// What every call and query is asked first: its user and group numbers, and zero bytes in its path.
+/// Runs the first checks of every call and query: its user and group numbers, and zero bytes in its path.
 pub(crate) fn first_tests(geometry: &Geometry, cred: Cred, path: &[u8]) -> Result<(), Refusal>
     ensures { result_err result ≡ (if is_bad_id geometry.now.edition cred.uid cred.gid then Some Refusal.BadId
         else if has_zero path.now then Some Refusal.Invalid else None) }
@@ -219,7 +218,7 @@ pub(crate) fn first_tests(geometry: &Geometry, cred: Cred, path: &[u8]) -> Resul
     refuse_if(has_zero(path), Refusal::Invalid)
 }
 
-/// The node that a path leads to, or why the call is refused before anything is asked of the node.
+/// Returns the node that a path leads to, or the refusal of [`first_tests`] or of the walk.
 pub(crate) fn find_node(
     image: &Image,
     geometry: &Geometry,
@@ -235,7 +234,7 @@ pub(crate) fn find_node(
     walk(image, geometry, cred, path)
 }
 
-/// The node that a path leads to, which its owner or user 0 is to change, or why the call is refused.
+/// Returns the node that a path leads to, if user 0 or its owner calls; else the first refusal that applies.
 pub(crate) fn find_owned(
     image: &Image,
     geometry: &Geometry,
@@ -252,7 +251,7 @@ pub(crate) fn find_owned(
     Ok(i)
 }
 
-/// The parent that a path leads to, and its last component. A path without component is refused as `bare`.
+/// Returns the parent that a path leads to, and its last component. A path without components is refused as `bare`.
 pub(crate) fn parent<'a>(
     image: &Image,
     geometry: &Geometry,
@@ -272,8 +271,8 @@ pub(crate) fn parent<'a>(
     walk_parent(image, geometry, cred, path).unwrap_or(Err(bare))
 }
 
-/// The parent that a path leads to, and its last component, or why the call is refused before anything is asked of them. A path
-/// without component is refused as `bare`.
+/// Returns the parent that a path leads to, and its last component, or the refusal of [`first_tests`] or of the walk. A
+/// path without components is refused as `bare`.
 pub(crate) fn find_parent<'a>(
     image: &Image,
     geometry: &Geometry,
@@ -290,7 +289,7 @@ pub(crate) fn find_parent<'a>(
     parent(image, geometry, cred, path, bare)
 }
 
-/// What is asked of i-node `i`, which is in use, where the bytes of a file are used.
+/// Checks that i-node `i`, which is in use, is a regular file that grants an access.
 #[tactic(auto, using(crate::proofs::NodeReadings::regular_left))]
 pub(crate) fn body_tests(
     image: &Image,

@@ -1,4 +1,4 @@
-//! A call for other permission bits.
+//! The call that changes permission bits.
 ghost use Rattle.std.specs.Prelude.{◌≡◌, IfOk, OnErr};
 ghost use Rattle.std.specs.Result.{result_err};
 ghost use Rattle.vol_dir.specs.Tree.{state};
@@ -13,7 +13,7 @@ use pdp_words::Image;
 use vol_dir::Refusal;
 use vol_layout::Geometry;
 
-/// Gives a node other permission bits, where nothing speaks against the call.
+/// Changes the permission bits of a node, if no check fails.
 #[tactic(auto, unfolding(crate::specs::Verdict::verdict))]
 pub(crate) fn make(
     image: &mut Image,

@@ -1,4 +1,4 @@
-//! A call for another owner.
+//! The call that changes a node's owner.
 ghost use Rattle.std.specs.Prelude.{◌≡◌, if◌then◌else◌, [], ◌∷◌, Some, IfOk, OnErr};
 ghost use Rattle.std.specs.Result.{result_err};
 ghost use Rattle.vol_dir.specs.Tree.{tree, state};
@@ -16,7 +16,7 @@ use pdp_words::Image;
 use vol_dir::{Cred, Refusal};
 use vol_layout::{Geometry, is_bad_id};
 
-/// What speaks against a call that gives a node to `owner`; else the node.
+/// Checks the call; returns the node that `owner` gets, or the first refusal that applies.
 #[tactic(auto, using(crate::proofs::NodeReadings::tree_geometry))]
 pub(crate) fn check(
     image: &Image,
@@ -39,7 +39,7 @@ pub(crate) fn check(
     Ok(i)
 }
 
-/// Gives a node to `owner`, where nothing speaks against the call.
+/// Gives a node to `owner`, if no check fails.
 #[tactic(auto, unfolding(crate::specs::Verdict::verdict))]
 pub(crate) fn make(
     image: &mut Image,

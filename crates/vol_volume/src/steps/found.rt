@@ -1,42 +1,42 @@
-//! What the check of a call finds, of which the call is made.
+//! The results of a call's checks, which its change uses.
 use vol_dir::Entry;
 
-/// Where a new entry goes in its directory.
+/// The place of a new entry in its directory.
 #[derive(Clone, Copy, Debug)]
 pub(crate) struct Place {
     /// The slot, counted from 0.
     pub slot: u32,
-    /// How many blocks the entry needs.
+    /// The number of blocks that the entry needs.
     pub needed: u32,
 }
 
-/// An entry that is to be made.
+/// An entry to add.
 #[derive(Clone, Copy, Debug)]
 pub(crate) struct NewEntry<'a> {
     /// The i-number of the directory.
     pub dir: u16,
-    /// The name, which isn't there yet.
+    /// The name, which the directory doesn't have yet.
     pub name: &'a [u8],
-    /// Where the entry goes.
+    /// The place of the entry.
     pub place: Place,
 }
 
-/// An entry that is to go.
+/// An entry to remove.
 #[derive(Clone, Copy, Debug)]
 pub(crate) struct OldEntry<'a> {
     /// The i-number of the directory.
     pub dir: u16,
     /// The name.
     pub name: &'a [u8],
-    /// Where it stands, and what it names.
+    /// Its slot and i-number.
     pub entry: Entry,
 }
 
-/// A regular file that bytes are to be written to.
+/// A regular file to write to.
 #[derive(Clone, Copy, Debug)]
 pub(crate) struct Target {
     /// The i-number of the file.
     pub inode: u16,
-    /// How many blocks the write needs.
+    /// The number of blocks that the write needs.
     pub needed: u32,
 }

@@ -1,4 +1,4 @@
-//! A call for a new directory.
+//! The call that makes a directory.
 ghost use Rattle.std.specs.Prelude.{◌≡◌, true, [], ◌∷◌, IfSome, IfOk, OnErr};
 ghost use Rattle.std.specs.Result.{result_err};
 ghost use Rattle.vol_dir.specs.Entries.{IsDirectory};
@@ -21,7 +21,7 @@ use vol_change::NewNode;
 use vol_dir::{Access, Cred, Refusal};
 use vol_layout::Geometry;
 
-/// What speaks against a new directory by its parent and name; else where its entry goes, and its i-number.
+/// Checks the parent and name of a new directory; returns the place of its entry and its i-number.
 #[tactic(auto, using(crate::proofs::NeedReadings::slots_are))]
 fn mkdir_tests(
     image: &Image,
@@ -50,12 +50,12 @@ fn mkdir_tests(
     )?;
     let number = free_number(image, geometry)?;
     let needed = entry_need(image, geometry, dir, slot);
-    // The new directory has a block of its own.
+    // The new directory needs a block of its own.
     refuse_if(free <= needed, Refusal::NoSpace)?;
     Ok((Place { slot, needed }, number))
 }
 
-/// What speaks against a call for a new directory; else where its entry goes, and the i-number that it would take.
+/// Checks the call; returns the new entry and its i-number, or the first refusal that applies.
 pub(crate) fn check<'a>(
     image: &Image,
     geometry: &Geometry,
@@ -76,7 +76,7 @@ pub(crate) fn check<'a>(
     Ok((NewEntry { dir, name, place }, number))
 }
 
-/// Makes a new directory, where nothing speaks against the call. Where its i-number is recorded, it is that one.
+/// Makes a new directory, if no check fails. A recorded i-number, if given, is the one that it gets.
 #[tactic(auto, unfolding(crate::specs::Verdict::verdict))]
 pub(crate) fn make(
     image: &mut Image,

@@ -1,4 +1,4 @@
-//! A call by which a directory goes.
+//! The call that removes a directory.
 ghost use Rattle.std.specs.Prelude.{◌≡◌, [], ◌∷◌, IfOk, OnErr};
 ghost use Rattle.std.specs.Result.{result_err};
 ghost use Rattle.vol_dir.specs.Entries.{IsDirectory};
@@ -17,7 +17,7 @@ use pdp_words::Image;
 use vol_dir::{Access, Cred, Entry, Refusal, is_dots};
 use vol_layout::Geometry;
 
-/// What speaks against freeing a directory by its parent and name; else its entry.
+/// Checks the parent and name of a directory to remove; returns its entry.
 fn rmdir_tests(
     image: &Image,
     geometry: &Geometry,
@@ -44,7 +44,7 @@ fn rmdir_tests(
     Ok(entry)
 }
 
-/// What speaks against a call by which a directory goes; else its entry.
+/// Checks the call; returns the directory's entry, or the first refusal that applies.
 pub(crate) fn check<'a>(
     image: &Image,
     geometry: &Geometry,
@@ -62,7 +62,7 @@ pub(crate) fn check<'a>(
     Ok(OldEntry { dir, name, entry })
 }
 
-/// Frees a directory, where nothing speaks against the call.
+/// Removes a directory, if no check fails.
 #[tactic(auto, unfolding(crate::specs::Verdict::verdict))]
 pub(crate) fn make(
     image: &mut Image,

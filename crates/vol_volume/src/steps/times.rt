@@ -1,4 +1,4 @@
-//! A call for other times.
+//! Changing a node's times.
 ghost use Rattle.std.specs.Prelude.{◌≡◌, IfOk, OnErr};
 ghost use Rattle.std.specs.Result.{result_err};
 ghost use Rattle.vol_dir.specs.Tree.{state};
@@ -13,8 +13,7 @@ use pdp_words::Image;
 use vol_dir::Refusal;
 use vol_layout::Geometry;
 
-/// Gives a node other times, of its last reading and of the last change of what it holds, where nothing speaks
-/// against the call.
+/// Sets the times of a node's last access and last modification, if no check fails.
 #[tactic(auto, unfolding(crate::specs::Verdict::verdict))]
 pub(crate) fn make(
     image: &mut Image,

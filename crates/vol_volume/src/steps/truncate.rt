@@ -1,4 +1,4 @@
-//! A call of which the first bytes of a file stay.
+//! The call that shortens a file.
 ghost use Rattle.std.specs.Prelude.{◌≡◌, ◌≤◌, ◌∷◌, [], IfOk, OnErr, OnOk};
 ghost use Rattle.std.specs.Result.{result_err};
 ghost use Rattle.vol_dir.specs.Entries.{IsInUse};
@@ -18,7 +18,7 @@ use vol_dir::{Access, Cred, Refusal};
 use vol_layout::i_list::size;
 use vol_layout::{Geometry, Kind};
 
-/// What speaks against keeping the first `length` bytes alone of i-node `i`, which is in use.
+/// Checks that i-node `i`, which is in use, may be cut to its first `length` bytes.
 #[tactic(auto, using(crate::proofs::NodeReadings::size_is))]
 fn truncate_tests(
     image: &Image,
@@ -37,7 +37,7 @@ fn truncate_tests(
     refuse_if(size(image, geometry, i) < length, Refusal::Invalid)
 }
 
-/// What speaks against a call of which the first `length` bytes of a file stay; else the file.
+/// Checks the call; returns the file, or the first refusal that applies.
 pub(crate) fn check(
     image: &Image,
     geometry: &Geometry,
@@ -57,7 +57,7 @@ pub(crate) fn check(
     Ok(i)
 }
 
-/// Keeps the first `length` bytes of a file, where nothing speaks against the call.
+/// Shortens a file to its first `length` bytes, if no check fails.
 #[tactic(auto, unfolding(crate::specs::Verdict::verdict))]
 pub(crate) fn make(
     image: &mut Image,

@@ -1,4 +1,4 @@
-//! A call by which a name goes.
+//! The call that removes a name.
 ghost use Rattle.std.specs.Prelude.{◌≡◌, [], ◌∷◌, IfOk, OnErr};
 ghost use Rattle.std.specs.Result.{result_err};
 ghost use Rattle.vol_dir.specs.Entries.{IsDirectory};
@@ -17,7 +17,7 @@ use pdp_words::Image;
 use vol_dir::{Access, Cred, Entry, Refusal};
 use vol_layout::Geometry;
 
-/// What speaks against taking away a name by its parent and what it names; else its entry.
+/// Checks the parent of a name to remove, and the node that it names; returns its entry.
 fn unlink_tests(
     image: &Image,
     geometry: &Geometry,
@@ -42,7 +42,7 @@ fn unlink_tests(
     Ok(entry)
 }
 
-/// What speaks against a call by which a name goes; else its entry.
+/// Checks the call; returns the entry of the name, or the first refusal that applies.
 pub(crate) fn check<'a>(
     image: &Image,
     geometry: &Geometry,
@@ -60,7 +60,7 @@ pub(crate) fn check<'a>(
     Ok(OldEntry { dir, name, entry })
 }
 
-/// Takes a name away, where nothing speaks against the call.
+/// Removes a name, if no check fails.
 #[tactic(auto, unfolding(crate::specs::Verdict::verdict))]
 pub(crate) fn make(
     image: &mut Image,

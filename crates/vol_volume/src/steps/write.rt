@@ -1,4 +1,4 @@
-//! A call that writes bytes.
+//! The call that writes bytes.
 ghost use Rattle.std.specs.Prelude.{◌≡◌, ◌+◌, ◌<◌, ◌≤◌, ◌^◌, nat_lt, [], ◌∷◌, length, IfOk, OnErr, OnOk};
 ghost use Rattle.std.specs.Result.{result_err};
 ghost use Rattle.vol_layout.specs.Edition.{constants};
@@ -20,7 +20,7 @@ use vol_dir::{Access, Cred, Refusal};
 use vol_file::need;
 use vol_layout::{Geometry, Kind};
 
-/// Whether `len` bytes from byte `offset` on end past the greatest file.
+/// True if `len` bytes from byte `offset` on end past the greatest file size.
 fn is_too_great(geometry: &Geometry, offset: u32, len: usize) -> bool
     ensures { result ≡ nat_lt (constants geometry.now.edition).greatest (offset + len) }
 {
@@ -28,8 +28,8 @@ fn is_too_great(geometry: &Geometry, offset: u32, len: usize) -> bool
     greatest < len || greatest - len < offset as usize
 }
 
-/// What speaks against a write of `len` bytes from byte `offset` of regular file `i` on by the sizes; else how
-/// many blocks it needs.
+/// Checks the end of a write of `len` bytes from byte `offset` of the regular file `i` on, and the free blocks; returns
+/// the number of blocks that it needs.
 #[tactic(auto, using(crate::proofs::NeedReadings::write_need_is, crate::proofs::NodeReadings::tree_geometry))]
 fn room_tests(
     image: &Image,
@@ -56,8 +56,8 @@ fn room_tests(
     Ok(needed)
 }
 
-/// What speaks against a write of `len` bytes from byte `offset` of i-node `i` on, which is in use; else how
-/// many blocks it needs.
+/// Checks that `len` bytes may be written from byte `offset` of i-node `i` on, which is in use; returns the number
+/// of blocks that the write needs.
 fn write_tests(
     image: &Image,
     geometry: &Geometry,
@@ -78,8 +78,7 @@ fn write_tests(
     room_tests(image, geometry, free, i, offset, len)
 }
 
-/// What speaks against a call that writes `len` bytes from byte `offset` on; else the file, and how many blocks
-/// that needs.
+/// Checks the call; returns the file and the number of blocks needed, or the first refusal that applies.
 pub(crate) fn check(
     image: &Image,
     geometry: &Geometry,
@@ -102,7 +101,7 @@ pub(crate) fn check(
     Ok(Target { inode, needed })
 }
 
-/// Writes `bytes` from byte `offset` on, where nothing speaks against the call.
+/// Writes `bytes` from byte `offset` on, if no check fails.
 #[tactic(auto, unfolding(crate::specs::Verdict::verdict))]
 pub(crate) fn make(
     image: &mut Image,

@@ -12,7 +12,7 @@ use Rattle.vol_volume.proofs.FirstTests.{first_some, first_none}
 use Rattle.vol_volume.proofs.NodeReadings.{used_first, size_is}
 use Rattle.vol_volume.proofs.steps.truncate.truncate_tests.Goals as goal
 
--- what is refused by one test
+-- the refusal by one check
 refused_by : (result : Result (Unit {0}) Refusal) (test : Bool) (refusal : Refusal)
     → MatchResult result (λ done. test ≡ false) (λ error. (test ≡ true) × (error ≡ refusal))
     → result_err result ≡ (if test then Some refusal else None)

@@ -72,7 +72,7 @@ total_same {g} {image} {words} counts =
     count_same (is_lost_in g words) (is_lost g image) g.zone_start (zone_len g) (λ b low high. lost_same counts b (in_zone_from g b low high)) in
     let files = counts.files in let directories = counts.directories in let specials = counts.specials in let odds = counts.odds in cc
 
--- five lists put one behind another
+-- five lists put one after another
 joined : {A : Type 0} (n v w x y z a b c d e : List A) → n ≡ [] → v ≡ n ++ a → w ≡ v ++ b → x ≡ w ++ c → y ≡ x ++ d → z ≡ y ++ e
     → z ≡ a ++ (b ++ (c ++ (d ++ e)))
 joined n v w x y z a b c d e first p q r s t =

@@ -13,7 +13,7 @@ use Rattle.vol_reports.specs.Climbing.{naming_in, trail, path_start, AreBefore, 
 count_front : {X : Type 0} (t : X → Bool) (x : X) (xs : List X) → count_by t (x ∷ xs) ≡ cond (t x) 1 0 + count_by t xs
 count_front t x xs = sum_by-append (λ y. cond (t y) 1 0) (x ∷ []) xs ∙ ap (λ n. n + count_by t xs) (omega arith)
 
--- where no item passes a test, none is counted
+-- if no item passes a test, none is counted
 pub count_none : {X : Type 0} (t : X → Bool) (xs : List X) (d : X) → ((k : ℕ) → k < length xs → t (get_or xs k d) ≡ false) → count_by t xs ≡ 0
 count_none t [] d none = refl
 count_none t (x ∷ xs) d none =
@@ -53,7 +53,7 @@ unfolding path_up
 up_root root naming zero met at e low = absurd (omega arith)
 up_root root naming (suc fuel) met at e low = rw (eq-eqb at root e) refl
 
--- where a way ends elsewhere, it is dots
+-- if a way ends elsewhere, it is dots
 up_dots : (root : ℕ) (naming : ℕ → Option Placed) (fuel : ℕ) (met : List ℕ) (at : ℕ) → at ≢ root
     → (list_any (λ e. e == at) met ≡ true) ⊎ (naming at ≡ None) → path_up root naming fuel met at ≡ dots
 unfolding path_up
@@ -64,14 +64,14 @@ up_dots root naming (suc fuel) met at other ends =
       | inr none ↦ rw (ne_eqb at root other, none) (both_same (list_any (λ e. e == at) met) dots)
     ]
 
--- where it goes on, it ends in a name
+-- if it continues, it ends in a name
 up_next : (root : ℕ) (naming : ℕ → Option Placed) (more : ℕ) (met : List ℕ) (at : ℕ) (entry : Placed) → at ≢ root
     → list_any (λ e. e == at) met ≡ false → naming at ≡ Some entry
     → path_up root naming (suc more) met at ≡ path_up root naming more (at ∷ met) entry.directory ++ slashed entry.name
 unfolding path_up
 up_next root naming more met at entry other fresh is = rw (ne_eqb at root other, fresh, is) refl
 
--- the same, where the count is equal to one more
+-- the same for a count that is one more
 up_more : (root : ℕ) (naming : ℕ → Option Placed) (fuel more : ℕ) (met : List ℕ) (at : ℕ) (entry : Placed) → fuel ≡ more + 1 → at ≢ root
     → list_any (λ e. e == at) met ≡ false → naming at ≡ Some entry
     → path_up root naming fuel met at ≡ path_up root naming more (at ∷ met) entry.directory ++ slashed entry.name
@@ -115,7 +115,7 @@ flags_more met old new turn at x low is was =
           ∙ (was ∙ ap (λ n. n == turn) (sym (ap (λ xs. get_or xs x 0) is ∙ get_or-set_other old at x turn 0 (λ e. other (sym e)))))
     ]
 
--- a way goes on
+-- a way continues
 climbs_on : {root turn d at : ℕ} {naming : List (Option (Bor Placed))} {old new : List ℕ} {way : List (Bor Placed)} (entry : Bor Placed)
     → Climbs root naming turn d at old way → at ≢ root → Steps naming turn at old new (Some entry) → AreBefore (turn + 1) new
     → Climbs root naming turn d entry.now.directory new (way ++ entry ∷ [])
@@ -139,7 +139,7 @@ climbs_on {root} {turn} {d} {at} {naming} {old} {new} {way} entry was other step
           ∙ ap (λ xs. path_up root (naming_in naming) (was.fuel - 1) (at ∷ was.met) entry.now.directory ++ xs) (sym (trail_push way entry))));
     }
 
--- the same, where the way and the directory are equal to these
+-- the same for an equal way and directory
 pub climbs_more : {root turn d at next : ℕ} {naming : List (Option (Bor Placed))} {old new : List ℕ} {way more : List (Bor Placed)} (entry : Bor Placed)
     → Climbs root naming turn d at old way → at ≢ root → Steps naming turn at old new (Some entry) → AreBefore (turn + 1) new
     → next ≡ entry.now.directory → more ≡ way ++ entry ∷ [] → Climbs root naming turn d next new more
@@ -163,7 +163,7 @@ pub climbs_root : {root turn d at : ℕ} {naming : List (Option (Bor Placed))} {
 climbs_root {root} {turn} {d} {at} {naming} {marks} {way} was e =
     was.path ∙ ap (λ xs. xs ++ trail way) (up_root root (naming_in naming) was.fuel was.met at e (fuel_some was))
 
--- a step marks one directory more, of which there are so many
+-- a step marks one more directory, of a fixed number of them
 pub climbs_fall : {root turn d at : ℕ} {naming : List (Option (Bor Placed))} {old new : List ℕ} {way : List (Bor Placed)} (entry : Bor Placed)
     → Climbs root naming turn d at old way → Steps naming turn at old new (Some entry)
     → length new - count_by (λ m. m == turn) new < length old - count_by (λ m. m == turn) old
@@ -179,12 +179,12 @@ climbs_fall {turn = turn} {at = at} {old = old} {new = new} entry was steps =
 pub none_past : (naming : List (Option (Bor Placed))) (at : ℕ) → length naming ≤ at → naming_in naming at ≡ None
 none_past naming at past = ap (option_map (λ (entry : Bor Placed). entry.now)) (get_or_past naming at None past)
 
--- the naming entry that stands in the list
+-- the naming entry in the list
 named_at : (naming : List (Option (Bor Placed))) (at : ℕ) (o : Option (Bor Placed)) → at < length naming → o ≡ get_or naming at o
     → naming_in naming at ≡ option_map (λ (entry : Bor Placed). entry.now) o
 named_at naming at o low is = ap (option_map (λ (entry : Bor Placed). entry.now)) (get_or_default naming at None o low ∙ sym is)
 
--- what a step answers at a directory that is marked by it
+-- the result of a step at a directory that is marked by it
 pub steps_at : (naming : List (Option (Bor Placed))) (turn at : ℕ) (old : List ℕ) (o : Option (Bor Placed)) → length old ≡ length naming
     → at < length old → get_or old at 0 ≢ turn → o ≡ get_or naming at o → Steps naming turn at old (set old at turn) o
 steps_at naming turn at old None room low unmet is = inr (named_at naming at None (omega (arith, low, room)) is)

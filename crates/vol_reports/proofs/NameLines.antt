@@ -52,7 +52,7 @@ weight_in f (y ∷ xs) x has =
       | inr rest ↦ let h = weight_in f xs x rest in omega (arith, e, h)
     ]
 
--- where items weigh something, one of them does
+-- if items weigh something, one of them does
 some_weighs : {X : Type 0} (t : X → Bool) (xs : List X) → 1 ≤ sum_by (λ x. cond (t x) 1 0) xs → (x : X) × Contains xs x × (t x ≡ true)
 some_weighs t [] low = absurd (omega arith)
 some_weighs t (y ∷ xs) low =
@@ -65,7 +65,7 @@ some_weighs t (y ∷ xs) low =
           (found.0, in_rest y found.0 xs found.1, found.2)
     ]
 
--- whether two entries are the same
+-- true if two entries are the same
 same_entry : Placed → Placed → Bool
 same_entry a b = (eqb a.directory b.directory && eqb a.slot b.slot) && (eqb a.inode b.inode && bytes_eq a.name b.name)
 
@@ -99,7 +99,7 @@ member_moves xs ys same entry has =
     let found = some_weighs (λ x. same_entry x entry) ys (omega (arith, weighs, one, e)) in
     subst (Contains ys) (same_true found.0 entry found.2) found.1
 
--- the first entry is the naming entry where it is for the i-number
+-- the first entry is the naming entry if it is for the i-number
 first_here : (i : ℕ) (first : Placed) (entries : List Placed) → first.inode ≡ i → naming_entry i (first ∷ entries) ≡ Some first
 unfolding naming_entry
 first_here i first entries here = rw (eq-eqb first.inode i here) refl
@@ -124,7 +124,7 @@ naming_some i (first ∷ entries) entry is =
           (rest.0, in_rest first entry entries rest.1)
     ]
 
--- where there is none, no entry is for the i-number
+-- if there is none, no entry is for the i-number
 naming_never : (i : ℕ) (entries : List Placed) → naming_entry i entries ≡ None → (entry : Placed) → Contains entries entry → entry.inode ≢ i
 unfolding naming_entry
 naming_never i [] is entry has = absurd (omega (arith, has.1))
@@ -137,14 +137,14 @@ naming_never i (first ∷ entries) is entry has =
       ]
     ]
 
--- what an entry of an image is: it stands in a slot of a directory
+-- an entry of an image is in a slot of a directory
 record IsOfImage (g : Geometry) (image : List ℕ) (entry : Placed) : Type 0 where
   first : 1 ≤ entry.directory
   last : entry.directory ≤ g.last_inode
   low : entry.slot < 4294967296
   slot : entry_at g image entry.directory entry.slot ≡ Some (entry.name, entry.inode)
 
--- what holds of each of some lists over a range holds of all
+-- a property of each of some lists over a range is one of all
 all_flat : {A : Type 0} (P : A → Type 0) (f : ℕ → List A) (a n : ℕ) → ((j : ℕ) → a ≤ j → j < a + n → All P (f j)) → All P (flat_map f (range_with_len a n))
 all_flat P f a zero each = λ k d low. absurd (omega (arith, low))
 all_flat P f a (suc n) each =
@@ -156,7 +156,7 @@ greatest_low : (edition : Edition) → (constants edition).greatest ≤ 10822010
 greatest_low V6 = omega arith
 greatest_low V7 = omega arith
 
--- no directory has so many slots
+-- no directory has 2^32 slots
 slots_few : (g : Geometry) (image : List ℕ) (d s : ℕ) → s < slot_count g image d → s < 4294967296
 slots_few g image d s low = let most = greatest_low g.edition in omega (arith, low, most)
 
@@ -191,7 +191,7 @@ all_of_image g image =
     all_flat (IsOfImage g image) (λ d. entries_in g image d (kind_at g image d)) 1 g.last_inode (λ d low high.
     kind_of_image g image d low (omega arith) (kind_at g image d))
 
--- what two equal options hold is equal
+-- equal options have equal values
 some_same : {A : Type 0} (x y : A) → Some x ≡ Some y → x ≡ y
 some_same x y e = cc
 
@@ -241,7 +241,7 @@ naming_right {g} {image} {words} {entries} {naming} i counts low high has =
           ]
     ]
 
--- paths are the same where the naming entries of directories are
+-- paths are the same if the naming entries of directories are
 path_same : (root last : ℕ) (f h : ℕ → Option Placed) → ((i : ℕ) → 1 ≤ i → i ≤ last → f i ≡ h i)
     → ((i : ℕ) (entry : Placed) → h i ≡ Some entry → (1 ≤ entry.directory) × (entry.directory ≤ last))
     → (fuel : ℕ) (met : List ℕ) (d : ℕ) → 1 ≤ d → d ≤ last → path_up root f fuel met d ≡ path_up root h fuel met d
@@ -257,12 +257,12 @@ path_same root last f h same inside (suc fuel) met d low high =
       | inr none ↦ rw (e, none) refl
     ]
 
--- a sum over what is made of items
+-- a sum over mapped items
 sum_map : {X Y : Type 0} (f : Y → ℕ) (h : X → Y) (xs : List X) → sum_by f (map h xs) ≡ sum_by (λ x. f (h x)) xs
 sum_map f h [] = refl
 sum_map f h (x ∷ xs) = sum_front f (h x) (map h xs) ∙ (ap (λ n. f (h x) + n) (sum_map f h xs) ∙ sym (sum_front (λ y. f (h y)) x xs))
 
--- a sum is the same where each item's weight is
+-- a sum is the same if each item's weight is
 sum_same : {X : Type 0} (f h : X → ℕ) (xs : List X) → ((x : X) → Contains xs x → f x ≡ h x) → sum_by f xs ≡ sum_by h xs
 sum_same f h [] same = refl
 sum_same f h (x ∷ xs) same =

@@ -13,7 +13,7 @@ pub range_last : (a n : ℕ) → range_with_len a (suc n) ≡ range_with_len a n
 range_last a zero = ap (λ j. j ∷ []) (omega arith)
 range_last a (suc n) = ap (λ r. a ∷ r) (range_last (a + 1) n ∙ ap (λ j. range_with_len (a + 1) n ++ j ∷ []) (omega arith))
 
--- the same, where the numbers are equal by arithmetic
+-- the same, for numbers that are equal by arithmetic
 pub range_more : (a n m j : ℕ) → m ≡ n + 1 → a + n ≡ j → range_with_len a m ≡ range_with_len a n ++ j ∷ []
 range_more a n m j e f =
     ap (range_with_len a) (e ∙ add-one n) ∙ (range_last a n ∙ ap (λ k. range_with_len a n ++ k ∷ []) f)
@@ -24,7 +24,7 @@ pub flat_more : {A : Type 0} (f : ℕ → List A) (a n m j : ℕ) → m ≡ n + 
 flat_more f a n m j e g =
     ap (flat_map f) (range_more a n m j e g) ∙ (flat_map-append f (range_with_len a n) (j ∷ []) ∙ ap (λ xs. flat_map f (range_with_len a n) ++ xs) (append-nil (f j)))
 
--- a loop's step: what a number gives goes behind what the numbers before it gave
+-- a loop's step: the items for a number follow those for the numbers before it
 pub appended_more : {A : Type 0} (f : ℕ → List A) (old now new : List A) (a n m j : ℕ) → m ≡ n + 1 → a + n ≡ j
     → now ≡ old ++ flat_map f (range_with_len a n) → new ≡ now ++ f j → new ≡ old ++ flat_map f (range_with_len a m)
 appended_more f old now new a n m j e g was is =
@@ -55,7 +55,7 @@ room_more t a n now x b was is low =
     let one : x ≤ 1 = elim b as (λ v. x ≡ bool_byte v → x ≤ 1) [ true ↦ λ e. omega (arith, e) | false ↦ λ e. omega (arith, e) ] is in
     omega arith
 
--- a loop's step: a number that is counted where it passes a test
+-- a loop's step: a number that is counted if it passes a test
 pub counted_more : (t : ℕ → Bool) (a n m j now x : ℕ) (b : Bool) → m ≡ n + 1 → a + n ≡ j → now ≡ count_by t (range_with_len a n)
     → x ≡ bool_byte b → b ≡ t j → now + x ≡ count_by t (range_with_len a m)
 counted_more t a n m j now x b e g was is passes =
@@ -63,7 +63,7 @@ counted_more t a n m j now x b e g was is passes =
     let k = ap (count_by t) (range_more a n m j e g) in
     let y : x ≡ cond (t j) 1 0 = is ∙ (byte_of b ∙ ap (λ v. cond v 1 0) passes) in omega arith
 
--- lists made of lists over a range are the same, where each list is
+-- lists made of lists over a range are the same if each list is
 pub flat_same : {A : Type 0} (f g : ℕ → List A) (a n : ℕ) → ((j : ℕ) → a ≤ j → j < a + n → f j ≡ g j)
     → flat_map f (range_with_len a n) ≡ flat_map g (range_with_len a n)
 flat_same f g a zero same = refl
@@ -71,7 +71,7 @@ flat_same f g a (suc n) same =
     ap (λ xs. xs ++ flat_map f (range_with_len (a + 1) n)) (same a (omega arith) (omega arith))
     ∙ ap (λ xs. g a ++ xs) (flat_same f g (a + 1) n (λ j low high. same j (omega arith) (omega arith)))
 
--- counts over a range are the same, where each number passes both tests or none
+-- counts over a range are the same if each number passes both tests or none
 pub count_same : (s t : ℕ → Bool) (a n : ℕ) → ((j : ℕ) → a ≤ j → j < a + n → s j ≡ t j)
     → count_by s (range_with_len a n) ≡ count_by t (range_with_len a n)
 count_same s t a zero same = refl
@@ -81,7 +81,7 @@ count_same s t a (suc n) same =
     ∙ (ap (λ k. cond (t a) 1 0 + k) (count_same s t (a + 1) n (λ j low high. same j (omega arith) (omega arith)))
     ∙ sym (count_cons t a (range_with_len (a + 1) n))))
 
--- a loop's step: what holds of each item holds with one item more behind them
+-- a loop's step: a property of each item is one with one more item after them
 pub pushed_more : {A : Type 0} (P : ℕ → A → Type 0) (xs ys : List A) (x : A) (n : ℕ) → ys ≡ xs ++ x ∷ [] → length xs ≡ n
     → ((k : ℕ) (d : A) → k < n → P k (get_or xs k d)) → P n x → (k : ℕ) (d : A) → k < n + 1 → P k (get_or ys k d)
 pushed_more {A} P xs ys x n is wide each last k d low =

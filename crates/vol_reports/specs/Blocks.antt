@@ -1,4 +1,4 @@
--- The report of the blocks.
+-- The block report.
 use Rattle.std.specs.Prelude.{ℕ, ◌+◌, ◌==◌, ◌&&◌, Bool, true, false, not, min, nat_lt, if◌then◌else◌, List, [], ◌∷◌, ◌++◌, length, filter, Option, None, Some}
 use Rattle.std.specs.List.{count_by, sum_by, flat_map, range_with_len}
 use Rattle.vol_layout.specs.Geometry.{in_zone}
@@ -14,15 +14,15 @@ use Rattle.vol_reports.specs.declared.line.Line.{Line}
 use Rattle.vol_reports.specs.declared.line.Line.TheVariants as lines
 use Rattle.vol_reports.specs.declared.line.Total.TheVariants as totals
 
--- 1 for true (this project)
+-- 1 for true, 0 for false (this project)
 abbrev pub one_if : Bool → ℕ
 one_if b = if b then 1 else 0
 
--- how many places name block b (icheck)
+-- the number of places that name block b (icheck)
 unfoldable pub use_count : Geometry → List ℕ → ℕ → ℕ
 use_count g image b = sum_by (λ i. count_by (λ k. k == b) (blocks_of g image i)) (range_with_len 1 g.last_inode)
 
--- how often the walk over the free list met block b (icheck)
+-- the number of times that the walk over the free list met block b (icheck)
 unfoldable pub met_count : Geometry → List ℕ → ℕ → ℕ
 met_count g image b = count_by (λ k. k == b) (free_walk g image).met
 
@@ -30,12 +30,12 @@ met_count g image b = count_by (λ k. k == b) (free_walk g image).met
 unfoldable pub bad_numbers : Geometry → List ℕ → ℕ → List ℕ
 bad_numbers g image i = filter (λ k. not (in_zone g k)) (blocks_of g image i)
 
--- the least of some numbers, and 2^64 - 1 of none (this project)
+-- the least of some numbers, or 2^64 - 1 if there are none (this project)
 unfoldable pub least_of : List ℕ → ℕ
 least_of [] = 18446744073709551615
 least_of (k ∷ ks) = min k (least_of ks)
 
--- whether two kinds are the same (this project)
+-- true if two kinds are the same (this project)
 abbrev pub is_kind : Kind → Kind → Bool
 is_kind kinds.Free kinds.Free = true
 is_kind kinds.Regular kinds.Regular = true
@@ -44,19 +44,19 @@ is_kind kinds.Special kinds.Special = true
 is_kind kinds.Odd kinds.Odd = true
 is_kind _ _ = false
 
--- how many i-nodes are of a kind (icheck)
+-- the number of i-nodes of a kind (icheck)
 unfoldable pub kind_count : Geometry → List ℕ → Kind → ℕ
 kind_count g image kind = count_by (λ i. is_kind kind (kind_at g image i)) (range_with_len 1 g.last_inode)
 
--- the line of an i-node, places of which name so many numbers of no data block; none where there are none (icheck)
+-- the line of an i-node with this count of places that name numbers of no data block, or none if the count is 0 (icheck)
 abbrev pub bad_line_of : ℕ → ℕ → ℕ → List Line
 bad_line_of i count least = if count == 0 then [] else lines.Bad i count least ∷ []
 
--- the line of a block that so many places name, and that the walk met or didn't; none where that is no more than one in all (icheck)
+-- the line of a block with this count of places that name it, which the walk met or didn't; none if that is at most one use in all (icheck)
 abbrev pub dup_line_of : ℕ → ℕ → Bool → List Line
 dup_line_of b places free = if nat_lt 1 (places + one_if free) then lines.Dup b places free ∷ [] else []
 
--- whether a block that so many places name, and that the walk met or didn't, is neither used nor free (icheck)
+-- true if a block with this count of places that name it, which the walk met or didn't, is neither used nor free (icheck)
 abbrev pub is_lost_of : ℕ → Bool → Bool
 is_lost_of places free = (places == 0) && not free
 
@@ -69,19 +69,19 @@ abbrev pub free_list_line : Option (FreeFault × ℕ) → List Line
 free_list_line None = []
 free_list_line (Some fault) = lines.FreeList fault.0 fault.1 ∷ []
 
--- whether the walk over the free list met block b (icheck)
+-- true if the walk over the free list met block b (icheck)
 abbrev pub is_met : Geometry → List ℕ → ℕ → Bool
 is_met g image b = not (met_count g image b == 0)
 
--- whether some place names block b (icheck)
+-- true if some place names block b (icheck)
 abbrev pub is_used : Geometry → List ℕ → ℕ → Bool
 is_used g image b = not (use_count g image b == 0)
 
--- whether block b is neither used nor free (icheck)
+-- true if block b is neither used nor free (icheck)
 abbrev pub is_lost : Geometry → List ℕ → ℕ → Bool
 is_lost g image b = is_lost_of (use_count g image b) (is_met g image b)
 
--- the line of i-node i, if places of it name numbers of no data block (icheck)
+-- the line of i-node i, if some of its places name numbers of no data block (icheck)
 abbrev pub bad_line : Geometry → List ℕ → ℕ → List Line
 bad_line g image i = bad_line_of i (length (bad_numbers g image i)) (least_of (bad_numbers g image i))
 
@@ -93,7 +93,7 @@ dup_line g image b = dup_line_of b (use_count g image b) (is_met g image b)
 abbrev pub lost_line : Geometry → List ℕ → ℕ → List Line
 lost_line g image b = lost_line_of b (is_lost g image b)
 
--- how many data blocks pass a test (this project)
+-- the number of data blocks that pass a test (this project)
 abbrev pub zone_count : Geometry → (ℕ → Bool) → ℕ
 zone_count g test = count_by test (range_with_len g.zone_start (zone_len g))
 
@@ -109,15 +109,15 @@ total_lines g image =
     ∷ lines.Total totals.Missing (zone_count g (is_lost g image))
     ∷ []
 
--- the lines of the i-nodes with bad places, ascending (icheck)
+-- the lines of the i-nodes with bad places, in ascending order (icheck)
 unfoldable pub bad_lines : Geometry → List ℕ → List Line
 bad_lines g image = flat_map (bad_line g image) (range_with_len 1 g.last_inode)
 
--- the lines of the blocks that are claimed more than once, ascending (icheck)
+-- the lines of the blocks that are claimed more than once, in ascending order (icheck)
 unfoldable pub dup_lines : Geometry → List ℕ → List Line
 dup_lines g image = flat_map (dup_line g image) (range_with_len g.zone_start (zone_len g))
 
--- the lines of the blocks that are lost, ascending (icheck)
+-- the lines of the blocks that are lost, in ascending order (icheck)
 unfoldable pub lost_lines : Geometry → List ℕ → List Line
 lost_lines g image = flat_map (lost_line g image) (range_with_len g.zone_start (zone_len g))
 

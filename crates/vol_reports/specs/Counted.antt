@@ -1,4 +1,4 @@
--- What was counted of an image, word by word.
+-- The counts of an image, word by word.
 use Rattle.std.specs.Prelude.{◌≡◌, ℕ, ◌+◌, ◌*◌, ◌<◌, ◌≤◌, true, List, length, slice_index, slice_index_or, Option, None, Some}
 use Rattle.std.specs.List.{sum_by}
 use Rattle.vol_layout.specs.Geometry.{in_zone}
@@ -15,7 +15,7 @@ use Rattle.vol_reports.specs.Names.{all_entries, naming_entry}
 use Rattle.vol_free.specs.declared.free_walk.FreeFault.{FreeFault}
 use Rattle.vol_reports.specs.declared.links.LinkCount.{LinkCount}
 
--- there are as many words as a block report has (this project)
+-- there are as many words as a block report needs (this project)
 abbrev pub HasBlockWidth : Geometry → List ℕ → Type 0
 HasBlockWidth g words = length words ≡ 1 + (2 * zone_len g + (g.last_inode + 4)) + g.last_inode
 
@@ -38,7 +38,7 @@ pub record HasLinkCounts (g : Geometry) (image : List ℕ) (links : List LinkCou
   pub counts : (k : ℕ) (d : LinkCount) → k < g.last_inode → (slice_index_or links k d).links ≡ link_count g image (k + 1)
   pub wanted : (k : ℕ) (d : LinkCount) → k < g.last_inode → (slice_index_or links k d).wants_entry ≡ wants_entry g image (k + 1)
 
--- there are as many words as an entry report or a name report has: word 0, and one for each i-number (this project)
+-- there are as many words as an entry report or a name report needs: word 0, and one for each i-number (this project)
 abbrev pub HasEntryWidth : Geometry → List ℕ → Type 0
 HasEntryWidth g words = length words ≡ 1 + g.last_inode
 
@@ -47,7 +47,7 @@ pub record CountsEntries (g : Geometry) (image words : List ℕ) : Type 0 where
   pub wide : HasEntryWidth g words
   pub entries : (i : ℕ) → 1 ≤ i → i ≤ g.last_inode → slice_index words (entry_word i) ≡ entry_count g image i
 
--- the rank of an entry among the slots of all directories, and 2^64 - 1 where there is none (ncheck)
+-- the rank of an entry among the slots of all directories, or 2^64 - 1 if there is none (ncheck)
 abbrev pub rank_of : Option Placed → ℕ
 rank_of None = 18446744073709551615
 rank_of (Some entry) = rank entry.directory entry.slot

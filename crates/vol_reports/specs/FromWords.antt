@@ -1,4 +1,4 @@
--- The lines that the words of a table of counts give.
+-- The report lines, computed from the words of a table of counts.
 use Rattle.std.specs.Prelude.{◌≡◌, ℕ, ◌-◌, ◌==◌, Bool, false, not, List, [], ◌∷◌, ◌++◌, slice_index, slice_index_or}
 use Rattle.std.specs.List.{flat_map, range_with_len}
 use Rattle.vol_layout.specs.declared.geometry.Geometry.{Geometry}
@@ -11,19 +11,19 @@ use Rattle.vol_reports.specs.declared.line.Line.TheVariants as lines
 use Rattle.vol_reports.specs.declared.line.Total.{Total}
 use Rattle.vol_reports.specs.declared.line.Total.TheVariants as totals
 
--- how many places name block b, by the words (this project)
+-- the number of places that name block b, by the words (this project)
 abbrev pub places_in : Geometry → List ℕ → ℕ → ℕ
 places_in g words b = slice_index words (place_word g b)
 
--- whether the free list has block b, by the words (this project)
+-- true if the free list has block b, by the words (this project)
 abbrev pub is_met_in : Geometry → List ℕ → ℕ → Bool
 is_met_in g words b = not (slice_index words (free_word g b) == 0)
 
--- whether some place names block b, by the words (this project)
+-- true if some place names block b, by the words (this project)
 abbrev pub is_used_in : Geometry → List ℕ → ℕ → Bool
 is_used_in g words b = not (places_in g words b == 0)
 
--- whether block b is neither used nor free, by the words (this project)
+-- true if block b is neither used nor free, by the words (this project)
 abbrev pub is_lost_in : Geometry → List ℕ → ℕ → Bool
 is_lost_in g words b = is_lost_of (places_in g words b) (is_met_in g words b)
 
@@ -55,15 +55,15 @@ total_lines_in g words =
     ∷ lines.Total totals.Missing (zone_count g (is_lost_in g words))
     ∷ []
 
--- a line for each i-number that has one, ascending (this project)
+-- a line for each i-number that has one, in ascending order (this project)
 abbrev pub inode_lines : Geometry → (ℕ → List Line) → List Line
 inode_lines g line = flat_map line (range_with_len 1 g.last_inode)
 
--- a line for each data block that has one, ascending (this project)
+-- a line for each data block that has one, in ascending order (this project)
 abbrev pub zone_lines : Geometry → (ℕ → List Line) → List Line
 zone_lines g line = flat_map line (range_with_len g.zone_start (zone_len g))
 
--- lines that were put behind others (this project)
+-- lines appended to others (this project)
 abbrev pub Appended : List Line → List Line → List Line → Type 0
 Appended old new added = new ≡ old ++ added
 

@@ -1,4 +1,4 @@
--- The report of the names.
+-- The name report.
 use Rattle.std.specs.Prelude.{◌≡◌, ℕ, zero, suc, ◌+◌, ◌==◌, if◌then◌else◌, List, [], ◌∷◌, ◌++◌, map, Option, None, Some}
 use Rattle.std.specs.List.{sum_by, flat_map, range_with_len, list_any}
 use Rattle.std.specs.List.Sorted.{IsSorted}
@@ -47,11 +47,11 @@ naming_entry i (entry ∷ entries) = if entry.inode == i then Some entry else na
 abbrev pub slashed : List ℕ → List ℕ
 slashed name = 47 ∷ name
 
--- what a path begins with where it doesn't lead up to the root (ncheck)
+-- the beginning of a path whose way doesn't reach the root (ncheck)
 abbrev pub dots : List ℕ
 dots = 46 ∷ 46 ∷ 46 ∷ []
 
--- the path of directory d, found by going up from it, where each i-number may have a naming entry: at the root it begins with nothing; at a directory met before on this way, or one without naming entry, with dots; else it ends in the naming entry's name, and the way goes on at that entry's directory. A `suc` is used up at each directory (ncheck)
+-- the path of directory d, found on the way up from it, where each i-number may have a naming entry: at the root it begins with nothing; at a directory that this way passed before, or that has no naming entry, with dots; else it ends with the naming entry's name, and the way continues at that entry's directory. Each directory uses up one `suc` (ncheck)
 unfoldable pub path_up : ℕ → (ℕ → Option Placed) → ℕ → List ℕ → ℕ → List ℕ
 path_up root naming zero met d = dots
 path_up root naming (suc fuel) met d =
@@ -59,7 +59,7 @@ path_up root naming (suc fuel) met d =
     else if list_any (λ e. e == d) met then dots
     else option_map_or (λ (entry : Placed). path_up root naming fuel (d ∷ met) entry.directory ++ slashed entry.name) (naming d) dots
 
--- the path of a directory: a way meets each at most once, and so ends before it used up more than there are (ncheck)
+-- the path of a directory: a way passes each directory at most once, so it ends before it uses up more than there are (ncheck)
 abbrev pub directory_path : Geometry → (ℕ → Option Placed) → ℕ → List ℕ
 directory_path g naming d = path_up (root_of g) naming (g.last_inode + 2) [] d
 
@@ -79,7 +79,7 @@ pair_cmp a b = ordering_then (nat_cmp a.0 b.0) (slice_cmp nat_cmp a.1 b.1)
 abbrev pub name_line : ℕ × List ℕ → Line
 name_line pair = lines.Name pair.0 pair.1
 
--- the name report of an image with a geometry: a line for each entry, in their order; equal lines stay (ncheck)
+-- the name report of an image with a geometry: a line for each entry, in order; equal lines stay (ncheck)
 pub record IsNameLines (g : Geometry) (image : List ℕ) (report : List Line) : Type 0 where
   pub pairs : List (ℕ × List ℕ)
   pub lines : report ≡ map name_line pairs

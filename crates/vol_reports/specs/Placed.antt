@@ -1,7 +1,7 @@
--- Entries of directories, with their places.
+-- Entries of directories, with their positions.
 use Rattle.std.specs.Prelude.{ℕ, List}
 
--- an entry of a directory: in which slot it stands, for which i-number it is, and its name (manual section 5, directories)
+-- an entry of a directory: its slot, its i-number, and its name (manual section 5, directories)
 pub record Placed : Type 0 where
   pub directory : ℕ
   pub slot : ℕ

@@ -1,4 +1,4 @@
--- The three reports of any image, and whether they tell of faults.
+-- The three reports of any image, and whether they report faults.
 use Rattle.std.specs.Prelude.{◌≡◌, ℕ, ◌==◌, Bool, true, false, not, List, [], ◌∷◌, take, Result, Ok, Err}
 use Rattle.std.specs.List.{list_any}
 use Rattle.std.specs.Str.{bytes_eq}
@@ -24,17 +24,17 @@ rule_of Bounds = 2
 abbrev pub rule_lines : GeometryFault → List Line
 rule_lines fault = lines.Rule (rule_of fault) ∷ []
 
--- the block report of an image whose layout is read so (icheck)
+-- the block report of an image, given the result of reading its geometry (icheck)
 abbrev pub block_report_of : Result Geometry GeometryFault → List ℕ → List Line
 block_report_of (Ok g) image = block_lines g image
 block_report_of (Err fault) image = rule_lines fault
 
--- the entry report of an image whose layout is read so (dcheck)
+-- the entry report of an image, given the result of reading its geometry (dcheck)
 abbrev pub entry_report_of : Result Geometry GeometryFault → List ℕ → List Line
 entry_report_of (Ok g) image = entry_lines g image
 entry_report_of (Err fault) image = rule_lines fault
 
--- these lines are the name report of an image whose layout is read so (ncheck)
+-- these lines are the name report of an image, given the result of reading its geometry (ncheck)
 abbrev pub IsNameReportOf : Result Geometry GeometryFault → List ℕ → List Line → Type 0
 IsNameReportOf (Ok g) image report = IsNameLines g image report
 IsNameReportOf (Err fault) image report = report ≡ rule_lines fault
@@ -51,7 +51,7 @@ entry_report edition image = entry_report_of (geometry_read edition image) image
 abbrev pub IsNameReport : Edition → List ℕ → List Line → Type 0
 IsNameReport edition image report = IsNameReportOf (geometry_read edition image) image report
 
--- whether a total tells of a fault: the odd i-nodes do (icheck; which lines are faults is this project's)
+-- true if a total reports a fault: a number of odd i-nodes other than 0 (icheck; which lines are faults is this project's)
 abbrev pub is_faulty_total : Total → ℕ → Bool
 is_faulty_total totals.Odd n = not (n == 0)
 is_faulty_total totals.Files n = false
@@ -61,7 +61,7 @@ is_faulty_total totals.Used n = false
 is_faulty_total totals.Free n = false
 is_faulty_total totals.Missing n = false
 
--- whether a line tells of a fault: all do but totals, and paths from the root (icheck, dcheck, ncheck; which lines are faults is this project's)
+-- true if a line reports a fault: all do except totals and paths from the root (icheck, dcheck, ncheck; which lines are faults is this project's)
 abbrev pub is_faulty : Line → Bool
 is_faulty (lines.Rule number) = true
 is_faulty (lines.Bad inode count least) = true
@@ -72,6 +72,6 @@ is_faulty (lines.Total total number) = is_faulty_total total number
 is_faulty (lines.Links inode entries links) = true
 is_faulty (lines.Name inode path) = bytes_eq (take 3 path) dots
 
--- whether a report tells of a fault (this project)
+-- true if a report reports a fault (this project)
 abbrev pub has_faults : List Line → Bool
 has_faults report = list_any is_faulty report

@@ -27,11 +27,11 @@ spaced n = 32 ∷ decimal n
 unfoldable pub all_spaced : List ℕ → List ℕ
 all_spaced numbers = flat_map spaced numbers
 
--- a word, and numbers behind it (this project)
+-- a word, and numbers after it (this project)
 abbrev pub worded : List ℕ → List ℕ → List ℕ
 worded word numbers = word ++ all_spaced numbers
 
--- the text of a line, without its newline: names and paths as they are (this project)
+-- the text of a line, without its newline; names and paths aren't escaped (this project)
 abbrev pub bare_text : Line → List ℕ
 bare_text (lines.Rule number) = worded (codes "rule") (number ∷ [])
 bare_text (lines.Bad inode count least) = worded (codes "bad") (inode ∷ count ∷ least ∷ [])

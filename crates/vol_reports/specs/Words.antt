@@ -1,9 +1,9 @@
--- Which word of the table of counts stands for what.
+-- The words of the table of counts, and what each of them counts.
 use Rattle.std.specs.Prelude.{◌≡◌, ℕ, ◌+◌, ◌-◌, ◌*◌}
 use Rattle.vol_layout.specs.declared.geometry.Geometry.{Geometry}
 use Rattle.count_table.specs.declared.rule.TableShape.{TableShape}
 
--- how many data blocks a volume has (filsys.h)
+-- the number of data blocks of a volume (filsys.h)
 abbrev pub zone_len : Geometry → ℕ
 zone_len g = g.zone_end - g.zone_start
 
@@ -11,7 +11,7 @@ zone_len g = g.zone_end - g.zone_start
 abbrev pub place_word : Geometry → ℕ → ℕ
 place_word g b = 1 + (b - g.zone_start)
 
--- the word that counts how often data block b is met in the free list (this project)
+-- the word that counts how often data block b is in the free list (this project)
 abbrev pub free_word : Geometry → ℕ → ℕ
 free_word g b = 1 + (zone_len g + (b - g.zone_start))
 
@@ -23,11 +23,11 @@ bad_word g i = 1 + (2 * zone_len g + (i - 1))
 abbrev pub kind_word : Geometry → ℕ → ℕ
 kind_word g k = 1 + (2 * zone_len g + (g.last_inode + k))
 
--- the word that has the least number, of no data block, that a place of i-node i names (this project)
+-- the word for the least number, of no data block, that a place of i-node i names (this project)
 abbrev pub least_word : Geometry → ℕ → ℕ
 least_word g i = 1 + (2 * zone_len g + (g.last_inode + 4)) + (i - 1)
 
--- a table of counts has the words of the blocks, and a piece for the free list and one for each i-number (this project)
+-- a table of counts has the words of the blocks, one piece for the free list and one for each i-number (this project)
 pub record HasWords (g : Geometry) (shape : TableShape) : Type 0 where
   pub pieces : shape.pieces ≡ g.last_inode + 1
   pub counts : shape.counts ≡ 2 * zone_len g + (g.last_inode + 4)
@@ -37,16 +37,16 @@ pub record HasWords (g : Geometry) (shape : TableShape) : Type 0 where
 abbrev pub entry_word : ℕ → ℕ
 entry_word i = i
 
--- a table of counts has a word for the entries for each i-number (this project)
+-- a table of counts has a word that counts the entries for each i-number (this project)
 pub record HasEntryWords (g : Geometry) (shape : TableShape) : Type 0 where
   pub counts : shape.counts ≡ g.last_inode
   pub leasts : shape.leasts ≡ 0
 
--- the word that has the rank of the first entry for i-number i, other than `.` and `..` (this project)
+-- the word for the rank of the first entry for i-number i, other than `.` and `..` (this project)
 abbrev pub name_word : ℕ → ℕ
 name_word i = i
 
--- a table of counts has a least word for each i-number (this project)
+-- a table of counts has a minimum word for each i-number (this project)
 pub record HasNameWords (g : Geometry) (shape : TableShape) : Type 0 where
   pub counts : shape.counts ≡ 0
   pub leasts : shape.leasts ≡ g.last_inode

@@ -1,4 +1,4 @@
-//! The block report, from the words of a table of counts.
+//! The block report, built from the words of a table of counts.
 ghost use Rattle.std.specs.Prelude.{◌≡◌, ℕ, ◌<◌, ◌≤◌, true, List, IfOk};
 ghost use Rattle.count_table.specs.Tallies.{items_of};
 ghost use Rattle.vol_layout.specs.Geometry.{in_zone};
@@ -14,10 +14,9 @@ use std::alloc::{AllocError, Global};
 use vol_free::FreeFault;
 use vol_layout::Geometry;
 
-/// The block report of each image whose blocks the words count, where the walk over its free list ended with this
-/// fault.
+/// Returns the block report of any image whose blocks the words count, and whose free list's walk ended with this fault.
 ///
-/// Costs a few looks at the words of each data block and i-number, and memory for the lines.
+/// Costs a few reads of the words of each data block and i-number, and memory for the lines.
 pub fn block_report(
     alloc: Global,
     geometry: &Geometry,
@@ -38,7 +37,7 @@ pub fn block_report(
     Ok(Report::from_vec(lines))
 }
 
-/// Whether some place names data block `b`.
+/// True if some place names data block `b`.
 fn is_used(geometry: &Geometry, words: &Summed, b: u32) -> bool
     requires zone { in_zone geometry.now b ≡ true }
     requires wide { HasBlockWidth geometry.now (items_of words.now) }
@@ -47,7 +46,7 @@ fn is_used(geometry: &Geometry, words: &Summed, b: u32) -> bool
     words.word(place_word(geometry, b)) > 0
 }
 
-/// Whether the walk over the free list met data block `b`.
+/// True if the walk over the free list met data block `b`.
 fn is_free(geometry: &Geometry, words: &Summed, b: u32) -> bool
     requires zone { in_zone geometry.now b ≡ true }
     requires wide { HasBlockWidth geometry.now (items_of words.now) }
@@ -56,7 +55,7 @@ fn is_free(geometry: &Geometry, words: &Summed, b: u32) -> bool
     words.word(free_word(geometry, b)) > 0
 }
 
-/// Whether data block `b` is neither used nor free.
+/// True if data block `b` is neither used nor free.
 fn is_lost(geometry: &Geometry, words: &Summed, b: u32) -> bool
     requires zone { in_zone geometry.now b ≡ true }
     requires wide { HasBlockWidth geometry.now (items_of words.now) }
@@ -81,7 +80,7 @@ fn push_bad_lines(
     Ok(())
 }
 
-/// Appends the line of i-node `i`, if places of it name numbers of no data block.
+/// Appends the line of i-node `i`, if some of its places name numbers of no data block.
 fn push_bad(
     lines: &mut Vec<Line>,
     geometry: &Geometry,
@@ -187,7 +186,7 @@ fn push_fault(lines: &mut Vec<Line>, fault: Option<(FreeFault, u32)>) -> Result<
     Ok(())
 }
 
-/// How many data blocks there are of each sort.
+/// The number of data blocks that are used, free, and neither.
 #[derive(Clone, Copy)]
 struct ZoneCounts {
     used: u32,

@@ -1,4 +1,4 @@
-//! The paths of entries: going up from a directory, by the entries that name directories.
+//! The paths of entries: the way up from a directory, over the entries that name directories.
 ghost use Rattle.std.specs.Prelude.{◌≡◌, ◌+◌, ◌++◌, [], length, IfOk, OnOk};
 ghost use Rattle.vol_judge.specs.Directories.{root_of};
 ghost use Rattle.vol_reports.specs.Names.{slashed, path_up};
@@ -8,11 +8,11 @@ use crate::entered::Entered;
 use std::alloc::{AllocError, Global};
 use vol_layout::Geometry;
 
-/// What a path begins with where it doesn't lead up to the root.
+/// The beginning of a path whose way doesn't reach the root.
 const DOTS: &[u8] = b"...";
 
-/// The path of an entry. The marks say by which turn the ways up came by each directory last; this one is turn `turn`.
-/// `way` is for the entries of the way.
+/// Returns the path of an entry. Each mark is the turn whose way last passed the directory; this is turn `turn`. `way` is a
+/// buffer for the entries of the way.
 ///
 /// Costs as much as the path is long.
 pub(crate) fn entry_path<'a>(
@@ -39,8 +39,8 @@ pub(crate) fn entry_path<'a>(
     Ok(path)
 }
 
-/// Goes up from directory `d`, and gathers the naming entries of the way, the lowest first. Answers whether the way ends
-/// at the root, and not at a directory met before on it, or one without naming entry.
+/// Walks up from directory `d`, and collects the naming entries of the way, the lowest first. Returns true if the way ends at
+/// the root, and not at a directory that it passed before or that has no naming entry.
 fn climb<'a>(
     geometry: &Geometry,
     naming: &[Option<&'a Entered>],
@@ -68,7 +68,7 @@ fn climb<'a>(
     Ok(true)
 }
 
-/// Marks directory `at`, and answers its naming entry; None where it was marked in this turn, or has no naming entry.
+/// Marks directory `at`, and returns its naming entry, or `None` if it was marked in this turn or has no naming entry.
 fn step<'a>(
     naming: &[Option<&'a Entered>],
     marks: &mut [usize],
@@ -91,7 +91,7 @@ fn step<'a>(
     naming[k]
 }
 
-/// What a path begins with.
+/// Returns the beginning of a path.
 fn first_bytes(alloc: Global, rooted: bool) -> Result<Vec<u8>, AllocError>
     ensures { IfOk result (λ path. path.items ≡ path_start rooted) }
 {
@@ -102,7 +102,7 @@ fn first_bytes(alloc: Global, rooted: bool) -> Result<Vec<u8>, AllocError>
     Ok(path)
 }
 
-/// Appends the names of the entries of a way, the last of them first, and leaves no entry of the way.
+/// Appends the names of the entries of a way, the last of them first, and empties the way.
 fn push_names(path: &mut Vec<u8>, way: &mut Vec<&Entered>) -> Result<(), AllocError>
     ensures path { IfOk result (λ _. path.new.items ≡ path.old.items ++ trail way.old.items) }
     ensures way { OnOk result (way.new.items ≡ []) }

@@ -1,4 +1,4 @@
-//! An entry that a checker met.
+//! Entries that a checker met.
 ghost use Rattle.std.specs.Prelude.{◌≡◌};
 ghost use Rattle.vol_layout.specs.Slot.{name_of};
 ghost use Rattle.vol_reports.specs.Placed.{placed};
@@ -6,8 +6,8 @@ ghost use Rattle.vol_reports.specs.Placed.{placed};
 use std::marker::Model;
 use vol_layout::Slot;
 
-/// An entry of a directory, with its place. A caller sees its place, its i-number and its name; what stands behind
-/// the name's end is nothing to it.
+/// An entry of a directory, with its position. Contracts see its position, its i-number and its name; the bytes after the name
+/// don't count.
 #[derive(Debug, Drop)]
 pub struct Entered {
     directory: u16,
@@ -25,7 +25,7 @@ impl Model for Entered {
 }
 
 impl Entered {
-    /// The entry in a slot of a directory, whose number in it this is.
+    /// Returns the entry in slot `number` of a directory.
     pub fn new(directory: u16, number: u32, slot: Slot) -> Entered
         ensures { result ≡ placed directory number slot.inode (name_of slot.name) }
     {
@@ -36,28 +36,28 @@ impl Entered {
         }
     }
 
-    /// The directory's i-number.
+    /// Returns the directory's i-number.
     pub fn directory(&self) -> u16
         ensures { result ≡ self.now.directory }
     {
         self.directory
     }
 
-    /// The number of the slot.
+    /// Returns the number of the slot.
     pub fn slot(&self) -> u32
         ensures { result ≡ self.now.slot }
     {
         self.number
     }
 
-    /// The i-number that the entry is for.
+    /// Returns the i-number that the entry is for.
     pub fn inode(&self) -> u16
         ensures { result ≡ self.now.inode }
     {
         self.slot.inode
     }
 
-    /// Its name.
+    /// Returns its name.
     pub fn name(&self) -> &[u8]
         ensures { result.now ≡ self.now.name }
     {

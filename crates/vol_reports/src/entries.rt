@@ -1,4 +1,4 @@
-//! The entry report, from the words of a table of counts.
+//! The entry report, built from the words of a table of counts.
 ghost use Rattle.std.specs.Prelude.{◌≡◌, ℕ, ◌<◌, ◌≤◌, List, length, IfOk};
 ghost use Rattle.count_table.specs.Tallies.{items_of};
 ghost use Rattle.vol_reports.specs.Entries.{entry_lines};
@@ -13,10 +13,9 @@ use count_table::Summed;
 use std::alloc::{AllocError, Global};
 use vol_layout::Geometry;
 
-/// The entry report of each image whose entries the words count, and whose link counts these are, from i-number 1
-/// on.
+/// Returns the entry report of any image whose entries the words count, and which has these link counts, from i-number 1 on.
 ///
-/// Costs a look at each of them, and memory for the lines.
+/// Costs a read of each of them, and memory for the lines.
 pub fn entry_report(
     alloc: Global,
     geometry: &Geometry,

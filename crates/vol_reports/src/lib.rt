@@ -1,4 +1,4 @@
-//! The reports of the checkers: what they say of any image, and their lines from what was counted.
+//! The reports of the checkers: their lines for any image, built from counts.
 #![tactic(auto)]
 
 mod blocks;

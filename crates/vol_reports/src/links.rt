@@ -9,16 +9,16 @@ use std::alloc::{AllocError, Global};
 use vol_layout::i_list::{inode, kind};
 use vol_layout::{Geometry, Kind};
 
-/// What the entry report compares the number of an i-number's entries with.
+/// The link count of an i-number, which the entry report compares with the number of its entries.
 #[derive(Clone, Copy, Debug, PartialEq, Eq)]
 pub struct LinkCount {
-    /// The link count; 0 where the i-node is free.
+    /// The link count, or 0 if the i-node is free.
     pub links: u16,
-    /// Whether there must be an entry for it.
+    /// True if there must be an entry for it.
     pub wants_entry: bool,
 }
 
-/// The link counts of an image, from i-number 1 on. Reads the i-list alone. Takes four bytes for each i-number.
+/// Returns the link counts of an image, from i-number 1 on. Reads only the i-list. Takes four bytes for each i-number.
 pub fn link_counts(
     alloc: Global,
     image: &Image,
@@ -35,7 +35,7 @@ pub fn link_counts(
     Ok(links)
 }
 
-/// The link count of i-number `i`.
+/// Returns the link count of i-number `i`.
 fn link_count(image: &Image, geometry: &Geometry, i: u16) -> LinkCount
     requires fits { Fits geometry.now image.now }
     requires first { 1 ≤ i }

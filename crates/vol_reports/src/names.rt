@@ -1,4 +1,4 @@
-//! The name report, from the entries that were met and the words of a table of counts.
+//! The name report, built from the entries that were met and the words of a table of counts.
 ghost use Rattle.std.specs.Prelude.{◌≡◌, ℕ, ◌+◌, ◌<◌, ◌≤◌, List, length, map, IfOk};
 ghost use Rattle.count_table.specs.Tallies.{items_of};
 ghost use Rattle.vol_judge.specs.Directories.{root_of};
@@ -16,10 +16,10 @@ use pdp_words::Bytes;
 use std::alloc::{AllocError, Global};
 use vol_layout::Geometry;
 
-/// The name report of each image whose entries these are, each once, in any order, where the words hold the ranks of the
-/// naming entries.
+/// Returns the name report of any image that has these entries, each once, in any order, where the words hold the ranks of
+/// the naming entries.
 ///
-/// Costs as much as the report is long, and as sorting it. Takes memory for the paths, and some for each i-number.
+/// Costs as much as the report is long, and sorting it. Takes memory for the paths, and some for each i-number.
 pub fn name_report(
     alloc: Global,
     geometry: &Geometry,
@@ -37,7 +37,7 @@ pub fn name_report(
     Ok(Report::from_vec(lines))
 }
 
-/// The naming entry of each i-number that has one, at the index of that number.
+/// Returns the naming entry of each i-number that has one, at the index of that number.
 fn naming_entries<'a>(
     alloc: Global,
     geometry: &Geometry,
@@ -69,7 +69,7 @@ fn put_naming<'a>(words: &Summed, naming: &mut [Option<&'a Entered>], entry: &'a
     }
 }
 
-/// The i-number and the path of each entry.
+/// Returns the i-number and the path of each entry.
 fn paths_of(
     alloc: Global,
     geometry: &Geometry,
@@ -88,7 +88,7 @@ fn paths_of(
     Ok(paths)
 }
 
-/// The lines of i-numbers and paths.
+/// Returns the lines of i-numbers and paths.
 fn lines_of(alloc: Global, paths: Vec<(u16, Vec<u8>)>) -> Result<Vec<Line>, AllocError>
     ensures { IfOk result (λ lines. lines.items ≡ map name_line (map seen_pair paths.items)) }
 {

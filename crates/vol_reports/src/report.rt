@@ -1,4 +1,4 @@
-//! A report.
+//! Reports.
 ghost use Rattle.std.specs.Prelude.{◌≡◌, IfOk};
 ghost use Rattle.vol_reports.specs.Names.{dots};
 ghost use Rattle.vol_reports.specs.Reports.{rule_lines, is_faulty, has_faults};
@@ -8,7 +8,7 @@ use std::alloc::{AllocError, Global};
 use std::marker::Model;
 use vol_layout::GeometryFault;
 
-/// The report of a checker. A caller sees it as the list of its lines.
+/// The report of a checker. Contracts see it as the list of its lines.
 #[derive(Debug, Drop)]
 pub struct Report {
     lines: Vec<Line>,
@@ -24,21 +24,21 @@ impl Model for Report {
 }
 
 impl Report {
-    /// A report of these lines. Takes no memory.
+    /// Wraps these lines as a report. Takes no memory.
     pub fn from_vec(lines: Vec<Line>) -> Report
         ensures { result ≡ lines.items }
     {
         Report { lines }
     }
 
-    /// Its lines, in their order.
+    /// Returns its lines, in order.
     pub fn lines(&self) -> &[Line]
         ensures { result.now ≡ self.now }
     {
         self.lines.as_slice()
     }
 
-    /// The report of an image without geometry, for this reason. Takes memory for one line.
+    /// Returns the report of an image without geometry, for this reason. Takes memory for one line.
     pub fn of_fault(alloc: Global, fault: GeometryFault) -> Result<Report, AllocError>
         ensures { IfOk result (λ report. report ≡ rule_lines fault) }
     {
@@ -51,8 +51,8 @@ impl Report {
         Ok(Report { lines })
     }
 
-    /// Whether it tells of a fault: in a block report any line before the totals does, and a number of odd i-nodes; in an
-    /// entry report any line; in a name report one whose path begins with dots.
+    /// True if it reports a fault: in a block report, any line before the totals, or a number of odd i-nodes other than 0; in
+    /// an entry report, any line; in a name report, a path that begins with dots.
     pub fn has_faults(&self) -> bool
         ensures { result ≡ has_faults self.now }
     {
@@ -61,7 +61,7 @@ impl Report {
 }
 
 impl Line {
-    /// Whether it tells of a fault.
+    /// True if it reports a fault.
     pub fn is_faulty(&self) -> bool
         ensures { result ≡ is_faulty self.now }
     {

@@ -22,7 +22,7 @@ impl Report {
 }
 
 impl Line {
-    /// Appends the line's text and a newline: names and paths as they are.
+    /// Appends the line's text and a newline; names and paths aren't escaped.
     pub fn push_text(&self, text: &mut Vec<u8>) -> Result<(), AllocError>
         ensures { IfOk result (λ _. text.new.items ≡ text.old.items ++ line_text self.now) }
     {
@@ -33,7 +33,7 @@ impl Line {
 }
 
 impl Total {
-    /// The word that stands for it in a line.
+    /// Returns its word in a line.
     pub fn word(self) -> &'static [u8]
         ensures { result.now ≡ total_word self }
     {
@@ -92,7 +92,7 @@ fn push_bare(text: &mut Vec<u8>, line: &Line) -> Result<(), AllocError>
     }
 }
 
-/// Appends a word, and numbers behind it.
+/// Appends a word, and numbers after it.
 fn push_worded(text: &mut Vec<u8>, word: &[u8], numbers: &[u64]) -> Result<(), AllocError>
     ensures { IfOk result (λ _. text.new.items ≡ text.old.items ++ worded word.now numbers.now) }
 {

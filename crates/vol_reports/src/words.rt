@@ -1,4 +1,4 @@
-//! Which word of the table of counts stands for what.
+//! The words of the table of counts, and what each of them counts.
 ghost use Rattle.std.specs.Prelude.{◌≡◌, ◌^◌, ◌≤◌, ◌<◌, true};
 ghost use Rattle.vol_layout.specs.Geometry.{in_zone};
 ghost use Rattle.vol_reports.specs.Words.{place_word, free_word, bad_word, kind_word, least_word, entry_word, name_word, zone_len};
@@ -6,7 +6,7 @@ ghost use Rattle.vol_judge.specs.Stepping.{rank};
 
 use vol_layout::Geometry;
 
-/// How many data blocks the volume has.
+/// Returns the number of data blocks of the volume.
 pub fn zone_len(geometry: &Geometry) -> usize
     requires zone { geometry.now.zone_start < geometry.now.zone_end }
     ensures exact { result ≡ zone_len geometry.now }
@@ -15,7 +15,7 @@ pub fn zone_len(geometry: &Geometry) -> usize
     (geometry.zone_end - geometry.zone_start) as usize
 }
 
-/// The word that counts the places that name data block `b`.
+/// Returns the word that counts the places that name data block `b`.
 pub fn place_word(geometry: &Geometry, b: u32) -> usize
     requires zone { in_zone geometry.now b ≡ true }
     ensures { result ≡ place_word geometry.now b }
@@ -23,7 +23,7 @@ pub fn place_word(geometry: &Geometry, b: u32) -> usize
     1 + (b - geometry.zone_start) as usize
 }
 
-/// The word that counts how often data block `b` is met in the free list.
+/// Returns the word that counts how often data block `b` is in the free list.
 pub fn free_word(geometry: &Geometry, b: u32) -> usize
     requires zone { in_zone geometry.now b ≡ true }
     ensures { result ≡ free_word geometry.now b }
@@ -31,7 +31,7 @@ pub fn free_word(geometry: &Geometry, b: u32) -> usize
     1 + (zone_len(geometry) + (b - geometry.zone_start) as usize)
 }
 
-/// The word that counts the places of i-node `i` that name no data block.
+/// Returns the word that counts the places of i-node `i` that name no data block.
 pub fn bad_word(geometry: &Geometry, i: u16) -> usize
     requires zone { geometry.now.zone_start < geometry.now.zone_end }
     requires first { 1 ≤ i }
@@ -40,7 +40,8 @@ pub fn bad_word(geometry: &Geometry, i: u16) -> usize
     1 + (2 * zone_len(geometry) + (i - 1) as usize)
 }
 
-/// The word that counts the i-nodes of a kind: 0 for regular files, 1 for directories, 2 for special files, 3 for odd ones.
+/// Returns the word that counts the i-nodes of a kind: 0 for regular files, 1 for directories, 2 for special files, 3 for odd
+/// ones.
 pub fn kind_word(geometry: &Geometry, k: usize) -> usize
     requires zone { geometry.now.zone_start < geometry.now.zone_end }
     requires few { k ≤ 3 }
@@ -49,7 +50,7 @@ pub fn kind_word(geometry: &Geometry, k: usize) -> usize
     1 + (2 * zone_len(geometry) + (geometry.last_inode as usize + k))
 }
 
-/// The word that has the least number, of no data block, that a place of i-node `i` names.
+/// Returns the word for the least number, of no data block, that a place of i-node `i` names.
 pub fn least_word(geometry: &Geometry, i: u16) -> usize
     requires zone { geometry.now.zone_start < geometry.now.zone_end }
     requires first { 1 ≤ i }
@@ -58,21 +59,21 @@ pub fn least_word(geometry: &Geometry, i: u16) -> usize
     1 + (2 * zone_len(geometry) + (geometry.last_inode as usize + 4)) + (i - 1) as usize
 }
 
-/// The word that counts the entries for i-number `i`.
+/// Returns the word that counts the entries for i-number `i`.
 pub fn entry_word(i: u16) -> usize
     ensures { result ≡ entry_word i }
 {
     i as usize
 }
 
-/// The word that has the rank of the first entry for i-number `i`, other than `.` and `..`.
+/// Returns the word for the rank of the first entry for i-number `i`, other than `.` and `..`.
 pub fn name_word(i: u16) -> usize
     ensures { result ≡ name_word i }
 {
     i as usize
 }
 
-/// Where slot `slot` of directory `directory` stands among the slots of all directories.
+/// Returns the position of slot `slot` of directory `directory` among the slots of all directories.
 pub fn rank(directory: u16, slot: u32) -> u64
     ensures { result ≡ rank directory slot }
 {

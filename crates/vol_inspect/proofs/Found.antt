@@ -1,4 +1,4 @@
--- How often a block is found.
+-- The number of times that a block is found.
 use Rattle.std.proofs.Common.{◌≡◌, ◌≢◌, ℕ, zero, suc, ◌+◌, ◌-◌, ◌<◌, ◌≤◌, ◌∙◌, ◌==◌, ◌&&◌, sym, ap, subst, true, false, List, [], ◌∷◌, refl, arith, inl, inr, eq-eqb}
 use Rattle.std.proofs.lemmas.Bool.{cases_eq, ne_eqb, true≢false}
 use Rattle.std.proofs.lemmas.List.Sums.{sum_by-append, sum_by-cons, sum_by-le-sum_by}
@@ -25,7 +25,7 @@ sum_zero : (f : ℕ → ℕ) (xs : List ℕ) → ((j : ℕ) → f j ≡ 0) → s
 sum_zero f [] none = refl
 sum_zero f (x ∷ xs) none = let h = sum_zero f xs none in let here = none x in omega (arith, sum_by-cons f x xs, h, here)
 
--- whether a block is the one that is sought, at its level
+-- 1 if a block is the one that is sought, at its level, else 0
 abbrev pub here_at : ℕ → ℕ → ℕ → ℕ → ℕ
 here_at b c e k = one_if ((b == c) && (e == k))
 
@@ -37,14 +37,14 @@ here_yes b c e k same level = λ i. one_if (eq-eqb b c same i && eq-eqb e k leve
 pub here_other : (b c e k : ℕ) → b ≢ c → here_at b c e k ≡ 0
 here_other b c e k other = ap (λ t. one_if (t && (e == k))) (ne_eqb b c other)
 
--- it stands at another level
+-- it is at another level
 pub here_level : (b c e k : ℕ) → e ≢ k → here_at b c e k ≡ 0
 here_level b c e k other =
     ap (λ t. one_if ((b == c) && t)) (ne_eqb e k other)
     ∙ elim (b == c) as (λ t. one_if (t && false) ≡ 0) [ true ↦ refl | false ↦ refl ]
 
 module _ (g : Geometry) (image : List ℕ) where
-  -- what is found from the first n pointers of block b on, in d levels
+  -- the number of times that a block is found from the first n pointers of block b on, in d levels
   unfoldable pub below : ℕ → ℕ → ℕ → ℕ → ℕ → ℕ
   below d b c e n = sum_by (λ j. found_at g image d (pointer_in g image b j) c e) (range_with_len 0 n)
 
@@ -95,7 +95,7 @@ module _ (g : Geometry) (image : List ℕ) where
       (λ j. high d (pointer_in g image b j) c e (omega (arith, lt))) in
       omega (arith, found_suc d b c e, head, rest)
 
-  -- what lies below a block is found as often as the block, at least
+  -- a block below another is found at least as often as that one
   pub found_through : (d b m k c e : ℕ) → 1 ≤ found_at g image k m c e → found_at g image d b m k ≤ found_at g image d b c e
   unfolding below
   found_through zero b m k c e some =

@@ -1,4 +1,4 @@
--- How blocks are noted one after another.
+-- Noting blocks one after another.
 use Rattle.std.proofs.Common.{◌≡◌, ℕ, zero, suc, ◌+◌, ◌-◌, ◌*◌, ◌^◌, ◌≤◌, ◌∙◌, sym, ap, List, [], ◌∷◌, ◌++◌, refl, arith, append_assoc, None, Some, true, false, ◌≢◌, cond, eq-eqb}
 use Rattle.std.proofs.lemmas.Bool.{ne_eqb}
 use Rattle.std.proofs.lemmas.List.{append-nil}
@@ -22,7 +22,7 @@ pub notes_then : (old mid new : Gathering) (xs ys : List Extent) → Collects ol
 notes_then old mid new xs ys first next = λ later.
     next later ∙ (first (ys ++ later) ∙ ap (λ zs. gathering_with old zs) (sym (append_assoc xs ys later)))
 
--- what was noted is this list
+-- the blocks noted are this list
 pub notes_as : (old new : Gathering) (xs ys : List Extent) → Collects old new xs → xs ≡ ys → Collects old new ys
 notes_as old new xs ys done same = λ later. done later ∙ ap (λ zs. gathering_with old (zs ++ later)) same
 
@@ -31,7 +31,7 @@ flat_none : (f : ℕ → List Extent) (a n : ℕ) → ((j : ℕ) → f j ≡ [])
 flat_none f a zero none = refl
 flat_none f a (suc n) none = ap (λ xs. xs ++ flat_map f (range_with_len (a + 1) n)) (none a) ∙ flat_none f (a + 1) n none
 
--- what is found from the entries before j of block b on, in d levels
+-- the blocks found from the entries before j of block b on, in d levels
 unfoldable pub entries_before : Geometry → List ℕ → ℕ → ℕ → ℕ → ℕ → List Extent
 entries_before g image d logical b j =
     flat_map (λ j. holdings_from g image d (logical + j * (constants g.edition).pointers ^ d) (pointer_in g image b j)) (range_with_len 0 j)
@@ -92,7 +92,7 @@ hold_outside g image d logical b some one out =
     (λ j. hold_zero g image (d - 1) (logical + j * (constants g.edition).pointers ^ (d - 1)) (pointer_in g image b j)
     (ap (λ t. cond t (number g.edition image (512 * b) j) 0) out)))
 
--- what is found from the addresses before k on
+-- the blocks found from the addresses before k on
 unfoldable pub addresses_before : Geometry → List ℕ → ℕ → ℕ → List Extent
 addresses_before g image i k = flat_map (address_holdings g image i) (range_with_len 0 k)
 
@@ -111,7 +111,7 @@ pub addresses_all : (g : Geometry) (image : List ℕ) (i : ℕ) → addresses_be
 unfolding addresses_before holdings
 addresses_all g image i = refl
 
--- what was noted, once nothing comes later
+-- the blocks noted, if nothing follows
 pub notes_end : (old new : Gathering) (xs : List Extent) → Collects old new xs → new.done.items ++ gathered new.last [] ≡ old.done.items ++ gathered old.last xs
 notes_end old new xs done = done [] ∙ ap (λ zs. old.done.items ++ gathered old.last zs) (append-nil xs)
 
@@ -128,7 +128,7 @@ notes_joined old new e next was join done last = λ later.
     ∙ (ap (λ t. old.done.items ++ cond t (gathered (Some (extended e)) later) (e ∷ gathered (Some next) later)) (sym join)
     ∙ ap (λ o. old.done.items ++ gathered o (next ∷ later)) (sym was))
 
--- one block was noted behind the last extent
+-- one block was noted after the last extent
 pub notes_apart : (old new : Gathering) (e next : Extent) → old.last ≡ Some e → joins e next ≡ false → new.done.items ≡ old.done.items ++ e ∷ []
     → new.last ≡ Some next → Collects old new (next ∷ [])
 notes_apart old new e next was apart done last = λ later.

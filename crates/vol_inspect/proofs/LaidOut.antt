@@ -46,7 +46,7 @@ module _ (g : Geometry) where
   single_unless true xs each = tt
   single_unless false xs each = each
 
-  -- what is found from a number on is found block by block
+  -- the blocks found from a number on, one by one
   single_from : (image : List ℕ) (d logical b : ℕ) → AreSingle g (holdings_from g image d logical b)
   unfolding holdings_from
   single_from image zero logical b = single_unless (b == 0) (single g 0 logical b ∷ []) (refl, tt)
@@ -62,7 +62,7 @@ same_true true b same = sym same
 same_true false true same = absurd (cc)
 same_true false false same = refl
 
--- a block that is joined comes after those of the extent
+-- a block that is joined follows those of the extent
 joined_laid : (g : Geometry) (e next : Extent) → joins e next ≡ true → next ≡ single g next.level next.logical next.block
     → laid_out (extended e) ≡ laid_out e ++ next ∷ []
 joined_laid g e next join one =
@@ -133,7 +133,7 @@ module _ (g : Geometry) (image : List ℕ) (i : ℕ) (fits : Fits g image) where
       (λ j. seen_none n d j (a ∷ p) (named_stops g image i j a p (ap (in_zone g) none ∙ zero_out g image fits))) in
       (λ k. seen g (levels_below (form_at g image i) (a ∷ p)) (first_block (form_at g image i) (a ∷ p)) (none k) ++ rest k)
 
-  -- what is found from the number of a place on is what is seen at the place and below it
+  -- the blocks found from the number of a place on are those seen at the place and below it
   seen_from : (n d a : ℕ) (p : List ℕ) → n ≡ (constants g.edition).pointers → pointer_count (form_at g image i) ≡ n
       → levels_below (form_at g image i) (a ∷ p) ≡ d
       → holdings_from g image d (first_block (form_at g image i) (a ∷ p)) (named g image i (a ∷ p))
@@ -176,7 +176,7 @@ module _ (g : Geometry) (image : List ℕ) (i : ℕ) (fits : Fits g image) where
   pointers_or_none true = inl (pointers_in g.edition (mode_of g image i))
   pointers_or_none false = inr refl
 
-  -- what all addresses lead to is what is seen at all places
+  -- the blocks below all addresses are those seen at all places
   seen_all : holdings g image i ≡ flat_map (seen_at g image i) (places (form_at g image i))
   unfolding holdings places
   seen_all =

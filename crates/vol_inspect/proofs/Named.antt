@@ -1,4 +1,4 @@
--- How many places name a block: at each level, and in all.
+-- The number of places that name a block: at each level, and in all.
 use Rattle.std.proofs.Common.{◌≡◌, ◌≢◌, ℕ, zero, suc, ◌+◌, ◌-◌, ◌≤◌, ◌∙◌, ◌==◌, ◌&&◌, sym, ap, not, Bool, true, false, if◌then◌else◌, List, [], ◌∷◌, map, refl, arith, inl, inr}
 use Rattle.std.proofs.lemmas.Bool.{cases_eq, ne_eqb}
 use Rattle.std.proofs.lemmas.List.Sums.{sum_by-cons}
@@ -23,11 +23,11 @@ use Rattle.vol_inspect.specs.Placing.{found_at, names_at, node_count, wanted_cou
 use Rattle.vol_inspect.proofs.Found.{here_at}
 use Rattle.vol_inspect.proofs.LaidOut.{pointers_or_none}
 
--- what the levels 0 to 3 come to
+-- the sum over the levels 0 to 3
 abbrev pub all_levels : (ℕ → ℕ) → ℕ
 all_levels f = f 0 + f 1 + f 2 + f 3
 
--- sums at each level are the sum of what the levels come to
+-- sums at each level add up to the sum over the levels
 sum_levels : (f h : ℕ → ℕ → ℕ) (xs : List ℕ)
     → sum_by (λ x. all_levels (f x) + all_levels (h x)) xs ≡ all_levels (λ e. sum_by (λ x. f x e) xs) + all_levels (λ e. sum_by (λ x. h x e) xs)
 sum_levels f h [] = refl
@@ -37,7 +37,7 @@ sum_levels f h (x ∷ xs) =
     let other = λ (e : ℕ). sum_by-cons (λ y. h y e) x xs in
     omega (arith, rest, sum_by-cons (λ y. all_levels (f y) + all_levels (h y)) x xs, each 0, each 1, each 2, each 3, other 0, other 1, other 2, other 3)
 
--- what stands at one of the levels stands at one in all
+-- a block at one of the levels is at exactly one of them
 level_one : (t : Bool) (l : ℕ) → l ≤ 3 → one_if t ≡ all_levels (λ e. one_if (t && (e == l)))
 level_one false l low = refl
 level_one true zero low = refl
@@ -72,7 +72,7 @@ module _ (g : Geometry) (image : List ℕ) (i : ℕ) where
             omega (arith, rest, split, here, sum_by-cons (λ k. one_if (k == b)) (named g image i q) (blocks_at g image i qs))
       ]
 
-  -- what is found from the number of a place on is what the place and those below it name
+  -- the blocks found from the number of a place on are those that the place and the places below it name
   placed_from : (n d a c e : ℕ) (p : List ℕ) → n ≡ (constants g.edition).pointers → levels_below (form_at g image i) (a ∷ p) ≡ d
       → count_by (names_at g image i c e) (places_from n (a ∷ p) d) ≡ found_at g image d (named g image i (a ∷ p)) c e
   unfolding found_at

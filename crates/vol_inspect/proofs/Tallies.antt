@@ -22,7 +22,7 @@ pub counts_then : (g : Geometry) (f h more : ℕ → ℕ → ℕ) (old mid new :
 counts_then g f h more old mid new first next sum = λ c e zone lvl.
     let a = first c e zone lvl in let b = next c e zone lvl in let s = sum c e in omega (arith, a, b, s)
 
--- what was counted is this number
+-- the count is this number
 pub counts_as : (g : Geometry) (f more : ℕ → ℕ → ℕ) (old new : List ℕ) → Counts g f old new → ((c e : ℕ) → more c e ≡ f c e) → Counts g more old new
 counts_as g f more old new done same = λ c e zone lvl. done c e zone lvl ∙ ap (λ x. min 2 (get_or old (4 * c + e) 0 + x)) (sym (same c e))
 
@@ -35,7 +35,7 @@ module _ (g : Geometry) (image : List ℕ) where
     closed = λ b l c e less zb zc lvl some. tally.closed b l c e (omega arith) zb zc lvl some;
   }
 
-  -- what was counted twice stays, with what lies below it
+  -- a block counted twice stays, with the blocks below it
   pub counts_twice : (d b : ℕ) (counts : List ℕ) → d ≤ 3 → IsTally g image d counts → in_zone g b ≡ true → 2 ≤ get_or counts (4 * b + d) 0
       → CountsFrom g image d b counts counts
   counts_twice d b counts le tally zone two = λ c e zc lvl.
@@ -66,7 +66,7 @@ module _ (g : Geometry) (image : List ℕ) where
             omega (arith, now, here_other b c e d other, low)
       ]
 
-  -- and what lies below blocks with fewer levels was counted as often as they
+  -- and blocks below others with fewer levels were counted as often as they
   pub tally_one : (d b : ℕ) (counts : List ℕ) → d ≤ 3 → 1 ≤ d → IsTally g image d counts → in_zone g b ≡ true → get_or counts (4 * b + d) 0 < 2
       → IsTally g image (d - 1) (set counts (4 * b + d) (get_or counts (4 * b + d) 0 + 1))
   tally_one d b counts le deep tally zone few =

@@ -1,4 +1,4 @@
--- The uses of blocks, by what was counted.
+-- The uses of blocks, by the counts.
 use Rattle.std.proofs.Common.{◌≡◌, ℕ, ◌+◌, ◌*◌, ◌<◌, ◌≤◌, ◌∙◌, ◌==◌, sym, ap, min, not, Bool, true, false, cond, if◌then◌else◌, nat_lt, List, [], ◌∷◌, get_or, refl, arith, lit≤, inl, inr}
 use Rattle.std.proofs.lemmas.Bool.{cases_lt, ltb-false, lt-ltb}
 use Rattle.std.proofs.lemmas.List.Sums.{sum_by-cons}
@@ -28,7 +28,7 @@ zone_within geometry k from to = grind (arith, from, to)
 count_here : (counts : List ℕ) (b n : ℕ) → get_or counts (4 * b + 0) 0 ≡ n → get_or counts (4 * b) 0 ≡ n
 count_here counts b n is = let at : 4 * b ≡ 4 * b + 0 = omega arith in ap (λ k. get_or counts k 0) at ∙ is
 
--- four numbers, each counted up to two, come to as many up to two
+-- four numbers, each counted up to two, add up to the same number up to two
 capped : (a b c d : ℕ) → min 2 (min 2 a + min 2 b + min 2 c + min 2 d) ≡ min 2 (a + b + c + d)
 capped a b c d = omega arith
 
@@ -54,7 +54,7 @@ named_is g image directories files b fits zone ds fs =
     (kind_is g image directories kinds.Directory b ds zone) (kind_is g image files kinds.Regular b fs zone)
     ∙ ap (min 2) (sym (used_by_level g image b (zone_some g image b fits zone)))
 
--- what stands in an array is listed
+-- a block in an array is listed
 listed_yes : (left : ℕ) → is_listed (listed_at left) ≡ true
 listed_yes left = elim (left == 1) as (λ t. is_listed (if t then Linking else Plain) ≡ true) [ true ↦ refl | false ↦ refl ]
 
@@ -75,7 +75,7 @@ pub met_is : (g : Geometry) (image : List ℕ) (b : ℕ) → is_listed (listed_o
 unfolding met_count
 met_is g image b = sym (listed_met g image b (free_walk g image).met)
 
--- what two places name is named twice
+-- a block that two places name is named twice
 twice : (n d f : ℕ) (met : Bool) (how : Listed) → 2 ≤ n → data_use n met how d f ≡ uses.Twice
 twice n d f met how many =
     ap (λ t. cond t uses.Twice (if is_lost_of n met then uses.Lost else if met then free_use how
@@ -93,7 +93,7 @@ data_is n d f u x y met how count first next all = elim (cases_lt u 2) [
   | inr many ↦ twice n d f met how (omega (arith, count, many)) ∙ sym (twice u x y met how many)
 ]
 
--- what was counted gives the use of each block
+-- the counts give the use of each block
 pub use_is : (g : Geometry) (image directories files : List ℕ) (listed : List Listed) (b : ℕ) → Fits g image → b < g.zone_end
     → CountsKind g image kinds.Directory directories → CountsKind g image kinds.Regular files
     → ((x : ℕ) → x < g.zone_end → get_or listed x Absent ≡ listed_of g image x) → use_in g directories files listed b ≡ use_of g image b

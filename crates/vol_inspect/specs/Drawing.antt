@@ -4,7 +4,7 @@ use Rattle.std.specs.List.{flat_map, range_with_len}
 use Rattle.vol_inspect.specs.declared.uses.Use.{Use}
 use Rattle.vol_inspect.specs.declared.uses.Use.TheVariants as uses
 
--- how telling a use is where several blocks have one cell (this project)
+-- the priority of a use if several blocks share a cell (this project)
 abbrev pub telling : Use → ℕ
 telling uses.Free = 0
 telling uses.Chain = 1
@@ -17,17 +17,17 @@ telling uses.SuperBlock = 7
 telling uses.Lost = 8
 telling uses.Twice = 9
 
--- the more telling of two uses (this project)
+-- the use with the higher priority (this project)
 abbrev pub more_telling : Use → Use → Use
 more_telling a b = if nat_lt (telling a) (telling b) then b else a
 
--- the cells of so many blocks each, where the first has room for `left` more and its blocks so far have this most telling use (this project)
+-- the cells of some blocks each, where the first has room for `left` more, and the use with the highest priority among its blocks so far is given (this project)
 unfoldable pub cells_from : ℕ → ℕ → Use → List Use → List Use
 cells_from blocks left best [] = best ∷ []
 cells_from blocks zero best (u ∷ us) = best ∷ cells_from blocks (blocks - 1) u us
 cells_from blocks (suc left) best (u ∷ us) = cells_from blocks left (more_telling best u) us
 
--- the cells of so many blocks each, of which a free block is the least telling (this project)
+-- the cells of some blocks each; a free block has the lowest priority (this project)
 abbrev pub cells : ℕ → List Use → List Use
 cells blocks found = cells_from blocks blocks uses.Free found
 
@@ -70,12 +70,12 @@ colour uses.Chain = 45
 colour uses.Lost = 103
 colour uses.Twice = 41
 
--- a cell: its letter, between the codes that set and reset the colour if they are asked for (ECMA-48)
+-- a cell: its letter, with colours between the codes that set and reset the colour (ECMA-48)
 abbrev pub cell_text : Bool → Use → List ℕ
 cell_text false u = letter u
 cell_text true u = (27 ∷ 91 ∷ []) ++ (decimal (colour u) ++ (codes "m" ++ (letter u ++ (27 ∷ 91 ∷ 48 ∷ 109 ∷ []))))
 
--- cell k, with a newline before it where a row begins with it, unless it is the first (this project)
+-- cell k, with a newline before it if it begins a row other than the first (this project)
 abbrev pub row_cell : Bool → ℕ → Use → ℕ → List ℕ
 row_cell coloured width u k = (if nat_lt 0 k && (k % width == 0) then codes "\n" else []) ++ cell_text coloured u
 

@@ -1,4 +1,4 @@
--- The blocks that an i-node names, and how they are joined to extents.
+-- The blocks that an i-node names, joined to extents.
 use Rattle.std.specs.Prelude.{◌≡◌, ℕ, zero, suc, ◌+◌, ◌*◌, ◌^◌, ◌==◌, ◌&&◌, Bool, true, false, not, if◌then◌else◌, List, [], ◌∷◌, ◌++◌, Option, None, Some}
 use Rattle.std.specs.List.{flat_map, range_with_len}
 use Rattle.vol_layout.specs.Edition.{constants}
@@ -11,22 +11,22 @@ use Rattle.vol_file.specs.Clears.{first_at}
 use Rattle.vol_inspect.specs.declared.extent.Extent.{Extent}
 use Rattle.vol_inspect.specs.declared.gathering.Gathering.{Gathering}
 
--- one block, with so many levels of blocks below it, and the first logical block that it holds or leads to (Lions on bmap)
+-- one block, with the number of levels of blocks below it, and the first logical block that it holds or leads to (Lions on bmap)
 abbrev pub single : Geometry → ℕ → ℕ → ℕ → Extent
 single g level logical b = record { level = level; logical = logical; block = b; count = 1; inside = in_zone g b }
 
--- whether two truth values are the same (this project)
+-- true if two truth values are the same (this project)
 abbrev pub same_bool : Bool → Bool → Bool
 same_bool true b = b
 same_bool false b = not b
 
--- whether a single block of data goes on where an extent of data ends (this project)
+-- true if a single data block continues an extent of data (this project)
 abbrev pub joins : Extent → Extent → Bool
 joins e next =
     (e.level == 0) && ((next.level == 0) && (same_bool e.inside next.inside
     && ((e.logical + e.count == next.logical) && (e.block + e.count == next.block))))
 
--- an extent and one block more (this project)
+-- an extent with one more block (this project)
 abbrev pub extended : Extent → Extent
 extended e = record e { count = e.count + 1 }
 
@@ -37,15 +37,15 @@ gathered (Some e) [] = e ∷ []
 gathered None (next ∷ later) = gathered (Some next) later
 gathered (Some e) (next ∷ later) = if joins e next then gathered (Some (extended e)) later else e ∷ gathered (Some next) later
 
--- the extents once further single blocks are joined to those found so far (this project)
+-- the extents after more single blocks are joined to those found so far (this project)
 abbrev pub gathering_with : Gathering → List Extent → List Extent
 gathering_with s later = s.done.items ++ gathered s.last later
 
--- single blocks were joined to those found so far, whatever comes later (this project)
+-- single blocks were joined to those found so far, whatever follows (this project)
 abbrev pub Collects : Gathering → Gathering → List Extent → Type 0
 Collects old new found = (later : List Extent) → gathering_with new later ≡ gathering_with old (found ++ later)
 
--- number b and those found below it in d levels, in the order of the places, without those that are 0 (Lions on bmap)
+-- number b and the numbers below it in d levels, in the order of the places, without those that are 0 (Lions on bmap)
 unfoldable pub holdings_from : Geometry → List ℕ → ℕ → ℕ → ℕ → List Extent
 holdings_from g image zero logical b = if b == 0 then [] else single g 0 logical b ∷ []
 holdings_from g image (suc d) logical b = if b == 0 then [] else
@@ -53,7 +53,7 @@ holdings_from g image (suc d) logical b = if b == 0 then [] else
     ∷ flat_map (λ j. holdings_from g image d (logical + j * (constants g.edition).pointers ^ d) (pointer_in g image b j))
     (range_with_len 0 (constants g.edition).pointers)
 
--- what address k of i-node i leads to (Lions on bmap; ino.h)
+-- the blocks below address k of i-node i (Lions on bmap; ino.h)
 abbrev pub address_holdings : Geometry → List ℕ → ℕ → ℕ → List Extent
 address_holdings g image i k =
     holdings_from g image (levels (form_at g image i) k) (first_at (form_at g image i) k) (address_at g.edition image (inode_place g.edition i) k)

@@ -1,4 +1,4 @@
--- What is shown of an image.
+-- The reports on parts of an image.
 use Rattle.std.specs.Prelude.{◌≡◌, ℕ, ◌==◌, ◌||◌, nat_lt, List, Result, Ok, Err, IsOk, if◌then◌else◌, ◌+◌, ◌*◌, [], ◌∷◌, length, map, slice_index}
 use Rattle.std.specs.List.{range_with_len}
 use Rattle.pdp_words.specs.Words.{word, long}
@@ -26,38 +26,38 @@ pub record IsInodeReport (g : Geometry) (image : List ℕ) (i : ℕ) (report : I
   pub node : report.node ≡ inode_of g.edition image i
   pub extents : report.extents.items ≡ extents_of g image i
 
--- why an i-node of an image with this geometry isn't shown, or the geometry (this project)
+-- the reason why an i-node of an image with this geometry isn't shown, or the geometry (this project)
 abbrev pub numbered_in : ℕ → Result Geometry GeometryFault → Result Geometry InspectFault
 numbered_in i (Err fault) = Err (Unsound fault)
 numbered_in i (Ok g) = if (i == 0) || nat_lt g.last_inode i then Err NoEntry else Ok g
 
--- the geometry of an image in which i-node i can be shown, or why it can't: rules 1 and 2 are asked first (this project)
+-- the geometry of an image in which i-node i can be shown, or the reason why it can't: rules 1 and 2 are checked first (this project)
 unfoldable pub node_in : Edition → List ℕ → ℕ → Result Geometry InspectFault
 node_in edition image i = numbered_in i (geometry_read edition image)
 
--- a fault that the image is the cause of (this project)
+-- a fault of the image itself (this project)
 abbrev pub IsImagesFault : InspectFault → Type 0
 IsImagesFault NoMemory = ⊥
 IsImagesFault NoEntry = Unit {0}
 IsImagesFault (Unsound fault) = Unit {0}
 
--- what is shown of i-node i, or why nothing is (this project)
+-- the report on i-node i, or the reason why there is none (this project)
 abbrev pub InspectsInode : Edition → List ℕ → ℕ → Result InodeReport InspectFault → Type 0
 InspectsInode edition image i (Ok report) = (g : Geometry) × (node_in edition image i ≡ Ok g) × IsInodeReport g image i report
 InspectsInode edition image i (Err NoMemory) = IsOk (node_in edition image i)
 InspectsInode edition image i (Err NoEntry) = node_in edition image i ≡ Err NoEntry
 InspectsInode edition image i (Err (Unsound fault)) = node_in edition image i ≡ Err (Unsound fault)
 
--- how many of an array's places are in use, by its count: all of them where that is greater (this project)
+-- the number of an array's entries in use, by its count: all of them if that is greater (this project)
 abbrev pub used : ℕ → ℕ → ℕ
 used count places = if nat_lt places count then places else count
 
--- the numbers of the free array that are in use, in its order (filsys.h)
+-- the numbers in use in the free array, in order (filsys.h)
 unfoldable pub free_numbers : Edition → List ℕ → List ℕ
 free_numbers edition image =
     map (λ k. number edition image (free_head edition + 2) k) (range_with_len 0 (used (word image (free_head edition)) (constants edition).free_slots))
 
--- the i-numbers of the cache that are in use, in its order (filsys.h)
+-- the i-numbers in use in the cache, in order (filsys.h)
 unfoldable pub cached_numbers : Edition → List ℕ → List ℕ
 cached_numbers edition image = map (λ k. word image (cache_head edition + 2 + 2 * k)) (range_with_len 0 (used (word image (cache_head edition)) 100))
 
@@ -82,7 +82,7 @@ pub record IsSuperReport (g : Geometry) (image : List ℕ) (report : SuperReport
   pub flags : report.flags ≡ flag_bytes g.edition image
   pub time : report.time ≡ long image (time_place g.edition)
 
--- what is shown of the super-block, or why nothing is (this project)
+-- the report on the super-block, or the reason why there is none (this project)
 abbrev pub InspectsSuper : Edition → List ℕ → Result SuperReport InspectFault → Type 0
 InspectsSuper edition image (Ok report) = (g : Geometry) × (geometry_read edition image ≡ Ok g) × IsSuperReport g image report
 InspectsSuper edition image (Err (Unsound fault)) = geometry_read edition image ≡ Err fault

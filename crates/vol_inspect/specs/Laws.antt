@@ -1,4 +1,4 @@
--- Statements of what is shown of an i-node.
+-- The law about the report on an i-node, as a statement.
 use Rattle.std.specs.Prelude.{◌≡◌, ℕ, ◌+◌, ◌==◌, if◌then◌else◌, List, [], ◌∷◌, map}
 use Rattle.std.specs.List.{flat_map, range_with_len}
 use Rattle.vol_layout.specs.Geometry.{Fits}
@@ -13,15 +13,15 @@ use Rattle.vol_inspect.specs.declared.extent.Extent.{Extent}
 abbrev pub laid_out : Extent → List Extent
 laid_out e = map (λ j. record e { logical = e.logical + j; block = e.block + j; count = 1 }) (range_with_len 0 e.count)
 
--- a number that is named, by itself; 0 names nothing (Lions on bmap)
+-- a number that is named, as one block; 0 names nothing (Lions on bmap)
 abbrev pub seen : Geometry → ℕ → ℕ → ℕ → List Extent
 seen g level logical b = if b == 0 then [] else single g level logical b ∷ []
 
--- what place p of i-node i names, with how many levels of blocks below it, and the first logical block at or below the place (Lions on bmap)
+-- the block that place p of i-node i names, with the number of levels of blocks below it, and the first logical block at or below the place (Lions on bmap)
 abbrev pub seen_at : Geometry → List ℕ → ℕ → List ℕ → List Extent
 seen_at g image i p = seen g (levels_below (form_at g image i) p) (first_block (form_at g image i) p) (named g image i p)
 
--- block by block the extents of an i-node are what its places name, in the order of the places (Lions on itrunc)
+-- block by block, the extents of an i-node are the blocks that its places name, in the order of the places (Lions on itrunc)
 abbrev pub ShowsPlaces : Type 0
 ShowsPlaces = (g : Geometry) (image : List ℕ) (i : ℕ) → Fits g image
     → flat_map laid_out (extents_of g image i) ≡ flat_map (seen_at g image i) (places (form_at g image i))

@@ -6,17 +6,17 @@ use Rattle.vol_inspect.specs.declared.uses.Use.{Use}
 use Rattle.vol_inspect.specs.declared.uses.Use.TheVariants as uses
 use Rattle.vol_inspect.specs.declared.picturing.TheConstants.{STYLE}
 
--- how many rows of a width cells fill (this project)
+-- the number of rows of a width that cells fill (this project)
 abbrev pub row_count : ℕ → List Use → ℕ
 row_count width found = (length found + (width - 1)) / width
 
--- what stands before the squares: the size of the picture, and the colours (SVG 1.1)
+-- the text before the squares: the size of the picture, and the colours (SVG 1.1)
 abbrev pub head_text : ℕ → ℕ → List ℕ
 head_text width top =
     codes "<svg xmlns='http://www.w3.org/2000/svg' width='" ++ (decimal (10 * width + 120)
     ++ (codes "' height='" ++ (decimal (top + 140) ++ codes "'>\n"))) ++ STYLE.now
 
--- a square of a use at a place (SVG 1.1)
+-- a square of a use at a position (SVG 1.1)
 abbrev pub square_text : Use → ℕ → ℕ → List ℕ
 square_text u x y =
     codes "<path class='" ++ (letter u ++ (codes "' d='M" ++ (decimal x ++ (codes " " ++ (decimal y ++ codes "h9v9h-9z'/>\n")))))

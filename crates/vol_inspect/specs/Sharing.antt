@@ -5,11 +5,11 @@ use Rattle.vol_layout.specs.declared.geometry.Geometry.{Geometry}
 use Rattle.vol_reports.specs.Blocks.{use_count}
 use Rattle.vol_inspect.specs.Uses.{named_in}
 
--- whether block b was counted twice, by the counts of the places of directories and of regular files (icheck)
+-- true if block b was counted at least twice, by the counts of the places of directories and of regular files (icheck)
 abbrev pub is_counted_twice : List ℕ → List ℕ → ℕ → Bool
 is_counted_twice directories files b = nat_lt 1 (named_in directories (4 * b) + named_in files (4 * b))
 
--- whether two places name block b (icheck)
+-- true if two places name block b (icheck)
 abbrev pub is_shared : Geometry → List ℕ → ℕ → Bool
 is_shared g image b = nat_lt 1 (use_count g image b)
 

@@ -1,4 +1,4 @@
--- The text of what is shown.
+-- The text of the reports.
 use Rattle.std.specs.Prelude.{ℕ, ◌+◌, ◌-◌, ◌%◌, ◌==◌, nat_lt, Bool, true, false, if◌then◌else◌, List, [], ◌∷◌, ◌++◌, codes, decimal, length, take, Option, None, Some, slice_index}
 use Rattle.std.specs.List.{flat_map, range_with_len}
 use Rattle.std.specs.Fmt.{digits}
@@ -19,7 +19,7 @@ octal_text n = 48 ∷ digits 8 false n
 unfoldable pub all_spaced : List ℕ → List ℕ
 all_spaced numbers = flat_map (λ n. 32 ∷ decimal n) numbers
 
--- the word of a kind of i-node (this project)
+-- the word for a kind of i-node (this project)
 abbrev pub kind_name : Kind → List ℕ
 kind_name kinds.Free = codes "free"
 kind_name kinds.Regular = codes "file"
@@ -27,16 +27,16 @@ kind_name kinds.Directory = codes "directory"
 kind_name kinds.Special = codes "special"
 kind_name kinds.Odd = codes "odd"
 
--- the first and the last of so many numbers, or the only one (this project)
+-- the first and the last of a range of numbers, or the only one (this project)
 abbrev pub range_text : ℕ → ℕ → List ℕ
 range_text first count = if nat_lt count 2 then decimal first else decimal first ++ (codes "-" ++ decimal (first + (count - 1)))
 
--- what is said of numbers that are no data blocks' (this project)
+-- the note on numbers that are not those of data blocks (this project)
 abbrev pub inside_text : Bool → List ℕ
 inside_text true = []
 inside_text false = codes ", no data block"
 
--- what an indirect block with so many levels of blocks below it leads to (this project)
+-- the part of an indirect block's line about its levels and its first logical block (this project)
 abbrev pub below_text : ℕ → ℕ → List ℕ
 below_text level logical = codes "pointers, level " ++ (decimal level ++ (codes ", from logical " ++ decimal logical))
 
@@ -89,7 +89,7 @@ sizes_text report =
     ++ (codes "\nfsize " ++ (decimal report.block_count
     ++ (codes "\nnfree " ++ decimal report.free_count))))
 
--- the lines of the flags and of the time, behind the i-number cache (this project)
+-- the lines of the flags and of the time, after the i-number cache (this project)
 abbrev pub guards_text : SuperReport → List ℕ
 guards_text report =
     codes "\nflock " ++ (decimal (slice_index report.flags 0)
@@ -99,7 +99,7 @@ guards_text report =
     ++ (codes "\ntime " ++ (decimal report.time
     ++ codes "\n")))))))))
 
--- the lines of what is counted: data blocks and i-nodes, and how many are free (this project)
+-- the lines of the totals: data blocks and i-nodes, and how many of them are free (this project)
 abbrev pub counts_text : SuperReport → List ℕ
 counts_text report =
     codes "data blocks " ++ (decimal (report.geometry.zone_end - report.geometry.zone_start)
@@ -116,11 +116,11 @@ line_head name k = codes "\n" ++ (name ++ (codes "[" ++ (decimal k ++ codes "]")
 abbrev pub array_item : List ℕ → ℕ → ℕ → List ℕ
 array_item name n k = (if k % 10 == 0 then line_head name k else []) ++ (32 ∷ decimal n)
 
--- the numbers of an array, ten on a line behind the index of the first (this project)
+-- the numbers of an array, ten on a line after the index of the first (this project)
 unfoldable pub array_text : List ℕ → List ℕ → List ℕ
 array_text name numbers = flat_map (λ k. array_item name (slice_index numbers k) k) (range_with_len 0 (length numbers))
 
--- the lines of the counts, and those of the free array (this project)
+-- the lines of the counts and of the free array (this project)
 abbrev pub free_text : SuperReport → List ℕ
 free_text report = sizes_text report ++ array_text (codes "free") report.free.items
 
@@ -128,10 +128,10 @@ free_text report = sizes_text report ++ array_text (codes "free") report.free.it
 abbrev pub cache_text : SuperReport → List ℕ
 cache_text report = codes "\nninode " ++ decimal report.cache_count ++ array_text (codes "inode") report.cache.items
 
--- the lines of what is counted, and of the fault (this project)
+-- the lines of the totals and of the fault (this project)
 abbrev pub found_text : SuperReport → List ℕ
 found_text report = counts_text report ++ free_fault_line report.fault
 
--- the super-block: its fields by their names in filsys.h, and what is counted (this project)
+-- the super-block: its fields by their names in filsys.h, and the totals (this project)
 abbrev pub super_text : SuperReport → List ℕ
 super_text report = free_text report ++ (cache_text report ++ (guards_text report ++ found_text report))

@@ -32,7 +32,7 @@ pub const ALL: [Use; 10] = [
 ];
 
 impl Use {
-    /// The letter of a cell.
+    /// Returns the letter of a cell.
     pub fn letter(self) -> &'static str
         ensures { result.now ≡ letter self }
     {
@@ -50,7 +50,7 @@ impl Use {
         }
     }
 
-    /// The name of the use.
+    /// Returns the name of the use.
     pub fn name(self) -> &'static str
         ensures { result.now ≡ name self }
     {
@@ -68,7 +68,7 @@ impl Use {
         }
     }
 
-    /// The number of the background colour on a terminal.
+    /// Returns the number of the background colour on a terminal.
     fn colour(self) -> u8
         ensures { result ≡ colour self }
     {
@@ -87,7 +87,7 @@ impl Use {
     }
 }
 
-/// The drawing of cells: rows of `width` letters, and a legend. With colours, each letter stands between the codes of a terminal.
+/// Draws cells in rows of `width` letters, and a legend. With colours, each letter is between the colour codes of a terminal.
 ///
 /// Costs as much as the text is long, and memory for it.
 pub fn draw(
@@ -122,7 +122,7 @@ fn push_rows(
     Ok(())
 }
 
-/// Appends cell `k`, on a line of its own where a row begins with it, unless it is the first.
+/// Appends cell `k`, on a new line if it begins a row other than the first.
 fn push_row_cell(
     text: &mut String,
     one: Use,

@@ -1,9 +1,9 @@
-//! Why nothing of an image is shown.
+//! The reasons why nothing of an image is shown.
 use std::alloc::AllocError;
 use thiserror::Error;
 use vol_layout::GeometryFault;
 
-/// Why nothing of an image is shown.
+/// The reason why nothing of an image is shown.
 #[derive(Clone, Copy, Debug, PartialEq, Eq, Error)]
 pub enum InspectFault {
     /// The image breaks rule 1 or rule 2.

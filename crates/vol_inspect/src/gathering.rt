@@ -1,4 +1,4 @@
-//! Going over the blocks that an i-node names, which are joined to extents.
+//! Collecting the blocks that an i-node names, joined to extents.
 ghost use Rattle.std.specs.Prelude.{◌≡◌, ◌+◌, ◌-◌, ◌<◌, ◌≤◌, ◌^◌, [], ◌∷◌, OnOk, IfOk};
 ghost use Rattle.vol_layout.specs.Edition.{constants};
 ghost use Rattle.vol_layout.specs.Geometry.{Fits};
@@ -11,18 +11,18 @@ use std::alloc::{AllocError, Global};
 use vol_layout::i_list::{address, mode};
 use vol_layout::{Form, Geometry, number};
 
-/// The extents that were found so far.
+/// The extents found so far.
 #[derive(Drop)]
 pub(crate) struct Gathering {
-    /// Those to which nothing can be joined any more.
+    /// Those that no block can join any more.
     pub done: Vec<Extent>,
     /// The last one.
     pub last: Option<Extent>,
 }
 
-/// The extents of i-node `i`, from 1 to the last, in the order of its places.
+/// Returns the extents of i-node `i`, from 1 to the last, in the order of its places.
 ///
-/// Takes memory for the extents. Costs the numbers that the i-node's addresses lead to.
+/// Takes memory for the extents. Costs a read of each number below the i-node's addresses.
 pub(crate) fn extents(
     alloc: Global,
     image: &Image,
@@ -46,7 +46,7 @@ pub(crate) fn extents(
     Ok(done)
 }
 
-/// Collects what the addresses of i-node `i` lead to.
+/// Collects the blocks below the addresses of i-node `i`.
 fn note_inode(
     gathering: &mut Gathering,
     image: &Image,
@@ -67,7 +67,7 @@ fn note_inode(
     Ok(())
 }
 
-/// The first logical block below address `k`.
+/// Returns the first logical block below address `k`.
 fn first_logical(form: Form, k: usize) -> u32
     requires { k ≤ 12 }
     ensures value { result ≡ first_at form k }
@@ -82,7 +82,7 @@ fn first_logical(form: Form, k: usize) -> u32
     }
 }
 
-/// Collects number `b` and those found below it in `level` levels, if `b` isn't 0. The first logical block below it is
+/// Collects number `b` and the numbers below it in `level` levels, if `b` isn't 0. The first logical block below it is
 /// `logical`.
 fn note_from(
     gathering: &mut Gathering,
@@ -123,7 +123,7 @@ fn note_from(
     Ok(())
 }
 
-/// How many logical blocks lie below a number with so many levels of indirect blocks below it.
+/// Returns the number of logical blocks below a number that has `level` levels of indirect blocks below it.
 fn span(geometry: &Geometry, level: u8) -> u32
     requires { level ≤ 2 }
     ensures { result ≡ (constants geometry.now.edition).pointers ^ level }

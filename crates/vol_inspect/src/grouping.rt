@@ -6,8 +6,8 @@ use crate::uses::Use;
 use std::alloc::{AllocError, Global};
 
 impl Use {
-    /// How telling a use is where several blocks have one cell: what is wrong comes before what stands once on a volume, and that
-    /// before directories, indirect blocks, files and free blocks.
+    /// Returns the priority of a use if several blocks share a cell: faults first, then uses that occur once on a volume, then
+    /// directories, indirect blocks, files and free blocks.
     fn telling(self) -> u8
         ensures { result ≡ telling self }
     {
@@ -25,7 +25,7 @@ impl Use {
         }
     }
 
-    /// The more telling of two uses.
+    /// Returns the use with the higher priority.
     fn or_more_telling(self, other: Use) -> Use
         ensures { result ≡ more_telling self other }
     {
@@ -37,8 +37,8 @@ impl Use {
     }
 }
 
-/// The uses of cells for so many blocks each, one after another, the last for those that are left: the most telling use of its
-/// blocks.
+/// Returns the uses of cells of `blocks` blocks each, one after another, the last for the blocks that are left. A cell has the
+/// use with the highest priority among its blocks.
 pub fn cells(alloc: Global, uses: &[Use], blocks: usize) -> Result<Vec<Use>, AllocError>
     requires blocks { 1 ≤ blocks }
     requires some { 1 ≤ length uses.now }

@@ -1,4 +1,4 @@
-//! An i-node, with the blocks that it names.
+//! An i-node and the blocks that it names.
 ghost use Rattle.std.specs.Prelude.{◌≡◌, ◌≤◌, OnOk, IfOk, IfErr, take};
 ghost use Rattle.vol_layout.specs.Geometry.{Fits};
 ghost use Rattle.vol_inspect.specs.Inspecting.{InspectsInode, node_in, IsImagesFault};
@@ -10,16 +10,16 @@ use pdp_words::Image;
 use std::alloc::Global;
 use vol_layout::{Edition, Geometry, Inode, inode};
 
-/// An i-node, with the blocks that it names.
+/// An i-node and the blocks that it names.
 #[derive(Debug, Drop)]
 pub struct InodeReport {
-    /// The edition whose layout the volume has.
+    /// The volume's edition.
     pub edition: Edition,
     /// The i-number.
     pub number: u16,
     /// The fields.
     pub node: Inode,
-    /// The blocks that its places name, in the order of the places, each indirect block before what it leads to. None for
+    /// The blocks that its places name, in the order of the places, each indirect block before the blocks below it. Empty for
     /// an i-node that is no regular file or directory.
     pub extents: Vec<Extent>,
 }
@@ -27,7 +27,7 @@ pub struct InodeReport {
 impl InodeReport {
     ghost use Rattle.vol_layout.specs.Inode.{address_count};
 
-    /// The addresses that an i-node of the edition has.
+    /// Returns the addresses that an i-node of the edition has.
     pub fn addresses(&self) -> &[u32]
         ensures { result.now ≡ take (address_count self.now.edition) self.now.node.addresses }
     {
@@ -38,9 +38,10 @@ impl InodeReport {
     }
 }
 
-/// I-node `number` of an image in which rules 1 and 2 hold, which may be any bytes otherwise. A free i-node is shown too.
+/// Returns the report on i-node `number`. Rules 1 and 2 hold for the image, which may have any bytes otherwise. A free i-node
+/// is shown too.
 ///
-/// Costs the numbers that the i-node's addresses lead to, whatever its size says. Takes memory for the extents.
+/// Costs a read of each number below the i-node's addresses, whatever its size. Takes memory for the extents.
 pub fn inspect_inode(
     alloc: Global,
     edition: Edition,
@@ -60,7 +61,7 @@ pub fn inspect_inode(
     })
 }
 
-/// The geometry of an image in which i-node `number` can be shown.
+/// Returns the geometry of an image, or the reason why i-node `number` can't be shown.
 #[tactic(auto, unfolding(crate::specs::Inspecting::node_in))]
 fn open(edition: Edition, image: &Image, number: u16) -> Result<Geometry, InspectFault>
     ensures exact { result ≡ node_in edition image.now number }

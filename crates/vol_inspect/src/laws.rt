@@ -1,4 +1,4 @@
-//! A law about what is shown of an i-node. A call does nothing: what matters is the contract, which is proved.
+//! A law about the report on an i-node. The function does nothing: the contract, which is proved, is the point.
 ghost use Rattle.vol_inspect.specs.Laws.{ShowsPlaces};
 
 /// The extents of an i-node are the blocks that its places name, in the order of the places, each with the

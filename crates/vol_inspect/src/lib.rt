@@ -1,5 +1,5 @@
-//! What stands in an image, to be looked at: an i-node with the blocks that it names, the super-block, and what each block is
-//! used for, with pictures of that.
+//! Looking into an image: an i-node with the blocks that it names, the super-block, and the use of each block, with pictures of
+//! that.
 #![tactic(auto)]
 
 mod drawing;

@@ -1,4 +1,4 @@
-//! Which blocks stand in the free list, and which of them chain it.
+//! The blocks in the free list, and which of them are chain blocks.
 ghost use Rattle.std.specs.Prelude.{◌≡◌, ℕ, ◌<◌, false, length, slice_index_or, IfOk};
 ghost use Rattle.vol_layout.specs.Geometry.{Fits};
 ghost use Rattle.vol_inspect.specs.Listing.{listed_at, listed_of};
@@ -8,18 +8,18 @@ use std::alloc::{AllocError, Global};
 use vol_free::FreeWalk;
 use vol_layout::Geometry;
 
-/// Whether and how a block stands in the free list.
+/// The status of a block in the free list.
 #[derive(Clone, Copy, Debug, PartialEq, Eq)]
 pub(crate) enum Listed {
-    /// It doesn't.
+    /// Not in the free list.
     Absent,
-    /// As a free block that holds nothing.
+    /// A free block without content.
     Plain,
-    /// As a free block that holds the count and the array by which the list goes on.
+    /// A free block with the next count and array of the list.
     Linking,
 }
 
-/// How each block of the volume stands in the free list, up to its first fault.
+/// Returns the status of each block of the volume in the free list, up to the list's first fault.
 pub(crate) fn listed_blocks(
     alloc: Global,
     image: &Image,
@@ -36,7 +36,7 @@ pub(crate) fn listed_blocks(
     Ok(listed)
 }
 
-/// Lists the blocks that a walk over the free list meets. No block is listed before, and no mark is set.
+/// Notes the blocks that a walk over the free list meets. None is noted before, and no mark is set.
 fn list(listed: &mut [Listed], marks: &mut [bool], image: &Image, geometry: &Geometry)
     requires fits { Fits geometry.now image.now }
     requires len { length listed.old ≡ geometry.now.zone_end }
@@ -56,7 +56,7 @@ fn list(listed: &mut [Listed], marks: &mut [bool], image: &Image, geometry: &Geo
     }
 }
 
-/// How a block stands in the free list that is the last of so many numbers left in an array.
+/// Returns the status of a free block that is the last of `left` entries left in an array.
 fn listed_at(left: u16) -> Listed
     ensures { result ≡ listed_at left }
 {

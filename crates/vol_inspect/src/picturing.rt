@@ -1,4 +1,4 @@
-//! A picture of the uses of blocks as SVG, which a browser shows.
+//! A picture of the uses of blocks as SVG, for a browser.
 ghost use Rattle.std.specs.Prelude.{◌≡◌, ◌+◌, ◌*◌, ◌<◌, ◌≤◌, ◌^◌, ◌++◌, length, IfOk, OnOk};
 ghost use Rattle.std.specs.String.{string_bytes};
 ghost use Rattle.vol_inspect.specs.Picturing.{row_count, head_text, square_text, squares_text, swatch_text, swatches_text, picture};
@@ -11,7 +11,7 @@ use std::alloc::{AllocError, Global};
 const STYLE: &str =
     "<style>text{font:10px sans-serif}.B{fill:#888}.S{fill:#444}.i{fill:#a6761d}.d{fill:#1f78b4}.f{fill:#33a02c}.p{fill:#b2df8a}.o{fill:#e8e8e8}.c{fill:#c8b8e8}.L{fill:#ff7f00}.T{fill:#e31a1c}</style>\n";
 
-/// A picture of cells as SVG: rows of `width` squares, and a legend below them.
+/// Returns a picture of cells as SVG: rows of `width` squares, and a legend below them.
 ///
 /// Costs as much as the text is long, and memory for it.
 pub fn svg(alloc: Global, cells: &[Use], width: usize) -> Result<String, AllocError>
@@ -29,7 +29,7 @@ pub fn svg(alloc: Global, cells: &[Use], width: usize) -> Result<String, AllocEr
     Ok(text)
 }
 
-/// How many rows there are.
+/// Returns the number of rows.
 fn row_count(cells: &[Use], width: usize) -> usize
     requires some { 1 ≤ width }
     requires narrow { width < 2 ^ 32 }
@@ -40,7 +40,7 @@ fn row_count(cells: &[Use], width: usize) -> usize
     (cells.len() + (width - 1)) / width
 }
 
-/// Appends what stands before the squares; the legend begins at `top`.
+/// Appends the text before the squares; the legend begins at `top`.
 fn push_head(text: &mut String, width: usize, top: usize) -> Result<(), AllocError>
     requires narrow { width < 2 ^ 32 }
     requires low { top < 2 ^ 40 }

@@ -1,4 +1,4 @@
-//! How many places name each block, counted up to two.
+//! The number of places that name each block, counted up to two.
 ghost use Rattle.std.specs.Prelude.{◌≡◌, ◌*◌, ◌≤◌, length};
 ghost use Rattle.vol_layout.specs.Geometry.{Fits};
 ghost use Rattle.vol_inspect.specs.Placing.{CountsFrom, CountsNode, CountsWanted, CountsKind, IsTally, IsClear};
@@ -8,8 +8,8 @@ use pdp_words::{BLOCK, Image};
 use vol_layout::i_list::{address, kind, mode};
 use vol_layout::{Form, Geometry, Kind, number};
 
-/// Counts the place that names number `b` with `level` levels of blocks below it, and those below it. What was counted twice
-/// isn't followed again: what lies below it was counted twice too.
+/// Counts the place that names number `b` with `level` levels of blocks below it, and the places below it. A block counted
+/// twice isn't followed again: the places below it were counted twice too.
 fn count_from(counts: &mut [u8], image: &Image, geometry: &Geometry, level: u8, b: u32)
     requires fits { Fits geometry.now image.now }
     requires level { level ≤ 3 }
@@ -50,7 +50,7 @@ fn count_node(counts: &mut [u8], image: &Image, geometry: &Geometry, i: u16)
     }
 }
 
-/// Counts the places of all i-nodes of a kind. None is counted before.
+/// Counts the places of all i-nodes of a kind. Nothing is counted before.
 pub(crate) fn count_kind(counts: &mut [u8], image: &Image, geometry: &Geometry, wanted: Kind)
     requires fits { Fits geometry.now image.now }
     requires len { length counts.old ≡ 4 * geometry.now.zone_end }
@@ -76,7 +76,7 @@ fn count_wanted(counts: &mut [u8], image: &Image, geometry: &Geometry, i: u16, w
     }
 }
 
-/// Whether two kinds are the same.
+/// True if two kinds are the same.
 fn is_kind(wanted: Kind, kind: Kind) -> bool
     ensures { result ≡ is_kind wanted kind }
 {

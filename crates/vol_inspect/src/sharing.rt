@@ -8,11 +8,11 @@ use pdp_words::Image;
 use std::alloc::{AllocError, Global};
 use vol_layout::{Geometry, Kind};
 
-/// The data blocks that two places of regular files and directories name, or more, to hold bytes or as an indirect block; they
-/// ascend. The image may be any bytes otherwise.
+/// Returns the data blocks that at least two places of regular files and directories name, to hold bytes or as an indirect
+/// block, in ascending order. The image may have any bytes otherwise.
 ///
-/// Costs at most two reads of each indirect block for each of the levels at which it stands in directories, and two for those at which
-/// it stands in regular files, however they lead to one another. Takes eight bytes for each block, and four for each that is found.
+/// Reads each indirect block at most twice for each level at which directories name it, and twice for each level at which
+/// regular files do, however they are linked. Takes eight bytes for each block, and four for each that is found.
 pub fn shared_blocks(
     alloc: Global,
     image: &Image,
@@ -32,7 +32,7 @@ pub fn shared_blocks(
     Ok(shared)
 }
 
-/// Whether block `b` was counted twice, or more often.
+/// True if block `b` was counted at least twice.
 fn is_counted_twice(directories: &[u8], files: &[u8], b: u32) -> bool
     requires directories { 4 * b + 3 < length directories.now }
     requires files { 4 * b + 3 < length files.now }

@@ -1,4 +1,4 @@
-//! The super-block, with what it says of the volume.
+//! The super-block, and the volume that it describes.
 ghost use Rattle.std.specs.Prelude.{◌≡◌, ◌≤◌, length, IfOk};
 ghost use Rattle.vol_layout.specs.Geometry.{Fits};
 ghost use Rattle.vol_layout.specs.declared.mode.Kind.TheVariants as kinds;
@@ -13,40 +13,41 @@ use vol_free::{FreeFault, walk_free};
 use vol_layout::i_list::kind;
 use vol_layout::{Edition, Flag, Geometry, Kind, Super};
 
-/// The super-block, with what it says of the volume.
+/// The super-block, and the volume that it describes.
 #[derive(Debug, Drop)]
 pub struct SuperReport {
     /// The sizes of the volume.
     pub geometry: Geometry,
-    /// `s_isize`: in the sixth edition how many blocks the i-list has, in the seventh the first block after it.
+    /// `s_isize`: the number of blocks of the i-list in the sixth edition, the first block after it in the seventh.
     pub list_size: u16,
-    /// `s_fsize`: how many blocks the volume has.
+    /// `s_fsize`: the number of blocks of the volume.
     pub block_count: u32,
-    /// `s_nfree`: how many numbers of the free array are in use, as it is stored.
+    /// `s_nfree`: the number of block numbers in use in the free array, as it is stored.
     pub free_count: u16,
-    /// `s_free`: the numbers of the array that are in use, in its order. The first is the link to the next block of the chain, and the
-    /// last is the next to be taken. If the count is above the array's length, all of them.
+    /// `s_free`: the numbers in use in the array, in order. The first is that of the next chain block, and the last is the next
+    /// to be taken. If the count is above the array's length, all of them.
     pub free: Vec<u32>,
-    /// How many blocks the free list has, up to its first fault.
+    /// The number of blocks in the free list, up to its first fault.
     pub free_blocks: usize,
-    /// Why the walk over the free list ended before its end, with the count or number at fault.
+    /// The fault that ended the walk over the free list, if any, with the count or number at fault.
     pub fault: Option<(FreeFault, u32)>,
-    /// `s_ninode`: how many i-numbers of the cache are in use, as it is stored.
+    /// `s_ninode`: the number of i-numbers in use in the cache, as it is stored.
     pub cache_count: u16,
-    /// `s_inode`: the i-numbers of the cache that are in use, in its order; the last is the next to be taken. If the count is above 100,
-    /// all of them.
+    /// `s_inode`: the i-numbers in use in the cache, in order; the last is the next to be taken. If the count is above 100, all
+    /// of them.
     pub cache: Vec<u16>,
-    /// How many i-nodes are free.
+    /// The number of free i-nodes.
     pub free_inodes: u16,
     /// `s_flock`, `s_ilock`, `s_fmod` and `s_ronly`, as they are stored.
     pub flags: [u8; 4],
-    /// `s_time`: when the volume was last changed, in seconds.
+    /// `s_time`: the time of the volume's last change, in seconds.
     pub time: u32,
 }
 
-/// The super-block of an image in which rules 1 and 2 hold, which may be any bytes otherwise.
+/// Returns the report on the super-block. Rules 1 and 2 hold for the image, which may have any bytes otherwise.
 ///
-/// Reads the i-list, and the free list up to its first fault. Takes a byte for each block of the volume, and four for each free one.
+/// Reads the i-list, and the free list up to its first fault. Takes a byte for each block of the volume, and four for each free
+/// one.
 pub fn inspect_super(
     alloc: Global,
     edition: Edition,
@@ -59,7 +60,7 @@ pub fn inspect_super(
     Ok(super_report(alloc, image, &geometry)?)
 }
 
-/// The super-block of an image with a geometry, as [`inspect_super`] reports it.
+/// Returns the report of [`inspect_super`] on an image with a geometry.
 pub fn super_report(
     alloc: Global,
     image: &Image,
@@ -91,7 +92,7 @@ pub fn super_report(
     })
 }
 
-/// How many of an array's places are in use, by its count.
+/// Returns the number of an array's entries in use, by its count.
 fn used(count: u16, places: u16) -> u16
     ensures value { result ≡ used count places }
     ensures bound { result ≤ places }
@@ -99,7 +100,7 @@ fn used(count: u16, places: u16) -> u16
     if count > places { places } else { count }
 }
 
-/// The numbers of the free array that are in use, in its order.
+/// Returns the numbers in use in the free array, in order.
 fn free_numbers(alloc: Global, image: &Image, edition: Edition) -> Result<Vec<u32>, AllocError>
     requires { 1024 ≤ length image.now }
     ensures { IfOk result (λ numbers. numbers.items ≡ free_numbers edition image.now) }
@@ -113,7 +114,7 @@ fn free_numbers(alloc: Global, image: &Image, edition: Edition) -> Result<Vec<u3
     Ok(numbers)
 }
 
-/// The i-numbers of the cache that are in use, in its order.
+/// Returns the i-numbers in use in the cache, in order.
 fn cached_numbers(alloc: Global, image: &Image, edition: Edition) -> Result<Vec<u16>, AllocError>
     requires { 1024 ≤ length image.now }
     ensures { IfOk result (λ numbers. numbers.items ≡ cached_numbers edition image.now) }
@@ -127,10 +128,10 @@ fn cached_numbers(alloc: Global, image: &Image, edition: Edition) -> Result<Vec<
     Ok(numbers)
 }
 
-/// How many places the cache has for i-numbers.
+/// The number of i-numbers that the cache can hold.
 const CACHE_PLACES: u16 = 100;
 
-/// How many i-nodes are free.
+/// Returns the number of free i-nodes.
 fn free_inodes(image: &Image, geometry: &Geometry) -> u16
     requires { Fits geometry.now image.now }
     ensures { result ≡ kind_count geometry.now image.now kinds.Free }
@@ -142,7 +143,7 @@ fn free_inodes(image: &Image, geometry: &Geometry) -> u16
     count
 }
 
-/// Whether i-node `i` is free.
+/// True if i-node `i` is free.
 fn is_free(image: &Image, geometry: &Geometry, i: u16) -> bool
     requires fits { Fits geometry.now image.now }
     requires first { 1 ≤ i }
@@ -152,7 +153,7 @@ fn is_free(image: &Image, geometry: &Geometry, i: u16) -> bool
     matches!(kind(image, geometry, i), Kind::Free)
 }
 
-/// The flag bytes.
+/// Returns the flag bytes.
 fn flags(image: &Image, edition: Edition) -> [u8; 4]
     requires { 1024 ≤ length image.now }
     ensures { result ≡ flag_bytes edition image.now }

@@ -1,4 +1,4 @@
-//! The text of what is shown.
+//! The text of the reports.
 ghost use Rattle.std.specs.Prelude.{◌≡◌, ◌≤◌, ◌++◌, OnOk, Some};
 ghost use Rattle.std.specs.String.{string_bytes};
 ghost use Rattle.vol_inspect.specs.Texts.{
@@ -34,8 +34,8 @@ use vol_free::FreeFault;
 use vol_layout::Kind;
 
 impl InodeReport {
-    /// Appends the report's text: a line for each field by its name in the manual, the mode in octal digits with the kind and
-    /// the permissions behind it; then a line for each extent.
+    /// Appends the report's text: a line for each field by its name in the manual, the mode in octal digits followed by the
+    /// kind and the permissions; then a line for each extent.
     ///
     /// Costs as much as the text is long.
     pub fn push_text(&self, text: &mut String) -> Result<(), AllocError>
@@ -72,9 +72,9 @@ impl InodeReport {
 }
 
 impl SuperReport {
-    /// Appends the report's text: a line for each field by its name in `filsys.h`, and those of each array behind its count, ten numbers on a
-    /// line behind the index of the first; then how many data blocks and i-nodes there are, and how many are free; and a line for the fault of the
-    /// free list, if it has one, as the checkers print it.
+    /// Appends the report's text: a line for each field by its name in `filsys.h`, with the numbers of each array after its
+    /// count, ten on a line after the index of the first; then the numbers of data blocks and i-nodes, and how many of them are
+    /// free; then a line for the fault of the free list, if it has one, as the checkers print it.
     ///
     /// Costs as much as the text is long.
     pub fn push_text(&self, text: &mut String) -> Result<(), AllocError>
@@ -87,7 +87,7 @@ impl SuperReport {
         self.push_found(text)
     }
 
-    /// Appends the lines of the counts, and those of the free array.
+    /// Appends the lines of the counts and of the free array.
     fn push_free(&self, text: &mut String) -> Result<(), AllocError>
         ensures { OnOk result (string_bytes text.new ≡ string_bytes text.old ++ free_text self.now) }
     {
@@ -104,7 +104,7 @@ impl SuperReport {
         push_words(text, "inode", &self.cache)
     }
 
-    /// Appends the lines of what is counted, and of the fault.
+    /// Appends the lines of the totals and of the fault.
     fn push_found(&self, text: &mut String) -> Result<(), AllocError>
         requires { self.now.geometry.zone_start ≤ self.now.geometry.zone_end }
         ensures { OnOk result (string_bytes text.new ≡ string_bytes text.old ++ found_text self.now) }
@@ -141,7 +141,7 @@ impl SuperReport {
         )
     }
 
-    /// Appends the lines of what is counted.
+    /// Appends the lines of the totals.
     fn push_counts(&self, text: &mut String) -> Result<(), AllocError>
         requires { self.now.geometry.zone_start ≤ self.now.geometry.zone_end }
         ensures { OnOk result (string_bytes text.new ≡ string_bytes text.old ++ counts_text self.now) }
@@ -181,7 +181,7 @@ impl fmt::Display for Octal {
     }
 }
 
-/// So many numbers from one on.
+/// A range of `count` numbers.
 #[derive(Drop)]
 struct Range {
     first: u32,
@@ -201,7 +201,7 @@ impl fmt::Display for Range {
     }
 }
 
-/// What an indirect block leads to: with so many levels of blocks below it, from a logical block on.
+/// The part of an indirect block's line about its levels and its first logical block.
 #[derive(Drop)]
 struct Below {
     level: u8,
@@ -243,14 +243,14 @@ impl fmt::Display for Extent {
     }
 }
 
-/// What is said of numbers that are no data blocks'.
+/// Returns the note on numbers that are not those of data blocks.
 fn inside_text(inside: bool) -> &'static str
     ensures { result.now ≡ inside_text inside }
 {
     if inside { "" } else { ", no data block" }
 }
 
-/// The word of a kind of i-node.
+/// Returns the word for a kind of i-node.
 pub fn kind_name(kind: Kind) -> &'static str
     ensures { result.now ≡ kind_name kind }
 {
@@ -273,7 +273,7 @@ fn push_spaced(text: &mut String, numbers: &[u32]) -> Result<(), AllocError>
     Ok(())
 }
 
-/// Appends the numbers of an array of this name, ten on a line behind the index of the first.
+/// Appends the numbers of an array of this name, ten on a line after the index of the first.
 fn push_array(text: &mut String, name: &str, numbers: &[u32]) -> Result<(), AllocError>
     ensures { OnOk result (string_bytes text.new ≡ string_bytes text.old ++ array_text name.now numbers.now) }
 {
@@ -294,7 +294,7 @@ fn push_words(text: &mut String, name: &str, numbers: &[u16]) -> Result<(), Allo
     Ok(())
 }
 
-/// Appends number `k` of an array of this name, as the first of a line or behind others.
+/// Appends number `k` of an array of this name, at the beginning of a line or after other numbers.
 fn push_item(text: &mut String, name: &str, number: u32, k: usize) -> Result<(), AllocError>
     ensures { OnOk result (string_bytes text.new ≡ string_bytes text.old ++ array_item name.now number k) }
 {

@@ -1,4 +1,4 @@
-//! What each block of a volume is used for.
+//! The use of each block of a volume.
 ghost use Rattle.std.specs.Prelude.{◌≡◌, ◌+◌, ◌*◌, ◌<◌, length, map, IfOk, vec_len};
 ghost use Rattle.std.specs.List.{range_with_len};
 ghost use Rattle.vol_layout.specs.Geometry.{Fits};
@@ -11,36 +11,36 @@ use pdp_words::Image;
 use std::alloc::{AllocError, Global};
 use vol_layout::{Geometry, Kind};
 
-/// What a block is used for.
+/// The use of a block.
 #[derive(Clone, Copy, Debug, PartialEq, Eq)]
 pub enum Use {
-    /// Block 0, which the system is booted from.
+    /// Block 0, the boot block.
     Boot,
     /// Block 1, the super-block.
     SuperBlock,
-    /// It holds i-nodes.
+    /// A block of the i-list.
     IList,
-    /// It holds entries of a directory.
+    /// A data block of a directory.
     Directory,
-    /// It holds bytes of a regular file.
+    /// A data block of a regular file.
     File,
-    /// It is an indirect block of a file or directory.
+    /// An indirect block of a file or directory.
     Pointer,
-    /// It stands in the free list.
+    /// A block in the free list.
     Free,
-    /// It stands in the free list, and holds the count and the array by which the list goes on.
+    /// A chain block of the free list, with the list's next count and array.
     Chain,
-    /// No place names it, and it doesn't stand in the free list.
+    /// A block that no place names and that isn't in the free list.
     Lost,
-    /// Two places name it, or one does and it stands in the free list.
+    /// A block that two places name, or that one names and that is in the free list.
     Twice,
 }
 
-/// What each block of a volume is used for, from block 0 to the last, as the places of all files name it and as it stands in the
-/// free list up to that list's first fault. The image may be any bytes otherwise.
+/// Returns the use of each block of a volume, from block 0 to the last, by the places of all files that name it and by the free
+/// list up to its first fault. The image may have any bytes otherwise.
 ///
-/// Costs at most two reads of each indirect block for each of the levels at which it stands in directories, and two for those at which
-/// it stands in regular files, however they lead to one another. Takes some ten bytes for each block.
+/// Reads each indirect block at most twice for each level at which directories name it, and twice for each level at which
+/// regular files do, however they are linked. Takes about ten bytes for each block.
 pub fn block_uses(alloc: Global, image: &Image, geometry: &Geometry) -> Result<Vec<Use>, AllocError>
     requires { Fits geometry.now image.now }
     ensures { IfOk result (λ uses. uses.items ≡ map (use_of geometry.now image.now) (range_with_len 0 geometry.now.zone_end)) }
@@ -55,7 +55,7 @@ pub fn block_uses(alloc: Global, image: &Image, geometry: &Geometry) -> Result<V
     Ok(uses)
 }
 
-/// How many places of i-nodes of a kind name each block, by the levels of blocks below it, counted up to two.
+/// Returns the number of places of i-nodes of a kind that name each block, by the levels of blocks below it, counted up to two.
 pub(crate) fn counts(
     alloc: Global,
     image: &Image,
@@ -71,7 +71,7 @@ pub(crate) fn counts(
     Ok(counts)
 }
 
-/// What block `b` is used for, by what was counted.
+/// Returns the use of block `b`, by the counts.
 fn use_at(geometry: &Geometry, directories: &[u8], files: &[u8], listed: &[Listed], b: u32) -> Use
     requires directories { length directories.now ≡ 4 * geometry.now.zone_end }
     requires files { length files.now ≡ 4 * geometry.now.zone_end }
@@ -93,7 +93,7 @@ fn use_at(geometry: &Geometry, directories: &[u8], files: &[u8], listed: &[Liste
     data_use(named, listed[b as usize], directories[at], files[at])
 }
 
-/// How many places name a block, each level counted up to two.
+/// Returns the number of places that name a block, each level counted up to two.
 pub(crate) fn named_in(counts: &[u8], at: usize) -> u64
     requires { at + 3 < length counts.now }
     ensures value { result ≡ named_in counts.now at }
@@ -105,7 +105,8 @@ pub(crate) fn named_in(counts: &[u8], at: usize) -> u64
         + u64::from(counts[at + 3])
 }
 
-/// What a data block is used for, which so many places name, and so many of directories and of regular files to hold their bytes.
+/// Returns the use of a data block that `named` places name, and that `directories` places of directories and `files` places of
+/// regular files name as data.
 fn data_use(named: u64, listed: Listed, directories: u8, files: u8) -> Use
     ensures { result ≡ data_use named (is_listed listed) listed directories files }
 {

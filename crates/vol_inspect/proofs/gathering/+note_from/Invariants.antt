@@ -7,6 +7,6 @@ use Rattle.vol_inspect.proofs.gathering.+note_from.Given as goal
 abbrev pub decreases-note_from : goal.decreases-note_from
 decreases-note_from l = l.level
 
--- the block and what is found from the entries before j on is noted
+-- the block and the blocks found from the entries before j on are noted
 abbrev pub invariant-loop-j : goal.invariant-loop-j
 invariant-loop-j l = Collects l.fn.gathering l.gathering (single l.geometry l.level l.logical l.b ∷ entries_before l.geometry l.image (l.level - 1) l.logical l.b l.j)

@@ -4,7 +4,7 @@ use Rattle.vol_inspect.specs.Listing.{listed_in}
 use Rattle.vol_inspect.specs.declared.listing.Listed.TheVariants.{Absent}
 use Rattle.vol_inspect.proofs.listing.list.Given as goal
 
--- what was met is listed
+-- the blocks met are listed
 abbrev pub invariant-walk : goal.invariant-walk
 invariant-walk l = (met : List ℕ) × HasMet l.geometry l.image l.marks l.walk met
     × ((x : ℕ) → x < l.geometry.zone_end → get_or l.listed x Absent ≡ listed_in l.geometry l.image met x)

@@ -7,7 +7,7 @@ use Rattle.vol_inspect.proofs.placing.+count_from.Given as goal
 abbrev pub decreases-count_from : goal.decreases-count_from
 decreases-count_from l = l.level
 
--- the block and what is found from the entries before j on was counted
+-- the block and the blocks found from the entries before j on were counted
 abbrev pub invariant-loop-j : goal.invariant-loop-j
 invariant-loop-j l = record {
   counted : Counts l.geometry (λ c e. here_at l.b c e l.level + below l.geometry l.image (l.level - 1) l.b c e l.j) l.fn.counts l.counts;

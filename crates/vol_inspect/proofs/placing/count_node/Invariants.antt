@@ -5,7 +5,7 @@ use Rattle.vol_layout.specs.Names.{form_at}
 use Rattle.vol_inspect.specs.Placing.{Counts, IsTally, found_at}
 use Rattle.vol_inspect.proofs.placing.count_node.Given as goal
 
--- what is found from the addresses before k on was counted
+-- the blocks found from the addresses before k on were counted
 abbrev pub invariant-loop-k : goal.invariant-loop-k
 invariant-loop-k l = record {
   counted : Counts l.geometry (λ c e. sum_by (λ k. found_at l.geometry l.image (levels (form_at l.geometry l.image l.i) k)

@@ -10,7 +10,7 @@ pub err_not_ok : {T E : Type 0} (r : Result T E) → is_err r ≡ true → is_ok
 err_not_ok (Ok x) is = absurd (cc)
 err_not_ok (Err e) is = refl
 
--- the note, where rules 1 and 2 hold for the other edition alone
+-- the note, if rules 1 and 2 hold for the other edition alone
 pub note_given : (edition other : Edition) (image : List ℕ) (number : ℕ) → other ≡ other_edition edition → number ≡ edition_number other
     → is_ok (geometry_read edition image) ≡ false → is_ok (geometry_read other image) ≡ true
     → note_text edition image ≡ codes "note: rules 1 and 2 hold for edition " ++ (decimal number ++ codes "\n")

@@ -25,7 +25,7 @@ use Rattle.vol_findings.specs.declared.outcome.Outcome.TheVariants.{Holds, Broke
 use Rattle.vol_findings.specs.declared.outcome.Outcomes.{Outcomes}
 use Rattle.vol_findings.specs.declared.report.Line.{Line}
 
--- of a rule that is asked, and some others: the first that fails, by what is said of the rule and by the first of the others that fails
+-- the first that fails of a rule that is checked and some others, by the outcome of the rule and the first of the others that fails
 first_said : (rule : Type 0) (first : Finding → Type 0) (reason : Type 0) (outcome : Outcome) (n : ℕ) (facts : List (Type 0)) (answer : Option ℕ)
     → Says rule first reason outcome → (reason → ⊥) → (rule → IsFirstBroken (n + 1) facts answer)
     → IsFirstBroken n (rule ∷ facts) (if is_held outcome then answer else Some n)
@@ -33,12 +33,12 @@ first_said rule first reason Holds n facts answer says asked more = inr (says.0,
 first_said rule first reason (Broken finding) n facts answer says asked more = inl (refl, says.1)
 first_said rule first reason NotAsked n facts answer says asked more = absurd (asked says)
 
--- why rule 7 isn't asked
+-- the reason why rule 7 isn't checked
 abbrev TwiceUnasked : Edition → List ℕ → Type 0
 TwiceUnasked edition image =
     (HasGeometry edition image × Keeps edition image 5 → ⊥) ⊎ (IsApart (geometry_of edition image) image × (Keeps edition image 6 → ⊥))
 
--- it is asked where rules 5 and 6 hold
+-- it is checked if rules 5 and 6 hold
 twice_asked : (edition : Edition) (image : List ℕ) → HasGeometry edition image → Keeps edition image 5 → Keeps edition image 6
     → TwiceUnasked edition image → ⊥
 twice_asked edition image read zoned listed (inl fails) = fails (read, zoned)
@@ -57,7 +57,7 @@ none_held : (a : Bool) (answer : Option ℕ) (n : ℕ) → a ≡ true → answer
 none_held true answer n is none = none
 none_held false answer n is none = absurd (cc)
 
--- where all are said to hold, none is the first that isn't, and back
+-- if all are said to hold, none is the first that isn't, and back
 none_unheld : (lines : List Line) → are_held lines ≡ true → first_unheld lines ≡ None
 none_unheld [] all = refl
 none_unheld (line ∷ lines) all =
@@ -84,7 +84,7 @@ module _ (edition : Edition) (image : List ℕ) where
   judged_same : (a b : Option ℕ) → a ≡ b → IsJudged true edition image b → IsJudged true edition image a
   judged_same a b same judgement = subst (IsJudged true edition image) (sym same) judgement
 
-  -- it is none exactly where the image is sound
+  -- it is None if and only if the image is sound
   sound_judged : (answer : Option ℕ) → answer ≡ None → IsJudged true edition image answer → IsSound edition image
   sound_judged None none judgement = judgement
   sound_judged (Some n) none judgement = absurd (cc)
@@ -132,14 +132,14 @@ module _ (edition : Edition) (image : List ℕ) (found : Outcomes) (tells : Tell
             refl)))))))))))),
       ))
 
-  -- so its number is what a judge answers
+  -- so its number is the one that a judge returns
   pub judged_first : (answer : Option ℕ) → IsJudged true edition image answer ↔ (answer ≡ first_unheld (lines_of found))
   judged_first answer = (
     λ judgement. one_judgement edition image answer (first_unheld (lines_of found)) judgement first_judged,
     λ same. judged_same edition image answer (first_unheld (lines_of found)) same first_judged,
   )
 
-  -- and all are said to hold exactly where the image is sound
+  -- and all are said to hold if and only if the image is sound
   pub sound_held : IsTrue (are_held (lines_of found)) ↔ IsSound edition image
   sound_held = (
     λ all. sound_judged edition image (first_unheld (lines_of found)) (none_unheld (lines_of found) all) first_judged,

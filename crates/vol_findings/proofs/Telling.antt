@@ -1,4 +1,4 @@
--- What is said of each rule, by what was found.
+-- The outcome of each rule, from the findings.
 use Rattle.std.proofs.Common.{◌≡◌, ◌⊎◌, inl, inr, ℕ, Bool, true, false, if◌then◌else◌, List, Option, None, Some, Result, Ok, Err, IfOk, refl, sym, subst}
 use Rattle.std.specs.declared.alloc.AllocError.{AllocError}
 use Rattle.vol_layout.specs.Geometry.{geometry_of, geometry_read, is_whole, is_bounded}
@@ -27,13 +27,13 @@ use Rattle.vol_findings.specs.declared.outcome.Outcome.{Outcome}
 use Rattle.vol_findings.specs.declared.outcome.Outcome.TheVariants.{Holds, Broken, NotAsked}
 use Rattle.vol_findings.specs.declared.outcome.Outcomes.{Outcomes}
 
--- what a search answers is said of the rule, where it is asked
+-- the result of a search is the outcome of the rule, if it is checked
 said : (rule : Type 0) (first : Finding → Type 0) (reason : Type 0) (found : Option Finding) → (reason → ⊥) → Finds rule first found
     → Says rule first reason (outcome_of found)
 said rule first reason None asked finds = (finds, asked)
 said rule first reason (Some finding) asked finds = (finds.0, finds.1, asked)
 
--- the same, where it is handed on
+-- the same, when it is passed on
 pub said_as : (rule : Type 0) (first : Finding → Type 0) (reason : Type 0) (found : Option Finding) (outcome : Outcome) → (reason → ⊥)
     → Finds rule first found → outcome ≡ outcome_of found → Says rule first reason outcome
 said_as rule first reason found outcome asked finds is = subst (Says rule first reason) (sym is) (said rule first reason found asked finds)
@@ -50,7 +50,7 @@ first_for : (one other second : Type 0) → (one → other) → one ⊎ second �
 first_for one other second from (inl there) = inl (from there)
 first_for one other second from (inr there) = inr there
 
--- what is chosen by two tests is one of three
+-- a choice by two tests is one of three
 chosen_short : (w b : Bool) (g : Geometry) → (if w then (if b then Ok g else Err Bounds) else Err Short) ≡ Err Short → w ≡ true → ⊥
 chosen_short true true g e whole = cc
 chosen_short true false g e whole = cc
@@ -68,7 +68,7 @@ chosen_ok true true g other e = (refl, refl, cc)
 chosen_ok true false g other e = absurd (cc)
 chosen_ok false b g other e = absurd (cc)
 
--- what is said of an image without a geometry
+-- the outcomes for an image without a geometry
 abbrev unread : Outcome → Outcome → Outcomes
 unread whole bounded = record {
   whole = whole;
@@ -85,7 +85,7 @@ unread whole bounded = record {
   links = NotAsked;
 }
 
--- where the image is too short
+-- if the image is too short
 pub tells_short : (edition : Edition) (image : List ℕ) → geometry_read edition image ≡ Err Short → Tells edition image (unread (Broken TooShort) NotAsked)
 unfolding geometry_read Rule
 tells_short edition image e =
@@ -105,7 +105,7 @@ tells_short edition image e =
       links = λ has. fails has.0;
     }
 
--- where its sizes are no volume's
+-- if its sizes are no volume's
 pub tells_bounds : (edition : Edition) (image : List ℕ) → geometry_read edition image ≡ Err Bounds → Tells edition image (unread Holds (Broken BadSizes))
 unfolding geometry_read Rule
 tells_bounds edition image e =
@@ -125,7 +125,7 @@ tells_bounds edition image e =
       links = λ has. chosen.1 has.1;
     }
 
--- what is said of its volume, where it has a geometry
+-- the outcomes for its volume, if it has a geometry
 tells_own : (edition : Edition) (image : List ℕ) (found : Outcomes) → is_whole edition image ≡ true → is_bounded edition image ≡ true
     → TellsVolume (geometry_of edition image) image found → Tells edition image found
 unfolding Rule
@@ -164,7 +164,7 @@ tells_volume edition image g found e volume =
     let chosen = chosen_ok (is_whole edition image) (is_bounded edition image) (geometry_of edition image) g e in
     tells_own edition image found chosen.0 chosen.1 (subst (λ x. TellsVolume x image found) (sym chosen.2) volume)
 
--- the same of what a check answers, if memory isn't refused
+-- the same for the result of a check, if memory doesn't run out
 pub if_tells : (edition : Edition) (image : List ℕ) (g : Geometry) (result : Result Outcomes AllocError) → geometry_read edition image ≡ Ok g
     → IfOk result (TellsVolume g image) → IfOk result (Tells edition image)
 if_tells edition image g (Ok found) e tells = tells_volume edition image g found e tells

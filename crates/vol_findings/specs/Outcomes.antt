@@ -1,4 +1,4 @@
--- What is found of each rule.
+-- The outcome of each rule.
 use Rattle.std.specs.Prelude.{◌≡◌, ◌⊎◌, ℕ, true, List, Option, None, Some}
 use Rattle.vol_layout.specs.Geometry.{geometry_of}
 use Rattle.vol_free.specs.Stack.{HasStack}
@@ -24,29 +24,29 @@ use Rattle.vol_findings.specs.declared.outcome.Outcome.{Outcome}
 use Rattle.vol_findings.specs.declared.outcome.Outcome.TheVariants.{Holds, Broken, NotAsked}
 use Rattle.vol_findings.specs.declared.outcome.Outcomes.{Outcomes}
 
--- what is said of a rule: that it isn't asked, exactly where there is a reason; else that it holds, or what breaks it first (this project)
+-- the outcome of a rule: that it isn't checked, if and only if there is a reason; else that it holds, or its first violation (this project)
 abbrev pub Says : Type 0 → (Finding → Type 0) → Type 0 → Outcome → Type 0
 Says rule first reason Holds = rule × (reason → ⊥)
 Says rule first reason (Broken finding) = first finding × (rule → ⊥) × (reason → ⊥)
 Says rule first reason NotAsked = reason
 
--- what a search answers, as what is said of the rule (this project)
+-- the outcome of a rule, from the result of a search for its first violation (this project)
 abbrev pub outcome_of : Option Finding → Outcome
 outcome_of None = Holds
 outcome_of (Some finding) = Broken finding
 
--- why rule 7 isn't asked: rule 5 fails, or rule 6 does and no two places name one block (this project)
+-- the reason not to check rule 7: rule 5 fails, or rule 6 does and no two places name one block (this project)
 abbrev pub IsTwiceUnasked : Geometry → List ℕ → Type 0
 IsTwiceUnasked geometry image = (IsZoned geometry image → ⊥) ⊎ (IsApart geometry image × (HasStack geometry image → ⊥))
 
--- what is said of the rules of blocks of a volume whose geometry is known (this project)
+-- the outcomes of the rules about blocks of a volume whose geometry is known (this project)
 pub record TellsBlocks (geometry : Geometry) (image : List ℕ) (found : BlockOutcomes) : Type 0 where
   pub zoned : Says (IsZoned geometry image) (IsFirstOutside geometry image) ⊥ found.zoned
   pub listed : Says (HasStack geometry image) (IsFirstFault geometry image) ⊥ found.listed
   pub apart : Says (IsUsedOnce geometry image) (IsFirstTwice geometry image) (IsTwiceUnasked geometry image) found.apart
   pub covered : Says (IsNoneLost geometry image) (IsFirstUncovered geometry image) (HasStack geometry image → ⊥) found.covered
 
--- what is said of the rules of a volume whose geometry is known: 7 isn't asked for the reason above, 8 where 6 fails, 10 where 9 does (this project)
+-- the outcomes of the rules of a volume whose geometry is known: 7 isn't checked for the reason above, nor 8 if 6 fails, nor 10 if 9 does (this project)
 pub record TellsVolume (geometry : Geometry) (image : List ℕ) (found : Outcomes) : Type 0 where
   pub whole : found.whole ≡ Holds
   pub bounded : found.bounded ≡ Holds
@@ -69,7 +69,7 @@ Keeps edition image n = Rule true edition image n
 abbrev pub HasGeometry : Edition → List ℕ → Type 0
 HasGeometry edition image = Keeps edition image 1 × Keeps edition image 2
 
--- what is said of the twelve rules of an image: a rule isn't asked where one that it needs fails, and only there; 7 needs 6 only where no two places name one block (this project)
+-- the outcomes of the twelve rules of an image: a rule isn't checked if and only if one that it needs fails; 7 needs 6 only if no two places name one block (this project)
 pub record Tells (edition : Edition) (image : List ℕ) (found : Outcomes) : Type 0 where
   pub whole : Says (Keeps edition image 1) (λ finding. finding ≡ TooShort) ⊥ found.whole
   pub bounded : Says (Keeps edition image 2) (λ finding. finding ≡ BadSizes) (Keeps edition image 1 → ⊥) found.bounded

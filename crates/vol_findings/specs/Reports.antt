@@ -30,7 +30,7 @@ rule_number rules.Dots = 10
 rule_number rules.Tree = 11
 rule_number rules.Links = 12
 
--- what a rule asks, in plain words (this project)
+-- the requirement of a rule, in plain words (this project)
 abbrev pub rule_sentence : Rule → List ℕ
 rule_sentence rules.Whole = codes "the image has all blocks of the volume"
 rule_sentence rules.Bounded = codes "the sizes are within their limits"
@@ -45,7 +45,7 @@ rule_sentence rules.Dots = codes "each directory has . for itself and .. for its
 rule_sentence rules.Tree = codes "each directory is entered once and reached from the root"
 rule_sentence rules.Links = codes "each link count is the number of entries"
 
--- the line of a rule: its number, what it asks, and what is found of it (this project)
+-- the line of a rule: its number, what it requires, and its outcome (this project)
 abbrev pub line_text : Line → List ℕ
 line_text line =
     decimal (rule_number line.rule) ++ (codes " " ++ (rule_sentence line.rule ++ (codes ": " ++ (outcome_text line.outcome ++ codes "\n"))))
@@ -54,11 +54,11 @@ line_text line =
 unfoldable pub lines_text : List Line → List ℕ
 lines_text lines = flat_map line_text lines
 
--- a rule with what is found of it (this project)
+-- a rule with its outcome (this project)
 abbrev pub line : Rule → Outcome → Line
 line rule outcome = record { rule = rule; outcome = outcome }
 
--- the twelve rules, in their order, with what is found of each (this project)
+-- the twelve rules, in order, each with its outcome (this project)
 abbrev pub lines_of : Outcomes → List Line
 lines_of found =
     line rules.Whole found.whole
@@ -75,17 +75,17 @@ lines_of found =
     ∷ line rules.Links found.links
     ∷ []
 
--- whether a rule is said to hold (this project)
+-- true if a rule is said to hold (this project)
 abbrev pub is_held : Outcome → Bool
 is_held Holds = true
 is_held (Broken finding) = false
 is_held NotAsked = false
 
--- whether all of some rules are said to hold (this project)
+-- true if all of some rules are said to hold (this project)
 abbrev pub are_held : List Line → Bool
 are_held lines = list_all (λ (line : Line). is_held line.outcome) lines
 
--- the number of the first of some lines that doesn't say that its rule holds, or None where each says so (this project)
+-- the number of the first of some lines that doesn't say that its rule holds, or None if each says so (this project)
 abbrev pub first_unheld : List Line → Option ℕ
 first_unheld [] = None
 first_unheld (line ∷ lines) = if is_held line.outcome then first_unheld lines else Some (rule_number line.rule)
@@ -100,18 +100,18 @@ abbrev pub edition_number : Edition → ℕ
 edition_number V6 = 6
 edition_number V7 = 7
 
--- a note, where rule 1 or 2 fails, and both hold for the other edition (this project)
+-- a note, if rule 1 or 2 fails and both hold for the other edition (this project)
 abbrev pub note_text : Edition → List ℕ → List ℕ
 note_text edition image =
     if not (is_ok (geometry_read edition image)) && is_ok (geometry_read (other_edition edition) image)
     then codes "note: rules 1 and 2 hold for edition " ++ (decimal (edition_number (other_edition edition)) ++ codes "\n")
     else []
 
--- the text of a report, by what is found (this project)
+-- the text of a report, by its outcomes (this project)
 abbrev pub report_text : Edition → List ℕ → Outcomes → List ℕ
 report_text edition image found = lines_text (lines_of found) ++ note_text edition image
 
--- a text is the report on an image: its first line that doesn't say 'holds' has the number that a judge answers, and it is said truly whether all twelve rules hold (this project)
+-- a text is the report on an image: its first line that doesn't say 'holds' has the number that `judge` returns, and the truth value says if all twelve rules hold (this project)
 pub record IsReport (edition : Edition) (image text : List ℕ) (sound : Bool) : Type 0 where
   pub found : Outcomes
   pub tells : Tells edition image found

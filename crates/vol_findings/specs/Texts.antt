@@ -1,4 +1,4 @@
--- The text of what is found.
+-- The text of findings.
 use Rattle.std.specs.Prelude.{ℕ, List, [], ◌++◌, codes, decimal}
 use Rattle.vol_free.specs.FreeWalk.{fault_word}
 use Rattle.vol_judge.specs.declared.finding.Finding.{Finding}
@@ -8,7 +8,7 @@ use Rattle.vol_findings.specs.declared.outcome.Outcome.TheVariants.{Holds, Broke
 use Rattle.vol_findings.specs.declared.texts.Spot.{Spot}
 use Rattle.vol_findings.specs.declared.texts.Spot.TheVariants as spots
 
--- what breaks a rule, in words (this project)
+-- the words for a finding (this project)
 abbrev pub words_of : Finding → List ℕ
 words_of findings.TooShort = codes "the image is too short"
 words_of findings.BadSizes = codes "the sizes are no volume's"
@@ -35,7 +35,7 @@ words_of (findings.EnteredTwice d s) = codes "a second entry for a directory"
 words_of (findings.Unreached d) = codes "not reached from the root"
 words_of (findings.BadLinks i entries links) = codes "a wrong link count"
 
--- where it is (this project)
+-- the position of a finding (this project)
 abbrev pub spot_of : Finding → Spot
 spot_of findings.TooShort = spots.Image
 spot_of findings.BadSizes = spots.Image
@@ -62,7 +62,7 @@ spot_of (findings.EnteredTwice d s) = spots.Slot d s
 spot_of (findings.Unreached d) = spots.Directory d
 spot_of (findings.BadLinks i entries links) = spots.Links i entries links
 
--- a place as it is shown, behind what it is the place of (this project)
+-- the text of a position, after the words of its finding (this project)
 abbrev pub spot_text : Spot → List ℕ
 spot_text spots.Image = []
 spot_text (spots.Inode i) = codes ": i-node " ++ decimal i
@@ -75,7 +75,7 @@ spot_text (spots.Slot d s) = codes ": directory " ++ (decimal d ++ (codes ", slo
 spot_text (spots.Links i entries links) =
     codes ": i-node " ++ (decimal i ++ (codes ", entries " ++ (decimal entries ++ (codes ", links " ++ decimal links))))
 
--- what is found of a rule: that it holds, what breaks it and where, or that it isn't asked (this project)
+-- the text of an outcome: that the rule holds, its violation and the position of that, or that it isn't checked (this project)
 abbrev pub outcome_text : Outcome → List ℕ
 outcome_text Holds = codes "holds"
 outcome_text (Broken finding) = words_of finding ++ spot_text (spot_of finding)

@@ -1,4 +1,4 @@
-//! What is found of the rules of blocks: 5 to 8.
+//! The rules about blocks: 5 to 8.
 ghost use Rattle.std.specs.Prelude.{◌≡◌, ℕ, List, false, length, slice_index_or, IfOk};
 ghost use Rattle.std.specs.Result.{result_err};
 ghost use Rattle.vol_layout.specs.Geometry.{Fits};
@@ -20,10 +20,10 @@ use std::alloc::{AllocError, Global};
 use vol_judge::{Finding, FreeStack, find_fault, find_lost, find_outside, find_twice, mark_named};
 use vol_layout::Geometry;
 
-/// What is found of the rules of blocks.
+/// The outcomes of the rules about blocks.
 #[derive(Clone, Copy, Debug)]
 pub(crate) struct BlockOutcomes {
-    /// Rule 5: each number that is named is a data block's.
+    /// Rule 5: each number that is named is that of a data block.
     pub zoned: Outcome,
     /// Rule 6: the free list is a stack.
     pub listed: Outcome,
@@ -33,7 +33,7 @@ pub(crate) struct BlockOutcomes {
     pub covered: Outcome,
 }
 
-/// What is found of the rules of blocks. Reads the free list once. Takes two bytes for each block.
+/// Checks the rules about blocks. Reads the free list once. Takes two bytes for each block.
 pub(crate) fn check_blocks(
     alloc: Global,
     image: &Image,
@@ -47,8 +47,8 @@ pub(crate) fn check_blocks(
     Ok(check_marks(image, geometry, &mut named, &mut free))
 }
 
-/// What is found of the rules of blocks, by marks of those that files name and of the free ones. There are both for each block: the
-/// values of `named` don't matter at first, and none of `free` is set.
+/// Checks the rules about blocks, with a mark in `named` for each block that files name and one in `free` for each free block.
+/// The values of `named` don't matter at first, and no mark of `free` is set.
 fn check_marks(
     image: &Image,
     geometry: &Geometry,
@@ -75,7 +75,7 @@ fn check_marks(
     }
 }
 
-/// What is found of rule 7 for files alone, by what is found of rule 5. If it holds, the blocks that files name are marked.
+/// Checks rule 7 for files alone, given the outcome of rule 5. If rule 7 holds, the blocks that files name are marked.
 fn check_files(image: &Image, geometry: &Geometry, zoned: Outcome, named: &mut [u8]) -> Outcome
     requires fits { Fits geometry.now image.now }
     requires room { length named.old ≡ geometry.now.zone_end }
@@ -89,8 +89,8 @@ fn check_files(image: &Image, geometry: &Geometry, zoned: Outcome, named: &mut [
     }
 }
 
-/// What is found of rule 7, by what is found of it for files alone, and of the free list. Two places that name one block break it even
-/// if the free list is broken.
+/// Returns the outcome of rule 7, from that for files alone and the free list. Two places that name one block break it even if
+/// the free list is broken.
 fn check_apart(files: Outcome, list: Result<FreeStack, Finding>) -> Outcome
     ensures { (geometry : Geometry) (image : List ℕ)
         → Says (IsApart geometry image) (IsFirstTwice geometry image) (IsZoned geometry image → ⊥) files
@@ -107,8 +107,8 @@ fn check_apart(files: Outcome, list: Result<FreeStack, Finding>) -> Outcome
     }
 }
 
-/// What is found of rule 8, by what is found of the free list, and the marks of its blocks. There is a mark in `named` for each block,
-/// whose value at first doesn't matter.
+/// Returns the outcome of rule 8, from the free list and the marks of its blocks. There is a mark in `named` for each block,
+/// with any value at first.
 fn check_covered(
     image: &Image,
     geometry: &Geometry,

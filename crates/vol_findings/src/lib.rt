@@ -1,4 +1,4 @@
-//! What breaks each rule of soundness first.
+//! The first violation of each rule of soundness.
 #![tactic(auto)]
 
 mod blocks;

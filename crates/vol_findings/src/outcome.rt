@@ -1,4 +1,4 @@
-//! What is found of each rule.
+//! The outcome of each rule.
 ghost use Rattle.std.specs.Prelude.{◌≡◌, ◌+◌, IfOk, length};
 ghost use Rattle.vol_layout.specs.Geometry.{Fits};
 ghost use Rattle.vol_dir.specs.Entries.{HasEntries};
@@ -17,33 +17,33 @@ use vol_judge::{
 };
 use vol_layout::{Edition, Geometry, GeometryFault};
 
-/// What is found of a rule.
+/// The outcome of a rule.
 #[derive(Clone, Copy, Debug, PartialEq, Eq)]
 pub enum Outcome {
-    /// It holds.
+    /// The rule holds.
     Holds,
-    /// It doesn't; this breaks it first.
+    /// The rule doesn't hold; this is its first violation.
     Broken(Finding),
-    /// A rule that it needs doesn't hold.
+    /// The rule isn't checked, since one that it needs doesn't hold.
     NotAsked,
 }
 
-/// What is found of the twelve rules, in their order.
+/// The outcomes of the twelve rules, in order.
 #[derive(Clone, Copy, Debug)]
 pub struct Outcomes {
     /// Rule 1: the image has all blocks of the volume.
     pub whole: Outcome,
     /// Rule 2: the sizes are within their limits. Needs rule 1, and all others need both.
     pub bounded: Outcome,
-    /// Rule 3: what the i-nodes are.
+    /// Rule 3: the kinds of i-nodes.
     pub kinds: Outcome,
-    /// Rule 4: their sizes and link counts.
+    /// Rule 4: the sizes and link counts of i-nodes.
     pub sizes: Outcome,
-    /// Rule 5: each number that is named is a data block's.
+    /// Rule 5: each number that is named is that of a data block.
     pub zoned: Outcome,
     /// Rule 6: the free list is a stack.
     pub listed: Outcome,
-    /// Rule 7: no block is used twice. Needs rule 5, and where no two places of files name one block, rule 6.
+    /// Rule 7: no block is used twice. Needs rule 5, and, if no two places of files name one block, rule 6.
     pub apart: Outcome,
     /// Rule 8: no block is lost. Needs rule 6.
     pub covered: Outcome,
@@ -57,12 +57,12 @@ pub struct Outcomes {
     pub links: Outcome,
 }
 
-/// Of each of the twelve rules whether an image keeps it, what breaks it first, or that a rule that it needs is broken. The image may be
-/// any bytes.
+/// Returns the outcome of each of the twelve rules: that the image keeps it, its first violation, or that a rule which it needs
+/// is broken. The image may be any bytes.
 ///
-/// The time grows with the image's blocks, with the entries of its directories, counted as often as these name their blocks, and with sorting
-/// the names of each directory. The memory is a few bytes for each block and i-number, and the names of one directory at a time. An error only
-/// where memory is refused.
+/// The time grows with the image's blocks, with the entries of its directories, counted as often as these name their blocks,
+/// and with sorting the names of each directory. The memory is a few bytes for each block and i-number, and the names of one
+/// directory at a time. Fails only if memory runs out.
 pub fn check_rules(alloc: Global, edition: Edition, image: &Image) -> Result<Outcomes, AllocError>
     ensures { IfOk result (Tells edition image.now) }
 {
@@ -80,7 +80,7 @@ pub fn check_rules(alloc: Global, edition: Edition, image: &Image) -> Result<Out
 }
 
 impl Outcome {
-    /// What is found of a rule that is asked.
+    /// Returns the outcome of a rule that is checked.
     pub(crate) fn of(found: Option<Finding>) -> Outcome
         ensures { result ≡ outcome_of found }
     {
@@ -92,7 +92,7 @@ impl Outcome {
 }
 
 impl Outcomes {
-    /// What is found of an image without a geometry.
+    /// Returns the outcomes for an image without a geometry.
     fn unread(whole: Outcome, bounded: Outcome) -> Outcomes
         ensures { result ≡ record {
           whole = whole;
@@ -127,7 +127,7 @@ impl Outcomes {
     }
 }
 
-/// What is found of a volume whose geometry is known.
+/// Checks the rules of a volume whose geometry is known.
 fn check_volume(alloc: Global, image: &Image, geometry: &Geometry) -> Result<Outcomes, AllocError>
     requires { Fits geometry.now image.now }
     ensures { IfOk result (TellsVolume geometry.now image.now) }
@@ -157,7 +157,7 @@ fn check_volume(alloc: Global, image: &Image, geometry: &Geometry) -> Result<Out
     })
 }
 
-/// What directories name by `..`, where rule 9 holds; nothing, where it doesn't.
+/// Returns the i-numbers that directories name `..` if rule 9 holds, else nothing.
 fn ups_of(
     alloc: Global,
     image: &Image,
@@ -181,7 +181,8 @@ fn ups_of(
     }
 }
 
-/// What is found of rule 10, by what is found of rule 9, what directories name by `..`, and the directory of an entry for each.
+/// Returns the outcome of rule 10, given that of rule 9, the `..` of each directory, and the directory that holds an entry for
+/// each.
 fn check_dots(
     image: &Image,
     geometry: &Geometry,

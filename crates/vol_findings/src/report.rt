@@ -10,21 +10,21 @@ use std::alloc::{AllocError, Global};
 use std::fmt;
 use vol_layout::{Edition, Geometry};
 
-/// A rule, and what is found of it.
+/// A rule and its outcome.
 #[derive(Clone, Copy, Debug, Drop)]
 pub struct Line {
     /// The rule.
     pub rule: Rule,
-    /// What is found of it.
+    /// Its outcome.
     pub outcome: Outcome,
 }
 
-/// The report on an image.
+/// A report on an image.
 #[derive(Drop)]
 pub struct Report {
     /// Its lines.
     pub text: String,
-    /// Whether all twelve rules hold.
+    /// True if all twelve rules hold.
     pub is_sound: bool,
 }
 
@@ -39,8 +39,8 @@ impl fmt::Display for Line {
     }
 }
 
-/// The report on an image, which may be any bytes: a line for each of the twelve rules, with what breaks it first; and where rule 1
-/// or 2 fails, a note if they hold for the other edition. The first line that doesn't say `holds` has the number that
+/// Makes the report on an image, which may be any bytes: a line for each of the twelve rules, with its first violation; and, if
+/// rule 1 or 2 fails, a note if both hold for the other edition. The first line that doesn't say `holds` has the number that
 /// [`judge`](vol_judge::judge) returns.
 ///
 /// Costs and takes memory for what [`check_rules`] does, and for the text.
@@ -58,7 +58,7 @@ pub fn make_report(alloc: Global, edition: Edition, image: &Image) -> Result<Rep
     })
 }
 
-/// The rules, in their order, with what is found of each.
+/// Returns the rules in order, each with its outcome.
 fn lines_of(found: &Outcomes) -> [Line; 12]
     ensures { result ≡ lines_of found.now }
 {
@@ -78,14 +78,14 @@ fn lines_of(found: &Outcomes) -> [Line; 12]
     ]
 }
 
-/// A rule, with what is found of it.
+/// Returns a rule with its outcome.
 fn line_of(rule: Rule, outcome: Outcome) -> Line
     ensures { result ≡ record { rule = rule; outcome = outcome } }
 {
     Line { rule, outcome }
 }
 
-/// Whether all of some rules hold.
+/// True if all of some rules hold.
 fn are_held(lines: &[Line]) -> bool
     ensures { result ≡ are_held lines.now }
 {
@@ -104,7 +104,7 @@ fn push_lines(text: &mut String, lines: &[Line]) -> Result<(), AllocError>
     Ok(())
 }
 
-/// Appends a note, where rule 1 or 2 fails, and both hold for the other edition.
+/// Appends a note if rule 1 or 2 fails and both hold for the other edition.
 fn push_note(text: &mut String, edition: Edition, image: &Image) -> Result<(), AllocError>
     ensures { OnOk result (string_bytes text.new ≡ string_bytes text.old ++ note_text edition image.now) }
 {
@@ -116,7 +116,7 @@ fn push_note(text: &mut String, edition: Edition, image: &Image) -> Result<(), A
     Ok(())
 }
 
-/// The other edition.
+/// Returns the other edition.
 pub fn other_edition(edition: Edition) -> Edition
     ensures { result ≡ other_edition edition }
 {
@@ -126,7 +126,7 @@ pub fn other_edition(edition: Edition) -> Edition
     }
 }
 
-/// The number of an edition.
+/// Returns the number of an edition.
 pub fn edition_number(edition: Edition) -> u8
     ensures { result ≡ edition_number edition }
 {

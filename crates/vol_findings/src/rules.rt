@@ -9,11 +9,11 @@ pub enum Rule {
     Whole,
     /// The sizes are within their limits.
     Bounded,
-    /// What the i-nodes are.
+    /// The kinds of i-nodes.
     Kinds,
-    /// Their sizes and link counts.
+    /// The sizes and link counts of i-nodes.
     Sizes,
-    /// Each number that is named is a data block's.
+    /// Each number that is named is that of a data block.
     Zoned,
     /// The free list is a stack.
     Listed,
@@ -32,7 +32,7 @@ pub enum Rule {
 }
 
 impl Rule {
-    /// Its number, from 1 to 12.
+    /// Returns its number, from 1 to 12.
     pub fn number(self) -> u8
         ensures { result ≡ rule_number self }
     {
@@ -52,7 +52,7 @@ impl Rule {
         }
     }
 
-    /// What it asks, in plain words.
+    /// Returns what it requires, in plain words.
     pub fn sentence(self) -> &'static str
         ensures { result.now ≡ rule_sentence self }
     {

@@ -1,4 +1,4 @@
-//! The text of what is found.
+//! The text of findings.
 ghost use Rattle.std.specs.Prelude.{◌≡◌, Some};
 ghost use Rattle.vol_findings.specs.Texts.{words_of, spot_of, spot_text, outcome_text};
 
@@ -6,10 +6,10 @@ use crate::outcome::Outcome;
 use std::fmt;
 use vol_judge::Finding;
 
-/// Where something is.
+/// The position of a finding.
 #[derive(Clone, Copy, Drop)]
 enum Spot {
-    /// In the image as a whole.
+    /// The image as a whole.
     Image,
     /// An i-node.
     Inode(u16),
@@ -65,7 +65,7 @@ impl fmt::Display for Outcome {
     }
 }
 
-/// What breaks a rule, in words.
+/// Returns the words for a finding.
 fn words_of(finding: Finding) -> &'static str
     ensures { result.now ≡ words_of finding }
 {
@@ -97,7 +97,7 @@ fn words_of(finding: Finding) -> &'static str
     }
 }
 
-/// Where what breaks a rule is.
+/// Returns the position of a finding.
 fn spot_of(finding: Finding) -> Spot
     ensures { result ≡ spot_of finding }
 {

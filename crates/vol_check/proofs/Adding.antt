@@ -22,7 +22,7 @@ module _ (tally : Tally) where
     marks = λ weight. ap (λ v. total weight v.marks) is ∙ (total_push weight old.me.0.marks (mark w a) ∙ ap (λ n. total weight old.me.0.marks + n) (same weight));
   }
 
-  -- so many marks by one step
+  -- several marks by one step
   pub added_times : (old new : Seat (Unit {0}) SeatView) (w a n t : ℕ) (amount : (Mark → ℕ) → ℕ) → IsSeatAt tally new
       → new.me.0 ≡ view_times old.me.0.parts old.me.0.draws (old.me.0.marks ++ replicate n (mark w a)) t
       → ((weight : Mark → ℕ) → n * weight (mark w a) ≡ amount weight) → Adds tally old new amount

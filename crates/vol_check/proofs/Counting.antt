@@ -1,4 +1,4 @@
--- What the marks of all pieces add up to, word by word.
+-- The sums of the marks of all pieces, word by word.
 use Rattle.std.proofs.Common.{◌≡◌, ◌≢◌, ℕ, zero, suc, ◌+◌, ◌-◌, ◌*◌, ◌<◌, ◌≤◌, ◌∙◌, ◌==◌, sym, ap, cond, if◌then◌else◌, List, [], ◌∷◌, length, filter, Bool, true, false, not, ◌&&◌, nat_lt, refl, inl, inr, arith}
 use Rattle.std.proofs.Math.Nat.{le_trans, mul-le-mul_right}
 use Rattle.std.proofs.lemmas.Bool.{cases_eq, eq-eqb, ne_eqb, and_parts}
@@ -67,7 +67,7 @@ walk_zone g image (suc fuel) head count met all =
 pub free_zone : (g : Geometry) (image : List ℕ) → list_all (in_zone g) (free_walk g image).met ≡ true
 free_zone g image = walk_zone g image (g.zone_end - g.zone_start + 1) (free_head g.edition) (word image (free_head g.edition)) [] refl
 
--- how many numbers are found from a number on, in so many levels, at most
+-- the greatest number of numbers found from a number on, in some levels
 abbrev most_from : (d : ℕ) → ℕ
 most_from zero = 1
 most_from (suc d) = 1 + 256 * most_from d
@@ -127,7 +127,7 @@ total_zero : {A : Type 0} (xs : List A) → total (λ x. 0) xs ≡ 0
 total_zero [] = total_nil (λ x. 0)
 total_zero (x ∷ xs) = let h = total_zero xs in let t = total_cons (λ x. 0) x xs in omega arith
 
--- what the free list adds to the word of one of its blocks
+-- the marks of the free list on the word of one of its blocks
 free_same : (g : Geometry) (b : ℕ) (met : List ℕ) → in_zone g b ≡ true → list_all (in_zone g) met ≡ true
     → total (λ k. amount_at (free_word g b) (mark (free_word g k) 1)) met ≡ total (λ k. if k == b then 1 else 0) met
 free_same g b [] zone all = total_nil (λ k. amount_at (free_word g b) (mark (free_word g k) 1)) ∙ sym (total_nil (λ k. if k == b then 1 else 0))
@@ -244,7 +244,7 @@ module _ (g : Geometry) (image : List ℕ) (marks : List Mark) (m : AllMarked g 
   pub odds_summed : sum_at (kind_word g 3) marks ≡ kind_count g image kinds.Odd
   odds_summed = kinds_summed 3 kinds.Odd (omega arith) (odds_kind g)
 
-  -- what the places of i-node i that name no data block add to a word of i's own
+  -- the marks on a word of i-node i's own by its places that name no data block
   bads_alone : (f : Mark → ℕ) (w i : ℕ) (each : ℕ → ℕ) → 1 ≤ i → i ≤ g.last_inode → 1 + 2 * zone_len g ≤ w → ((c : ℕ) → c ≤ 3 → kind_word g c ≢ w)
       → ((j : ℕ) → 1 ≤ j → j ≤ g.last_inode → j ≢ i → (w ≢ bad_word g j) × (w ≢ least_word g j))
       → ((k : ℕ) → place_weight g (on w f) i k ≡ (if not (in_zone g k) then each k else 0))
@@ -265,7 +265,7 @@ module _ (g : Geometry) (image : List ℕ) (marks : List Mark) (m : AllMarked g 
       let q = total_kept (λ k. not (in_zone g k)) each (blocks_of g image i) in
       let n = kind_else g f w (kind_at g image i) kinds in omega (arith, none, s, alone, here, p, q, n)
 
-  -- how many there are
+  -- their number
   pub bads_summed : (i : ℕ) → 1 ≤ i → i ≤ g.last_inode
       → sum_at (bad_word g i) marks ≡ length (bad_numbers g image i)
   unfolding bad_numbers

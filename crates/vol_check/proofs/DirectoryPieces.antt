@@ -51,7 +51,7 @@ module _ (g : Geometry) (image starts : List ℕ) (n : ℕ) (part : Part) (has :
       let s = start in
       let e = is.end in omega arith
 
-  -- and what the piece weighs is what the part does
+  -- and the piece weighs as much as the part
   pub piece_is : (weight : SlotWeight) → slots_piece g image weight n ≡ part_sum g image weight part.inode part.index
   unfolding slots_piece
   piece_is weight =

@@ -1,4 +1,4 @@
--- What the slots of all directories add up to.
+-- The sums over the slots of all directories.
 use Rattle.std.proofs.Common.{◌≡◌, ◌≢◌, ◌⊎◌, ℕ, ◌+◌, ◌-◌, ◌*◌, ◌≤◌, ◌∙◌, sym, ap, List, [], ◌∷◌, map, None, refl, inl, inr, arith}
 use Rattle.vol_layout.specs.declared.geometry.Geometry.{Geometry}
 use Rattle.vol_layout.specs.declared.mode.Kind.{Kind}
@@ -70,7 +70,7 @@ module _ (g : Geometry) (image : List ℕ) (weight : SlotWeight) (blank : (d s :
       ap (λ d. below (part_sum g image weight d) (part_count g image d)) e ∙ all_parts (k + 1)) in
       a ∙ (p ∙ s)
 
-  -- where all pieces were drawn, each once
+  -- all pieces were drawn, each once
   pub drawn_slots : (pieces n : ℕ) (starts draws : List ℕ) → ((f : ℕ → ℕ) → total f draws ≡ below f n) → 1 ≤ late pieces draws
       → CountsParts g pieces starts → HasStarts g image starts
       → total (slots_piece g image weight) draws ≡ below (λ k. directory_sum g image weight (k + 1)) g.last_inode

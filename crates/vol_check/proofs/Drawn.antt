@@ -1,4 +1,4 @@
--- All pieces are drawn, each once, and what their marks add up to.
+-- All pieces are drawn, each once, and the sums of their marks.
 use Rattle.std.proofs.Common.{◌≡◌, ℕ, zero, suc, ◌+◌, ◌-◌, ◌*◌, ◌<◌, ◌≤◌, ◌∙◌, sym, ap, List, [], ◌∷◌, inl, inr, arith}
 use Rattle.std.proofs.lemmas.Bool.{cases_lt}
 use Rattle.std.proofs.lemmas.List.Sums.{sum_by-cons}
@@ -16,7 +16,7 @@ below_stops f b (suc d) none =
     let z = none (b + d) (omega arith) in
     let m = below_more f (b + d) in ap (below f) s ∙ omega arith
 
--- where the draws are the numbers below n, each once, and one of them is past the last piece, they are the pieces, each once
+-- if the draws are the numbers below n, each once, and one of them is past the last piece, they are the pieces, each once
 pub each_once : (pieces n : ℕ) (draws : List ℕ) (weight : ℕ → ℕ) → ((f : ℕ → ℕ) → total f draws ≡ below f n) → 1 ≤ late pieces draws
     → ((p : ℕ) → pieces ≤ p → weight p ≡ 0) → total weight draws ≡ below weight pieces
 each_once pieces n draws weight drawn some none = elim (cases_lt pieces n) [

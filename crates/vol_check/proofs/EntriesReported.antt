@@ -1,4 +1,4 @@
--- The words of the entry report are those that its definition asks for.
+-- The words of the entry report are those that its definition requires.
 use Rattle.std.proofs.Common.{◌≡◌, ℕ, ◌+◌, ◌^◌, ◌%◌, ◌<◌, ◌≤◌, ◌∙◌, sym, ap, cond, if◌then◌else◌, nat_le, List, map, slice_index, Option, None, Some, Bool, true, false, refl, inl, inr, arith}
 use Rattle.std.proofs.lemmas.Bool.{cases_eq, eq-eqb, ne_eqb, le-leb}
 use Rattle.std.proofs.lemmas.List.Sums.{count_by-le-length}
@@ -47,7 +47,7 @@ entry_at_word g i (Some e) last = elim (cases_eq e.1 i) [
     either_zero true n none = none
     either_zero false n none = refl
 
--- how many slots of a directory are for an i-number
+-- the number of slots of a directory that are for an i-number
 slots_for : (g : Geometry) (image : List ℕ) (i d : ℕ) → i ≤ g.last_inode
     → below (λ s. entry_weight g (amount_at (entry_word i)) (entry_at g image d s)) (slot_count g image d) ≡ count_by (is_for i) (slots g image d)
 unfolding slots

@@ -1,4 +1,4 @@
--- What the blocks that a directory has whole mark.
+-- The marks of the blocks that a directory has as whole blocks.
 use Rattle.std.proofs.Common.{◌≡◌, ℕ, ◌+◌, ◌-◌, ◌*◌, ◌≤◌, ap, true, List, arith}
 use Rattle.vol_layout.specs.Geometry.{in_zone, Fits}
 use Rattle.vol_layout.specs.Names.{form_at, stored}
@@ -13,7 +13,7 @@ use Rattle.vol_check.specs.Slots.{entry_weight, entries_of}
 use Rattle.vol_check.proofs.Sums.{below_same}
 use Rattle.vol_check.proofs.Noted.{marked_over}
 
--- the slots of a block that a directory has whole mark what those of the data block do that holds it
+-- the slots of such a block make the marks of the slots of the data block that holds it
 pub block_marks : (g : Geometry) (image : List ℕ) (d b k : ℕ) → Fits g image → 32 * b + 32 ≤ slot_count g image d
     → stored g image d (form_at g image d) b ≡ k → in_zone g k ≡ true → (weight : Mark → ℕ)
     → marked_over Entries g image d (32 * b) 32 weight ≡ entries_of g image weight k

@@ -1,4 +1,4 @@
--- What each word of the block report says, once all marks are made.
+-- The meaning of each word of the block report, once all marks are made.
 use Rattle.std.proofs.Common.{◌≡◌, ◌≢◌, ℕ, ◌+◌, ◌≤◌, ◌∙◌, ◌==◌, sym, ap, if◌then◌else◌, List, [], ◌∷◌, map, filter, min, cond, Bool, true, false, not, refl, inl, inr, arith}
 use Rattle.std.proofs.lemmas.Bool.{cases_eq, cases_Bool, eq-eqb, ne_eqb, and_parts}
 use Rattle.std.specs.List.{list_all}
@@ -32,7 +32,7 @@ clash : {x y : Bool} → x ≡ y → y ≡ true → x ≡ false → ⊥
 clash same up down = let e : ◌≡◌ {A = ℕ} 1 0 = ap one_if (sym up ∙ (sym same ∙ down)) in omega (arith, e)
 
 module _ (g : Geometry) (weight : Mark → ℕ) where
-  -- what a place of an i-node adds to the word of data block b's places
+  -- the marks of a place of an i-node on the word of data block b's places
   pub place_at : (b i k : ℕ) → in_zone g b ≡ true → place_weight g (on (place_word g b) weight) i k ≡ (if k == b then weight (mark (place_word g b) 1) else 0)
   place_at b i k zone = let low = zone_bounds g b zone in elim (cases_Bool (in_zone g k)) [
     | inl inside ↦ let at = zone_bounds g k inside in place_inside g (on (place_word g b) weight) i k inside ∙ elim (cases_eq k b) [
@@ -48,7 +48,7 @@ module _ (g : Geometry) (weight : Mark → ℕ) where
         place_outside g (on (place_word g b) weight) i k outside ∙ omega (arith, a, c, z)
   ]
 
-  -- what it adds to a word past those of the places that is none of i-node i's own two
+  -- its marks on a word past those of the places that is none of i-node i's own two
   pub place_past : (w i k : ℕ) → 1 + zone_len g ≤ w → w ≢ bad_word g i → w ≢ least_word g i → place_weight g (on w weight) i k ≡ 0
   place_past w i k past bad least = elim (cases_Bool (in_zone g k)) [
     | inl inside ↦ let at = zone_bounds g k inside in
@@ -59,7 +59,7 @@ module _ (g : Geometry) (weight : Mark → ℕ) where
         place_outside g (on w weight) i k outside ∙ omega (arith, a, c)
   ]
 
-  -- what it adds to i-node i's own two
+  -- its marks on i-node i's own two
   pub place_bad : (i k : ℕ) → 1 ≤ i → i ≤ g.last_inode → place_weight g (on (bad_word g i) weight) i k ≡ (if not (in_zone g k) then weight (mark (bad_word g i) 1) else 0)
   place_bad i k first last = elim (cases_Bool (in_zone g k)) [
     | inl inside ↦ let at = zone_bounds g k inside in
@@ -151,7 +151,7 @@ total_marks weight w (k ∷ ks) =
     let a = total_cons weight (mark w k) (map (mark w) ks) in
     let b = total_cons (λ k. weight (mark w k)) k ks in omega arith
 
--- the least of the marks on a word, where these are of some numbers
+-- the least of the marks on a word, if these are some numbers
 pub least_is : (w : ℕ) (ms : List Mark) (ks : List ℕ) → ((weight : Mark → ℕ) → total (on w weight) ms ≡ total (λ k. weight (mark w k)) ks)
     → least_at w ms ≡ least_of ks
 least_is w ms ks same =

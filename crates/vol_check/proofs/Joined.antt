@@ -19,7 +19,7 @@ use Rattle.vol_check.specs.Shapes.{Layout}
 use Rattle.vol_check.specs.Seats.{IsSeatOf, IsOf, is_stopped, found_no_memory, layout_weight, layout_kept, layout_fault}
 use Rattle.vol_check.specs.Gathering.{Joins, Gathers}
 
--- one seat stands for some; the rest are not joined yet
+-- one seat stands for several; the rest are not joined yet
 pub record IsGathering (tally : Tally) (seats rest : List CheckSeat) (all : CheckSeat) : Type 0 where
   pub own : IsSeatAt tally all.seat
   pub parts : all.seat.me.0.parts + length rest ≡ length seats
@@ -165,7 +165,7 @@ module _ (tally : Tally) (seats : List CheckSeat) where
     knows = λ checker layout image each. (g.knows checker layout image each).0;
   }
 
--- where all seats are stopped, one is
+-- if all seats are stopped, one is
 pub some_stopped : (seats : List CheckSeat) → 1 ≤ length seats → All (λ s. is_stopped s ≡ true) seats → 1 ≤ count_by is_stopped seats
 some_stopped [] some all = some
 some_stopped (s ∷ seats) some all =

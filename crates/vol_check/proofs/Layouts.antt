@@ -21,7 +21,7 @@ whole : (w b : Bool) (g other : Geometry) → (if w then (if b then Ok g else Er
 whole true b g other e = refl
 whole false b g other e = absurd (cc)
 
--- a geometry within its bounds fits each image of which it is read
+-- a geometry within its bounds fits each image from which it is read
 pub read_fits : (edition : Edition) (image : List ℕ) (g : Geometry) → geometry_read edition image ≡ Ok g → IsLaidOut g → Fits g image
 unfolding geometry_read
 read_fits edition image g read bounds =

@@ -1,4 +1,4 @@
--- Laws of what is left below some blocks.
+-- Laws of the weight below some blocks.
 use Rattle.std.proofs.Common.{◌≡◌, ◌≢◌, ℕ, zero, suc, ◌+◌, ◌-◌, ◌*◌, ◌≤◌, ◌∙◌, sym, ap, false, List, [], ◌∷◌, refl, arith}
 use Rattle.std.proofs.lemmas.List.Sums.{sum_by-cons}
 use Rattle.atomic_table.specs.declared.shared.Seat.{Seat}
@@ -16,7 +16,7 @@ use Rattle.vol_check.specs.Pieces.{place_weight}
 use Rattle.vol_check.specs.Levels.{below_block, by_times, below_named, below_all, KeepsDraws}
 use Rattle.vol_check.proofs.Weights.{weigh_zero, weigh_leaf, weigh_block, weigh_outside, entry_weight}
 
--- a sum so many times
+-- a sum, several times
 pub spread : (n x y : ℕ) → n * (x + y) ≡ n * x + n * y
 spread n x y = grind arith
 
@@ -31,7 +31,7 @@ pub keeps_then : (tally : Tally) (a b c : Seat (Unit {0}) SeatView) → KeepsDra
 keeps_then tally a b c first second = record { own = second.own; parts = second.parts ∙ first.parts; draws = second.draws ∙ first.draws }
 
 module _ (g : Geometry) (image : List ℕ) (weight : ℕ → ℕ) where
-  -- what stands below a block is found from its entries on
+  -- the numbers below a block are found from its entries on
   pub below_entries : (d b : ℕ)
       → below_block g image weight (d + 1) b ≡ below (λ j. total weight (blocks_from g image d (pointer_in g image b j))) (constants g.edition).pointers
   unfolding below_block
@@ -44,12 +44,12 @@ module _ (g : Geometry) (image : List ℕ) (weight : ℕ → ℕ) where
       let e : d ≡ suc d - 1 = omega arith in
       ap (λ x. below (λ j. total weight (blocks_from g image x (pointer_in g image b j))) (constants g.edition).pointers) e
 
-  -- with no levels nothing stands below
+  -- with no levels, nothing is below
   pub below_leaf : (b : ℕ) → below_block g image weight 0 b ≡ 0
   unfolding below_block
   below_leaf b = refl
 
-  -- what is found from a number on, as often as places name it
+  -- the numbers found from a number on, as often as places name it
   pub times_zero : (d b n : ℕ) → b ≡ 0 → n * total weight (blocks_from g image d b) ≡ 0
   times_zero d b n none = ap (λ x. n * x) (weigh_zero g image weight d b none) ∙ no_times n
 
@@ -69,7 +69,7 @@ module _ (g : Geometry) (image : List ℕ) (i : ℕ) (weight : Mark → ℕ) whe
   leaf_named : (n : Named) → below_named g image i weight 0 n ≡ 0
   leaf_named n = ap (λ x. n.times * x) (below_leaf g image (place_weight g weight i) n.number) ∙ no_times n.times
 
-  -- nothing is left below any block where there are no levels
+  -- nothing is left below any block if there are no levels
   pub all_leaves : (named : List Named) → below_all g image i weight 0 named ≡ 0
   all_leaves [] = refl
   all_leaves (n ∷ named) =

@@ -1,4 +1,4 @@
--- The words and entries of the name report are those that its definition asks for.
+-- The words and entries of the name report are those that its definition requires.
 use Rattle.std.proofs.Common.{◌≡◌, ◌⊎◌, ℕ, zero, suc, ◌+◌, ◌≤◌, ◌∙◌, ◌==◌, sym, ap, cond, if◌then◌else◌, nat_le, List, [], ◌∷◌, ◌++◌, map, filter, slice_index, Option, None, Some, Bool, true, false, refl, inl, inr, arith}
 use Rattle.std.proofs.lemmas.Bool.{cases_eq, cases_Bool, eq-eqb, ne_eqb, le-leb}
 use Rattle.std.specs.List.{flat_map, range_with_len}
@@ -34,7 +34,7 @@ use Rattle.vol_check.proofs.Reported.{few_inodes}
 use Rattle.vol_check.proofs.Noted.{blank_weight, blank_kept}
 use Rattle.vol_check.proofs.DirectorySums.{directory_sum, drawn_slots, total_map}
 
--- where an entry stands
+-- the rank of an entry
 abbrev rank_at : Placed → ℕ
 rank_at e = rank e.directory e.slot
 
@@ -65,7 +65,7 @@ sum_all g image weight =
 abbrev for_inode : ℕ → (Mark → ℕ) → Placed → ℕ
 for_inode i weight e = if e.inode == i then weight (mark i (rank_at e)) else 0
 
--- what a slot marks on the word of an i-number is the rank of its entry, if that is for it
+-- the mark of a slot on the word of an i-number is the rank of its entry, if that is for it
 mark_in : (g : Geometry) (i d s : ℕ) (weight : Mark → ℕ) (slot : Option (List ℕ × ℕ)) → i ≤ g.last_inode
     → name_weight g (on (name_word i) weight) d s slot ≡ total (for_inode i weight) (entered d s slot)
 mark_in g i d s weight None last = sym (total_nil (for_inode i weight))
@@ -95,12 +95,12 @@ mark_in g i d s weight (Some e) last = elim (cases_Bool (is_dots e.0)) [
         unless (nat_le e.1 g.last_inode) (on i weight (mark e.1 (rank d s))) (on_else weight e.1 i (rank d s) differs)
         ∙ sym (ap (λ t. if t then weight (mark i (rank d s)) else 0) (ne_eqb e.1 i differs))
 
--- entries stand by their ranks, from one on
+-- entries are in ascending order of their ranks, from one on
 abbrev Ascends : ℕ → List Placed → Type 0
 Ascends low [] = Unit {0}
 Ascends low (e ∷ es) = (low ≤ rank_at e) × Ascends (rank_at e) es
 
--- none of them stands behind a rank
+-- none of them is after a rank
 abbrev UpTo : ℕ → List Placed → Type 0
 UpTo high [] = Unit {0}
 UpTo high (e ∷ es) = (rank_at e ≤ high) × UpTo high es
@@ -113,7 +113,7 @@ raise : (high more : ℕ) (es : List Placed) → high ≤ more → UpTo high es 
 raise high more [] le up = tt
 raise high more (e ∷ es) le up = (omega (arith, le, up.0), raise high more es le up.1)
 
--- entries, and others behind them
+-- entries, and others after them
 behind : (low mid : ℕ) (xs ys : List Placed) → low ≤ mid → Ascends low xs → UpTo mid xs → Ascends mid ys → Ascends low (xs ++ ys)
 behind low mid [] ys le asc up rest = lower mid low ys le rest
 behind low mid (x ∷ xs) ys le asc up rest = (asc.0, behind (rank_at x) mid xs ys up.0 asc.1 up.1 rest)
@@ -122,7 +122,7 @@ both_up : (high : ℕ) (xs ys : List Placed) → UpTo high xs → UpTo high ys �
 both_up high [] ys first second = second
 both_up high (x ∷ xs) ys first second = (first.0, both_up high xs ys first.1 second)
 
--- the entry of a slot stands at its rank
+-- the entry of a slot has its rank
 one_ascends : (d s i : ℕ) (name : List ℕ) (t : Bool) → Ascends (rank d s) (if t then [] else placed d s i name ∷ [])
 one_ascends d s i name true = tt
 one_ascends d s i name false = (omega arith, tt)
@@ -140,7 +140,7 @@ slot_up d s None = tt
 slot_up d s (Some e) = one_up d s e.1 e.0 (is_dots e.0)
 
 module _ (g : Geometry) (image : List ℕ) where
-  -- those of a directory stand by their slots
+  -- those of a directory are in the order of their slots
   slots_ascend : (d a n : ℕ) → Ascends (rank d a) (flat_map (λ s. entered d s (entry_at g image d s)) (range_with_len a n))
   slots_ascend d a zero = tt
   slots_ascend d a (suc n) =
@@ -155,7 +155,7 @@ module _ (g : Geometry) (image : List ℕ) where
       (raise (rank d a) (rank d (a + suc n)) (entered d a (entry_at g image d a)) (omega arith) (slot_up d a (entry_at g image d a)))
       (raise (rank d (a + 1 + n)) (rank d (a + suc n)) (flat_map (λ s. entered d s (entry_at g image d s)) (range_with_len (a + 1) n)) (omega arith) (slots_up d (a + 1) n))
 
-  -- a directory's entries stand before those of the next
+  -- a directory's entries are before those of the next
   in_ascends : (d : ℕ) (kind : Kind) → Ascends (rank d 0) (entries_in g image d kind)
   unfolding entries_of
   in_ascends d kinds.Directory = slots_ascend d 0 (slot_count g image d)

@@ -1,4 +1,4 @@
--- What is noted one after another.
+-- Notes made one after another.
 use Rattle.std.proofs.Common.{◌≡◌, ◌≢◌, ℕ, ◌+◌, ◌-◌, ◌*◌, ◌/◌, ◌%◌, ◌<◌, ◌≤◌, ◌∙◌, ap, if◌then◌else◌, false, List, None, Some, refl, inl, inr, arith}
 use Rattle.std.proofs.lemmas.Bool.{cases_lt, eq-eqb, ne_eqb, le-ltb}
 use Rattle.vol_layout.specs.Geometry.{in_zone, Fits}
@@ -75,7 +75,7 @@ module _ (tally : Tally) where
     spoiled = first.spoiled;
   }
 
-  -- what was noted leaves the seat as it stood
+  -- notes leave the seat as it was
   pub notes_stay : (a b c : CheckSeat) (f : (Mark → ℕ) → ℕ) (k : (Placed → ℕ) → ℕ) → Notes tally a b f k → Stays tally b c → Stays tally a c
   notes_stay a b c f k notes stays = record {
     own = stays.own;
@@ -95,7 +95,7 @@ blank_kept Blocks weight d s = refl
 blank_kept Entries weight d s = refl
 blank_kept Names weight d s = total_nil weight
 
--- what so many slots of a directory mark from one on, and what of them is kept
+-- the marks of some slots of a directory from one on, and the entries kept of them
 abbrev pub marked_over : Checker → Geometry → List ℕ → ℕ → ℕ → ℕ → (Mark → ℕ) → ℕ
 marked_over checker g image d from n weight = below (λ t. slot_weight checker g weight d (from + t) (entry_at g image d (from + t))) n
 
@@ -126,7 +126,7 @@ module _ (g : Geometry) (image : List ℕ) (d : ℕ) where
   ]
 
   module _ (weight : SlotWeight) (blank : (s : ℕ) → weight d s None ≡ 0) where
-    -- the sum over so many slots from one on
+    -- the sum over some slots from one on
     abbrev pub over : ℕ → ℕ → ℕ
     over from n = below (λ t. weight d (from + t) (entry_at g image d (from + t))) n
 
@@ -136,7 +136,7 @@ module _ (g : Geometry) (image : List ℕ) (d : ℕ) where
         below_zero (λ t. weight d (from + t) (entry_at g image d (from + t))) n
         (λ t lt. ap (weight d (from + t)) (none (from + t) (omega arith) (omega arith)) ∙ blank (from + t))
 
-    -- slots, and those behind them
+    -- slots, and those after them
     pub over_split : (from a b : ℕ) → over from (a + b) ≡ over from a + over (from + a) b
     over_split from a b =
         below_split (λ t. weight d (from + t) (entry_at g image d (from + t))) a b
@@ -144,7 +144,7 @@ module _ (g : Geometry) (image : List ℕ) (d : ℕ) where
         (λ t. weight d (from + a + t) (entry_at g image d (from + a + t))) b
         (λ t lt. ap (λ s. weight d s (entry_at g image d s)) (omega arith)))
 
-    -- the slots of some blocks, and of those behind them
+    -- the slots of some blocks, and of those after them
     pub over_two : (from mid end : ℕ) → from ≤ mid → mid ≤ end
         → over (32 * from) (32 * (end - from)) ≡ over (32 * from) (32 * (mid - from)) + over (32 * mid) (32 * (end - mid))
     over_two from mid end low high =
@@ -153,7 +153,7 @@ module _ (g : Geometry) (image : List ℕ) (d : ℕ) where
         ap (over (32 * from)) len ∙ (over_split (32 * from) (32 * (mid - from)) (32 * (end - mid))
         ∙ ap (λ x. over (32 * from) (32 * (mid - from)) + over x (32 * (end - mid))) at)
 
-    -- the slots of block b, and the hole behind it
+    -- the slots of block b, and the hole after it
     pub over_next : (from b next : ℕ) → Fits g image → from ≤ b → b + 1 ≤ next → IsHole g image d (form_at g image d) (b + 1) next
         → over (32 * from) (32 * (next - from)) ≡ over (32 * from) (32 * (b - from)) + over (32 * b) 32
     over_next from b next fits low more hole =
@@ -164,7 +164,7 @@ module _ (g : Geometry) (image : List ℕ) (d : ℕ) where
         let none = over_blank (32 * b + 32) (32 * (next - (b + 1))) (λ s from-there before. entry_hole (b + 1) next s fits hole (omega arith) (omega arith)) in
         omega arith
 
-    -- the first slots of a block, where it has no others
+    -- the first slots of a block, if it has no others
     pub over_block : (b few : ℕ) → few ≤ 32 → (few < 32 → slot_count g image d ≤ 32 * b + few) → over (32 * b) 32 ≡ over (32 * b) few
     over_block b few le short =
         let len : 32 ≡ few + (32 - few) = omega arith in
@@ -199,7 +199,7 @@ pub part_none : (g : Geometry) (image : List ℕ) (weight : SlotWeight) (d k : �
 unfolding part_sum
 part_none g image weight d k other = none_in (kind_at g image d) (below (λ t. weight d (2048 * k + t) (entry_at g image d (2048 * k + t))) 2048) other
 
--- the slots of the blocks of a part, where the directory has no others there
+-- the slots of the blocks of a part, if the directory has no others there
 pub part_over : (g : Geometry) (image : List ℕ) (weight : SlotWeight) (d k from n : ℕ) → ((s : ℕ) → weight d s None ≡ 0) → kind_at g image d ≡ kinds.Directory
     → 2048 * k ≡ 32 * from → n ≤ 2048 → (n < 2048 → slot_count g image d ≤ 32 * from + n)
     → part_sum g image weight d k ≡ below (λ t. weight d (32 * from + t) (entry_at g image d (32 * from + t))) n

@@ -1,4 +1,4 @@
--- How many pieces an i-number has.
+-- The number of pieces of an i-number.
 use Rattle.std.proofs.Common.{◌≡◌, ◌≢◌, ℕ, ◌+◌, ◌/◌, ◌≤◌, ap, max, List, refl, arith}
 use Rattle.vol_layout.specs.Body.{body_size}
 use Rattle.vol_layout.specs.Edition.{constants}

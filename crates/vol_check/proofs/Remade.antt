@@ -1,4 +1,4 @@
--- What making the free list anew leaves: the files, and so all rules that held; and then the rules of the free list hold too.
+-- Rebuilding the free list keeps the files, and so all rules that held; and then the rules of the free list hold too.
 use Rattle.std.proofs.Common.{◌≡◌, ◌≢◌, ◌∙◌, sym, ap, subst, refl, ℕ, ◌+◌, ◌*◌, ◌≤◌, true, false, Bool, List, ◌∷◌, Ok, Some, None, inl, inr, get_or, arith}
 use Rattle.std.proofs.lemmas.Bool.{both_ways, cases_Bool}
 use Rattle.pdp_words.specs.Words.{long}
@@ -40,7 +40,7 @@ use Rattle.vol_change.proofs.WholeLaws.{geometry_kept, names_stay, sizes_stay, z
 use Rattle.vol_change.proofs.ReadyLaws.{bounded_kept, whole_kept, sound_by}
 use Rattle.vol_check.specs.Salvaging.{IsSalvaged}
 
--- rules 1 and 2 are what reading the geometry asks
+-- rules 1 and 2 are those that reading the geometry checks
 pub rules_read : (edition : Edition) (image : List ℕ) → KeepsRules false edition image → geometry_read edition image ≡ Ok (geometry_of edition image)
 unfolding geometry_read Rule
 rules_read edition image rules =
@@ -94,7 +94,7 @@ stored_block geometry old new used j b file zone fits marked keeps =
           (record { file = file; place = (last_leaf (form_at geometry old j) b p e).place }) here)
     ] refl
 
--- what each i-node stands for stays
+-- the content of each i-node stays
 pub remade_content : (geometry : Geometry) (old new : List ℕ) (used : List Bool) (j : ℕ) → Fits geometry old → AreNamed geometry old used
     → KeepsUsed geometry used old new → IsZoned geometry old → 1 ≤ j → j ≤ geometry.last_inode → KeepsContent geometry old new j
 remade_content geometry old new used j fits marked keeps zoned first last =
@@ -221,7 +221,7 @@ remade_graph geometry old new used fits marked keeps zoned sizes later entries d
     (λ x is. (content x is.first is.last).size)
     (λ x s is. entry_same geometry old new x s (content x is.first is.last) (file_by geometry old x kinds.Directory is.first is.last is.kind refl))))
 
--- an image of which the free list alone was wrong is salvaged once it is made anew
+-- an image whose free list alone was wrong is salvaged once that is rebuilt
 pub salvaged : (edition : Edition) (old new : List ℕ) (used : List Bool) → KeepsRules false edition old → Fits (geometry_of edition old) old
     → Fits (geometry_of edition old) new → AreNamed (geometry_of edition old) old used → KeepsUsed (geometry_of edition old) used old new
     → IsFree (geometry_of edition old) new (unused (geometry_of edition old) used) → IsSalvaged edition old new

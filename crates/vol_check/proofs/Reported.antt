@@ -1,4 +1,4 @@
--- The words of the block report are those that its definition asks for.
+-- The words of the block report are those that its definition requires.
 use Rattle.std.proofs.Common.{◌≡◌, ℕ, zero, suc, ◌+◌, ◌-◌, ◌*◌, ◌^◌, ◌%◌, ◌<◌, ◌≤◌, ◌∙◌, ◌==◌, ap, if◌then◌else◌, List, [], ◌∷◌, length, not, ◌&&◌, nat_lt, refl, slice_index, Option, None, arith}
 use Rattle.std.proofs.Math.Nat.{le_trans, mul-le-mul_right}
 use Rattle.std.proofs.lemmas.Bool.{ne_eqb}

@@ -84,7 +84,7 @@ module _ (edition : Edition) (old new : List ℕ) (same : HasSameHead edition ol
         ap (λ k. parts_of k (blocks_in (body_size g new i))) (kinds_same i first last)
         ∙ ap (λ n. parts_of (kind_at g old i) (blocks_in n)) (body_size_kept g old new i (keeps i first last))
 
-    -- the pieces stand as they did
+    -- the pieces begin as before
     pub starts_same : (starts : List ℕ) → HasStarts g old starts → HasStarts g new starts
     starts_same starts has = record {
       wide = has.wide;
@@ -92,7 +92,7 @@ module _ (edition : Edition) (old new : List ℕ) (same : HasSameHead edition ol
           (λ k lt. sym (parts_same (k + 1) (omega arith) (omega arith)));
     }
 
-    -- and the link counts are what they were
+    -- and the link counts are as before
     pub links_same : (links : List LinkCount) → HasLinkCounts g old links → HasLinkCounts g new links
     links_same links has = record {
       wide = has.wide;

@@ -1,4 +1,4 @@
--- Laws of what the pieces mark.
+-- Laws of the marks of pieces.
 use Rattle.std.proofs.Common.{◌≡◌, ◌≢◌, ℕ, ◌+◌, ◌-◌, ◌≤◌, ◌∙◌, ap, if◌then◌else◌, false, true, List, [], arith}
 use Rattle.std.specs.List.{range_with_len}
 use Rattle.vol_layout.specs.Edition.{constants}
@@ -39,11 +39,11 @@ module _ (g : Geometry) (image : List ℕ) (weight : ℕ → ℕ) where
       let a = ap (λ x. total weight (blocks_from g image x b)) none ∙ ap (total weight) (from_leaf g image b some) in
       let t = total_cons weight b [] in let n = total_nil weight in omega arith
 
-  -- what is found from entry j on
+  -- the weight found from entry j on
   abbrev pub entry_weight : ℕ → ℕ → ℕ → ℕ
   entry_weight d b j = total weight (blocks_from g image (d - 1) (pointer_in g image b j))
 
-  -- a block and what is found from its entries on
+  -- a block and the numbers found from its entries on
   pub weigh_block : (d b : ℕ) → b ≢ 0 → 1 ≤ d → total weight (blocks_from g image d b) ≡ weight b + below (entry_weight d b) (constants g.edition).pointers
   unfolding entries_from
   weigh_block d b some one =

@@ -14,17 +14,17 @@ use Rattle.vol_check.specs.Shapes.{Layout}
 use Rattle.vol_check.specs.Parts.{HasStarts, parts_before}
 use Rattle.vol_check.specs.Seats.{IsSeatOf, IsOf}
 
--- where the data zone of an image with some layout begins, in bytes; its end where it has no geometry (filsys.h)
+-- the byte at which the data zone of an image with some layout begins, or the image's end if it has no geometry (filsys.h)
 abbrev pub head_end : Result Geometry GeometryFault → ℕ → ℕ
 head_end (Ok g) len = 512 * g.zone_start
 head_end (Err fault) len = len
 
--- two images have the same length, and the same bytes before the data zone; without geometry, all the same bytes (this project)
+-- two images have the same length, and the same bytes before the data zone, or all the same bytes if they have no geometry (this project)
 pub record HasSameHead (edition : Edition) (old new : List ℕ) : Type 0 where
   pub len : length new ≡ length old
   pub head : (k : ℕ) → k < head_end (geometry_read edition old) (length old) → slice_index new k ≡ slice_index old k
 
--- an image has the layout, and as far as the sweep asks for them the directories' sizes and the link counts, of the image that the sweep was made for (this project)
+-- an image has the layout, and, if the sweep needs them, the directory sizes and link counts, of the image that the sweep was made for (this project)
 pub record IsFor (sweep : Sweep) (image : List ℕ) : Type 0 where
   pub read : geometry_read sweep.edition image ≡ sweep.layout
   pub starts : (g : Geometry) → sweep.layout ≡ Ok g → sweep.checker ≢ Blocks → HasStarts g image sweep.starts.items
@@ -34,19 +34,19 @@ pub record IsFor (sweep : Sweep) (image : List ℕ) : Type 0 where
 abbrev pub IsSeatIn : Sweep → CheckSeat → Type 0
 IsSeatIn sweep = IsSeatOf sweep.tally
 
--- what a seat of a sweep marked and keeps is what the pieces that it drew are in this image (icheck, dcheck, ncheck)
+-- the marks and entries of a seat of a sweep are those of the pieces that it drew, in this image (icheck, dcheck, ncheck)
 abbrev pub HasSwept : Sweep → List ℕ → CheckSeat → Type 0
 HasSwept sweep image = IsOf sweep.checker sweep.layout image
 
--- how many seats a sweep has (this project)
+-- the number of seats of a sweep (this project)
 abbrev pub seat_count : Sweep → ℕ
 seat_count sweep = (table_shape sweep.tally).seats
 
--- how many pieces a sweep has (this project)
+-- the number of pieces of a sweep (this project)
 abbrev pub pieces_of : Sweep → ℕ
 pieces_of sweep = (table_shape sweep.tally).pieces
 
--- how many pieces an image with some layout has for a checker: of the blocks the free list and each i-number, else the parts of each i-number; none without geometry (this project)
+-- the number of pieces of an image with some layout for a checker: of the blocks, the free list and each i-number, else the parts of each i-number; 0 without geometry (this project)
 abbrev pub pieces_in : Checker → Layout → List ℕ → ℕ
 pieces_in Blocks (Ok g) image = g.last_inode + 1
 pieces_in Entries (Ok g) image = parts_before g image g.last_inode

@@ -1,4 +1,4 @@
--- What the piece of an i-node has marked, level by level of its indirect blocks.
+-- The marks of an i-node's piece, level by level of its indirect blocks.
 use Rattle.std.specs.Prelude.{◌≡◌, ℕ, zero, suc, ◌+◌, ◌*◌, ◌≤◌, true, List}
 use Rattle.std.specs.List.{sum_by}
 use Rattle.atomic_table.specs.declared.shared.Seat.{Seat}
@@ -15,33 +15,33 @@ use Rattle.count_table.specs.Tallies.{IsSeatAt}
 use Rattle.vol_check.specs.declared.levels.Named.{Named}
 use Rattle.vol_check.specs.Pieces.{place_weight}
 
--- a data block that one place at least names (this project)
+-- a data block that at least one place names (this project)
 abbrev pub IsNamed : Geometry → Named → Type 0
 IsNamed g n = (in_zone g n.number ≡ true) × (1 ≤ n.times)
 
--- what is found from the entries of block b on, in d levels of indirect blocks with its own (this project)
+-- the weight of the numbers below block b, in d levels of indirect blocks including its own (this project)
 unfoldable pub below_block : Geometry → List ℕ → (ℕ → ℕ) → ℕ → ℕ → ℕ
 below_block g image weight zero b = 0
 below_block g image weight (suc d) b = below (λ j. total weight (blocks_from g image d (pointer_in g image b j))) (constants g.edition).pointers
 
--- a weight of a block's number, as often as places name it (this project)
+-- a weight of a block's number, times the places that name it (this project)
 abbrev pub by_times : (ℕ → ℕ) → Named → ℕ
 by_times f n = n.times * f n.number
 
--- the same for a block as often as places name it (this project)
+-- the weight below a block, times the places that name it (this project)
 abbrev pub below_named : Geometry → List ℕ → ℕ → (Mark → ℕ) → ℕ → Named → ℕ
 below_named g image i weight d = by_times (below_block g image (place_weight g weight i) d)
 
--- the same for some blocks (this project)
+-- the weight below some blocks, each times the places that name it (this project)
 abbrev pub below_all : Geometry → List ℕ → ℕ → (Mark → ℕ) → ℕ → List Named → ℕ
 below_all g image i weight d named = sum_by (below_named g image i weight d) named
 
--- a seat is of the table as before, and has the draws that it had (this project)
+-- a seat belongs to the table as before, and has the draws that it had (this project)
 pub record KeepsDraws (tally : Tally) (old new : Seat (Unit {0}) SeatView) : Type 0 where
   pub own : IsSeatAt tally new
   pub parts : new.me.0.parts ≡ old.me.0.parts
   pub draws : new.me.0.draws ≡ old.me.0.draws
 
--- a seat made marks of this weight, but for some that are left (this project)
+-- a seat made marks of this weight, except for some that are left (this project)
 abbrev pub AddsBut : Seat (Unit {0}) SeatView → Seat (Unit {0}) SeatView → ((Mark → ℕ) → ℕ) → ((Mark → ℕ) → ℕ) → Type 0
 AddsBut old new all left = (weight : Mark → ℕ) → total weight new.me.0.marks + left weight ≡ total weight old.me.0.marks + all weight

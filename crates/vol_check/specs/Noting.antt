@@ -1,4 +1,4 @@
--- What a seat notes of directories, slot after slot.
+-- The notes of a seat on directories, slot by slot.
 use Rattle.std.specs.Prelude.{◌≡◌, ℕ, ◌+◌}
 use Rattle.count_table.specs.declared.rule.Mark.{Mark}
 use Rattle.count_table.specs.declared.words.Tally.{Tally}
@@ -8,7 +8,7 @@ use Rattle.vol_reports.specs.Placed.{Placed}
 use Rattle.vol_check.specs.declared.seats.CheckSeat.{CheckSeat}
 use Rattle.vol_check.specs.Pieces.{Adds}
 
--- a seat made marks and kept entries of these weights, and nothing else changed of it (this project)
+-- a seat made marks and kept entries of these weights, and is otherwise unchanged (this project)
 pub record Notes (tally : Tally) (old new : CheckSeat) (amount : (Mark → ℕ) → ℕ) (kept : (Placed → ℕ) → ℕ) : Type 0 where
   pub adds : Adds tally old.seat new.seat amount
   pub entries : (weight : Placed → ℕ) → total weight new.entries.items ≡ total weight old.entries.items + kept weight
@@ -16,7 +16,7 @@ pub record Notes (tally : Tally) (old new : CheckSeat) (amount : (Mark → ℕ) 
   pub ended : new.ended ≡ old.ended
   pub spoiled : new.spoiled ≡ old.spoiled
 
--- a seat is of the table as before, and has the draws that it had (this project)
+-- a seat belongs to the table as before, and has the draws that it had (this project)
 pub record Stays (tally : Tally) (old new : CheckSeat) : Type 0 where
   pub own : IsSeatAt tally new.seat
   pub parts : new.seat.me.0.parts ≡ old.seat.me.0.parts

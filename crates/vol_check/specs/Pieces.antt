@@ -1,4 +1,4 @@
--- What each piece of the block report marks: under each weight, the sum over its marks.
+-- The marks of each piece of the block report: under each weight, the sum over its marks.
 use Rattle.std.specs.Prelude.{◌≡◌, ℕ, ◌+◌, ◌==◌, nat_le, if◌then◌else◌, List}
 use Rattle.atomic_table.specs.declared.shared.Seat.{Seat}
 use Rattle.vol_layout.specs.Geometry.{in_zone}
@@ -16,13 +16,13 @@ use Rattle.count_table.specs.Tallies.{IsSeatAt}
 use Rattle.vol_reports.specs.Words.{place_word, free_word, bad_word, kind_word, least_word}
 use Rattle.vol_free.specs.FreeWalk.{free_walk}
 
--- a place of i-node i that names number k marks the block's word, or where k is no data block's, i's own two words (icheck)
+-- a place of i-node i that names number k marks the block's word, or i's own two words if k is no data block (icheck)
 abbrev pub place_weight : Geometry → (Mark → ℕ) → ℕ → ℕ → ℕ
 place_weight g weight i k =
     if in_zone g k then weight (mark (place_word g k) 1)
     else weight (mark (bad_word g i) 1) + weight (mark (least_word g i) k)
 
--- an i-node marks the word of its kind, and none where it is free (icheck)
+-- an i-node marks the word of its kind, or none if it is free (icheck)
 abbrev pub kind_weight : Geometry → (Mark → ℕ) → Kind → ℕ
 kind_weight g weight kinds.Free = 0
 kind_weight g weight kinds.Regular = weight (mark (kind_word g 0) 1)
@@ -43,7 +43,7 @@ unfoldable pub piece_weight : Geometry → List ℕ → (Mark → ℕ) → ℕ �
 piece_weight g image weight p =
     if p == 0 then free_weight g image weight else if nat_le p g.last_inode then inode_weight g image weight p else 0
 
--- a seat made marks of this weight, and nothing else changed of what it knows (this project)
+-- a seat made marks of this weight, and its view is otherwise unchanged (this project)
 pub record Adds (tally : Tally) (old new : Seat (Unit {0}) SeatView) (amount : (Mark → ℕ) → ℕ) : Type 0 where
   pub own : IsSeatAt tally new
   pub parts : new.me.0.parts ≡ old.me.0.parts

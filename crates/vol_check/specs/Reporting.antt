@@ -1,4 +1,4 @@
--- What a sweep reports.
+-- The report of a sweep.
 use Rattle.std.specs.Prelude.{◌≡◌, ℕ, List}
 use Rattle.vol_layout.specs.declared.edition.Edition.{Edition}
 use Rattle.vol_reports.specs.declared.line.Line.{Line}

@@ -1,4 +1,4 @@
--- Salvage: making the free list of an image anew, where it alone is wrong.
+-- Salvage: rebuilding the free list of an image that is otherwise sound.
 use Rattle.std.specs.Prelude.{◌≡◌, ℕ, Bool, false, List}
 use Rattle.vol_layout.specs.Geometry.{geometry_of}
 use Rattle.vol_free.specs.Rebuilding.{unused, KeepsUsed}
@@ -11,7 +11,7 @@ use Rattle.vol_layout.specs.declared.edition.Edition.{Edition}
 use Rattle.vol_check.specs.declared.salvaging.SalvageFault.{SalvageFault}
 use Rattle.vol_check.specs.declared.salvaging.SalvageFault.TheVariants as faults
 
--- an image that broke no rule but those of the free list is sound now, and has the tree and the shapes that it had; the data blocks that no place of a file names are free, ascending, and every byte stays but those of these blocks and of the super-block's free list (icheck -s)
+-- an image that broke only the rules about the free list is now sound, and has the tree and the shapes that it had; the data blocks that no place of a file names are free, in ascending order, and all bytes stay except those of these blocks and of the super-block's free list (icheck -s)
 pub record IsSalvaged (edition : Edition) (old new : List ℕ) : Type 0 where
   pub rules : KeepsRules false edition old
   pub sound : IsSound edition new
@@ -22,7 +22,7 @@ pub record IsSalvaged (edition : Edition) (old new : List ℕ) : Type 0 where
   pub free : IsFree (geometry_of edition old) new (unused (geometry_of edition old) used)
   pub stays : KeepsUsed (geometry_of edition old) used old new
 
--- why an image isn't salvaged: want of memory, or the least rule that fails, but for what concerns the free list (this project)
+-- the reason why an image isn't salvaged: NoMemory, or the first rule that fails apart from the free list (this project)
 abbrev pub IsSalvageFault : Edition → List ℕ → SalvageFault → Type 0
 IsSalvageFault edition bytes faults.NoMemory = Unit {0}
 IsSalvageFault edition bytes (faults.Unsound n) = IsLeastBroken false edition bytes n

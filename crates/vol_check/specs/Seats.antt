@@ -1,4 +1,4 @@
--- Seats of a sweep, and what they know of an image.
+-- Seats of a sweep, and the image that they fit.
 use Rattle.std.specs.Prelude.{◌≡◌, ℕ, ◌≤◌, ◌==◌, ◌||◌, ◌++◌, ◌∷◌, Bool, true, false, if◌then◌else◌, List, [], Option, None, Ok, Err}
 use Rattle.vol_layout.specs.declared.geometry.Geometry.{Geometry}
 use Rattle.count_table.specs.declared.rule.Mark.{Mark}
@@ -17,13 +17,13 @@ use Rattle.vol_check.specs.Shapes.{Layout}
 use Rattle.vol_check.specs.Pieces.{piece_weight}
 use Rattle.vol_check.specs.Slots.{slot_weight, slot_kept, slots_piece}
 
--- what piece p of a sweep marks (icheck, dcheck, ncheck)
+-- the marks of piece p of a sweep (icheck, dcheck, ncheck)
 abbrev pub checker_weight : Checker → Geometry → List ℕ → (Mark → ℕ) → ℕ → ℕ
 checker_weight Blocks g image weight p = piece_weight g image weight p
 checker_weight Entries g image weight p = slots_piece g image (slot_weight Entries g weight) p
 checker_weight Names g image weight p = slots_piece g image (slot_weight Names g weight) p
 
--- the entries that are kept of piece p (ncheck)
+-- the entries kept from piece p (ncheck)
 abbrev pub checker_kept : Checker → Geometry → List ℕ → (Placed → ℕ) → ℕ → ℕ
 checker_kept Blocks g image weight p = 0
 checker_kept Entries g image weight p = slots_piece g image (slot_kept Entries weight) p
@@ -35,12 +35,12 @@ checker_fault Blocks g image draws = if total (λ p. one_if (p == 0)) draws == 0
 checker_fault Entries g image draws = None
 checker_fault Names g image draws = None
 
--- what piece p marks of an image with some layout, which has no pieces without geometry (icheck, dcheck, ncheck)
+-- the marks of piece p of an image with some layout, which has no pieces without geometry (icheck, dcheck, ncheck)
 abbrev pub layout_weight : Checker → Layout → List ℕ → (Mark → ℕ) → ℕ → ℕ
 layout_weight checker (Ok g) image weight p = checker_weight checker g image weight p
 layout_weight checker (Err fault) image weight p = 0
 
--- the entries that are kept of piece p of an image with some layout (ncheck)
+-- the entries kept from piece p of an image with some layout (ncheck)
 abbrev pub layout_kept : Checker → Layout → List ℕ → (Placed → ℕ) → ℕ → ℕ
 layout_kept checker (Ok g) image weight p = checker_kept checker g image weight p
 layout_kept checker (Err fault) image weight p = 0
@@ -50,35 +50,35 @@ abbrev pub layout_fault : Checker → Layout → List ℕ → List ℕ → Optio
 layout_fault checker (Ok g) image draws = checker_fault checker g image draws
 layout_fault checker (Err fault) image draws = None
 
--- a seat found no memory (this project)
+-- true if a seat ran out of memory (this project)
 abbrev pub found_no_memory : CheckSeat → Bool
 found_no_memory s = s.spoiled
 
--- a seat was last answered that no piece is left, or that there is no memory (this project)
+-- true if the last result of a seat's step was that no piece is left or that memory ran out (this project)
 abbrev pub is_stopped : CheckSeat → Bool
 is_stopped s = s.ended || s.spoiled
 
--- the last of some draws is no piece's (this project)
+-- the last of some draws is past the pieces (this project)
 pub record EndsPast (pieces : ℕ) (draws : List ℕ) : Type 0 where
   pub front : List ℕ
   pub n : ℕ
   pub is : draws ≡ front ++ n ∷ []
   pub past : pieces ≤ n
 
--- a seat of a table: it stands for itself alone, and where it is at its end it drew one number that is no piece's, as the last (this project)
+-- a seat of a table: it stands for itself alone, and at its end it drew exactly one number past the pieces, as the last (this project)
 pub record IsSeatOf (tally : Tally) (s : CheckSeat) : Type 0 where
   pub own : IsSeatAt tally s.seat
   pub parts : s.seat.me.0.parts ≡ 1
   pub late : late (table_shape tally).pieces s.seat.me.0.draws ≡ one_if s.ended
   pub last : s.ended ≡ true → EndsPast (table_shape tally).pieces s.seat.me.0.draws
 
--- the marks that a seat made, the fault and the entries that it keeps, are those of the pieces among its draws, in this image; a seat that found no memory says nothing (icheck, dcheck, ncheck)
+-- the marks of a seat, and the fault and the entries that it keeps, are those of the pieces that it drew, in this image; nothing is said of a seat that ran out of memory (icheck, dcheck, ncheck)
 pub record IsOf (checker : Checker) (layout : Layout) (image : List ℕ) (s : CheckSeat) : Type 0 where
   pub marks : s.spoiled ≡ false → (weight : Mark → ℕ) → total weight s.seat.me.0.marks ≡ total (layout_weight checker layout image weight) s.seat.me.0.draws
   pub fault : s.spoiled ≡ false → s.fault ≡ layout_fault checker layout image s.seat.me.0.draws
   pub entries : s.spoiled ≡ false → (weight : Placed → ℕ) → total weight s.entries.items ≡ total (layout_kept checker layout image weight) s.seat.me.0.draws
 
--- a seat that did nothing yet (this project)
+-- a seat that has done nothing yet (this project)
 pub record IsFresh (tally : Tally) (s : CheckSeat) : Type 0 where
   pub own : IsSeatAt tally s.seat
   pub nothing : s.seat.me.0 ≡ view 1 [] []

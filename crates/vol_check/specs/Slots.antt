@@ -1,4 +1,4 @@
--- What the slots of directories mark, and what of them is kept.
+-- The marks of the slots of directories, and the entries that are kept.
 use Rattle.std.specs.Prelude.{ℕ, ◌+◌, ◌*◌, nat_le, if◌then◌else◌, List, Option, None, Some}
 use Rattle.vol_layout.specs.declared.geometry.Geometry.{Geometry}
 use Rattle.vol_layout.specs.declared.mode.Kind.TheVariants as kinds
@@ -18,7 +18,7 @@ use Rattle.vol_check.specs.declared.checker.Checker.{Checker}
 use Rattle.vol_check.specs.declared.checker.Checker.TheVariants.{Blocks, Entries, Names}
 use Rattle.vol_check.specs.Parts.{part_count, piece_value}
 
--- a slot and its place: the directory, the number of the slot, and its entry (manual section 5, directories)
+-- a weight of a slot: of its directory, its number, and its entry (manual section 5, directories)
 abbrev pub SlotWeight : Type 0
 SlotWeight = ℕ → ℕ → Option (List ℕ × ℕ) → ℕ
 
@@ -27,7 +27,7 @@ abbrev pub entry_weight : Geometry → (Mark → ℕ) → Option (List ℕ × �
 entry_weight g weight None = 0
 entry_weight g weight (Some entry) = if nat_le entry.1 g.last_inode then weight (mark (entry_word entry.1) 1) else 0
 
--- what the slots of data block k mark (dcheck)
+-- the marks of the slots of data block k (dcheck)
 abbrev pub entries_of : Geometry → List ℕ → (Mark → ℕ) → ℕ → ℕ
 entries_of g image weight k = below (λ t. entry_weight g weight (entry_in (slot_at image (512 * k + 16 * t)))) 32
 
@@ -38,13 +38,13 @@ name_weight g weight d s (Some entry) =
     if is_dots entry.0 then 0
     else if nat_le entry.1 g.last_inode then weight (mark (name_word entry.1) (rank d s)) else 0
 
--- what a slot marks for a checker (dcheck, ncheck)
+-- the marks of a slot for a checker (dcheck, ncheck)
 abbrev pub slot_weight : Checker → Geometry → (Mark → ℕ) → SlotWeight
 slot_weight Blocks g weight d s slot = 0
 slot_weight Entries g weight d s slot = entry_weight g weight slot
 slot_weight Names g weight d s slot = name_weight g weight d s slot
 
--- what of a slot is kept for a checker: its entry, in one for names (ncheck)
+-- the entry of a slot that a checker keeps: one for names keeps it (ncheck)
 abbrev pub slot_kept : Checker → (Placed → ℕ) → SlotWeight
 slot_kept Blocks weight d s slot = 0
 slot_kept Entries weight d s slot = 0
@@ -58,7 +58,7 @@ in_directory kinds.Regular n = 0
 in_directory kinds.Special n = 0
 in_directory kinds.Odd n = 0
 
--- the sum over the slots of part k of i-number d, of which each has 64 logical blocks (this project)
+-- the sum over the slots of part k of i-number d; each part has 64 logical blocks (this project)
 unfoldable pub part_sum : Geometry → List ℕ → SlotWeight → ℕ → ℕ → ℕ
 part_sum g image weight d k =
     in_directory (kind_at g image d) (below (λ t. weight d (2048 * k + t) (entry_at g image d (2048 * k + t))) 2048)

@@ -1,4 +1,4 @@
--- What a step of a sweep does.
+-- The steps of a sweep.
 use Rattle.std.specs.Prelude.{◌≡◌, ◌⊎◌, ℕ, ◌+◌, ◌<◌, ◌≤◌, ◌==◌, true, false, if◌then◌else◌, List, [], ◌∷◌, ◌++◌, length, Option, None, Some, Result, Ok, Err, IsErr}
 use Rattle.std.specs.declared.alloc.AllocError.{AllocError}
 use Rattle.vol_layout.specs.declared.geometry.Geometry.{Geometry}
@@ -16,7 +16,7 @@ use Rattle.vol_check.specs.declared.sweeps.Sweep.{Sweep}
 use Rattle.vol_check.specs.Pieces.{Adds}
 use Rattle.vol_check.specs.Seats.{IsSeatOf, IsOf, is_stopped, checker_weight, checker_kept}
 
--- the fault that is kept once piece p was done (icheck)
+-- the fault that is kept after piece p was done (icheck)
 abbrev pub fault_after : Checker → Geometry → List ℕ → ℕ → Option (FreeFault × ℕ) → Option (FreeFault × ℕ)
 fault_after Blocks g image p before = if p == 0 then (free_walk g image).fault else before
 fault_after Entries g image p before = before
@@ -30,14 +30,14 @@ pub record Works (tally : Tally) (checker : Checker) (g : Geometry) (image : Lis
   pub ended : new.ended ≡ old.ended
   pub spoiled : new.spoiled ≡ old.spoiled
 
--- what a step answers: the piece that it drew, or that the number drawn last is no piece's, or that there was no memory (this project)
+-- the result of a step: the piece that it drew, or that its last draw is past the pieces, or that memory ran out (this project)
 abbrev pub StepAnswers : Sweep → CheckSeat → CheckSeat → Result (Option Piece) AllocError → Type 0
 StepAnswers sweep old new (Ok (Some p)) = (new.seat.me.0.draws ≡ old.seat.me.0.draws ++ p.number ∷ [])
     × (p.number < (table_shape sweep.tally).pieces) × (length old.seat.me.0.draws ≤ p.number) × (new.spoiled ≡ false)
 StepAnswers sweep old new (Ok None) = (new.ended ≡ true) × (new.spoiled ≡ false)
 StepAnswers sweep old new (Err failed) = new.spoiled ≡ true
 
--- a step: the seat is one of the sweep's and of the image, as before; it drew at most one number, and none where it was at its end or had found no memory, which it tells for good (this project)
+-- a step: the seat belongs to the sweep and fits the image, as before; it drew at most one number, and none if it was at its end or had run out of memory, after which it always fails (this project)
 pub record Stepped (sweep : Sweep) (image : List ℕ) (old new : CheckSeat) (result : Result (Option Piece) AllocError) : Type 0 where
   pub own : IsSeatOf sweep.tally new
   pub knows : IsOf sweep.checker sweep.layout image new
@@ -46,7 +46,7 @@ pub record Stepped (sweep : Sweep) (image : List ℕ) (old new : CheckSeat) (res
   pub for_good : old.spoiled ≡ true → IsErr result
   pub no_more : is_stopped old ≡ true → new.seat.me.0.draws ≡ old.seat.me.0.draws
 
--- a seat that did pieces until none was left or it found no memory (this project)
+-- a seat that did pieces until none was left or it ran out of memory (this project)
 pub record Ran (sweep : Sweep) (image : List ℕ) (seat : CheckSeat) : Type 0 where
   pub own : IsSeatOf sweep.tally seat
   pub knows : IsOf sweep.checker sweep.layout image seat

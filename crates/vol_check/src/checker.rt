@@ -1,11 +1,11 @@
-//! The checkers, by what they report.
+//! The checkers, by their reports.
 
 /// A checker, by what it reports of an image.
 #[derive(Clone, Copy, Debug, PartialEq, Eq)]
 pub enum Checker {
-    /// `icheck`: the blocks, which places name them, and which are free.
+    /// `icheck`: the blocks, the places that name them, and the free ones.
     Blocks,
-    /// `dcheck`: the entries of directories, as many as each i-number has.
+    /// `dcheck`: the number of directory entries for each i-number.
     Entries,
     /// `ncheck`: the names that entries give to i-numbers.
     Names,

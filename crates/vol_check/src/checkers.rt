@@ -1,4 +1,4 @@
-//! The checks of an image, by as many threads as are asked for.
+//! Checks of an image, with any number of threads.
 ghost use Rattle.std.specs.Prelude.{◌≡◌, ◌≤◌, IfOk};
 ghost use Rattle.vol_reports.specs.Reports.{block_report, entry_report, IsNameReport};
 ghost use Rattle.vol_check.specs.Reporting.{IsReport};
@@ -14,15 +14,15 @@ use std::thread::Threads;
 use vol_layout::Edition;
 use vol_reports::Report;
 
-/// The most threads that a check may have, and the most seats of a sweep.
+/// The greatest number of threads of a check, and of seats of a sweep.
 pub const MOST_WORKERS: usize = 64;
 
-/// The block report of an image, by so many threads, which wait for no lock; where one can't be started, the others
-/// do its pieces. The gate is called round each piece.
+/// Returns the block report of an image, made by `workers` threads, which wait for no lock. If one can't be started, the others
+/// do its pieces. The gate is called before and after each piece.
 ///
-/// Costs a look at each address of each i-node, at each entry of each block that it leads to, once for each level of indirect
-/// blocks, at the free list, and at each data block. Takes sixteen bytes for each data block and each i-number, a byte more
-/// for each data block, a MB at most for each thread while it is at a file with indirect blocks, and memory for the lines.
+/// Costs a read of each address of each i-node, of each entry of each indirect block below it, once for each of their levels,
+/// of the free list, and of the words of each data block. Takes sixteen bytes for each data block and each i-number, one more
+/// byte for each data block, at most a MB for each thread while it is at a file with indirect blocks, and memory for the lines.
 pub fn icheck<R: Threads + Sync, W: Wait, G: Gate>(
     threads: &R,
     _wait: &W,
@@ -47,10 +47,10 @@ pub fn icheck<R: Threads + Sync, W: Wait, G: Gate>(
     )
 }
 
-/// The entry report of an image, by so many threads, as [`icheck`] has them.
+/// Returns the entry report of an image, made by `workers` threads, as [`icheck`] does.
 ///
-/// Costs a look at the number of each logical block of each directory that is in no hole, and a look at each slot of the data
-/// blocks that hold those of a piece. Takes sixteen bytes for each i-number, a few KB for each thread, and memory for the lines.
+/// Costs one number for each logical block of a directory that isn't in a hole, and a read of each slot of the data blocks that
+/// hold those of a piece. Takes sixteen bytes for each i-number, a few KB for each thread, and memory for the lines.
 pub fn dcheck<R: Threads + Sync, W: Wait, G: Gate>(
     threads: &R,
     _wait: &W,
@@ -75,11 +75,11 @@ pub fn dcheck<R: Threads + Sync, W: Wait, G: Gate>(
     )
 }
 
-/// The name report of an image, by so many threads, as [`icheck`] has them.
+/// Returns the name report of an image, made by `workers` threads, as [`icheck`] does.
 ///
-/// Costs a look at each slot of each directory that is in no hole, and as much as the report is long, with its sorting.
-/// Takes twelve bytes for each i-number, and memory for each entry and its path: first, for a moment, what the lines need at
-/// least, all at once.
+/// Costs a read of each slot of each stored block of each directory, and as much as the report is long, with sorting it. Takes
+/// twelve bytes for each i-number, and memory for each entry and its path. First it takes, for a moment, the least memory that
+/// the lines need, all at once.
 pub fn ncheck<R: Threads + Sync, W: Wait, G: Gate>(
     threads: &R,
     _wait: &W,
@@ -105,7 +105,7 @@ pub fn ncheck<R: Threads + Sync, W: Wait, G: Gate>(
     )
 }
 
-/// The report of an image that is asked for, by so many threads.
+/// Returns the report of an image by this checker, made by `workers` threads.
 fn check<R: Threads + Sync, G: Gate>(
     threads: &R,
     alloc: Global,

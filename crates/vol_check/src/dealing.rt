@@ -1,4 +1,4 @@
-//! Making a sweep, and a seat for each of its threads.
+//! Making a sweep, with a seat for each of its threads.
 ghost use Rattle.std.specs.Prelude.{◌≡◌, ◌≢◌, ℕ, ◌+◌, ◌^◌, ◌≤◌, ◌<◌, List, [], All, Ok, Err, IfOk, length, slice_index, vec_len};
 ghost use Rattle.count_table.specs.Tallies.{IsSeatAt};
 ghost use Rattle.count_table.specs.Views.{view};
@@ -25,11 +25,11 @@ use vol_layout::{Edition, Geometry, GeometryFault};
 use vol_reports::{LinkCount, link_counts};
 
 impl Sweep {
-    /// A sweep over this image, or over any other with the same length and the same bytes before the data zone, and its
-    /// seats. Reads no byte of the image's data blocks.
+    /// Returns a sweep over this image, or over any other with the same length and the same bytes before the data zone, and its
+    /// seats. Reads none of the image's data blocks.
     ///
-    /// Takes memory for a seat for each thread. Of the blocks takes sixteen bytes for each data block, sixteen for each
-    /// i-number; of entries and names at most sixteen for each i-number.
+    /// Takes memory for a seat for each thread. A sweep over blocks takes sixteen bytes for each data block and sixteen for
+    /// each i-number, and one over entries or names at most sixteen for each i-number.
     pub fn new(
         alloc: Global,
         edition: Edition,
@@ -69,7 +69,8 @@ impl Sweep {
     }
 }
 
-/// How many pieces stand before those of each i-number, and in all; none where the pieces are no parts of directories.
+/// Returns the number of pieces before those of each i-number, and of all pieces; nothing if the pieces are not parts of
+/// directories.
 fn starts_for(
     alloc: Global,
     checker: Checker,
@@ -85,7 +86,7 @@ fn starts_for(
     }
 }
 
-/// The link counts, for a report of the entries; else none.
+/// Returns the link counts for a report of the entries; else nothing.
 fn links_for(
     alloc: Global,
     checker: Checker,
@@ -101,7 +102,7 @@ fn links_for(
     }
 }
 
-/// How many pieces there are: of the blocks the free list and each i-number, else the parts of each i-number.
+/// Returns the number of pieces: of the blocks, the free list and each i-number; else, the parts of each i-number.
 fn piece_count(checker: Checker, layout: &Result<Geometry, GeometryFault>, starts: &[u32]) -> u64
     requires starts { (geometry : Geometry) → layout.now ≡ Ok geometry → checker ≢ Blocks → length starts.now ≡ geometry.last_inode + 1 }
     ensures blocks { (geometry : Geometry) → layout.now ≡ Ok geometry → checker ≡ Blocks → result ≡ geometry.last_inode + 1 }
@@ -116,7 +117,7 @@ fn piece_count(checker: Checker, layout: &Result<Geometry, GeometryFault>, start
     }
 }
 
-/// The words that a sweep wants for images with this layout; none where these have no geometry.
+/// Returns the words that a sweep needs for images with this layout; none if they have no geometry.
 fn shape_for(
     checker: Checker,
     layout: &Result<Geometry, GeometryFault>,
@@ -142,7 +143,7 @@ fn shape_for(
     }
 }
 
-/// How many count words and how many least words a sweep wants.
+/// Returns the numbers of count words and of minimum words that a sweep needs.
 fn words_for(checker: Checker, geometry: &Geometry) -> (u64, u64)
     requires zone { geometry.now.zone_start < geometry.now.zone_end }
     ensures words { (shape : TableShape) → (checker ≡ Blocks → shape.pieces ≡ geometry.now.last_inode + 1) → shape.counts ≡ result.0 → shape.leasts ≡ result.1
@@ -158,7 +159,7 @@ fn words_for(checker: Checker, geometry: &Geometry) -> (u64, u64)
     }
 }
 
-/// So many seats out of the first, which stands for them all.
+/// Splits `count` seats off the first, which holds all parts.
 fn deal(
     alloc: Global,
     tally: &Tally,
@@ -180,7 +181,7 @@ fn deal(
     Ok(seats)
 }
 
-/// One seat more.
+/// Adds one more seat.
 fn push_seat(
     alloc: Global,
     tally: &Tally,

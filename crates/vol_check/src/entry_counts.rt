@@ -1,4 +1,4 @@
-//! Counting the entries of a directory by blocks: each is looked into once for all its places in a piece.
+//! Counting the entries of a directory by blocks: each block is read once for all its places in a piece.
 ghost use Rattle.std.specs.Prelude.{◌≡◌, ℕ, ◌+◌, ◌-◌, ◌*◌, ◌<◌, ◌≤◌, nat_le, if◌then◌else◌, All, IfOk};
 ghost use Rattle.std.specs.List.{sum_by};
 ghost use Rattle.vol_layout.specs.Geometry.{Fits};
@@ -23,10 +23,10 @@ use vol_layout::slot::SLOT;
 use vol_layout::{Geometry, Slot};
 use vol_reports::words::entry_word;
 
-/// Counts the entries in the logical blocks of directory `d` from one up to another, all of which it has whole.
+/// Counts the entries in the logical blocks `from..end` of directory `d`, which it has as whole blocks.
 ///
-/// Costs a look at the number of each of them, the way of the first one in each indirect block, and a look at each slot of the
-/// blocks that hold them. Takes sixteen bytes for each.
+/// Costs one number for each of them, a block-map lookup for each indirect block, and a read of each slot of the blocks that hold
+/// them. Takes sixteen bytes for each.
 pub(crate) fn count_blocks(
     alloc: Global,
     tally: &Tally,
@@ -57,7 +57,7 @@ pub(crate) fn count_blocks(
     Ok(())
 }
 
-/// The data blocks that hold these logical blocks, each as often as it does.
+/// Returns the data blocks that hold these logical blocks, each as often as it does.
 fn stored_blocks(
     alloc: Global,
     image: &Image,
@@ -84,8 +84,8 @@ fn stored_blocks(
     Ok(named)
 }
 
-/// Adds the data block that holds logical block `b` of directory `d`, if one does. Returns the next block to look at: `b` and
-/// what follows up to there is a hole, if none does.
+/// Adds the data block that holds logical block `b` of directory `d`, if there is one. Returns the next block to check; if
+/// there is none, the blocks from `b` up to that one are a hole.
 fn push_next(
     image: &Image,
     geometry: &Geometry,
@@ -119,7 +119,7 @@ fn push_next(
     Ok(b + 1)
 }
 
-/// Counts the entries of a block, for each of its places.
+/// Counts the entries of a block, once for each of its places.
 fn count_block(tally: &Tally, seat: &mut TallySeat, image: &Image, geometry: &Geometry, n: Named)
     requires fits { Fits geometry.now image.now }
     requires words { HasEntryWords geometry.now (table_shape tally.now) }
@@ -135,7 +135,7 @@ fn count_block(tally: &Tally, seat: &mut TallySeat, image: &Image, geometry: &Ge
     }
 }
 
-/// Counts the entry in a slot for so many places of it, if it has one.
+/// Counts the entry in a slot, if it has one, `times` times.
 fn count_slot(tally: &Tally, seat: &mut TallySeat, geometry: &Geometry, slot: Slot, times: u64)
     requires words { HasEntryWords geometry.now (table_shape tally.now) }
     requires own { IsSeatAt tally.now seat.old }
@@ -147,7 +147,7 @@ fn count_slot(tally: &Tally, seat: &mut TallySeat, geometry: &Geometry, slot: Sl
     }
 }
 
-/// Counts so many entries for i-number `i`, unless that is past the last.
+/// Counts `times` entries for i-number `i`, unless `i` is past the last.
 pub(crate) fn count_entry(
     tally: &Tally,
     seat: &mut TallySeat,

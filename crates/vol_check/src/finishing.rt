@@ -1,4 +1,4 @@
-//! The report of what the seats of a sweep did.
+//! The report of a sweep, made from its seats.
 ghost use Rattle.std.specs.Prelude.{◌≡◌, ◌≤◌, ℕ, true, List, All, IfOk, IsErr, vec_len};
 ghost use Rattle.std.specs.List.{count_by, list_any};
 ghost use Rattle.vol_check.specs.Seats.{is_stopped, found_no_memory};
@@ -13,9 +13,9 @@ use std::alloc::{AllocError, Global};
 use vol_reports::{Report, block_report, entry_report, name_report};
 
 impl Sweep {
-    /// The report of the image that the seats swept. Where one of them found no memory it finds none.
+    /// Returns the report of the image that the seats swept. Fails if one of them ran out of memory.
     ///
-    /// Costs a few looks at the words of each data block and i-number, and what the report's checker costs. Takes memory for
+    /// Costs a few reads of the words of each data block and i-number, and what the report's checker costs. Takes memory for
     /// the lines, and for the entries that the seats keep.
     pub fn finish(self, alloc: Global, seats: Vec<CheckSeat>) -> Result<Report, AllocError>
         requires count { vec_len seats ≡ seat_count self }

@@ -1,4 +1,4 @@
-//! What the piece of the free list marks: a walk over it, up to its first fault.
+//! The piece of the free list: a walk over it, up to its first fault.
 ghost use Rattle.std.specs.Prelude.{◌≡◌, ℕ, ◌≤◌, false, length, slice_index_or, IfOk, IfErr};
 ghost use Rattle.vol_layout.specs.Geometry.{Fits};
 ghost use Rattle.vol_free.specs.FreeWalk.{free_walk};
@@ -34,7 +34,7 @@ pub(crate) fn mark_free(
     Ok(walk(tally, seat, image, geometry, &mut marks))
 }
 
-/// Marks each block that the walk meets. There is a mark for each block of the volume, none of them set before.
+/// Marks each block that the walk meets. There is a mark for each block of the volume, and none is set before.
 fn walk(
     tally: &Tally,
     seat: &mut TallySeat,

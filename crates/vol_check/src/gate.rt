@@ -1,13 +1,13 @@
-//! What is called round each piece.
+//! Calls before and after each piece.
 
-/// Is called round each piece once it is drawn.
+/// A hook that is called before and after the work on each piece.
 pub trait Gate: Sync {
     fn before(&self, piece: u64);
 
     fn after(&self, piece: u64);
 }
 
-/// Does nothing.
+/// A gate that does nothing.
 pub struct Open;
 
 impl Gate for Open {

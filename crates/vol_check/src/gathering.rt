@@ -1,4 +1,4 @@
-//! All seats of a sweep as one.
+//! Joining all seats of a sweep.
 ghost use Rattle.std.specs.Prelude.{◌≤◌, All, IfOk};
 ghost use Rattle.std.specs.List.{count_by};
 ghost use Rattle.count_table.specs.Tallies.{IsSeatAt};
@@ -9,7 +9,7 @@ use crate::seats::CheckSeat;
 use count_table::Tally;
 use std::alloc::AllocError;
 
-/// One seat that has what all of these have. Takes memory for the entries that they keep.
+/// Returns one seat that has everything that these have. Takes memory for the entries that they keep.
 pub(crate) fn gather(tally: &Tally, mut seats: Vec<CheckSeat>) -> Result<CheckSeat, AllocError>
     requires own { All (IsSeatOf tally.now) seats.items }
     requires stopped { 1 ≤ count_by is_stopped seats.items }
@@ -24,7 +24,7 @@ pub(crate) fn gather(tally: &Tally, mut seats: Vec<CheckSeat>) -> Result<CheckSe
     Ok(all)
 }
 
-/// Adds what another seat did.
+/// Adds the marks and entries of another seat.
 fn join(tally: &Tally, all: &mut CheckSeat, other: CheckSeat) -> Result<(), AllocError>
     requires all { IsSeatAt tally.now all.old.seat }
     requires other { IsSeatAt tally.now other.seat }

@@ -1,4 +1,4 @@
-//! What the piece of an i-node marks.
+//! The piece of an i-node: its marks.
 ghost use Rattle.std.specs.Prelude.{◌≡◌, ◌+◌, ◌<◌, ◌≤◌, IfOk};
 ghost use Rattle.vol_layout.specs.Geometry.{Fits};
 ghost use Rattle.vol_file.specs.Changes.{blocks_of};
@@ -59,7 +59,7 @@ fn mark_kind(tally: &Tally, seat: &mut TallySeat, geometry: &Geometry, kind: Kin
     }
 }
 
-/// Marks what the places of i-node `i` name.
+/// Marks the blocks that the places of i-node `i` name.
 fn mark_places(
     alloc: Global,
     tally: &Tally,

@@ -1,4 +1,4 @@
-//! What the places of an i-node name, level by level: each block with entries is looked into once for all its places.
+//! The blocks below an i-node, level by level: each indirect block is read once for all its places.
 ghost use Rattle.std.specs.Prelude.{◌≡◌, ℕ, ◌+◌, ◌*◌, ◌^◌, ◌<◌, ◌≤◌, All, IfOk, IfSome, IfNone};
 ghost use Rattle.std.specs.List.{sum_by};
 ghost use Rattle.vol_layout.specs.declared.geometry.Geometry.{Geometry};
@@ -16,7 +16,7 @@ use std::alloc::{AllocError, Global};
 use vol_layout::{Geometry, number};
 use vol_reports::words::{bad_word, least_word, place_word};
 
-/// A data block, and how many places of an i-node name it.
+/// A data block, and the number of places of an i-node that name it.
 #[derive(Clone, Copy, Debug)]
 pub(crate) struct Named {
     pub(crate) number: u32,
@@ -24,7 +24,7 @@ pub(crate) struct Named {
 }
 
 impl Named {
-    /// Both as one, if they are the same block; None also where the sum is past a `u64`.
+    /// Returns both as one if they are the same block, or `None` if not or if the sum doesn't fit a `u64`.
     fn with(self, other: Named) -> Option<Named>
         ensures some { IfSome result (λ both. (both.number ≡ self.number) × (both.number ≡ other.number) × (both.times ≡ self.times + other.times)) }
         ensures none { IfNone result (self.number ≡ other.number → 2 ^ 64 ≤ self.times + other.times) }
@@ -40,7 +40,7 @@ impl Named {
     }
 }
 
-/// The same blocks, each once with the places of all: in two entries only where these are 2^64 or more.
+/// Returns the same blocks, each once with all its places; in two entries only if these are 2^64 or more.
 ///
 /// Costs sorting them. Takes sixteen bytes for each.
 pub(crate) fn each_once(alloc: Global, mut named: Vec<Named>) -> Result<Vec<Named>, AllocError>
@@ -55,7 +55,7 @@ pub(crate) fn each_once(alloc: Global, mut named: Vec<Named>) -> Result<Vec<Name
     Ok(once)
 }
 
-/// Adds a block, or its places to those of the last one, if that is the same.
+/// Adds a block, or adds its places to those of the last one if that is the same.
 fn push_once(once: &mut Vec<Named>, n: Named) -> Result<(), AllocError>
     ensures named { IfOk result (λ _. (geometry : Geometry) → All (IsNamed geometry) once.old.items → IsNamed geometry n → All (IsNamed geometry) once.new.items) }
     ensures same { IfOk result (λ _. (f : ℕ → ℕ) → sum_by (by_times f) once.new.items ≡ sum_by (by_times f) once.old.items + by_times f n) }
@@ -73,10 +73,10 @@ fn push_once(once: &mut Vec<Named>, n: Named) -> Result<(), AllocError>
     Ok(())
 }
 
-/// Marks number `b` and those found below it in `level` levels, if `b` isn't 0, for i-node `i`.
+/// Marks number `b`, if it isn't 0, and the numbers below it in `level` levels for i-node `i`.
 ///
-/// Costs a look at each entry of each block that is found, once for each level. Takes thirty-two bytes for each place
-/// that names a block with entries.
+/// Costs a read of each entry of each block that is found, once for each level. Takes thirty-two bytes for each place that
+/// names an indirect block.
 pub(crate) fn mark_from(
     alloc: Global,
     tally: &Tally,
@@ -106,8 +106,7 @@ pub(crate) fn mark_from(
     Ok(())
 }
 
-/// Marks what the entries of some blocks name, with `level` levels below each, for i-node `i`. Returns those that have
-/// entries.
+/// Marks the numbers in some blocks, with `level` levels below each, for i-node `i`. Returns those of indirect blocks.
 fn mark_level(
     alloc: Global,
     tally: &Tally,
@@ -139,7 +138,7 @@ fn mark_level(
     Ok(next)
 }
 
-/// Marks what the entries of a block name, for each of its places, and adds those that have entries to `next`.
+/// Marks the numbers in a block, once for each of its places, and adds those of indirect blocks to `next`.
 fn mark_entries(
     tally: &Tally,
     seat: &mut TallySeat,
@@ -176,8 +175,8 @@ fn mark_entries(
     Ok(())
 }
 
-/// Marks number `b` for so many places of i-node `i`, if it isn't 0, and adds it to `next` if it is that of a block with
-/// entries, those of `level` levels.
+/// Marks number `b`, if it isn't 0, for `times` places of i-node `i`, and adds it to `next` if it is that of an indirect block,
+/// with `level` levels of entries.
 fn mark_found(
     tally: &Tally,
     seat: &mut TallySeat,
@@ -218,7 +217,7 @@ fn mark_found(
     Ok(())
 }
 
-/// Marks number `b` for i-node `i`, of which so many places name it: by one step for each word.
+/// Marks number `b` for i-node `i`, of which `times` places name it, with one step for each word.
 fn mark_times(tally: &Tally, seat: &mut TallySeat, geometry: &Geometry, i: u16, b: u32, times: u64)
     requires zone { geometry.now.zone_start < geometry.now.zone_end }
     requires first { 1 ≤ i }

@@ -1,4 +1,4 @@
-//! What the blocks of an image are, whether it is sound or not, found by any number of threads.
+//! Checks of the blocks, entries and names of any image, sound or not, by any number of threads.
 #![tactic(auto)]
 
 mod checker;

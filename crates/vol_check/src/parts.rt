@@ -1,4 +1,4 @@
-//! The pieces of a sweep over directories: which part of which i-number each of them is.
+//! The pieces of a sweep over directories: each is a part of an i-number.
 ghost use Rattle.std.specs.Prelude.{◌≡◌, ◌+◌, ◌-◌, ◌<◌, ◌≤◌, IfOk, length, slice_index};
 ghost use Rattle.vol_layout.specs.Geometry.{Fits};
 ghost use Rattle.vol_check.specs.Parts.{part_count, HasStarts, IsPart};
@@ -8,18 +8,18 @@ use std::alloc::{AllocError, Global};
 use vol_layout::i_list::{kind, size};
 use vol_layout::{Geometry, Kind};
 
-/// Logical blocks in a piece of a directory.
+/// The number of logical blocks in a piece of a directory.
 pub(crate) const PART_BLOCKS: u32 = 64;
 
-/// A part of an i-number: of a directory its logical blocks from 64 times the index on, at most 64.
+/// A part of an i-number: in a directory, at most 64 logical blocks, from 64 times the index on.
 #[derive(Clone, Copy)]
 pub(crate) struct Part {
     pub inode: u16,
     pub index: u32,
 }
 
-/// How many pieces stand before those of each i-number, from 1 on, and how many there are in all. Takes four bytes for
-/// each i-number.
+/// Returns the number of pieces before those of each i-number, from 1 on, and of all pieces. Takes four bytes for each
+/// i-number.
 pub(crate) fn part_starts(
     alloc: Global,
     image: &Image,
@@ -37,7 +37,7 @@ pub(crate) fn part_starts(
     Ok(starts)
 }
 
-/// How many pieces i-number `i` has: a directory one for each 64 logical blocks begun, and at least one.
+/// Returns the number of pieces of i-number `i`: for a directory one for each 64 logical blocks begun, and at least one.
 fn part_count(image: &Image, geometry: &Geometry, i: u16) -> u32
     requires fits { Fits geometry.now image.now }
     requires first { 1 ≤ i }
@@ -54,7 +54,7 @@ fn part_count(image: &Image, geometry: &Geometry, i: u16) -> u32
     }
 }
 
-/// The part that piece `number` is.
+/// Returns the part that is piece `number`.
 pub(crate) fn part_at(starts: &[u32], number: u64) -> Part
     requires few { length starts.now ≤ 65536 }
     requires some { 1 ≤ length starts.now }

@@ -1,4 +1,4 @@
-//! Room for the lines of a name report, as many as can be counted by blocks.
+//! Checking that memory has room for the lines of a name report, as far as they can be counted by blocks.
 ghost use Rattle.std.specs.Prelude.{◌≤◌};
 ghost use Rattle.vol_layout.specs.Geometry.{Fits};
 
@@ -11,11 +11,11 @@ use vol_layout::slot::SLOT;
 use vol_layout::{Edition, Form, Geometry, Kind, Slot, number};
 use vol_reports::{Entered, Line};
 
-/// Takes the memory that the lines of an image's name report need at least, all at once, and gives it back. So a report that
-/// doesn't fit is refused before the memory is filled.
+/// Takes the least memory that the lines of an image's name report need, all at once, and frees it. So a report that doesn't
+/// fit is refused before the memory is filled.
 ///
-/// Counts the entries in the blocks that a directory has whole. Looks into each of these once for each directory, and into
-/// each indirect block once for each level, however many places lead to it. Takes sixteen bytes for each place found so.
+/// Counts the entries in the blocks that a directory has as whole blocks. Reads each of these once for each directory, and each
+/// indirect block once for each level, however many places lead to it. Takes sixteen bytes for each place found so.
 pub(crate) fn try_room(alloc: Global, edition: Edition, image: &Image) -> Result<(), AllocError> {
     let Ok(geometry) = Geometry::read(edition, image) else {
         return Ok(());
@@ -33,15 +33,15 @@ pub(crate) fn try_room(alloc: Global, edition: Edition, image: &Image) -> Result
     Ok(())
 }
 
-/// Takes the memory for so many entries, paths and lines, and gives it back. It is taken anew for each number: a system that
-/// grants what is more than it has in small steps refuses it as a whole.
+/// Takes the memory for `count` entries, paths and lines in one allocation, and frees it: a system that grants more than it has
+/// in small steps refuses it as a whole.
 fn try_lines(alloc: Global, count: u64) -> Result<(), AllocError> {
     let mut room: Vec<(Entered, (u16, Vec<u8>), Line)> = Vec::new(alloc);
     room.reserve_exact(count as usize)?;
     Ok(())
 }
 
-/// The number of entries in the blocks that directory `d` has whole, but for those of `.` and `..`.
+/// Returns the number of entries, except `.` and `..`, in the blocks that directory `d` has as whole blocks.
 fn entry_count(alloc: Global, image: &Image, geometry: &Geometry, d: u16) -> Result<u64, AllocError>
     requires fits { Fits geometry.now image.now }
     requires first { 1 ≤ d }
@@ -61,7 +61,7 @@ fn entry_count(alloc: Global, image: &Image, geometry: &Geometry, d: u16) -> Res
     Ok(count)
 }
 
-/// The number of logical blocks below a number with so many levels of indirect blocks.
+/// Returns the number of logical blocks below a number that has `levels` levels of indirect blocks.
 fn blocks_below(geometry: &Geometry, levels: u8) -> u64
     ensures { 1 ≤ result }
 {
@@ -74,7 +74,8 @@ fn blocks_below(geometry: &Geometry, levels: u8) -> u64
     }
 }
 
-/// The number of entries in the first `blocks` logical blocks below a number with so many levels of indirect blocks.
+/// Returns the number of entries in the first `blocks` logical blocks below a number that has `levels` levels of indirect
+/// blocks.
 fn count_first(
     alloc: Global,
     image: &Image,
@@ -107,7 +108,7 @@ fn count_first(
     Ok(count)
 }
 
-/// The number of entries in all logical blocks below some numbers, each with so many levels of indirect blocks.
+/// Returns the number of entries in all logical blocks below some numbers, each with `levels` levels of indirect blocks.
 fn count_below(
     alloc: Global,
     image: &Image,
@@ -154,7 +155,7 @@ fn push_entries(
     Ok(())
 }
 
-/// The number of entries in block `k`, but for those of `.` and `..`; none if it is no data block.
+/// Returns the number of entries in block `k`, except `.` and `..`; 0 if it is no data block.
 fn entries_in(image: &Image, geometry: &Geometry, k: u32) -> u64
     requires fits { Fits geometry.now image.now }
 {

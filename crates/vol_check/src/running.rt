@@ -1,4 +1,4 @@
-//! The seats of a sweep at work, each in a thread of its own.
+//! Running the seats of a sweep, each in a thread of its own.
 ghost use Rattle.std.specs.Prelude.{◌≡◌, ◌<◌, All, length};
 ghost use Rattle.vol_check.specs.Seats.{IsSeatOf, IsOf};
 ghost use Rattle.vol_check.specs.Layouts.{IsFor};
@@ -13,7 +13,7 @@ use std::thread;
 use std::thread::Threads;
 
 impl Sweep {
-    /// Draws pieces and does them until none is left, or there is no memory.
+    /// Draws pieces and does them until none is left or memory runs out.
     fn run<G: Gate>(&self, alloc: Global, gate: &G, image: &Image, seat: &mut CheckSeat)
         requires own { IsSeatOf self.now.tally seat.old }
         requires layout { IsFor self.now image.now }
@@ -23,7 +23,7 @@ impl Sweep {
         while let Ok(Some(_piece)) = self.step_at(alloc, gate, image, seat) {}
     }
 
-    /// Has each seat do so in a thread of its own; where no thread can be started, the others do its pieces.
+    /// Runs one thread per seat; if a thread can't be started, the others do its pieces.
     pub(crate) fn run_all<R: Threads + Sync, G: Gate>(
         &self,
         threads: &R,

@@ -1,4 +1,4 @@
-//! Salvage of a volume whose free list alone is wrong.
+//! Salvage of a volume that is sound except for its free list.
 
 ghost use Rattle.std.specs.Prelude.{◌≡◌, false, IfOk, IfErr};
 ghost use Rattle.vol_layout.specs.Geometry.{Fits, geometry_of};
@@ -12,20 +12,20 @@ use vol_free::rebuild;
 use vol_judge::{judge, named_blocks};
 use vol_layout::{Edition, Geometry};
 
-/// Why an image wasn't salvaged.
+/// The reason why an image wasn't salvaged.
 #[derive(Clone, Copy, Debug, PartialEq, Eq, Error)]
 pub enum SalvageFault {
-    /// Another rule is broken than those of the free list: the least of them.
+    /// A rule not about the free list is broken: the first of them.
     #[error("unsound, rule {0}")]
     Unsound(u8),
-    /// An allocation was refused.
+    /// Memory ran out.
     #[error("12 NoMemory")]
     NoMemory,
 }
 
-/// Makes the free list anew, of the data blocks that no file has, where the image breaks no rule but those of
-/// the free list: rules 6 and 8, and what rule 7 asks of free blocks. The image is sound then, and its files and
-/// directories are as they were. On each fault the same bytes come back.
+/// Rebuilds the free list from the data blocks that no file names, if the image breaks only the rules about the free list:
+/// rules 6 and 8, and rule 7 for free blocks. The image is then sound, and its files and directories are as they were. Each
+/// fault hands the same bytes back.
 ///
 /// Costs what judging does. Takes memory to judge the image, and two bytes for each block.
 pub fn salvage(
@@ -49,7 +49,7 @@ pub fn salvage(
     }
 }
 
-/// Makes the free list of an image anew.
+/// Rebuilds the free list of an image.
 fn remake(alloc: Global, edition: Edition, image: &mut Image) -> Result<(), AllocError>
     requires { KeepsRules false edition image.old }
     ensures salvaged { IfOk result (λ done. IsSalvaged edition image.old image.new) }
@@ -61,7 +61,7 @@ fn remake(alloc: Global, edition: Edition, image: &mut Image) -> Result<(), Allo
     Ok(())
 }
 
-/// The geometry of an image that keeps rules 1 and 2.
+/// Returns the geometry of an image that keeps rules 1 and 2.
 #[tactic(auto, using(crate::proofs::Remade::rules_read))]
 fn whole_geometry(edition: Edition, image: &Image) -> Geometry
     requires { KeepsRules false edition image.now }

@@ -1,4 +1,4 @@
-//! What one thread has of a sweep.
+//! The part of a sweep that one thread holds.
 use count_table::TallySeat;
 use vol_reports::{Entered, FreeFault};
 
@@ -6,17 +6,17 @@ use vol_reports::{Entered, FreeFault};
 #[derive(Drop)]
 pub struct CheckSeat {
     pub(crate) seat: TallySeat,
-    /// Why the walk over the free list ended before its end, if this seat walked over it.
+    /// The fault that ended the walk over the free list, if this seat did that walk.
     pub(crate) fault: Option<(FreeFault, u32)>,
     /// The entries that it met in a sweep for names.
     pub(crate) entries: Vec<Entered>,
-    /// Whether it drew a number that is no piece's.
+    /// True if it drew a number past the pieces.
     pub(crate) ended: bool,
-    /// Whether it found no memory.
+    /// True if it ran out of memory.
     pub(crate) spoiled: bool,
 }
 
-/// A piece of work, done by whoever drew its number.
+/// A piece of work, which the seat that drew its number does.
 #[derive(Clone, Copy, Debug, PartialEq, Eq)]
 pub struct Piece {
     pub number: u64,

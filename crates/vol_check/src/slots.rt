@@ -1,4 +1,4 @@
-//! What the slots of directories mark, and what of them is kept.
+//! Marking the slots of directories, and keeping their entries.
 ghost use Rattle.std.specs.Prelude.{◌≡◌, ◌+◌, ◌-◌, ◌*◌, ◌<◌, ◌≤◌, nat_le, if◌then◌else◌, Some, IfOk, IfErr};
 ghost use Rattle.vol_layout.specs.Geometry.{Fits};
 ghost use Rattle.vol_dir.specs.Entries.{entry_in, entry_at, slot_count};
@@ -30,10 +30,10 @@ use vol_layout::{Geometry, Kind, Slot};
 use vol_reports::Entered;
 use vol_reports::words::{name_word, rank};
 
-/// Slots in a block.
+/// The number of slots in a block.
 pub(crate) const SLOTS: u32 = 32;
 
-/// How many slots directory `d` has.
+/// Returns the number of slots of directory `d`.
 fn slot_count(image: &Image, geometry: &Geometry, d: u16) -> u32
     requires fits { Fits geometry.now image.now }
     requires first { 1 ≤ d }
@@ -77,7 +77,7 @@ impl Sweep {
         }
     }
 
-    /// Notes the slots of the logical blocks of directory `d` from one up to another: by data blocks as far as it can.
+    /// Notes the slots of the logical blocks `from..end` of directory `d`: as far as it can, block by block.
     fn note_range(
         &self,
         alloc: Global,
@@ -105,8 +105,8 @@ impl Sweep {
         self.note_blocks(image, geometry, seat, d, rest, end)
     }
 
-    /// Notes the slots of those of these logical blocks that the directory has whole, in a sweep for entries, and of none in
-    /// another. Returns the first block that is left.
+    /// Notes the slots of those of these logical blocks that the directory has as whole blocks, in a sweep for entries; none in
+    /// other sweeps. Returns the first block that is left.
     fn count_whole(
         &self,
         alloc: Global,
@@ -151,7 +151,7 @@ impl Sweep {
         }
     }
 
-    /// Notes the slots of the logical blocks of directory `d` from one up to another. Passes holes as [`next_block`] does.
+    /// Notes the slots of the logical blocks `from..end` of directory `d`. Skips holes as [`next_block`] does.
     fn note_blocks(
         &self,
         image: &Image,
@@ -247,7 +247,7 @@ impl Sweep {
     }
 }
 
-/// Keeps an entry, unless its name is `.` or `..`, and gives its rank to its i-number.
+/// Keeps an entry, unless its name is `.` or `..`, and offers its rank to its i-number.
 fn keep_entry(
     tally: &Tally,
     seat: &mut CheckSeat,
@@ -271,7 +271,7 @@ fn keep_entry(
     Ok(())
 }
 
-/// Gives an entry's rank to its i-number, unless that is past the last.
+/// Offers an entry's rank to its i-number, unless that is past the last.
 fn give_rank(tally: &Tally, seat: &mut TallySeat, geometry: &Geometry, entry: &Entered)
     requires words { HasNameWords geometry.now (table_shape tally.now) }
     requires own { IsSeatAt tally.now seat.old }

@@ -22,11 +22,11 @@ use std::alloc::{AllocError, Global};
 use vol_layout::Geometry;
 
 impl Sweep {
-    /// Draws a piece and does it; None where none is left.
+    /// Draws a piece and does it; returns `None` if none is left.
     ///
-    /// Takes a byte for each block of the volume where the piece is the free list, thirty-two for each place of a file that
-    /// names an indirect block, 2 KB in a sweep for entries, some for each entry in one for names. Where there is none, this
-    /// seat finds none for good.
+    /// Takes a byte for each block of the volume if the piece is the free list, thirty-two for each place of a file that names
+    /// an indirect block, 2 KB in a sweep for entries, and some for each entry in one for names. If memory runs out, this seat
+    /// fails from then on.
     pub fn step(
         &self,
         alloc: Global,
@@ -41,7 +41,7 @@ impl Sweep {
         self.step_at(alloc, &Open, image, seat)
     }
 
-    /// The same, with calls of a gate before and after the work.
+    /// Does what [`Sweep::step`] does, with calls of a gate before and after the work.
     pub(crate) fn step_at<G: Gate>(
         &self,
         alloc: Global,
@@ -77,7 +77,7 @@ impl Sweep {
         }
     }
 
-    /// Does the piece of this number.
+    /// Does the piece with this number.
     fn work(
         &self,
         alloc: Global,

@@ -6,17 +6,17 @@ use count_table::Tally;
 use vol_layout::{Edition, Geometry, GeometryFault};
 use vol_reports::LinkCount;
 
-/// A sweep over an image: the counts that all its seats add to. It borrows no image.
+/// A sweep over an image: the counts that all its seats add to. It doesn't borrow the image.
 #[derive(Drop)]
 pub struct Sweep {
     pub(crate) tally: Tally,
     pub(crate) edition: Edition,
     pub(crate) checker: Checker,
-    /// The geometry of the image that it was made for, or why there is none.
+    /// The geometry of the image that it was made for, or the fault of an image without one.
     pub(crate) layout: Result<Geometry, GeometryFault>,
-    /// How many pieces there are.
+    /// The number of pieces.
     pub(crate) pieces: u64,
-    /// How many of them stand before those of each i-number, where they are parts of directories.
+    /// The number of pieces before those of each i-number, if they are parts of directories.
     pub(crate) starts: Vec<u32>,
     /// The link counts, for a report of the entries.
     pub(crate) links: Vec<LinkCount>,

@@ -1,12 +1,12 @@
-//! A gate for tests: pieces that are worked on at the same time.
+//! A gate for tests, which makes threads work on pieces at the same time.
 use crate::gate::Gate;
 use std::sync::atomic::{AtomicU64, Ordering};
 use std::thread;
 
-/// Turns for which a meeting holds a piece.
+/// The number of turns for which a meeting holds a piece.
 const TURNS: u32 = 20_000_000;
 
-/// Holds the first pieces, each until all of them have come to the gate.
+/// A gate that holds the first pieces until all of them have come to it.
 #[derive(Drop)]
 pub struct Meeting {
     pieces: u64,
@@ -16,7 +16,7 @@ pub struct Meeting {
 }
 
 impl Meeting {
-    /// Returns a gate for the first `pieces` pieces, to which none has come.
+    /// Returns a gate for the first `pieces` pieces, none of which has come yet.
     pub fn of(pieces: u64) -> Meeting {
         Meeting {
             pieces,
@@ -26,12 +26,12 @@ impl Meeting {
         }
     }
 
-    /// The number of these pieces that went on without the others.
+    /// Returns the number of these pieces that went on without the others.
     pub fn missed(&self) -> u64 {
         self.missed.load(Ordering::SeqCst)
     }
 
-    /// The number of pieces that were done.
+    /// Returns the number of pieces that were done.
     pub fn left(&self) -> u64 {
         self.left.load(Ordering::SeqCst)
     }

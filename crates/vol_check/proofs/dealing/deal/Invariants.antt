@@ -3,7 +3,7 @@ use Rattle.count_table.specs.Tallies.{IsSeatAt}
 use Rattle.vol_check.specs.Seats.{IsFresh}
 use Rattle.vol_check.proofs.dealing.deal.Given as goal
 
--- the first seat stands for those that aren't dealt
+-- the first seat holds the parts that aren't dealt
 abbrev pub invariant-loop-k : goal.invariant-loop-k
 invariant-loop-k l = record {
   own : IsSeatAt l.tally l.first;

@@ -6,7 +6,7 @@ use Rattle.vol_reports.specs.Words.{free_word}
 use Rattle.vol_check.specs.Pieces.{Adds}
 use Rattle.vol_check.proofs.free_walk.walk.Given as goal
 
--- what was met is counted
+-- the blocks met are counted
 abbrev pub invariant-walk : goal.invariant-walk
 invariant-walk l = (met : List ℕ) × HasMet l.geometry l.image l.marks l.walk met
     × Adds l.tally l.fn.seat l.seat (λ weight. total (λ b. weight (mark (free_word l.geometry b) 1)) met)

@@ -2,7 +2,7 @@ use Rattle.std.proofs.Common.{vec_len}
 use Rattle.vol_check.proofs.Joined.{IsGathering}
 use Rattle.vol_check.proofs.gathering.gather.Given as goal
 
--- the seat has what those have that were taken
+-- the seat has everything that those already joined have
 abbrev pub invariant-loop-other : goal.invariant-loop-other
 invariant-loop-other l = IsGathering l.tally l.fn.seats.items l.seats.items l.all
 

@@ -113,7 +113,7 @@ count_grows shape m (suc n) order =
           ]
     ]
 
--- what has no shape names no block
+-- a file without a shape stores no block
 no_block : (b : ℕ) → names_block no_shape b ≡ false
 no_block b = elim (last_place Small b) as (λ o. option_map_or (λ (p : List ℕ). false) o false ≡ false) [ None ↦ refl | Some p ↦ refl ]
 

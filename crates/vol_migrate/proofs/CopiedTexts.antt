@@ -46,7 +46,7 @@ stored_zone geometry image i b zoned file some =
           ∙ zoned i p (record { file = file; place = (last_leaf (form_at geometry image i) b p e).place }) (λ none. some (is ∙ none))
     ] refl
 
--- what a block that holds a logical block is known to be
+-- the facts about a block that holds a logical block
 pub record HoldsBlock (from : Geometry) (old : List ℕ) (i b m len : ℕ) : Type 0 where
   pub fits : Fits from old
   pub zone : in_zone from m ≡ true
@@ -131,7 +131,7 @@ text_number from to old text i b m len s may holds directory is size low =
           omega (arith, number, raised, few)
     ]
 
--- what is known where a logical block is written
+-- the facts when a logical block is written
 pub record WritesBlock (from to : Geometry) (old image : List ℕ) (i b m len : ℕ) : Type 0 where
   pub may : MayMigrate old from to
   pub stage : HasStage from to old image i b
@@ -216,7 +216,7 @@ write_carries from to old image new text i b m len w written size bytes = λ now
     (λ x low at. let whole = w.whole x low at in omega (arith, whole, size))
     (λ r low. bytes r (omega (arith, low, size)))
 
--- what isn't a directory has its bytes
+-- a file that isn't a directory keeps its bytes
 pub carried_plain : (kind : Kind) (bytes : List ℕ) (x : ℕ) → kind ≢ kinds.Directory → carried_byte kind bytes x ≡ get_or bytes x 0
 carried_plain kinds.Free bytes x other = refl
 carried_plain kinds.Regular bytes x other = refl
@@ -236,7 +236,7 @@ whole_slots from to old image i b m len w directory size =
     let within = w.holds.within in
     omega (arith, slots, size, within)
 
--- what the block holds is carried, where its file is no directory
+-- the bytes of the block are carried, if its file is no directory
 pub plain_carries : (from to : Geometry) (old image new text : List ℕ) (i b m len : ℕ) → WritesBlock from to old image i b m len
     → kind_at from old i ≢ kinds.Directory → text ≡ take len (block_of old m) → length text ≡ len
     → ((blocks : List ℕ) → Rules3To7With to image blocks → Writes to image new (i + 1) (512 * b) text blocks)
@@ -247,7 +247,7 @@ plain_carries from to old image new text i b m len w plain is size written =
     ap (λ xs. get_or xs r 0) is
     ∙ (text_byte from old i b m len r w.holds low ∙ sym (carried_plain (kind_at from old i) (body from old i) (512 * b + r) plain)))
 
--- where it is one, what is raised is carried
+-- if it is one, the raised slots are carried
 pub slots_carry : (from to : Geometry) (old image new text raised : List ℕ) (i b m len : ℕ) → WritesBlock from to old image i b m len
     → IsDirectory from old i → text ≡ take len (block_of old m) → length text ≡ len → len ≡ min (size_of from old i - 512 * b) 512
     → ((x : ℕ) → 16 * (x / 16) + 16 ≤ length text → get_or raised x 0 ≡ raised_byte text x) → length (take len raised) ≡ len

@@ -1,4 +1,4 @@
--- What the shape of a file of the sixth edition says of its logical blocks.
+-- The logical blocks of a file of the sixth edition, by its shape.
 use Rattle.std.proofs.Common.{◌≡◌, ◌≢◌, ◌∙◌, sym, ap, subst, refl, ℕ, ◌-◌, ◌≤◌, eqb, true, false, not, List, None, Some, arith}
 use Rattle.std.specs.Prelude.{◌&&◌}
 use Rattle.std.specs.Option.{option_map_or}
@@ -26,7 +26,7 @@ use Rattle.vol_migrate.specs.Raised.{names_block}
 use Rattle.vol_migrate.specs.Stages.{ComesAfter, file_need, places_for}
 use Rattle.vol_migrate.proofs.CarriedBlocks.{none_needed}
 
--- the shape of a file names what its places name, and has its flag
+-- the shape of a file has the names of its places and its flag
 pub record IsShapeOf (geometry : Geometry) (image : List ℕ) (i : ℕ) (shape : Shape) : Type 0 where
   pub names : shape.names ≡ is_named_place geometry image i
   pub large : shape.large ≡ is_large geometry.edition (mode_of geometry image i)
@@ -53,7 +53,7 @@ bare_by geometry image i kinds.Odd bare = refl
 bare_by geometry image i kinds.Regular bare = absurd (cc)
 bare_by geometry image i kinds.Directory bare = absurd (cc)
 
--- what is no file needs no places
+-- an i-node that is no file needs no places
 pub bare_need : (geometry : Geometry) (image : List ℕ) (i : ℕ) → 1 ≤ i → i ≤ geometry.last_inode → has_places (kind_at geometry image i) ≡ false
     → file_need geometry image i ≡ 0
 bare_need geometry image i first last bare =
@@ -61,7 +61,7 @@ bare_need geometry image i first last bare =
     (shape_here geometry image i first last ∙ bare_by geometry image i (kind_at geometry image i) bare)
     ∙ none_needed (whole_blocks (size_of geometry image i))
 
--- a last place of a file, if there is one, names something where a number is stored for its block
+-- a last place of a file, if there is one, names something if a number is stored for its block
 names_last : (geometry : Geometry) (image : List ℕ) (i : ℕ) (form : Form) (b : ℕ) → form_at geometry image i ≡ form
     → option_map_or (is_named_place geometry image i) (last_place form b) false ≡ not (eqb (stored geometry image i form b) 0)
 names_last geometry image i form b is =
@@ -79,7 +79,7 @@ form_sixth : (edition : Edition) (mode : ℕ) → edition ≡ V6 → has_places 
     → form_in V6 (is_large edition mode) ≡ form_of edition mode
 form_sixth edition mode sixth file = ap (λ e. form_in e (is_large edition mode)) (sym sixth) ∙ form_shape edition mode file
 
--- a logical block of a file of the sixth edition has a block where a number is stored for it
+-- a logical block of a file of the sixth edition has a block if a number is stored for it
 pub names_stored : (geometry : Geometry) (image : List ℕ) (i b : ℕ) → geometry.edition ≡ V6 → IsFile geometry image i
     → names_block (shapes geometry image i) b ≡ not (eqb (stored geometry image i (form_at geometry image i) b) 0)
 names_stored geometry image i b sixth file =
@@ -100,7 +100,7 @@ pub names_some : (geometry : Geometry) (image : List ℕ) (i b : ℕ) → geomet
     → stored geometry image i (form_at geometry image i) b ≢ 0 → names_block (shapes geometry image i) b ≡ true
 names_some geometry image i b sixth file some = names_stored geometry image i b sixth file ∙ ap not (ne_eqb _ 0 some)
 
--- the next logical block that has a block comes after the last
+-- the next stored logical block follows the last
 pub comes_after : (geometry : Geometry) (image : List ℕ) (i passed end b : ℕ) → geometry.edition ≡ V6 → IsFile geometry image i
     → IsNextStored geometry image i (form_at geometry image i) passed end b
     → (1 ≤ passed → names_block (shapes geometry image i) (passed - 1) ≡ true) → ComesAfter (shapes geometry image i) b passed

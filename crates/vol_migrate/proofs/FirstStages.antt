@@ -74,7 +74,7 @@ mode_zero : (from to : Geometry) (old image : List ℕ) (now k : ℕ) → HasIno
 mode_zero from to old image now k has first last vacant =
     zero_mode to image k (λ r low. has.rest k r first last (inr (inl vacant)) low)
 
--- a place names nothing where all addresses are 0
+-- a place names nothing if all addresses are 0
 named_zero : (geometry : Geometry) (image : List ℕ) (k : ℕ) (form : Form) (p : List ℕ) → Fits geometry image
     → (inode_of geometry.edition image k).addresses ≡ replicate 13 0 → first_count form ≤ 13 → IsPlace form p → named geometry image k p ≡ 0
 named_zero geometry image k form [] fits zeros few place = refl
@@ -227,7 +227,7 @@ length_unused geometry used (suc n) b end none =
 no_mark : (n k : ℕ) → get_or (replicate n false) k false ≡ false
 no_mark n k = elim (cases_lt k n) [ inl low ↦ get_or-replicate n k false false low | inr past ↦ grind (arith, common_steps) ]
 
--- the i-nodes stay where the free list alone is made
+-- the i-nodes stay if the free list alone is made
 inodes_stay : (from to : Geometry) (old image new : List ℕ) (now : ℕ) (used : List Bool) → Fits to image → KeepsUsed to used image new
     → ((i : ℕ) → IsUsed from old i → i + 1 ≤ to.last_inode) → HasInodes from to old now image → HasInodes from to old now new
 inodes_stay from to old image new now used fits keeps numbers has =

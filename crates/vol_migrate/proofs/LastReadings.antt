@@ -1,4 +1,4 @@
--- What the volume reads as once all files are carried.
+-- The state that the volume reads as once all files are carried.
 use Rattle.std.proofs.Common.{◌≡◌, ◌≢◌, ◌∙◌, sym, ap, refl, ℕ, ◌+◌, ◌-◌, Bool, true, false, List, [], Option, None, Some, inl, inr, arith}
 use Rattle.std.specs.Prelude.{◌&&◌}
 use Rattle.std.specs.Option.{option_map}
@@ -30,7 +30,7 @@ use Rattle.vol_migrate.proofs.StageSteps.{carried_kind, form_seventh}
 use Rattle.vol_migrate.proofs.StageLaws.{old_rules, carried_file}
 use Rattle.vol_migrate.proofs.LastStages.{IsLast, all_carried, regular_body, slots_carried, used_or, free_node, free_shape, old_free, new_free}
 
--- what a carried i-node of some kind holds
+-- the content of a carried i-node of some kind
 content_carried : (from to : Geometry) (old image : List ℕ) (now i : ℕ) (kind : Kind) → MayMigrate old from to → IsLast from to old now image → IsUsed from old i
     → kind_at from old i ≡ kind → kind ≢ kinds.Special
     → content_of to image (i + 1) kind ≡ option_map raised_content (content_of from old i kind)

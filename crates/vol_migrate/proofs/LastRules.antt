@@ -1,4 +1,4 @@
--- The rules that hold once all files are carried: all but those of the free list are asked.
+-- The rules that hold once all files are carried: all that are checked, which are those not about the free list.
 use Rattle.std.proofs.Common.{◌≡◌, ◌∙◌, sym, ap, subst, refl, ℕ, ◌+◌, Bool, true, false, List, Result, Ok, Err, None, inr, arith}
 use Rattle.std.specs.Prelude.{if◌then◌else◌}
 use Rattle.vol_layout.specs.Edition.{constants}
@@ -48,7 +48,7 @@ last_graph from to old image now may stage =
     rules_from_graph to image stage.sound.sizes
     (subst (λ root. IsGraphSound (graph_of to image) root to.last_inode) (sym new_root) sound)
 
--- all rules that are asked
+-- all rules that are checked
 pub last_rules : (from to : Geometry) (old image : List ℕ) (now : ℕ) → MayMigrate old from to → IsLast from to old now image → KeepsRules false to.edition image
 last_rules from to old image now may stage =
     let super_block = stage.super_block in

@@ -125,7 +125,7 @@ outside_or geometry k =
       | inr out ↦ inl out
     ]
 
--- what stands for a number whose i-node, if there is one, is free
+-- the node of a number whose i-node, if there is one, is free
 free_kind : (geometry : Geometry) (image : List ℕ) (k : ℕ) → (1 ≤ k → k ≤ geometry.last_inode → kind_at geometry image k ≡ kinds.Free)
     → kind_in geometry image k ≡ kinds.Free
 free_kind geometry image k free =

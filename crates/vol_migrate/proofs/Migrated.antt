@@ -41,7 +41,7 @@ sound_read image rules =
     let bounded : is_bounded V6 image ≡ true = rules 2 in
     rw (whole, bounded) refl
 
--- clearing the free list's head, and then making the list anew, keeps what the latter keeps
+-- clearing the free list's head and then rebuilding the list keeps what rebuilding keeps
 pub keeps_cleared : (geometry : Geometry) (used : List Bool) (old mid new : List ℕ) → Fits geometry old
     → SameOutside old mid (free_head geometry.edition) (free_head geometry.edition + 202) → KeepsUsed geometry used mid new → KeepsUsed geometry used old new
 keeps_cleared geometry used old mid new fits same keeps =
@@ -56,7 +56,7 @@ keeps_cleared geometry used old mid new fits same keeps =
       above = λ k h. keeps.above k h ∙ same.above k (omega (arith, order, behind, zone, h));
     }
 
--- the free list is made anew
+-- the free list is rebuilt
 pub relisted : (geometry : Geometry) (old mid new : List ℕ) (used : List Bool) → geometry.edition ≡ V7 → geometry_of V7 old ≡ geometry
     → Fits geometry old → Fits geometry new → KeepsRules false V7 old → AreNamed geometry old used
     → SameOutside old mid (free_head geometry.edition) (free_head geometry.edition + 202) → KeepsUsed geometry used mid new
@@ -72,7 +72,7 @@ relisted geometry old mid new used seventh sizes fits after rules marked same ke
       free = free;
     }
 
--- a sound volume to which nothing speaks may be migrated
+-- a sound volume that passes all checks may be migrated
 pub may_migrate : (old : List ℕ) (from : Geometry) (blocks list_blocks : ℕ) → IsSound V6 old → from ≡ geometry_of V6 old → Fits from old
     → IsMakeable (volume_of V7 blocks list_blocks) → has_device (tree from old) ≡ false → has_above (tree from old) (8 * list_blocks) ≡ false
     → places_needed (state from old) ≤ blocks - (list_blocks + 2) → MayMigrate old from (volume_of V7 blocks list_blocks)
@@ -125,14 +125,14 @@ pub sound_sizes : (image : List ℕ) (geometry : Geometry) → geometry ≡ geom
 unfolding Rule
 sound_sizes image geometry is rules = subst (λ g. HasSizes g image) (sym is) (rules 4)
 
--- what is so where nothing speaks against migrating a volume
+-- the facts if no check of migrating a volume fails
 pub record IsAllowed (state : State) (blocks list_blocks : ℕ) : Type 0 where
   pub size : is_size V7 blocks list_blocks ≡ true
   pub device : has_device state.tree ≡ false
   pub above : has_above state.tree (8 * list_blocks) ≡ false
   pub space : places_needed state ≤ blocks - (list_blocks + 2)
 
--- it is so where there is no refusal
+-- it is so if there is no refusal
 pub allowed : (state : State) (blocks list_blocks : ℕ) → refusal V6 state blocks list_blocks ≡ None → IsAllowed state blocks list_blocks
 allowed state blocks list_blocks none =
     go (is_size V7 blocks list_blocks) (has_device state.tree) (has_above state.tree (8 * list_blocks))
@@ -149,7 +149,7 @@ allowed state blocks list_blocks none =
       go true true above full s d a f e = absurd (cc)
       go false device above full s d a f e = absurd (cc)
 
--- the first stage of what is made of zeros
+-- the first stage of the volume, made of zeros
 pub made_first : (old zeros made put image : List ℕ) (from to : Geometry) (now : ℕ) → MayMigrate old from to → zeros ≡ replicate (512 * to.zone_end) 0
     → geometry_of to.edition made ≡ to → long made (time_place to.edition) ≡ now
     → ((k : ℕ) → IsNoneOf 512 (sizes_bytes to.edition) k → IsNoneOf (time_place to.edition) 4 k → get_or made k 0 ≡ get_or zeros k 0)
@@ -166,6 +166,6 @@ made_first old zeros made put image from to now may is sizes time rest first lis
     first_stage from to old made put image now may
     (fits_len to made put listed.len (fits_makeable to made may.makeable super.len)) fits super listed inodes keeps free
 
--- the i-list of what is made of zeros
+-- the i-list of a volume made of zeros
 pub made_zeros : (zeros made : List ℕ) (n k : ℕ) → zeros ≡ replicate n 0 → SameOutside zeros made 512 1024 → 1024 ≤ k → get_or made k 0 ≡ 0
 made_zeros zeros made n k is first from = first.above k from ∙ (ap (λ xs. get_or xs k 0) is ∙ zeros_at n k)

@@ -1,4 +1,4 @@
--- How many places on the way of a logical block are on no way before.
+-- The number of places on the way of a logical block that are on no earlier way.
 use Rattle.std.proofs.Common.{◌≡◌, ◌∙◌, sym, ap, refl, ℕ, zero, suc, ◌+◌, ◌-◌, ◌*◌, ◌/◌, ◌%◌, ◌<◌, ◌≤◌, Bool, true, false, cond, not, leb, List, [], ◌∷◌, filter, reverse, length, None, Some, inl, inr, arith}
 use Rattle.std.specs.Prelude.{◌||◌}
 use Rattle.std.specs.List.{list_any, count_by}
@@ -25,7 +25,7 @@ use Rattle.vol_migrate.specs.Raised.{names_block, stored_blocks}
 use Rattle.vol_migrate.specs.Stages.{ComesAfter, is_new}
 use Rattle.vol_migrate.proofs.CarriedBlocks.{below_hole, below_holes, on_more}
 
--- what is found among the fronts of a place is one
+-- a list found among the fronts of a place is a place
 front_passed : (p q : List ℕ) → list_any (bytes_eq p) (fronts q) ≡ true → IsFront p q
 front_passed p [] h = true≢false (sym h)
 front_passed p (j ∷ q) h = elim (cases_Bool (bytes_eq p (j ∷ q))) [
@@ -57,7 +57,7 @@ off_before c a p later =
       | inr off ↦ off
     ]
 
--- nor on the ways of blocks none of which it is on the way of
+-- nor on the ways of blocks if it is on the way of none of them
 none_on : (shape : Shape) (p : List ℕ) (n : ℕ) → ((c : ℕ) → c < n → list_any (bytes_eq p) (way Deep c) ≡ false)
     → is_on_ways Deep (stored_blocks shape n) p ≡ false
 none_on shape p zero off = refl
@@ -72,7 +72,7 @@ none_on shape p (suc n) off =
       | inr hole ↦ ap (λ blocks. is_on_ways Deep blocks p) (below_hole shape n hole) ∙ rest
     ]
 
--- a place is on a way before where its first block comes before the end of the last that has a block
+-- a place is on an earlier way if its first block is before the end of the last stored one
 pub named_before : (shape : Shape) (b passed a : ℕ) (p : List ℕ) → ComesAfter shape b passed
     → ((c : ℕ) → first_block Deep (a ∷ p) ≤ c → c < b → list_any (bytes_eq (a ∷ p)) (way Deep c) ≡ true)
     → not (is_on_ways Deep (stored_blocks shape b) (a ∷ p)) ≡ leb passed (first_block Deep (a ∷ p))

@@ -23,7 +23,7 @@ pub record RaisesGraph (old new : Graph) : Type 0 where
   pub size : (k : ℕ) → old.kind (k - 1) ≡ kinds.Directory → new.size k ≡ old.size (k - 1)
   pub entry : (k s : ℕ) → new.entry k s ≡ raised_entry (old.entry (k - 1) s)
 
--- what an entry with the next i-number comes from
+-- the entry from which one with the next i-number was made
 from_raised : (slot : Option (List ℕ × ℕ)) (name : List ℕ) (i : ℕ) → raised_entry slot ≡ Some (name, i)
     → (j : ℕ) × (slot ≡ Some (name, j)) × (i ≡ j + 1)
 from_raised None name i e = absurd (cc)
@@ -45,15 +45,15 @@ entry_on : (old new : Graph) (d s j k i : ℕ) (name : List ℕ) → RaisesGraph
 entry_on old new d s j k i name raises at is e =
     raises.entry k s ∙ (ap (λ x. raised_entry (old.entry x s)) at ∙ (ap raised_entry e ∙ ap (λ x. Some (name, x)) is))
 
--- what leads on there
+-- an entry that leads on there
 leads_on : (old new : Graph) (d s j k i : ℕ) → RaisesGraph old new → k - 1 ≡ d → j + 1 ≡ i → Leads old d s j → Leads new k s i
 leads_on old new d s j k i raises at is leads = (leads.0, entry_on old new d s j k i leads.0 raises at is leads.1, leads.2)
 
--- what leads on in the other graph
+-- an entry that leads on in the other graph
 leads_back : (old new : Graph) (k s i : ℕ) → RaisesGraph old new → Leads new k s i → Leads old (k - 1) s (i - 1)
 leads_back old new k s i raises leads = (leads.0, (entry_back old new k s i leads.0 raises leads.1).0, leads.2)
 
--- what is below the root stays so
+-- a node below the root stays there
 below_on : (old new : Graph) (root i : ℕ) → RaisesGraph old new → IsBelow old root i → IsBelow new (root + 1) (i + 1)
 below_on old new root _ raises at_root = at_root
 below_on old new root _ raises (below d s i above leads) =
@@ -91,7 +91,7 @@ sum_later f a (suc n) =
     let here : f (a + 1 - 1) ≡ f a = ap f (omega arith) in
     omega (arith, rest, left, right, here)
 
--- a sum that goes on with zeros
+-- a sum that continues with zeros
 sum_past : (f : ℕ → ℕ) (m n : ℕ) → m ≤ n → ((d : ℕ) → m < d → f d ≡ 0) → sum_by f (range_with_len 1 n) ≡ sum_by f (range_with_len 1 m)
 sum_past f m n more none =
     let count : m + (n - m) ≡ n = omega arith in
@@ -99,7 +99,7 @@ sum_past f m n more none =
     let rest : sum_by f (range_with_len (1 + m) (n - m)) ≡ 0 = sum_none f (1 + m) (n - m) (λ d low high. none d (omega (arith, low))) in
     ap (λ k. sum_by f (range_with_len 1 k)) (sym count) ∙ omega (arith, split, rest)
 
--- sums up to different ends, behind each of which are zeros
+-- sums up to different ends, after each of which are zeros
 sum_ends : (f : ℕ → ℕ) (m n : ℕ) → ((d : ℕ) → m < d → f d ≡ 0) → ((d : ℕ) → n < d → f d ≡ 0)
     → sum_by f (range_with_len 1 n) ≡ sum_by f (range_with_len 1 m)
 sum_ends f m n left right =

@@ -38,7 +38,7 @@ slot_put text old new bytes s is size put others before x low =
           ∙ (ap (λ xs. get_or xs r 0) (put ∙ is) ∙ sym (byte_of_slot text s r x few at)))
     ]
 
--- a name is no longer than where it stands
+-- a name is no longer than its field
 name_short : (xs : List ℕ) → length (name_of xs) ≤ length xs
 name_short xs = grind (arith, common_steps)
 
@@ -77,7 +77,7 @@ pub bytes_length : (bytes : List ℕ) (at : ℕ) → at + 16 ≤ length bytes �
 bytes_length bytes at room =
     let name = raised_length (slot_at bytes at) (slot_length bytes at room) in omega (arith, name)
 
--- where the 16 bytes of a slot are raised the slot is
+-- if the 16 bytes of a slot are raised the slot is
 pub slot_raised : (bytes raised : List ℕ) (s : ℕ) → 16 * s + 16 ≤ length bytes → 16 * s + 16 ≤ length raised
     → ((x : ℕ) → 16 * s ≤ x → x < 16 * s + 16 → get_or raised x 0 ≡ raised_byte bytes x)
     → slot_at raised (16 * s) ≡ raised_slot (slot_at bytes (16 * s))

@@ -1,4 +1,4 @@
--- What the tree says against migrating a volume, its i-nodes say.
+-- The reasons of the tree not to migrate a volume are those of its i-nodes.
 use Rattle.std.proofs.Common.{◌≡◌, ◌≢◌, ◌∙◌, sym, ap, refl, ℕ, zero, suc, ◌+◌, ◌-◌, ◌<◌, ◌≤◌, ltb, Bool, true, false, List, inl, inr, arith}
 use Rattle.std.specs.Prelude.{◌||◌, ◌&&◌}
 use Rattle.std.specs.List.{list_any, range_with_len}
@@ -46,7 +46,7 @@ pub any_from : (f : ℕ → Bool) (last i : ℕ) → 1 ≤ i → i ≤ last → 
 any_from f last i first within on =
     any_at f 1 last (i - 1) (omega (arith, first, within)) (ap f (let e : 1 + (i - 1) ≡ i = omega (arith, first) in e) ∙ on)
 
--- where none is found, none passes
+-- if none is found, none passes
 pub none_from : (f : ℕ → Bool) (last i : ℕ) → list_any f (range_with_len 1 last) ≡ false → 1 ≤ i → i ≤ last → f i ≡ false
 none_from f last i none first within =
     elim (cases_Bool (f i)) [
@@ -54,7 +54,7 @@ none_from f last i none first within =
       | inr off ↦ off
     ]
 
--- whether a kind is that of special files
+-- true if a kind is that of special files
 abbrev pub is_special : Kind → Bool
 is_special kinds.Special = true
 is_special kinds.Free = false
@@ -62,7 +62,7 @@ is_special kinds.Regular = false
 is_special kinds.Directory = false
 is_special kinds.Odd = false
 
--- whether a kind has a node in the tree
+-- true if a kind has a node in the tree
 abbrev pub is_node : Kind → Bool
 is_node kinds.Free = false
 is_node kinds.Odd = false
@@ -88,7 +88,7 @@ node_by geometry image i kinds.Directory = refl
 node_by geometry image i kinds.Special = refl
 node_by geometry image i kinds.Odd = refl
 
--- whether a node of the tree is a special file
+-- a node of the tree is a special file or not
 pub device_here : (geometry : Geometry) (image : List ℕ) (i : ℕ) → 1 ≤ i → i ≤ geometry.last_inode
     → option_map_or (λ (node : Node). is_device node.content) ((tree geometry image).nodes i) false ≡ is_special (kind_at geometry image i)
 unfolding node_of
@@ -96,7 +96,7 @@ device_here geometry image i first last =
     ap (λ o. option_map_or (λ (node : Node). is_device node.content) o false) (node_inside geometry image i first last)
     ∙ device_by geometry image i (kind_at geometry image i)
 
--- whether there is a node
+-- a node exists or not
 pub node_here : (geometry : Geometry) (image : List ℕ) (i : ℕ) → 1 ≤ i → i ≤ geometry.last_inode
     → option_map_or (λ (node : Node). true) ((tree geometry image).nodes i) false ≡ is_node (kind_at geometry image i)
 unfolding node_of

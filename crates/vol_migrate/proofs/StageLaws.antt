@@ -1,4 +1,4 @@
--- How the files of a volume are carried one after another.
+-- Carrying the files of a volume one after another.
 use Rattle.std.proofs.Common.{◌≡◌, ◌≢◌, ◌∙◌, sym, ap, subst, refl, ℕ, zero, suc, ◌+◌, ◌*◌, ◌/◌, ◌%◌, ◌<◌, ◌≤◌, eqb, true, false, not, List, [], ◌∷◌, length, get_or, replicate, length-append, inl, inr, arith}
 use Rattle.std.proofs.lemmas.Bool.{cases_eq, cases_lt, cases_Bool, eqb-true, true≢false}
 use Rattle.std.proofs.lemmas.List.{get_or_past}
@@ -195,7 +195,7 @@ carried_hole from old i x kinds.Directory fits none =
     let number : word (body from old i) at ≡ 0 = omega (arith, low, high) in
     ap (λ slot. get_or (bytes_of_slot slot) (x % 16) 0) (raised_none (slot_at (body from old i) at) number) ∙ empty_bytes (x % 16) (omega arith)
 
--- where nothing is named no number is stored
+-- if nothing is named no number is stored
 stored_hole : (from : Geometry) (old : List ℕ) (i b : ℕ) → from.edition ≡ V6 → IsFile from old i → names_block (shapes from old i) b ≡ false
     → stored from old i (form_at from old i) b ≡ 0
 stored_hole from old i b sixth file hole =
@@ -242,7 +242,7 @@ stage_holes old from to now image i m n may stage used order holes =
       zeros = stage.zeros;
     }
 
--- how far each i-node is carried once i-node i is done
+-- the progress of each i-node once i-node i is done
 progress_next : (from : Geometry) (old : List ℕ) (i n j : ℕ) → (j ≡ i → n ≡ whole_blocks (size_of from old i))
     → progress from old i n j ≡ progress from old (i + 1) 0 j
 progress_next from old i n j end =
@@ -279,7 +279,7 @@ stage_next old from to now image i first stage =
       zeros = stage.zeros;
     }
 
--- what is no file is passed
+-- an i-node that is no file is passed
 pub stage_pass : (old : List ℕ) (from to : Geometry) (now : ℕ) (image : List ℕ) (i : ℕ) → MayMigrate old from to → 1 ≤ i → i ≤ from.last_inode
     → has_places (kind_at from old i) ≡ false → IsStage from to old now image i 0 → IsStage from to old now image (i + 1) 0
 stage_pass old from to now image i may first last bare stage =

@@ -80,13 +80,13 @@ touched_one b (suc n) some few =
     let last : (512 * b + n) / 512 - 512 * b / 512 + 1 ≡ 1 = omega (arith, few) in
     ap (λ x. range_with_len x ((512 * b + n) / 512 - 512 * b / 512 + 1)) first ∙ ap (range_with_len b) last
 
--- how many blocks are carried of another i-node stays
+-- the number of blocks carried of another i-node stays
 pub progress_other : (from : Geometry) (old : List ℕ) (i m n j : ℕ) → j ≢ i → progress from old i m j ≡ progress from old i n j
 progress_other from old i m n j other =
     ap (λ t. cond (ltb j i) (whole_blocks (size_of from old j)) (cond t m 0)) (ne_eqb j i other)
     ∙ sym (ap (λ t. cond (ltb j i) (whole_blocks (size_of from old j)) (cond t n 0)) (ne_eqb j i other))
 
--- how many of i-node i itself are
+-- the number of those of i-node i itself
 pub progress_self : (from : Geometry) (old : List ℕ) (i n : ℕ) → progress from old i n i ≡ n
 progress_self from old i n =
     ap (λ t. cond t (whole_blocks (size_of from old i)) (cond (eqb i i) n 0)) (le-ltb i i (omega arith)) ∙ ap (λ t. cond t n 0) (eq-eqb i i refl)
@@ -102,7 +102,7 @@ progress_after from old i n j high =
     ap (λ t. cond t (whole_blocks (size_of from old j)) (cond (eqb j i) n 0)) (le-ltb j i (omega (arith, high)))
     ∙ ap (λ t. cond t n 0) (ne_eqb j i (λ e. omega (arith, e, high)))
 
--- what stands outside the free list and the data zone stays
+-- the bytes outside the free list and the data zone stay
 pub super_stays : (to : Geometry) (now : ℕ) (old new : List ℕ) → HasSuper to now old → length new ≡ length old
     → ((k : ℕ) → k < free_head to.edition → get_or new k 0 ≡ get_or old k 0)
     → ((k : ℕ) → free_head to.edition + 202 ≤ k → k < 1024 → get_or new k 0 ≡ get_or old k 0) → HasSuper to now new
@@ -135,7 +135,7 @@ super_stays to now old new has len below behind =
           ];
     }
 
--- another carried i-node stays where the write of a file leaves all others
+-- another carried i-node stays if the write of a file leaves all others
 pub other_stays : (from to : Geometry) (old image new : List ℕ) (now k j n : ℕ) → Fits to image → ChangesFileAlone to image new k → 1 ≤ k → j + 1 ≢ k
     → j + 1 ≤ to.last_inode → to.edition ≡ V7 → (has_places (kind_at to image (j + 1)) ≡ true) → IsCarried from to old now image j n → IsCarried from to old now new j n
 other_stays from to old image new now k j n fits alone first other last seventh is carried =

@@ -1,4 +1,4 @@
--- What a volume of the sixth edition becomes in the seventh.
+-- A volume of the sixth edition, raised to the seventh.
 use Rattle.std.specs.Prelude.{ℕ, ◌+◌, ◌-◌, ◌==◌, if◌then◌else◌, Bool, false, List, map, replicate, Option, Some}
 use Rattle.std.specs.List.{filter, range_with_len}
 use Rattle.std.specs.Option.{option_map, option_map_or}
@@ -17,13 +17,13 @@ use Rattle.vol_mkfs.specs.Mkfs.{volume_of}
 abbrev pub raised_names : Names → Names
 raised_names names = map (λ (entry : List ℕ × ℕ). (entry.0, entry.1 + 1)) names
 
--- what a node holds: bytes stay, and so does a special file, of which a volume that is migrated has none (this project)
+-- the content of a node: bytes stay, and so does a special file, though a volume that is migrated has none (this project)
 abbrev pub raised_content : Content → Content
 raised_content (Body bytes) = Body bytes
 raised_content (Directory names) = Directory (raised_names names)
 raised_content (Device type addresses) = Device type addresses
 
--- a node: its i-node was last changed now, and all else stays (this project)
+-- a node: its i-node was last changed now, and the rest stays (this project)
 abbrev pub raised_node : ℕ → Node → Node
 raised_node now node = record node { content = raised_content node.content; changed = Some now }
 
@@ -31,7 +31,7 @@ raised_node now node = record node { content = raised_content node.content; chan
 abbrev pub size_in : Option Node → ℕ
 size_in node = option_map_or (λ (some : Node). some.size) node 0
 
--- whether a file of some shape names a block for logical block b in the sixth edition (Lions on bmap)
+-- true if a file of some shape stores logical block b in the sixth edition (Lions on bmap)
 abbrev pub names_block : Shape → ℕ → Bool
 names_block shape b = option_map_or shape.names (last_place (form_in V6 shape.large) b) false
 
@@ -39,7 +39,7 @@ names_block shape b = option_map_or shape.names (last_place (form_in V6 shape.la
 abbrev pub stored_blocks : Shape → ℕ → List ℕ
 stored_blocks shape n = filter (names_block shape) (range_with_len 0 n)
 
--- the shape of a file: the places on the ways of those logical blocks within its size that named something name something in the seventh edition, and no others; the slots keep their names (this project)
+-- the shape of a file: in the seventh edition exactly the places on the ways of the stored logical blocks within its size name blocks; the slots keep their names (this project)
 abbrev pub raised_shape : ℕ → Shape → Shape
 raised_shape size shape = record {
   names = is_on_ways Deep (stored_blocks shape (whole_blocks size));
@@ -58,7 +58,7 @@ raised state blocks list_blocks now = record {
   shapes = λ i. raised_shape (size_in (state.tree.nodes (i - 1))) (state.shapes (i - 1));
 }
 
--- a slot: an empty one has no name, and in any other the i-number is one higher and nothing stands behind the name (this project)
+-- a slot: an empty one gets an empty name, any other gets the next i-number and zeros after its name (this project)
 abbrev pub raised_slot : Slot → Slot
 raised_slot slot =
     if slot.inode == 0 then record { inode = 0; name = replicate 14 0 }

@@ -1,4 +1,4 @@
--- How far the files of a volume are carried to another.
+-- The stages of migrating a volume: the part of its files that is carried to the new one.
 use Rattle.std.specs.Prelude.{◌≡◌, ◌≢◌, ℕ, ◌+◌, ◌-◌, ◌*◌, ◌/◌, ◌%◌, ◌<◌, ◌≤◌, ◌==◌, ◌⊎◌, true, false, nat_lt, nat_le, if◌then◌else◌, List, ◌∷◌, length, slice_index}
 use Rattle.std.specs.List.{count_by, sum_by, range_with_len}
 use Rattle.pdp_words.specs.Words.{long}
@@ -30,7 +30,7 @@ pub record IsUsed (geometry : Geometry) (image : List ℕ) (i : ℕ) : Type 0 wh
   pub last : i ≤ geometry.last_inode
   pub some : kind_at geometry image i ≢ kinds.Free
 
--- a sound volume of the sixth edition may become one of the seventh: it has no special file, the i-list has room for its nodes, and the data zone for its files (this project)
+-- a sound volume of the sixth edition may become one of the seventh: it has no special file, its nodes fit the i-list, and its files fit the data zone (this project)
 pub record MayMigrate (old : List ℕ) (from to : Geometry) : Type 0 where
   pub sixth : from.edition ≡ V6
   pub seventh : to.edition ≡ V7
@@ -40,25 +40,25 @@ pub record MayMigrate (old : List ℕ) (from to : Geometry) : Type 0 where
   pub numbers : (i : ℕ) → IsUsed from old i → i + 1 ≤ to.last_inode
   pub space : places_needed (state from old) ≤ to.zone_end - to.zone_start
 
--- how many places on the ways of the first n logical blocks of a file, without its holes, there are in the seventh edition (Lions on bmap)
+-- the number of places in the seventh edition on the ways of the first n logical blocks of a file, without its holes (Lions on bmap)
 unfoldable pub places_for : Shape → ℕ → ℕ
 places_for shape n = count_by (is_on_ways Deep (stored_blocks shape n)) (places Deep)
 
--- logical block b comes after the first `passed`, of which the last has a block, and before it are only holes (Lions on bmap)
+-- logical block b follows the first `passed`, of which the last is stored, and only holes are between (Lions on bmap)
 pub record ComesAfter (shape : Shape) (b passed : ℕ) : Type 0 where
   pub order : passed ≤ b
   pub last : 1 ≤ passed → names_block shape (passed - 1) ≡ true
   pub holes : (c : ℕ) → passed ≤ c → c < b → names_block shape c ≡ false
 
--- 1 for a place whose first logical block comes no earlier, else 0 (Lions on bmap)
+-- 1 for a place whose first logical block is not before `passed`, else 0 (Lions on bmap)
 abbrev pub is_new : ℕ → ℕ → ℕ
 is_new passed start = if nat_le passed start then 1 else 0
 
--- how many places file i needs (Lions on bmap)
+-- the number of places that file i needs (Lions on bmap)
 abbrev pub file_need : Geometry → List ℕ → ℕ → ℕ
 file_need from old i = places_for (shapes from old i) (whole_blocks (size_of from old i))
 
--- how many places those below i-number i need (Lions on bmap)
+-- the number of places that the files below i-number i need (Lions on bmap)
 abbrev pub need_before : Geometry → List ℕ → ℕ → ℕ
 need_before from old i = sum_by (file_need from old) (range_with_len 1 (i - 1))
 
@@ -70,7 +70,7 @@ bytes_of_slot slot = (slot.inode % 256) ∷ (slot.inode / 256) ∷ slot.name
 unfoldable pub raised_byte : List ℕ → ℕ → ℕ
 raised_byte bytes x = slice_index (bytes_of_slot (raised_slot (slot_at bytes (16 * (x / 16))))) (x % 16)
 
--- byte x of a file of some kind, as the seventh edition has it (this project)
+-- byte x of a file of some kind, converted for the seventh edition (this project)
 abbrev pub carried_byte : Kind → List ℕ → ℕ → ℕ
 carried_byte kinds.Directory bytes x = raised_byte bytes x
 carried_byte kinds.Regular bytes x = slice_index bytes x
@@ -78,7 +78,7 @@ carried_byte kinds.Free bytes x = slice_index bytes x
 carried_byte kinds.Special bytes x = slice_index bytes x
 carried_byte kinds.Odd bytes x = slice_index bytes x
 
--- i-node i + 1 of the new volume is i-node i of the old one, and its first n logical blocks have what they had; the others are holes (this project)
+-- i-node i + 1 of the new volume is i-node i of the old one, and its first n logical blocks have the same bytes; the others are holes (this project)
 pub record IsCarried (from to : Geometry) (old : List ℕ) (now : ℕ) (image : List ℕ) (i n : ℕ) : Type 0 where
   pub inode : inode_of to.edition image (i + 1)
       ≡ record (raised_inode (inode_of from.edition old i) now) { addresses = (inode_of to.edition image (i + 1)).addresses }
@@ -87,11 +87,11 @@ pub record IsCarried (from to : Geometry) (old : List ℕ) (now : ℕ) (image : 
   pub rest : (x : ℕ) → x < size_of from old i → n ≤ x / 512 → slice_index (body to image (i + 1)) x ≡ 0
   pub names : (p : List ℕ) → IsPlace Deep p → is_named to image (i + 1) p ≡ is_on_ways Deep (stored_blocks (shapes from old i) n) p
 
--- how many logical blocks of i-node j are carried when n of i-node i are, and all of those before (this project)
+-- the number of logical blocks of i-node j that are carried when n of i-node i are, and all of those before (this project)
 abbrev pub progress : Geometry → List ℕ → ℕ → ℕ → ℕ → ℕ
 progress from old i n j = if nat_lt j i then whole_blocks (size_of from old j) else if j == i then n else 0
 
--- what stands outside the i-list and the data zone: the sizes of the volume, the time, and zeros beside the free list (filsys.h)
+-- the bytes outside the i-list and the data zone: the sizes of the volume, the time, and zeros besides the free list (filsys.h)
 pub record HasSuper (to : Geometry) (now : ℕ) (image : List ℕ) : Type 0 where
   pub len : length image ≡ 512 * to.zone_end
   pub sizes : geometry_of to.edition image ≡ to
@@ -103,11 +103,11 @@ pub record HasSuper (to : Geometry) (now : ℕ) (image : List ℕ) : Type 0 wher
 abbrev pub IsVacant : Geometry → List ℕ → ℕ → Type 0
 IsVacant from old k = (i : ℕ) → k ≡ i + 1 → IsUsed from old i → ⊥
 
--- byte r of i-node k of the new volume has no use: k has no i-node to carry, or the byte is the one that the seventh edition doesn't use (ino.h)
+-- byte r of i-node k of the new volume is unused: k has no i-node to carry, or the seventh edition doesn't use the byte (ino.h)
 abbrev pub IsIdle : Geometry → List ℕ → ℕ → ℕ → Type 0
 IsIdle from old k r = IsVacant from old k ⊎ (r ≡ 51)
 
--- rules 3 to 7 hold of the new volume, in which n blocks of i-node i and all of those before are carried, and there are as many free blocks as that has left of the data zone (this project)
+-- rules 3 to 7 hold for the new volume, in which n blocks of i-node i and all of those before are carried, and the free blocks are as many as these leave of the data zone (this project)
 pub record IsStage (from to : Geometry) (old : List ℕ) (now : ℕ) (image : List ℕ) (i n : ℕ) : Type 0 where
   pub blocks : List ℕ
   pub sound : Rules3To7With to image blocks
@@ -117,12 +117,12 @@ pub record IsStage (from to : Geometry) (old : List ℕ) (now : ℕ) (image : Li
   pub zeros : (k r : ℕ) → 1 ≤ k → k ≤ to.last_inode → IsIdle from old k r → r < (constants to.edition).inode_bytes
       → slice_index image (inode_place to.edition k + r) ≡ 0
 
--- so it is at some time (this project)
+-- the volume is at this stage, for some time (this project)
 pub record HasStage (from to : Geometry) (old image : List ℕ) (i n : ℕ) : Type 0 where
   pub now : ℕ
   pub stage : IsStage from to old now image i n
 
--- what carries some blocks more (this project)
+-- a step carries some more blocks (this project)
 abbrev pub CarriesTo : Geometry → Geometry → List ℕ → List ℕ → ℕ → ℕ → List ℕ → ℕ → ℕ → Type 0
 CarriesTo from to old image i n new j m = (now : ℕ) → IsStage from to old now image i n → IsStage from to old now new j m
 
@@ -132,6 +132,6 @@ pub record HasInodesBelow (from to : Geometry) (old : List ℕ) (now : ℕ) (ima
   pub rest : (k r : ℕ) → 1 ≤ k → k ≤ to.last_inode → (i + 1 ≤ k) ⊎ IsIdle from old k r → r < (constants to.edition).inode_bytes
       → slice_index image (inode_place to.edition k + r) ≡ 0
 
--- and all i-nodes (this project)
+-- the i-list of the new volume has all i-nodes of the old one (this project)
 abbrev pub HasInodes : Geometry → Geometry → List ℕ → ℕ → List ℕ → Type 0
 HasInodes from to old now image = HasInodesBelow from to old now image (from.last_inode + 1)

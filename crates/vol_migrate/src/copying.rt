@@ -24,7 +24,7 @@ pub(crate) fn copy_files(image: &mut Image, to: &Geometry, old: &Image, from: &G
     }
 }
 
-/// Copies those blocks of file `i` that hold its logical blocks within the size.
+/// Copies the blocks of file `i` that hold its logical blocks within the size.
 fn copy_file(image: &mut Image, to: &Geometry, old: &Image, from: &Geometry, i: u16)
     requires may { MayMigrate old.now from.now to.now }
     requires stage { HasStage from.now to.now old.now image.old i 0 }
@@ -40,8 +40,8 @@ fn copy_file(image: &mut Image, to: &Geometry, old: &Image, from: &Geometry, i: 
     }
 }
 
-/// Copies logical block `b` of file `i`, for which there is a block, as far as it lies within the size. The i-numbers in a
-/// directory are raised.
+/// Copies logical block `b` of file `i`, which is stored, up to the file's size. In a directory the i-numbers are raised by
+/// one.
 fn copy_block(image: &mut Image, to: &Geometry, old: &Image, from: &Geometry, i: u16, b: u32)
     requires may { MayMigrate old.now from.now to.now }
     requires stage { HasStage from.now to.now old.now image.old i b }

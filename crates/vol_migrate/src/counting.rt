@@ -1,4 +1,4 @@
-//! How many blocks the files of a volume of the sixth edition need in the seventh.
+//! The number of blocks that the files of a sixth edition volume need in the seventh.
 ghost use Rattle.std.specs.Prelude.{◌≡◌, ◌<◌, ◌≤◌, [], ◌∷◌};
 ghost use Rattle.vol_layout.specs.Geometry.{Fits};
 ghost use Rattle.vol_layout.specs.Names.{IsFile};
@@ -17,14 +17,14 @@ use vol_file::BlockNumbers;
 use vol_layout::i_list::{kind, size};
 use vol_layout::{Edition, Form, Geometry, Kind};
 
-/// How many logical blocks hold a file of some size.
+/// Returns the number of logical blocks of a file of this size.
 pub(crate) fn whole_blocks(size: u32) -> u32
     ensures { result ≡ whole_blocks size }
 {
     size / BLOCK as u32 + u32::from(size % BLOCK as u32 != 0)
 }
 
-/// How many blocks all files need.
+/// Returns the number of blocks that all files need.
 pub(crate) fn places_needed(old: &Image, from: &Geometry) -> u64
     requires fits { Fits from.now old.now }
     requires sixth { from.now.edition ≡ Edition.V6 }
@@ -38,7 +38,7 @@ pub(crate) fn places_needed(old: &Image, from: &Geometry) -> u64
     needed
 }
 
-/// How many blocks file `i` needs; what is no file needs none.
+/// Returns the number of blocks that i-node `i` needs: 0 if it is not a file.
 fn places_of(old: &Image, from: &Geometry, i: u16) -> u32
     requires fits { Fits from.now old.now }
     requires sixth { from.now.edition ≡ Edition.V6 }
@@ -55,7 +55,7 @@ fn places_of(old: &Image, from: &Geometry, i: u16) -> u32
     }
 }
 
-/// Whether i-node `i` is that of a regular file or a directory.
+/// True if i-node `i` is that of a regular file or a directory.
 pub(crate) fn is_file(image: &Image, geometry: &Geometry, i: u16) -> bool
     requires fits { Fits geometry.now image.now }
     requires first { 1 ≤ i }
@@ -65,7 +65,7 @@ pub(crate) fn is_file(image: &Image, geometry: &Geometry, i: u16) -> bool
     matches!(kind(image, geometry, i), Kind::Regular | Kind::Directory)
 }
 
-/// How many blocks file `i` needs: those of its logical blocks within the size that have one, and the indirect ones on
+/// Returns the number of blocks that file `i` needs: its stored logical blocks within the size, and the indirect blocks on
 /// their ways.
 fn places_of_file(old: &Image, from: &Geometry, i: u16) -> u32
     requires fits { Fits from.now old.now }
@@ -88,8 +88,8 @@ fn places_of_file(old: &Image, from: &Geometry, i: u16) -> u32
     places
 }
 
-/// How many places on the way of logical block `b` in the seventh edition are on the way of no logical block that came before:
-/// the last of these was the one before `passed`, or `passed` is 0 and there was none.
+/// Returns the number of places on the way of logical block `b` in the seventh edition that are on the way of no earlier stored
+/// logical block. The last of these is the one before `passed`; if `passed` is 0, there are none.
 fn new_places(b: u32, passed: u32) -> u32
     requires { b < 2113674 }
     ensures exact { (shape : Shape) → ComesAfter shape b passed
@@ -108,7 +108,7 @@ fn new_places(b: u32, passed: u32) -> u32
     }
 }
 
-/// 1 for a place whose first logical block is `start`, where that is none of the first `passed`; else 0.
+/// Returns 1 if `start`, the first logical block of a place, is not before `passed`, else 0.
 fn is_new(passed: u32, start: u32) -> u32
     ensures exact { result ≡ is_new passed start }
     ensures bound { result ≤ 1 }

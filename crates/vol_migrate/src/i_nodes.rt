@@ -1,4 +1,4 @@
-//! A volume of the seventh edition whose i-nodes are those of one of the sixth, before any has a block.
+//! A volume of the seventh edition with the i-nodes of one of the sixth, before any has a block.
 ghost use Rattle.std.specs.Prelude.{◌≡◌, ◌≢◌, ℕ, ◌+◌, ◌*◌, ◌<◌, ◌≤◌, true, false, IfOk, length, replicate, slice_index};
 ghost use Rattle.pdp_words.specs.Words.{SameOutside, long};
 ghost use Rattle.vol_layout.specs.Geometry.{Fits, geometry_of};
@@ -15,7 +15,7 @@ use vol_free::rebuild;
 use vol_layout::i_list::kind;
 use vol_layout::{Edition, Geometry, Kind, Super, inode, put_inode};
 
-/// Puts the sizes of a volume of the seventh edition and its time in the super-block.
+/// Writes the sizes of a volume of the seventh edition and its time to the super-block.
 pub(crate) fn put_super(image: &mut Image, to: &Geometry, now: u32)
     requires seventh { to.now.edition ≡ Edition.V7 }
     requires makeable { IsMakeable to.now }
@@ -34,7 +34,7 @@ pub(crate) fn put_super(image: &mut Image, to: &Geometry, now: u32)
     super_block.put_time(image, now);
 }
 
-/// Puts each i-node that isn't free into an i-list of zeros, with the next i-number.
+/// Writes each i-node that isn't free to an i-list of zeros, with the next i-number.
 pub(crate) fn put_inodes(image: &mut Image, to: &Geometry, old: &Image, from: &Geometry, now: u32)
     requires may { MayMigrate old.now from.now to.now }
     requires fits { Fits to.now image.old }
@@ -47,7 +47,7 @@ pub(crate) fn put_inodes(image: &mut Image, to: &Geometry, old: &Image, from: &G
     }
 }
 
-/// Puts i-node `i`, if it isn't free, with the next i-number.
+/// Writes i-node `i`, if it isn't free, with the next i-number.
 fn put_next(image: &mut Image, to: &Geometry, old: &Image, from: &Geometry, i: u16, now: u32)
     requires may { MayMigrate old.now from.now to.now }
     requires fits { Fits to.now image.old }
@@ -62,7 +62,7 @@ fn put_next(image: &mut Image, to: &Geometry, old: &Image, from: &Geometry, i: u
     }
 }
 
-/// Whether i-node `i` isn't free.
+/// True if i-node `i` isn't free.
 fn is_used(image: &Image, geometry: &Geometry, i: u16) -> bool
     requires fits { Fits geometry.now image.now }
     requires first { 1 ≤ i }

@@ -1,4 +1,4 @@
-//! A volume of the sixth edition becomes one of the seventh.
+//! Migrating a volume of the sixth edition to the seventh.
 #![tactic(auto)]
 
 mod copying;

@@ -24,21 +24,19 @@ use vol_layout::super_block::HEAD_BYTES;
 use vol_layout::{Edition, Geometry, Super};
 use vol_volume::Volume;
 
-/// Makes a volume of the seventh edition of one of the sixth, with `blocks` blocks of 512 bytes, of which
-/// `list_blocks` are the i-list, and answers its bytes. Each node has the next i-number, and so have all entries;
-/// i-number 1 is free. What changes besides: each i-node was last changed at `now`, in seconds since the beginning of
-/// 1970, which is the time of the super-block too; places past a file's size name nothing, and all bytes that have no
-/// part in the volume are zero: those past a size, those of an empty slot, those behind a name. Blocks are taken from
-/// the first data block on, by ascending i-number, and for each of its logical blocks in turn along the way from the
-/// i-node down; the others are free.
+/// Makes a volume of the seventh edition from one of the sixth, with `blocks` blocks of 512 bytes, of which `list_blocks` are
+/// the i-list, and returns its bytes. Each node gets the next i-number, in all entries too; i-number 1 is free. These also
+/// change: each i-node was last changed at `now`, in seconds since the beginning of 1970, which is also the
+/// super-block's time; places past a file's size name nothing; and all unused bytes of the volume are zero: those past a size,
+/// in an empty slot, and after a name. Blocks are taken from the first data block on, by ascending i-number, and for each
+/// logical block in turn along its way from the i-node down; the others are free.
 ///
-/// The refusals are asked in this order. Invalid: the volume isn't one of the sixth edition. Bounds: a volume of
-/// the seventh can't have these sizes. HasDevice: it has a special file. NoInode: the i-list has no room for its
-/// highest i-number. NoSpace: the files need more blocks than there are data blocks. NoMemory comes last, and only
-/// where an allocation was refused.
+/// The refusals are checked in this order. Invalid: the volume is not one of the sixth edition. Bounds: a volume of the seventh
+/// can't have these sizes. HasDevice: it has a special file. NoInode: its highest i-number doesn't fit the i-list. NoSpace: the
+/// files need more blocks than there are data blocks. NoMemory comes last, and only if memory runs out.
 ///
-/// Takes memory for the bytes, once, and for a while two bytes for each block. Costs a copy of each block that is named
-/// within a size, with the ways to it in both volumes, a look at each i-node, and twice the free list.
+/// Takes memory for the bytes, once, and for a while two bytes for each block. Costs a copy of each stored block within a size,
+/// with a block-map lookup in both volumes, a read of each i-node, and building the free list twice.
 pub fn migrate(
     alloc: Global,
     volume: &Volume,
@@ -83,7 +81,7 @@ fn migrate_image(
     }
 }
 
-/// The geometry of a sound image of the sixth edition.
+/// Returns the geometry of a sound image of the sixth edition.
 #[tactic(auto, using(crate::proofs::Migrated::sound_read))]
 fn sound_geometry(old: &Image) -> Geometry
     requires { IsSound Edition.V6 old.now }
@@ -96,7 +94,7 @@ fn sound_geometry(old: &Image) -> Geometry
     }
 }
 
-/// What speaks against migrating a sound image of the sixth edition to such a volume: the first reason that applies.
+/// Returns the first reason not to migrate a sound image of the sixth edition to a volume of these sizes, or `None`.
 fn check(old: &Image, from: &Geometry, blocks: u32, list_blocks: u16) -> Option<MigrateFault>
     requires sound { IsSound Edition.V6 old.now }
     requires geometry { from.now ≡ geometry_of Edition.V6 old.now }
@@ -119,7 +117,7 @@ fn check(old: &Image, from: &Geometry, blocks: u32, list_blocks: u16) -> Option<
     None
 }
 
-/// The geometry of a volume of the seventh edition with so many blocks, of which so many are the i-list.
+/// Returns the geometry of a volume of the seventh edition with this number of blocks, and of blocks of the i-list.
 fn new_geometry(blocks: u32, list_blocks: u16) -> Geometry
     requires { is_size Edition.V7 blocks list_blocks ≡ true }
     ensures value { result ≡ volume_of Edition.V7 blocks list_blocks }
@@ -155,8 +153,7 @@ fn make(
     Ok(image.into_bytes())
 }
 
-/// Makes the free list anew, of the data blocks that no file has, as it is in a new volume: what stood in its array
-/// goes.
+/// Rebuilds the free list from the data blocks that no file has, as in a new volume: old numbers in its array are cleared.
 fn relist(image: &mut Image, to: &Geometry, alloc: Global) -> Result<(), AllocError>
     requires seventh { to.now.edition ≡ Edition.V7 }
     requires sizes { geometry_of Edition.V7 image.old ≡ to.now }

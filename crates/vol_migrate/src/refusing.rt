@@ -1,4 +1,4 @@
-//! What speaks against migrating a volume.
+//! The reasons not to migrate a volume.
 ghost use Rattle.std.specs.Prelude.{◌≡◌, ◌≤◌};
 ghost use Rattle.vol_layout.specs.Geometry.{Fits};
 ghost use Rattle.vol_dir.specs.Tree.{tree};
@@ -9,7 +9,7 @@ use pdp_words::Image;
 use vol_layout::i_list::kind;
 use vol_layout::{Edition, Geometry, Kind};
 
-/// Whether a volume of the seventh edition can have so many blocks, of which so many are the i-list.
+/// True if a volume of the seventh edition can have this number of blocks, and of blocks of the i-list.
 pub(crate) fn is_size(blocks: u32, list_blocks: u16) -> bool
     ensures { result ≡ is_size Edition.V7 blocks list_blocks }
 {
@@ -20,7 +20,7 @@ pub(crate) fn is_size(blocks: u32, list_blocks: u16) -> bool
         && blocks <= limits.block_limit
 }
 
-/// Whether a volume has a special file.
+/// True if a volume has a special file.
 pub(crate) fn has_device(image: &Image, geometry: &Geometry) -> bool
     requires { Fits geometry.now image.now }
     ensures { result ≡ has_device (tree geometry.now image.now) }
@@ -33,7 +33,7 @@ pub(crate) fn has_device(image: &Image, geometry: &Geometry) -> bool
     false
 }
 
-/// Whether i-node `i` is that of a special file.
+/// True if i-node `i` is that of a special file.
 fn is_device(image: &Image, geometry: &Geometry, i: u16) -> bool
     requires fits { Fits geometry.now image.now }
     requires first { 1 ≤ i }
@@ -49,7 +49,7 @@ fn is_device(image: &Image, geometry: &Geometry, i: u16) -> bool
     }
 }
 
-/// Whether a node of a volume has an i-number above `last` once that is one higher.
+/// True if a node's i-number plus one is above `last`.
 pub(crate) fn has_above(image: &Image, geometry: &Geometry, last: u16) -> bool
     requires { Fits geometry.now image.now }
     ensures { result ≡ has_above (tree geometry.now image.now) last }
@@ -62,7 +62,7 @@ pub(crate) fn has_above(image: &Image, geometry: &Geometry, last: u16) -> bool
     false
 }
 
-/// Whether i-node `i` is that of a node of the tree.
+/// True if i-node `i` is that of a node of the tree.
 fn is_node(image: &Image, geometry: &Geometry, i: u16) -> bool
     requires fits { Fits geometry.now image.now }
     requires first { 1 ≤ i }

@@ -1,4 +1,4 @@
-//! The slots of a directory, as the seventh edition has them.
+//! The slots of a directory, converted for the seventh edition.
 ghost use Rattle.std.specs.Prelude.{◌≡◌, ℕ, ◌+◌, ◌*◌, ◌/◌, ◌<◌, ◌≤◌, length, slice_index};
 ghost use Rattle.pdp_words.specs.Words.{word};
 ghost use Rattle.vol_migrate.specs.Raised.{raised_slot};
@@ -9,7 +9,7 @@ use pdp_words::words::put_bytes;
 use vol_layout::Slot;
 use vol_layout::slot::{NAME, SLOT};
 
-/// A slot with the next i-number, and nothing behind its name; an empty one has no name.
+/// Returns the slot with the next i-number and zeros after its name; an empty slot gets an empty name.
 fn raised_slot(slot: &Slot) -> Slot
     requires { slot.now.inode < 65535 }
     ensures { result ≡ raised_slot slot.now }
@@ -23,7 +23,7 @@ fn raised_slot(slot: &Slot) -> Slot
     Slot::new(slot.inode + 1, slot.name())
 }
 
-/// Whole slots of a directory, at most those of a block, as the seventh edition has them; zeros stand behind them.
+/// Returns whole slots of a directory, at most those of a block, converted for the seventh edition and followed by zeros.
 pub(crate) fn raised_slots(text: &[u8]) -> [u8; BLOCK]
     requires few { length text.now ≤ 512 }
     requires numbers { (s : ℕ) → 16 * s + 16 ≤ length text.now → word text.now (16 * s) < 65535 }

@@ -1,4 +1,4 @@
--- What is written for the block is what the seventh edition has there.
+-- The bytes written for the block are those that the seventh edition has there.
 use Rattle.std.proofs.Common.{◌≡◌, ◌∙◌, sym, ap, ℕ, ◌+◌, ◌-◌, ◌*◌, ◌≤◌, subst, min, length, length-take-le, take, arith}
 use Rattle.pdp_words.specs.Words.{block_of}
 use Rattle.vol_layout.specs.Edition.{constants}

@@ -1,4 +1,4 @@
--- What isn't put stays.
+-- The bytes that aren't written stay.
 use Rattle.std.proofs.Common.{◌≡◌, ◌∙◌, ap, ℕ, ◌+◌, List, get_or, inl, inr, arith}
 use Rattle.std.proofs.lemmas.Bool.{cases_lt}
 use Rattle.pdp_words.specs.Words.{SameOutside}

@@ -1,4 +1,4 @@
--- Nothing speaks against it.
+-- No check fails.
 use Rattle.std.proofs.Common.{sym, subst}
 use Rattle.vol_dir.specs.Tree.{state}
 use Rattle.vol_mkfs.specs.Mkfs.{IsMakeable}

@@ -1,4 +1,4 @@
--- What stood in the free list goes, and it is made anew.
+-- The old free list is cleared, and a new one is built.
 use Rattle.std.proofs.Common.{◌≡◌, ◌∙◌, sym, ap, subst, ◌+◌}
 use Rattle.pdp_words.specs.Words.{SameOutside}
 use Rattle.vol_layout.specs.Super.{free_head}

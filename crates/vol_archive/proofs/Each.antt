@@ -1,4 +1,4 @@
--- What holds of each item of a list, of each two, and of some item.
+-- Properties of each item of a list, of each two, and of some item.
 use Rattle.std.proofs.Common.{◌≡◌, ℕ, zero, suc, ◌<◌, ◌⊎◌, inl, inr, Bool, true, false, cond, List, [], ◌∷◌, ◌++◌, length, get_or, refl, sym, subst, arith}
 use Rattle.std.specs.Prelude.{T, filter, All, AllPairs, Any}
 use Rattle.std.proofs.lemmas.List.Kept.{AllPairs-cons}
@@ -25,12 +25,12 @@ pub pairs_append : {X : Type 0} (R : X → X → Type 0) (xs ys : List X) → Pa
 pairs_append R [] ys h k across = k
 pairs_append R (x ∷ xs) ys h k across = (each_append (R x) xs ys h.0 across.0, pairs_append R xs ys h.1 k across.1)
 
--- what holds of the first item and all others holds of all
+-- a property of the first item and all others is one of all
 pub all_first : {X : Type 0} (P : X → Type 0) (x : X) (xs : List X) → P x → All P xs → All P (x ∷ xs)
 all_first P x xs here rest zero d below = here
 all_first P x xs here rest (suc k) d below = rest k d (omega arith)
 
--- what holds of each item that passes a test holds of all that are kept by it
+-- a property of each item that passes a test is one of all that the test keeps
 pub all_kept : {X : Type 0} (p : X → Bool) (P : X → Type 0) (xs : List X) → Each (λ x. p x ≡ true → P x) xs → All P (filter p xs)
 all_kept p P [] h = λ k d below. absurd (omega arith)
 all_kept p P (x ∷ xs) h =
@@ -54,12 +54,12 @@ pub each_both : {X : Type 0} (P Q : X → Type 0) (xs : List X) → Each P xs �
 each_both P Q [] h k = tt
 each_both P Q (x ∷ xs) h k = ((h.0, k.0), each_both P Q xs h.1 k.1)
 
--- what holds of each by turns holds of all
+-- a property of each, one by one, is one of all
 pub each_all : {X : Type 0} (P : X → Type 0) (xs : List X) → Each P xs → All P xs
 each_all P [] h = λ k d within. absurd (omega arith)
 each_all P (x ∷ xs) h = all_first P x xs h.0 (each_all P xs h.1)
 
--- what holds of each of two lists holds of each of the first
+-- a property of each of two lists is one of each of the first
 pub each_front : {X : Type 0} (P : X → Type 0) (xs ys : List X) → Each P (xs ++ ys) → Each P xs
 each_front P [] ys h = tt
 each_front P (x ∷ xs) ys h = (h.0, each_front P xs ys h.1)
@@ -105,7 +105,7 @@ has_at P [] k d within p = absurd (omega arith)
 has_at P (x ∷ xs) zero d within p = inl p
 has_at P (x ∷ xs) (suc k) d within p = inr (has_at P xs k d (omega arith) p)
 
--- an item of which one thing holds, where another holds of each
+-- an item with one property, in a list where each has another
 pub has_each : {X : Type 0} (P Q : X → Type 0) (R : Type 0) → ((x : X) → P x → Q x → R) → (xs : List X) → Has P xs → Each Q xs → R
 has_each P Q R f [] h k = absurd h
 has_each P Q R f (x ∷ xs) (inl p) k = f x p k.0
@@ -121,7 +121,7 @@ has_kept p P (x ∷ xs) (inr h) =
       | false ↦ has_kept p P xs h
     ]
 
--- what holds of all holds of each by turns
+-- a property of all is one of each, one by one
 pub each_of_all : {X : Type 0} (P : X → Type 0) (xs : List X) → All P xs → Each P xs
 each_of_all P [] h = tt
 each_of_all P (x ∷ xs) h = (h 0 x (omega arith), each_of_all P xs (λ k d within. h (suc k) d (omega arith)))
@@ -129,7 +129,7 @@ each_of_all P (x ∷ xs) h = (h 0 x (omega arith), each_of_all P xs (λ k d with
 pub any_has : {X : Type 0} (P : X → Type 0) (xs : List X) → Any P xs → Has P xs
 any_has P xs h = has_at P xs h.0 h.1 h.2 (subst P (sym h.3) h.4)
 
--- an item of which one thing holds, where another holds of each: both do
+-- an item with one property, in a list where each has another, has both
 pub has_both : {X : Type 0} (P Q : X → Type 0) (xs : List X) → Has P xs → Each Q xs → Has (λ x. P x × Q x) xs
 has_both P Q [] h k = absurd h
 has_both P Q (x ∷ xs) (inl p) k = inl (p, k.0)

@@ -128,7 +128,7 @@ one_component name plain short =
     plain_parts false true e = absurd (true≢false (sym e))
     plain_parts false false e = (refl, refl)
 
--- a name below a path comes behind its components
+-- a name below a path follows its components
 pub component_below : (path name : List ℕ) → is_plain name ≡ true → IsShort name → components (path_below path name) ≡ components path ++ name ∷ []
 component_below [] name plain short = one_component name plain short ∙ ap (λ cs. cs ++ name ∷ []) (sym components-nil)
 component_below (c ∷ path) name plain short = components-join (c ∷ path) name ∙ ap (λ cs. components (c ∷ path) ++ cs) (one_component name plain short)
@@ -139,7 +139,7 @@ pub record IsNamed (names : Names) (path : List ℕ) (entry : Pending) : Type 0 
   pub parts : components entry.path ≡ components path ++ name ∷ []
   pub found : get names name ≡ Some entry.inode
 
--- what is said of the entries of a map, other than `.` and `..`, is said of those that are pending for them
+-- a property of the entries of a map, other than `.` and `..`, is one of those that are pending for them
 pub each_proper : (path : List ℕ) (P : List ℕ × ℕ → Type 0) (Q : Pending → Type 0)
     → ((e : List ℕ × ℕ) → P e → is_dots e.0 ≡ false → Q (record { path = path_below path e.0; inode = e.1; is_plain = is_plain e.0 }))
     → (es : Names) → Each P es → Each Q (pending_below path es)
@@ -152,7 +152,7 @@ each_proper path P Q f (e ∷ es) h =
       | false ↦ λ proper. (f e h.0 proper, tt)
     ] refl) (each_proper path P Q f es h.1)
 
--- what is said of all entries of a map is, too
+-- so is a property of all entries of a map
 pub each_below : (path : List ℕ) (P : List ℕ × ℕ → Type 0) (Q : Pending → Type 0)
     → ((e : List ℕ × ℕ) → P e → Q (record { path = path_below path e.0; inode = e.1; is_plain = is_plain e.0 }))
     → (es : Names) → Each P es → Each Q (pending_below path es)

@@ -23,7 +23,7 @@ use Rattle.vol_archive.proofs.EntryLists.{IsShort, IsNamed, component_below, dir
 use Rattle.vol_archive.proofs.NameOrder.{order, order_total, Clears, before_inside, before_below, clear_before, clear_below, clear_beside}
 use Rattle.vol_archive.proofs.TreeMembers.{member_plain, rest_of, walk_is}
 
--- an entry, and all below it, comes before another, where both have plain names
+-- an entry, and all below it, are before another, if both have plain names
 abbrev pub Precedes : Pending → Pending → Type 0
 Precedes entry other = entry.is_plain ≡ true → other.is_plain ≡ true → Clears (components entry.path) (components other.path)
 
@@ -71,11 +71,11 @@ beside path (e ∷ es) h short =
 pub entries_beside : (g : Geometry) (image : List ℕ) (path : List ℕ) (d : ℕ) → Pairs Precedes (entries_below g image path d)
 entries_beside g image path d = beside path (names_of (slots g image d)) (sorted (slots g image d)) (directory_short g image d)
 
--- names come before those of an entry that has a plain name
+-- names are before those of an entry that has a plain name
 abbrev pub IsAfter : List (List ℕ) → Pending → Type 0
 IsAfter names entry = entry.is_plain ≡ true → order names (components entry.path) ≡ Less
 
--- what holds of each entry of a directory that was met holds of each that is below what was met
+-- a property of each entry of a directory that was met is one of each below the entry met
 pub each_inside : (P : Pending → Type 0) (g : Geometry) (image : List ℕ) (found : Found) (role : Role)
     → (role ≡ roles.Directory → Each P (entries_below g image found.path found.inode)) → Each P (below g image found role)
 each_inside P g image found roles.Directory h = h refl
@@ -84,14 +84,14 @@ each_inside P g image found roles.Special h = tt
 each_inside P g image found (roles.Link k) h = tt
 each_inside P g image found (roles.Left reason) h = tt
 
--- the entries of a directory come after what comes before it, and after itself
+-- the entries of a directory follow whatever is before it, and itself
 inside_after : (g : Geometry) (image : List ℕ) (names : List (List ℕ)) (path : List ℕ) (d : ℕ)
     → ((name : List ℕ) → order names (components path ++ name ∷ []) ≡ Less) → Each (IsAfter names) (entries_below g image path d)
 inside_after g image names path d h =
     each_map (λ (entry : Pending). entry.is_plain ≡ true → IsNamed (names_of (slots g image d)) path entry) (IsAfter names)
     (λ entry named plain. ap (order names) (named plain).parts ∙ h (named plain).name) (entries_below g image path d) (entries_named g image path d)
 
--- what comes before all that is pending comes before all that is pending after the next step
+-- an entry before all pending ones is before all that are pending after the next step
 pub step_after : (g : Geometry) (image : List ℕ) (start : ℕ) (founds : List Found) (entry : Pending) (rest : List Pending) (names : List (List ℕ))
     → Each (IsAfter names) (entry ∷ rest)
     → Each (IsAfter names) (below g image (met g image start founds entry) (met g image start founds entry).role ++ rest)
@@ -101,7 +101,7 @@ step_after g image start founds entry rest names h =
     (each_inside (IsAfter names) g image found found.role (λ is. inside_after g image names entry.path entry.inode
     (λ name. before_below names (components entry.path) name (h.0 (member_plain g image start (first_met entry.inode founds) founds entry (ap is_kept is)))))) h.1
 
--- what comes before all that is pending comes before all members that are met
+-- an entry before all pending ones is before all members that are met
 rest_after : {g : Geometry} {image : List ℕ} {start : ℕ} {founds : List Found} {pending : List Pending} {all : List Found}
     → (walks : Walks g image start founds pending all) (names : List (List ℕ)) → Each (IsAfter names) pending
     → Each (λ (found : Found). is_kept found.role ≡ true → order names (components found.path) ≡ Less) (rest_of walks)
@@ -115,7 +115,7 @@ rest_after {g = g} {image = image} {start = start} (Walks.meets founds entry res
       rest_after walks names (step_after g image start founds entry rest names h),
     )
 
--- those below what was met, each before the later ones
+-- the entries below one that was met, each before the later ones
 pairs_inside : (g : Geometry) (image : List ℕ) (found : Found) (role : Role) → Pairs Precedes (below g image found role)
 pairs_inside g image found roles.Directory = entries_beside g image found.path found.inode
 pairs_inside g image found roles.File = tt
@@ -123,7 +123,7 @@ pairs_inside g image found roles.Special = tt
 pairs_inside g image found (roles.Link k) = tt
 pairs_inside g image found (roles.Left reason) = tt
 
--- those below a directory come before what comes after it
+-- the entries below a directory are before whatever follows it
 inside_before : (g : Geometry) (image : List ℕ) (entry : Pending) (rest : List Pending) → entry.is_plain ≡ true → Each (Precedes entry) rest
     → Each (λ (inner : Pending). Each (Precedes inner) rest) (entries_below g image entry.path entry.inode)
 inside_before g image entry rest plain h =
@@ -135,7 +135,7 @@ inside_before g image entry rest plain h =
     ∙ clear_below (components entry.path) (components other.path) (named inner_plain).name (clears plain other_plain) more) rest h)
     (entries_below g image entry.path entry.inode) (entries_named g image entry.path entry.inode)
 
--- a member comes before all that is pending after it
+-- a member is before all that is pending after it
 pub met_before : (g : Geometry) (image : List ℕ) (start : ℕ) (founds : List Found) (entry : Pending) (rest : List Pending) → Each (Precedes entry) rest
     → is_kept (met g image start founds entry).role ≡ true
     → Each (IsAfter (components entry.path)) (below g image (met g image start founds entry) (met g image start founds entry).role ++ rest)
@@ -147,7 +147,7 @@ met_before g image start founds entry rest h kept =
     (each_inside (IsAfter names) g image found found.role (λ is. inside_after g image names entry.path entry.inode (λ name. before_inside names name [])))
     (each_map (Precedes entry) (IsAfter names) (λ other clears other_plain. clear_before names (components other.path) (clears plain other_plain)) rest h)
 
--- where what is pending is in order, so is what is pending after the next step
+-- if the pending entries are in order, so are those after the next step
 pub step_beside : (g : Geometry) (image : List ℕ) (start : ℕ) (founds : List Found) (entry : Pending) (rest : List Pending) → Pairs Precedes (entry ∷ rest)
     → Pairs Precedes (below g image (met g image start founds entry) (met g image start founds entry).role ++ rest)
 step_beside g image start founds entry rest h =
@@ -157,11 +157,11 @@ step_beside g image start founds entry rest h =
     (λ is. inside_before g image entry rest (member_plain g image start (first_met entry.inode founds) founds entry (ap is_kept is)) h.0) in
     pairs_append Precedes (below g image found found.role) rest (pairs_inside g image found found.role) h.1 across
 
--- a member comes before another
+-- a member is before another
 abbrev pub AreInOrder : Found → Found → Type 0
 AreInOrder found other = is_kept found.role ≡ true → is_kept other.role ≡ true → order (components found.path) (components other.path) ≡ Less
 
--- where what is pending is in order, so are the members that are met
+-- if the pending entries are in order, so are the members that are met
 rest_ordered : {g : Geometry} {image : List ℕ} {start : ℕ} {founds : List Found} {pending : List Pending} {all : List Found}
     → (walks : Walks g image start founds pending all) → Pairs Precedes pending → Pairs AreInOrder (rest_of walks)
 unfolding rest_of

@@ -28,7 +28,7 @@ use Rattle.vol_archive.proofs.Rings.{IsNameOf, IsUnder, entry_of, one_name, no_r
 use Rattle.vol_archive.proofs.Roles.{directory_new, again_why}
 use Rattle.vol_archive.proofs.TreeMembers.{rest_of, walk_is, met_directory}
 
--- a member for an i-number, to which later names of it lead
+-- a member for an i-number, to which later names of it link
 abbrev IsFirstFor : ℕ → Found → Type 0
 IsFirstFor i found = (found.inode ≡ i) × (is_first found.role ≡ true)
 
@@ -37,7 +37,7 @@ pub both_of : (a b : Bool) → (a && b) ≡ true → (a ≡ true) × (b ≡ true
 both_of true b e = (refl, e)
 both_of false b e = absurd (true≢false (sym e))
 
--- where the first member for an i-number has a place, there is one
+-- if the first member for an i-number has a place, there is one
 first_there : (i : ℕ) (founds : List Found) → is_some (first_met i founds) ≡ true → Has (IsFirstFor i) founds
 unfolding first_met
 first_there i founds e = placed (position test founds) refl e
@@ -56,7 +56,7 @@ first_there i founds e = placed (position test founds) refl e
         (λ f passes. let parts = both_of (f.inode == i) (is_first f.role) passes in (grind (arith, nat_tests), parts.1)) founds
         (has_at (λ (f : Found). test f ≡ true) founds k none at.0 at.1)
 
--- where there is one, it has a place
+-- if there is one, it has a place
 there_first : (i : ℕ) (founds : List Found) → Has (IsFirstFor i) founds → is_some (first_met i founds) ≡ true
 unfolding first_met
 there_first i founds h = is_within _ _ ∙ within founds h
@@ -102,7 +102,7 @@ record Comes (g : Geometry) (image : List ℕ) (start : ℕ) (founds : List Foun
   under : IsUnder g image start parent
   from : ((parent ≡ start) × (above ≡ [])) ⊎ IsMetAt founds parent above
 
--- so it has where one more is met
+-- so it has if one more is met
 comes_more : (g : Geometry) (image : List ℕ) (start : ℕ) (founds : List Found) (found : Found) (path : List ℕ) (i : ℕ)
     → Comes g image start founds path i → Comes g image start (founds ++ found ∷ []) path i
 comes_more g image start founds found path i c = record {
@@ -134,7 +134,7 @@ entries_come g image start founds path d directory under from =
       from = from;
     }) (names_of (slots g image d)) (directory_found g image d)
 
--- what holds before each step of a walk in a tree
+-- the facts before each step of a walk in a tree
 record Goes (g : Geometry) (image : List ℕ) (start : ℕ) (founds : List Found) (pending : List Pending) : Type 0 where
   ahead : Each (λ (entry : Pending). Comes g image start founds entry.path entry.inode) pending
   behind : Each (λ (found : Found). Comes g image start founds found.path found.inode) founds
@@ -143,7 +143,7 @@ record Goes (g : Geometry) (image : List ℕ) (start : ℕ) (founds : List Found
   ordered : Each (λ (found : Found). is_kept found.role ≡ true → Each (IsAfter (components found.path)) pending) founds
   beside : Pairs Precedes pending
 
--- what is met as a directory was not met before
+-- an entry that is met as a directory was not met before
 met_new : (g : Geometry) (image : List ℕ) (start : ℕ) (founds : List Found) (entry : Pending) (path : List ℕ)
     → (met g image start founds entry).role ≡ roles.Directory → IsMetAt founds entry.inode path → ⊥
 met_new g image start founds entry path is met_at =
@@ -207,7 +207,7 @@ goes_on g image start founds entry rest h =
     both d path other (inr one) (inl two) = old_new d other path two one
     both d path other (inr one) (inr two) = sym one.1 ∙ two.1
 
--- in a tree two names of one directory, of which each is where the walk began or met, are at one path
+-- in a tree, two names of one directory, each met or the one where the walk began, are at one path
 one_path : (g : Geometry) (image : List ℕ) (start : ℕ) (founds : List Found) (pending : List Pending) (path other : List ℕ) (i : ℕ)
     → IsTree g image → IsDirectory g image i → Goes g image start founds pending
     → Comes g image start founds path i → Comes g image start founds other i → path ≡ other
@@ -222,7 +222,7 @@ one_path g image start founds pending path other i tree directory h c k =
     above d e a b same (inr one) (inl two) = absurd (h.apart a (subst (λ n. IsMetAt founds n a) (same ∙ two.0) one))
     above d e a b same (inr one) (inr two) = h.once e a b (subst (λ n. IsMetAt founds n a) same one) two
 
--- what comes next isn't left out as met before
+-- the next entry isn't left out as met before
 next_once : (g : Geometry) (image : List ℕ) (start : ℕ) (founds : List Found) (entry : Pending) (rest : List Pending) → IsTree g image → IsDirectory g image start
     → Goes g image start founds (entry ∷ rest) → (met g image start founds entry).role ≡ roles.Left reasons.Again → ⊥
 next_once g image start founds entry rest tree directory h is =

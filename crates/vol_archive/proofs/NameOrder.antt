@@ -22,15 +22,15 @@ same_first [] xs ys = refl
 same_first (name ∷ names) xs ys =
     ap (λ o. ordering_then o (order (names ++ xs) (names ++ ys))) (tied_itself nat_list_cmp_total name) ∙ same_first names xs ys
 
--- a directory comes before what is in it
+-- a directory is before the entries in it
 pub before_inside : (names : List (List ℕ)) (name : List ℕ) (more : List (List ℕ)) → order names (names ++ name ∷ more) ≡ Less
 before_inside names name more = ap (λ xs. order xs (names ++ name ∷ more)) (sym (append-nil names)) ∙ same_first names [] (name ∷ more)
 
--- what comes before a directory comes before what is in it
+-- a path before a directory is before the entries in it
 pub before_below : (xs names : List (List ℕ)) (name : List ℕ) → order xs names ≡ Less → order xs (names ++ name ∷ []) ≡ Less
 before_below xs names name h = order_total.trans xs names (names ++ name ∷ []) h (before_inside names name [])
 
--- some names, and all below them, come before others
+-- some names, and all below them, are before others
 abbrev pub Clears : List (List ℕ) → List (List ℕ) → Type 0
 Clears names others = (more : List (List ℕ)) → order (names ++ more) others ≡ Less
 
@@ -38,7 +38,7 @@ Clears names others = (more : List (List ℕ)) → order (names ++ more) others 
 pub clear_before : (names others : List (List ℕ)) → Clears names others → order names others ≡ Less
 clear_before names others h = ap (λ xs. order xs others) (sym (append-nil names)) ∙ h []
 
--- so does what is one name below
+-- so is a path one name below
 pub clear_below : (names others : List (List ℕ)) (name : List ℕ) → Clears names others → Clears (names ++ name ∷ []) others
 clear_below names others name h more = ap (λ xs. order xs others) (append_assoc names (name ∷ []) more) ∙ h (name ∷ more)
 

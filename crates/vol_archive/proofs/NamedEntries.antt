@@ -1,4 +1,4 @@
--- Where rules 3 and 9 hold, what is met has a name and an i-node.
+-- If rules 3 and 9 hold, each entry that is met has a name and an i-node.
 use Rattle.std.proofs.Common.{◌≡◌, ◌≢◌, ℕ, ◌≤◌, ◌==◌, Bool, true, false, cond, nat_le, not, List, [], ◌∷◌, map, None, Some, refl, ap, sym, subst, ◌∙◌, arith, length}
 use Rattle.std.specs.Prelude.{Option, slice_get}
 use Rattle.std.specs.Cmp.Lexicographic.{slice_cmp}
@@ -28,7 +28,7 @@ use Rattle.vol_archive.proofs.EntryLists.{directory_found, each_below}
 use Rattle.vol_archive.proofs.MemberOrder.{each_inside}
 use Rattle.vol_archive.proofs.TreeMembers.{rest_of, walk_is, met_directory}
 
--- what holds of names holds of those of a map that one is put in
+-- a property of names is one of those of a map in which one is put
 each_put : (P : List ℕ → Type 0) (name : List ℕ) (i : ℕ) (names : Names) → P name → Each (λ (e : List ℕ × ℕ). P e.0) names
     → Each (λ (e : List ℕ × ℕ). P e.0) (put (slice_cmp nat_cmp) name i names)
 each_put P name i [] h hs = (h, tt)
@@ -39,7 +39,7 @@ each_put P name i (e ∷ es) h hs =
       | Greater ↦ (hs.0, each_put P name i es h hs.1)
     ]
 
--- what holds of the name in each slot holds of those of the map
+-- a property of the name in each slot is one of those of the map
 pub each_name : (P : List ℕ → Type 0) (f : ℕ → Option (List ℕ × ℕ)) → ((s i : ℕ) (name : List ℕ) → f s ≡ Some (name, i) → P name) → (xs : List ℕ)
     → Each (λ (e : List ℕ × ℕ). P e.0) (names_of (map f xs))
 each_name P f h [] = tt
@@ -75,11 +75,11 @@ entries_have g image path d entries directory =
     (each_both (λ (e : List ℕ × ℕ). is_plain e.0 ≡ true) (λ (e : List ℕ × ℕ). get (names_of (slots g image d)) e.0 ≡ Some e.1)
     (names_of (slots g image d)) (names_plain g image d entries directory) (directory_found g image d))
 
--- what is left out, if it is, is so for its path, or as a directory that was met
+-- an entry, if it is left out, is so for its path, or as a directory that was met
 abbrev IsFit : Role → Type 0
 IsFit role = (role ≢ roles.Left reasons.BadName) × (role ≢ roles.Left reasons.NoNode)
 
--- what such an entry is met as
+-- the role of such an entry
 fits_role : (g : Geometry) (image : List ℕ) (start : ℕ) (first : Option ℕ) (founds : List Found) (entry : Pending) → HasKinds g image → IsForNode g image entry
     → IsFit (role_of g image start first founds entry)
 fits_role g image start first founds entry known node =
@@ -118,7 +118,7 @@ fits_role g image start first founds entry known node =
     kinded kinds.Special free odd = filed roles.Special (λ e. cc, λ e. cc)
     kinded kinds.Directory free odd = either _ _
 
--- where all that is pending has a node, all that is met has
+-- if all that is pending has a node, all that is met has
 rest_fits : {g : Geometry} {image : List ℕ} {start : ℕ} {founds : List Found} {pending : List Pending} {all : List Found}
     → HasKinds g image → HasEntries g image → (walks : Walks g image start founds pending all) → Each (IsForNode g image) pending
     → Each (λ (found : Found). IsFit found.role) (rest_of walks)

@@ -19,7 +19,7 @@ pub record IsNameOf (g : Geometry) (image : List ℕ) (d : ℕ) (name : List ℕ
   pub found : get (names_of (slots g image d)) name ≡ Some i
   pub proper : is_dots name ≡ false
 
--- where a search finds a name, a slot has it
+-- if a search finds a name, a slot has it
 slot_of : (f : ℕ → Option (List ℕ × ℕ)) (xs : List ℕ) (name : List ℕ) (j : ℕ)
     → get (names_of (map f xs)) name ≡ Some j → (s : ℕ) × (f s ≡ Some (name, j))
 slot_of f [] name j e = cc
@@ -34,7 +34,7 @@ slot_of f (x ∷ xs) name j e =
       ] refl (sym (find-put (slice_cmp nat_cmp) nat_list_cmp_total name entry.0 entry.1 (names_of (map f xs))) ∙ h)
     ] refl e
 
--- so a name of a directory stands in a slot of it
+-- so a name of a directory is in a slot of it
 pub entry_of : (g : Geometry) (image : List ℕ) (d : ℕ) (name : List ℕ) (i : ℕ) → IsNameOf g image d name i → (s : ℕ) × HasEntry g image d s name i
 unfolding slots
 entry_of g image d name i named =

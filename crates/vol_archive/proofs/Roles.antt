@@ -1,4 +1,4 @@
--- What a directory is met as.
+-- The role of a directory that is met.
 use Rattle.std.proofs.Common.{◌≡◌, ◌≢◌, ℕ, ◌==◌, ◌||◌, ◌⊎◌, inl, inr, Bool, true, false, cond, eq-eqb, nat_le, List, ◌∷◌, [], ◌++◌, length, None, Some, refl, ap, sym, ◌∙◌, arith}
 use Rattle.std.specs.Prelude.{Option, slice_get}
 use Rattle.std.specs.Option.{is_some}
@@ -23,7 +23,7 @@ use Rattle.vol_archive.proofs.TreeMembers.{member_plain, met_directory}
 abbrev as_directory : Bool → Bool → Role
 as_directory again room = cond again (roles.Left reasons.Again) (cond room roles.Directory (roles.Left reasons.LongPath))
 
--- what an entry of a plain name for an i-number of the volume is met as
+-- the role of an entry with a plain name for an i-number of the volume
 role_numbered : (g : Geometry) (image : List ℕ) (start : ℕ) (first : Option ℕ) (founds : List Found) (entry : Pending)
     → entry.is_plain ≡ true → is_number g entry.inode ≡ true
     → role_of g image start first founds entry ≡ node_role start first founds entry (kind_at g image entry.inode)
@@ -31,7 +31,7 @@ role_numbered g image start first founds entry plain number =
     ap (λ b. cond b (cond (is_number g entry.inode) (node_role start first founds entry (kind_at g image entry.inode)) (roles.Left reasons.NoNode)) (roles.Left reasons.BadName)) plain
     ∙ ap (λ b. cond b (node_role start first founds entry (kind_at g image entry.inode)) (roles.Left reasons.NoNode)) number
 
--- what a directory with a plain name is met as
+-- the role of a directory with a plain name
 directory_role : (g : Geometry) (image : List ℕ) (start : ℕ) (first : Option ℕ) (founds : List Found) (entry : Pending)
     → entry.is_plain ≡ true → IsDirectory g image entry.inode
     → role_of g image start first founds entry ≡ as_directory ((entry.inode == start) || is_some first) (has_room (entry.path ++ 47 ∷ []))
@@ -41,7 +41,7 @@ directory_role g image start first founds entry plain directory =
     let number : is_number g entry.inode ≡ true = grind (arith, nat_tests) in
     role_numbered g image start first founds entry plain number ∙ ap (node_role start first founds entry) directory.kind
 
--- what is met as a directory isn't the one where the walk began, and is met first
+-- an entry that is met as a directory isn't the one where the walk began, and is met for the first time
 pub directory_new : (g : Geometry) (image : List ℕ) (start : ℕ) (first : Option ℕ) (founds : List Found) (entry : Pending)
     → role_of g image start first founds entry ≡ roles.Directory → (entry.inode ≢ start) × (is_some first ≡ false)
 directory_new g image start first founds entry is =
@@ -71,7 +71,7 @@ directory_kept g image start first founds entry kept directory =
     only false true e = refl
     only false false e = absurd (true≢false (sym e))
 
--- what is left out as met before has a plain name, is a directory, and is the one where the walk began or was met
+-- an entry that is left out as met before has a plain name, is a directory, and is the one where the walk began or was met
 pub again_why : (g : Geometry) (image : List ℕ) (start : ℕ) (first : Option ℕ) (founds : List Found) (entry : Pending)
     → role_of g image start first founds entry ≡ roles.Left reasons.Again
     → (entry.is_plain ≡ true) × IsDirectory g image entry.inode × ((entry.inode ≡ start) ⊎ (is_some first ≡ true))

@@ -1,4 +1,4 @@
--- Where the paths of members lead.
+-- The nodes to which the paths of members lead.
 use Rattle.std.proofs.Common.{◌≡◌, ℕ, Bool, true, false, cond, nat_le, List, [], ◌∷◌, ◌++◌, length, None, Some, Ok, refl, ap, sym, subst, ◌∙◌, arith}
 use Rattle.std.specs.Prelude.{Option, slice_get}
 use Rattle.std.specs.Option.{ok_or}
@@ -37,13 +37,13 @@ member_plain g image start first founds entry kept =
       | false ↦ λ e. absurd (true≢false (sym e))
     ] kept
 
--- what a walk goes on to meet
+-- the entries that a walk continues to meet
 unfoldable pub rest_of : {g : Geometry} {image : List ℕ} {start : ℕ} {founds : List Found} {pending : List Pending} {all : List Found}
     → Walks g image start founds pending all → List Found
 rest_of (Walks.ends founds) = []
 rest_of {g = g} {image = image} {start = start} (Walks.meets founds entry rest all walks) = met g image start founds entry ∷ rest_of walks
 
--- it comes behind what was met before
+-- they follow those met before
 pub rest_is : {g : Geometry} {image : List ℕ} {start : ℕ} {founds : List Found} {pending : List Pending} {all : List Found}
     → (walks : Walks g image start founds pending all) → all ≡ founds ++ rest_of walks
 unfolding rest_of
@@ -51,7 +51,7 @@ rest_is (Walks.ends founds) = sym (append-nil founds)
 rest_is {g = g} {image = image} {start = start} (Walks.meets founds entry rest all walks) =
     rest_is walks ∙ append_assoc founds (met g image start founds entry ∷ []) (rest_of walks)
 
--- what is met as a directory is one
+-- an entry that is met as a directory is one
 pub met_directory : (g : Geometry) (image : List ℕ) (start : ℕ) (first : Option ℕ) (founds : List Found) (entry : Pending)
     → role_of g image start first founds entry ≡ roles.Directory → IsDirectory g image entry.inode
 met_directory g image start first founds entry is =
@@ -126,7 +126,7 @@ entries_lead g image start d path directory leads =
     ∙ leads_on g image start d entry.inode (components path) (named plain).name directory leads (named plain).found)
     (entries_below g image path d) (entries_named g image path d)
 
--- those below what is met, whatever it is
+-- the entries below one that is met, whatever it is
 below_lead : (g : Geometry) (image : List ℕ) (start : ℕ) (found : Found) (role : Role)
     → (role ≡ roles.Directory → IsDirectory g image found.inode × WalksTo g image start (components found.path) found.inode)
     → Each (PendingWalksTo g image start) (below g image found role)
@@ -136,7 +136,7 @@ below_lead g image start found roles.Special h = tt
 below_lead g image start found (roles.Link k) h = tt
 below_lead g image start found (roles.Left reason) h = tt
 
--- where all that is pending leads there, all members that are met do
+-- if all that is pending leads there, all members that are met do
 rest_leads : {g : Geometry} {image : List ℕ} {start : ℕ} {founds : List Found} {pending : List Pending} {all : List Found}
     → (walks : Walks g image start founds pending all) → Each (PendingWalksTo g image start) pending
     → Each (λ (found : Found). is_kept found.role ≡ true → WalksTo g image start (components found.path) found.inode) (rest_of walks)

@@ -21,7 +21,7 @@ use Rattle.vol_archive.proofs.TreeMembers.{rest_of, walk_is}
 abbrev IsMetAmong : List Found → Pending → Type 0
 IsMetAmong founds entry = Has (λ (found : Found). (found.path ≡ entry.path) × (found.inode ≡ entry.inode)) founds
 
--- what was met is still met where more is met before it
+-- an entry that was met is still met if more are met before it
 meets_more : (first : Found) (founds : List Found) (entries : List Pending) → Each (IsMetAmong founds) entries → Each (IsMetAmong (first ∷ founds)) entries
 meets_more first founds entries h = each_map (IsMetAmong founds) (IsMetAmong (first ∷ founds)) (λ entry m. inr m) entries h
 
@@ -37,7 +37,7 @@ pending_met {g = g} {image = image} {start = start} (Walks.meets founds entry re
           (each_back (IsMetAmong (rest_of walks)) (below g image found found.role) rest (pending_met walks)),
     )
 
--- a directory all of whose entries are among what is met
+-- a directory all of whose entries are met
 abbrev IsWholeIn : Geometry → List ℕ → List Found → Found → Type 0
 IsWholeIn g image founds found = found.role ≡ roles.Directory → Each (IsMetAmong founds) (entries_below g image found.path found.inode)
 
@@ -75,7 +75,7 @@ has_entry path (e ∷ es) name i found dots =
       | false ↦ λ other later. has_behind (IsAt (path_below path name) i) (entry_below path e) (pending_below path es) (has_entry path es name i later dots)
     ] refl found
 
--- where all entries are met, all names are
+-- if all entries are met, all names are
 names_met : (g : Geometry) (image : List ℕ) (founds : List Found) (path : List ℕ) (d : ℕ) → Each (IsMetAmong founds) (entries_below g image path d)
     → HasMetAllOf g image founds path d
 names_met g image founds path d h name i found dots =
@@ -85,7 +85,7 @@ names_met g image founds path d h name i found dots =
     (λ f same. (same.0 ∙ at.0, same.1 ∙ at.1)) founds meets))
     (entries_below g image path d) (has_entry path (names_of (slots g image d)) name i found dots) h
 
--- all names are met of each directory that the walk goes below
+-- all names of each directory that the walk goes below are met
 pub directories_whole : DirectoriesAreWhole
 directories_whole g image start founds walks = (
   names_met g image founds [] start (subst (λ all. Each (IsMetAmong all) (entries_below g image [] start)) (walk_is walks) (pending_met walks)),

@@ -36,7 +36,7 @@ use Rattle.vol_archive.proofs.Roles.{directory_kept}
 use Rattle.vol_archive.proofs.TreeMembers.{WalksTo, rest_of, walk_is, members_lead}
 use Rattle.vol_archive.proofs.WholeDirectories.{directories_whole}
 
--- what holds of all names of a map holds of one that a search finds
+-- a property of all names of a map is one of a name that a search finds
 each_got : (P : List ℕ → Type 0) (es : Names) (name : List ℕ) (i : ℕ) → get es name ≡ Some i → Each (λ (e : List ℕ × ℕ). P e.0) es → P name
 each_got P [] name i found h = cc
 each_got P (e ∷ es) name i found h =
@@ -61,7 +61,7 @@ rest_as_is {g = g} {image = image} {start = start} (Walks.meets founds entry res
   rest_as_is walks,
 )
 
--- what is left out for no reason is a member
+-- an entry that no reason leaves out is a member
 left_for_none : (role : Role) → ((reason : Reason) → role ≢ roles.Left reason) → is_kept role ≡ true
 left_for_none roles.File h = refl
 left_for_none roles.Directory h = refl
@@ -105,7 +105,7 @@ walked_directory g image d i name names leads = numbered (is_number g d) refl
     numbered true number = record { first = grind (arith, nat_tests); last = grind (arith, nat_tests); kind = kinded (kind_at g image d) refl number }
     numbered false number = nowhere (search-outside g image user d number)
 
--- what is known of each that is met: it is a member, and so are all below it where it is a directory
+-- the facts about each entry that is met: it is a member, and so are all below it if it is a directory
 abbrev IsKnown : Geometry → List ℕ → List Found → Found → Type 0
 IsKnown g image founds found =
     (is_kept found.role ≡ true) × IsMetAsItIs g image found × (found.role ≡ roles.Directory → HasMetAllOf g image founds found.path found.inode)

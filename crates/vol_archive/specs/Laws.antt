@@ -1,4 +1,4 @@
--- Statements of what is met below a directory, said of the tree that an image reads as.
+-- The laws about the entries met below a directory, stated for the tree that an image reads as.
 use Rattle.std.specs.Prelude.{◌≡◌, ◌≢◌, ℕ, ◌↔◌, ◌/◌, ◌%◌, ◌==◌, Bool, true, false, if◌then◌else◌, List, [], ◌∷◌, ◌++◌, length, slice_get, slice_index, filter, All, AllPairs, Any, Some, Ok}
 use Rattle.std.specs.Cmp.Lexicographic.{slice_cmp}
 use Rattle.std.specs.Ordering.{nat_cmp}
@@ -21,7 +21,7 @@ use Rattle.vol_archive.specs.declared.found.Role.{Role}
 use Rattle.vol_archive.specs.declared.found.Role.TheVariants as roles
 use Rattle.vol_archive.specs.declared.found.Reason.TheVariants as reasons
 
--- whether what has this role is a member of the archive (POSIX, ustar interchange format)
+-- true if an entry with this role is a member of the archive (POSIX, ustar interchange format)
 abbrev pub is_kept : Role → Bool
 is_kept roles.File = true
 is_kept roles.Directory = true
@@ -29,7 +29,7 @@ is_kept roles.Special = true
 is_kept (roles.Link k) = true
 is_kept (roles.Left reason) = false
 
--- the members among what was met (POSIX, ustar interchange format)
+-- the members among the entries that were met (POSIX, ustar interchange format)
 abbrev pub members_of : List Found → List Found
 members_of founds = filter (λ (found : Found). is_kept found.role) founds
 
@@ -39,17 +39,17 @@ MembersAreOfTree = (geometry : Geometry) (image : List ℕ) (start : ℕ) (found
     → IsDirectory geometry image start → IsWalk geometry image start founds
     → All (λ (found : Found). walk_from (tree geometry image) user start (components found.path) ≡ Ok found.inode) (members_of founds)
 
--- members ascend: the names of a path come before those of a later one, where they differ first by the bytes of that name; so a directory comes before what is in it (this project)
+-- members are in ascending order: the names of a path are before those of a later one, by the bytes of the first name in which they differ; so a directory is before the entries in it (this project)
 abbrev pub MembersAscend : Type 0
 MembersAscend = (geometry : Geometry) (image : List ℕ) (start : ℕ) (founds : List Found) → IsWalk geometry image start founds
     → AllPairs (λ (found later : Found). slice_cmp (slice_cmp nat_cmp) (components found.path) (components later.path) ≡ Less) (members_of founds)
 
--- no two members have one path (this project)
+-- no two members have the same path (this project)
 abbrev pub MembersDiffer : Type 0
 MembersDiffer = (geometry : Geometry) (image : List ℕ) (start : ℕ) (founds : List Found) → IsWalk geometry image start founds
     → AllPairs (λ (found later : Found). found.path ≢ later.path) (members_of founds)
 
--- what is at a path, for an i-number, was met (this project)
+-- an entry at a path, for an i-number, was met (this project)
 abbrev pub HasMet : List Found → List ℕ → ℕ → Type 0
 HasMet founds path i = Any (λ (found : Found). (found.path ≡ path) × (found.inode ≡ i)) founds
 
@@ -64,13 +64,13 @@ DirectoriesAreWhole = (geometry : Geometry) (image : List ℕ) (start : ℕ) (fo
     → HasMetAllOf geometry image founds [] start
     × All (λ (found : Found). found.role ≡ roles.Directory → HasMetAllOf geometry image founds found.path found.inode) founds
 
--- of an image where rules 3 and 9 hold, nothing that is met is left out for its name, or because it has no i-node (manual section 5, directories)
+-- in an image where rules 3 and 9 hold, no entry that is met is left out for its name, or because it has no i-node (manual section 5, directories)
 abbrev pub EntriesHaveNodes : Type 0
 EntriesHaveNodes = (geometry : Geometry) (image : List ℕ) (start : ℕ) (founds : List Found) → HasKinds geometry image → HasEntries geometry image
     → IsDirectory geometry image start → IsWalk geometry image start founds
     → All (λ (found : Found). (found.role ≢ roles.Left reasons.BadName) × (found.role ≢ roles.Left reasons.NoNode)) founds
 
--- of an image where rule 11 holds, no directory that is met is left out as one that was met before: each is met once (ncheck)
+-- in an image where rule 11 holds, no directory that is met is left out because it was met before: each is met once (ncheck)
 abbrev pub DirectoriesAreMetOnce : Type 0
 DirectoriesAreMetOnce = (geometry : Geometry) (image : List ℕ) (start : ℕ) (founds : List Found) → IsTree geometry image
     → IsDirectory geometry image start → IsWalk geometry image start founds
@@ -80,12 +80,12 @@ DirectoriesAreMetOnce = (geometry : Geometry) (image : List ℕ) (start : ℕ) (
 abbrev pub HasRoomForAll : List Found → Type 0
 HasRoomForAll founds = All (λ (found : Found). (found.role ≢ roles.Left reasons.LongPath) × (found.role ≢ roles.Left reasons.LongLink)) founds
 
--- some names, of which there are one or more, are none of `.` and `..` (manual section 5, directories)
+-- one or more names, none of them `.` or `..` (manual section 5, directories)
 pub record AreProper (names : List (List ℕ)) : Type 0 where
   pub some : names ≢ []
   pub proper : All (λ name. is_dots name ≡ false) names
 
--- of an image where rules 3, 9 and 11 hold, as of each that is sound, the members are exactly the tree below the directory, where headers have room for all paths: names lead to an i-number, as user 0 walks them, if and only if the path of a member for it has these names (Lions on namei)
+-- in an image where rules 3, 9 and 11 hold, as in each sound one, the members are exactly the tree below the directory, if all paths fit headers: names lead to an i-number, as user 0 walks them, if and only if the path of a member for it has these names (Lions on namei)
 abbrev pub MembersAreTheTree : Type 0
 MembersAreTheTree = (geometry : Geometry) (image : List ℕ) (start : ℕ) (founds : List Found)
     → HasKinds geometry image → HasEntries geometry image → IsTree geometry image
@@ -94,7 +94,7 @@ MembersAreTheTree = (geometry : Geometry) (image : List ℕ) (start : ℕ) (foun
     → (walk_from (tree geometry image) user start names ≡ Ok i)
     ↔ Any (λ (found : Found). (components found.path ≡ names) × (found.inode ≡ i)) (members_of founds)
 
--- the header of a member for a node, with so many bytes after it and the number of a device: the permissions, owner, group and time are those that a Stat of its path replies (POSIX, ustar interchange format; stat)
+-- the header of a member for a node, with the number of bytes after it and the number of a device: the permissions, owner, group and time are those that a Stat of its path returns (POSIX, ustar interchange format; stat)
 abbrev pub header_for : Node → MemberKind → ℕ → ℕ → Header
 header_for node kind size device = record {
   kind = kind;
@@ -107,11 +107,11 @@ header_for node kind size device = record {
   minor = device % 256;
 }
 
--- the kind of a special file with these type bits, octal 06 or 02; of the multiplexor types 07 counts as a block and 03 as a character special file (stat.h; the latter is this project's)
+-- the kind of a special file with these type bits, octal 06 or 02; the multiplexor types 07 and 03 count as a block and as a character special file (stat.h; the latter is this project's)
 abbrev pub device_kind : ℕ → MemberKind
 device_kind type = if type / 2 % 4 == 3 then members.Block else members.Character
 
--- a member for a node with this role has these bytes: of a regular file the header and the bytes of the file, of a further name the path of the first one (POSIX, ustar interchange format)
+-- a member for a node with this role has these bytes: for a regular file the header and the bytes of the file, for another name the path of the first one (POSIX, ustar interchange format)
 abbrev pub IsForNode : List Found → Found → Node → Role → List ℕ → Type 0
 IsForNode founds found node roles.File bytes =
     (content : List ℕ) × (node.content ≡ Body content)
@@ -126,7 +126,7 @@ IsForNode founds found node (roles.Link k) bytes =
     × (bytes ≡ headed (header_for node members.Link 0 0) found.path first.path)
 IsForNode founds found node (roles.Left reason) bytes = ⊥
 
--- each member is for the node of the tree that its i-number has, with the bytes that it has in the archive (POSIX, ustar interchange format; stat, read)
+-- each member is for the node of the tree with its i-number, with the bytes that it has in the archive (POSIX, ustar interchange format; stat, read)
 abbrev pub MembersHaveNodes : Type 0
 MembersHaveNodes = (geometry : Geometry) (image : List ℕ) (start : ℕ) (founds : List Found) → IsWalk geometry image start founds
     → All (λ (found : Found). (node : Node) × ((tree geometry image).nodes found.inode ≡ Some node)

@@ -1,41 +1,41 @@
-//! What is met below a directory.
+//! The entries met below a directory.
 ghost use Rattle.std.specs.Prelude.{◌≡◌};
 ghost use Rattle.vol_archive.specs.Walking.{is_first};
 
 use pdp_words::Bytes;
 
-/// Why an entry is left out of an archive.
+/// The reason why an entry is left out of an archive.
 #[derive(Clone, Copy, Debug, PartialEq, Eq)]
 pub enum Reason {
-    /// Its i-number is none of the volume's, or that of an i-node that is free or has no mode of the edition.
+    /// Its i-number is not one of the volume, or its i-node is free or has no mode of the edition.
     NoNode,
-    /// It is for a directory that was met before, or the one from which the walk began.
+    /// It is for a directory that was met before, or for the one at which the walk began.
     Again,
-    /// A header has no room for its path.
+    /// Its path doesn't fit a header.
     LongPath,
-    /// It is one more name of a member whose path is above 100 bytes, for which a link has no room.
+    /// It is another name of a member whose path is longer than 100 bytes, too long for a link.
     LongLink,
-    /// Its name has no byte, or a slash.
+    /// Its name is empty or has a slash.
     BadName,
 }
 
-/// What an entry is in an archive.
+/// The role of an entry in an archive.
 #[derive(Clone, Copy, Debug, PartialEq, Eq)]
 pub enum Role {
     /// A regular file.
     File,
-    /// A directory, below which the walk goes on.
+    /// A directory, below which the walk continues.
     Directory,
     /// A special file.
     Special,
-    /// One more name of the file that was met at this place, counted from 0.
+    /// Another name of the file that was met at this position, counted from 0.
     Link(usize),
-    /// It is no member.
+    /// Not a member.
     Left(Reason),
 }
 
 impl Role {
-    /// Whether a member with this role is one that later names of its i-number lead to.
+    /// True if later names of its i-number become links to a member with this role.
     pub fn is_first(self) -> bool
         ensures { result ≡ is_first self }
     {
@@ -50,6 +50,6 @@ pub struct Found {
     pub path: Bytes,
     /// Its i-number.
     pub inode: u16,
-    /// What it is in an archive.
+    /// Its role in an archive.
     pub role: Role,
 }

@@ -10,10 +10,10 @@ use std::alloc::{AllocError, Global};
 use vol_dir::{is_dots, list_names};
 use vol_layout::Geometry;
 
-/// The entries of the directory `dir` at a path, but for `.` and `..`, in ascending order of their names. Of entries with one name
-/// the first counts.
+/// Returns the entries of the directory `dir` at a path, except `.` and `..`, in ascending order of their names. If several
+/// entries have the same name, the first counts.
 ///
-/// Costs as much as going over the slots and sorting the names.
+/// Costs a pass over the slots, and sorting the names.
 pub(crate) fn entries_below(
     alloc: Global,
     image: &Image,
@@ -29,7 +29,7 @@ pub(crate) fn entries_below(
     pending_below(alloc, path, &names)
 }
 
-/// The entries with these names in the directory at a path, but for `.` and `..`.
+/// Returns the entries with these names in the directory at a path, except `.` and `..`.
 fn pending_below(
     alloc: Global,
     path: &[u8],
@@ -44,7 +44,7 @@ fn pending_below(
     Ok(entries)
 }
 
-/// Appends the entry with a name in the directory at a path; `.` and `..` not.
+/// Appends the entry with a name in the directory at a path, unless the name is `.` or `..`.
 fn push_entry(
     alloc: Global,
     entries: &mut Vec<Pending>,
@@ -64,7 +64,7 @@ fn push_entry(
     Ok(())
 }
 
-/// The path of a name in the directory at a path.
+/// Returns the path of a name in the directory at a path.
 fn path_below(alloc: Global, path: &[u8], name: &[u8]) -> Result<Bytes, AllocError>
     ensures { IfOk result (λ joined. joined ≡ path_below path.now name.now) }
 {
@@ -103,7 +103,7 @@ fn lost_entry(alloc: Global, inode: u16) -> Result<Pending, AllocError>
     })
 }
 
-/// The path of a directory as its member has it, with a slash at its end.
+/// Returns the path of a directory as its member has it, with a slash at the end.
 pub(crate) fn slashed(alloc: Global, path: &[u8]) -> Result<Vec<u8>, AllocError>
     ensures { IfOk result (λ slashed. slashed.items ≡ path.now ++ 47 ∷ []) }
 {
@@ -112,7 +112,7 @@ pub(crate) fn slashed(alloc: Global, path: &[u8]) -> Result<Vec<u8>, AllocError>
     Ok(slashed)
 }
 
-/// Whether a name has bytes, none of them a slash.
+/// True if a name is not empty and has no slash.
 pub fn is_plain(name: &[u8]) -> bool
     ensures { result ≡ is_plain name.now }
 {

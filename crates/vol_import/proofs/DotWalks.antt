@@ -63,7 +63,7 @@ dots_ready geometry image ready =
 abbrev Opens : Tree → ℕ → Type 0
 Opens t x = (names : Names) × (search t user x ≡ Ok names)
 
--- where a walk leads to what is searched, it begins there
+-- if a walk leads to a directory that is searched, it begins at one
 opens_first : (t : Tree) (names : List (List ℕ)) (x i : ℕ) → Opens t i → walk_from t user x names ≡ Ok i → Opens t x
 opens_first t [] x i opens is = let same : i ≡ x = cc in subst (Opens t) same opens
 opens_first t (name ∷ names) x i opens is = by (search t user x) refl is
@@ -81,19 +81,19 @@ is_dot name still = same_bytes name dot (by (bytes_eq name dot) still)
     by true e = refl
     by false e = absurd (cc)
 
--- a step by `.` leads to where it is
+-- a step by `.` leads to the same directory
 dot_step : (t : Tree) → DotsLead t → (x : ℕ) (name : List ℕ) → is_step name ≡ false → Opens t x → find_in t user x name ≡ Ok x
 dot_step t dots x name still opens =
     ap (λ (r : Result Names Refusal). and_then r (λ others. ok_or (get others name) refusals.NoEntry)) opens.1
     ∙ ap (λ (o : Option ℕ). ok_or o refusals.NoEntry) (ap (get opens.0) (is_dot name still) ∙ dots x opens.0 opens.1)
 
--- what follows a step may be another walk
+-- the walk that follows a step may be another one
 then_other : (walked : Result ℕ Refusal) (f g : ℕ → Result ℕ Refusal) (i : ℕ) → ((y : ℕ) → f y ≡ Ok i → g y ≡ Ok i) → and_then walked f ≡ Ok i
     → and_then walked g ≡ Ok i
 then_other (Ok y) f g i on is = on y is
 then_other (Err refusal) f g i on is = absurd (cc)
 
--- what steps lead to that is searched, they lead to with `.` among them
+-- a directory to which steps lead is reached with `.` among them too
 pub steps_walk : (t : Tree) → DotsLead t → (names : List (List ℕ)) (x i : ℕ) → Opens t i → walk_from t user x (filter is_step names) ≡ Ok i
     → walk_from t user x names ≡ Ok i
 steps_walk t dots [] x i opens is = is
@@ -106,7 +106,7 @@ steps_walk t dots (name ∷ names) x i opens is = by (λ y is. steps_walk t dots
         ap (λ (r : Result ℕ Refusal). and_then r (λ y. walk_from t user y names))
         (dot_step t dots x name e (opens_first t (filter is_step names) x i opens is)) ∙ on x is
 
--- what names lead to, they lead to without `.`
+-- a directory to which names lead is reached without `.` too
 pub walk_steps : (t : Tree) → DotsLead t → (names : List (List ℕ)) (x i : ℕ) → walk_from t user x names ≡ Ok i
     → walk_from t user x (filter is_step names) ≡ Ok i
 walk_steps t dots [] x i is = is
@@ -208,7 +208,7 @@ without_dots t base path i dots is =
     ∙ then_other (walk t user base) (λ y. walk_from t user y (components path)) (λ y. walk_from t user y (steps_of path)) i
     (λ y is. walk_steps t dots (components path) y i is) (sym (walk-onward t user base path) ∙ is)
 
--- the pieces of a path are what std splits it into
+-- the pieces of a path are the parts into which std splits it
 split_pieces : (path : List ℕ) → pieces path ≡ parts_of path
 split_pieces [] = refl
 split_pieces (c ∷ path) =
@@ -219,7 +219,7 @@ split_pieces (c ∷ path) =
     by false [] = refl
     by false (p ∷ ps) = refl
 
--- a zero byte of a path stands in one of its pieces
+-- a zero byte of a path is in one of its pieces
 zeros_split : (path : List ℕ) → list_any has_zero (pieces path) ≡ has_zero path
 zeros_split [] = refl
 zeros_split (c ∷ path) =
@@ -240,7 +240,7 @@ zeros_split (c ∷ path) =
         or_grouped true b d = refl
         or_grouped false b d = refl
 
--- and so in one of the steps, where no piece is cut
+-- and so in one of the steps, if no piece is cut
 zeros_stepped : (ps : List (List ℕ)) → list_any is_long ps ≡ false
     → list_any has_zero (filter is_step (map (take 14) (filter (λ piece. not (is_nil piece)) ps))) ≡ list_any has_zero ps
 zeros_stepped [] e = refl

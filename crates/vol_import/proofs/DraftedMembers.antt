@@ -32,12 +32,12 @@ use Rattle.vol_import.proofs.TreeWalks.{named, searched}
 use Rattle.vol_file.proofs.PlaceLists.{bytes_same}
 use Rattle.vol_import.proofs.DraftRuns.{Adds, Follows, Nothing, adds_less, adds_none, adds_then, none_given, stands_grown, stands_known, stands_made, stands_there, there_leads, way, with_itself, with_known}
 
--- what is told of a member's file
+-- the facts about a member's file
 abbrev pub facts_of : ℕ → Member → Cred → Content × ℕ × ℕ × ℕ × ℕ × ℕ
 facts_of now member owner =
     (Body member.content, permissions_of member.header % 4096, owner.uid, owner.gid, length member.content, moment_of member.header now)
 
--- a member that is a directory is made: it leads to one, whose steps are known, and which has its owner, if there was none and the owner isn't given again
+-- a member's directory is made: its path leads there, and its steps are known; if it is new and gets no owner again, it has the member's
 pub record IsMadeDirectory (start : Tree) (base : List ℕ) (member : Member) (owner : Cred) (again : Bool) (known : List (List ℕ)) (tree : Tree) : Type 0 where
   pub led : LeadsToDirectory tree (below base member.path)
   pub walked : walk tree user (base ++ joined (steps_of member.path)) ≡ Ok led.1.number
@@ -54,7 +54,7 @@ IsMade start base now member again (Link, owner) known tree =
     LeadBoth tree (below base member.link) (below base member.path) × (list_any has_zero (below base member.link ∷ below base member.path ∷ []) ≡ false)
 IsMade start base now member again (Directory, owner) known tree = IsMadeDirectory start base member owner again known tree
 
--- a directory stays as it was made, if its owner isn't given again
+-- a directory stays as it was made, if it gets no owner again
 directory_kept : (start : Tree) (base : List ℕ) (member : Member) (owner : Cred) (given : List ℕ → Bool) (again later : Bool) (known next : List (List ℕ))
     (old new : Tree) → Follows start base given known next old new
     → (later ≡ false → (again ≡ false) × (given (joined (steps_of member.path)) ≡ false))
@@ -82,7 +82,7 @@ directory_kept start base member owner given again later known next old new foll
       ];
     }
 
--- and so does each member
+-- each member stays as it was made
 made_kept : (start : Tree) (base : List ℕ) (now : ℕ) (member : Member) (made : Made × Cred) (given : List ℕ → Bool) (again later : Bool)
     (known next : List (List ℕ)) (old new : Tree) → Follows start base given known next old new
     → (later ≡ false → (again ≡ false) × (given (joined (steps_of member.path)) ≡ false))
@@ -130,14 +130,14 @@ undotted tree base path dots led =
     let i = led.1.number in
     (led.0, record { number = i; walked = without_dots tree base path i dots led.1.walked; stands = led.1.stands }, led.2)
 
--- what a check says of a member that can be made
+-- the facts about a member that passes its check
 pub record IsChecked (member : Member) (made : Made × Cred) : Type 0 where
   pub kind : made_as member.header.flag member.path ≡ Ok made.0
   pub short : list_any is_long (names_of member.path) ≡ false
   pub uid : made.1.uid ≡ member.header.uid
   pub gid : made.1.gid ≡ member.header.gid
 
--- what came before an Ok was one
+-- if the whole is Ok, its first part is
 then_ok : {X Y : Type 0} (first : Result X MemberFault) (next : X → Result Y MemberFault) (y : Y) → and_then first next ≡ Ok y
     → (x : X) × (first ≡ Ok x) × (next x ≡ Ok y)
 then_ok (Ok x) next y is = (x, refl, is)

@@ -1,4 +1,4 @@
--- What calls of an import leave: a tree that has grown, and a node of it that is changed.
+-- The tree after calls of an import: it has grown, or one node of it has changed.
 use Rattle.std.proofs.Common.{◌≡◌, ◌≢◌, ◌∙◌, sym, ap, subst, refl, ℕ, ◌+◌, max, true, false, List, [], ◌∷◌, length, Option, None, Some, Result, Ok, inl, inr}
 use Rattle.std.specs.List.{list_any}
 use Rattle.std.specs.Option.{option_map}
@@ -115,7 +115,7 @@ grown_directory old new path grows led =
     let stays = (grows.kept i).1 led.0 led.1.stands in
     (stays.0, record { number = i; walked = grown_path old new path i grows led.1.walked; stands = stays.1 }, stays.2 ∙ led.2)
 
--- a directory is changed, which keeps what it holds
+-- a directory is changed and keeps its content
 pub directory_changed : (old new : Tree) (path : List ℕ) (change : Node → Node) (led : LeadsToDirectory old path) → ChangesAt old new led.1.number change
     → HasNamesOf (Some led.0) (Some (change led.0)) → is_directory (change led.0) ≡ is_directory led.0 → Grows old new
 directory_changed old new path change led changes names kind =
@@ -132,7 +132,7 @@ directory_changed old new path change led changes names kind =
           (nodes_set old.nodes i (option_map change (old.nodes i)) (subst (λ n. Keeps n (option_map change n)) (sym led.1.stands) keeps) x);
     }
 
--- node i of a tree, in which nothing else changes, is given an owner
+-- node i of a tree gets an owner, and the other nodes keep theirs
 pub record Gives (old new : Tree) (i : ℕ) (owner : ℕ × ℕ × ℕ) : Type 0 where
   pub grows : Grows old new
   pub beside : (x : ℕ) → x ≢ i → KeepsOwner (old.nodes x) (new.nodes x)
@@ -140,7 +140,7 @@ pub record Gives (old new : Tree) (i : ℕ) (owner : ℕ × ℕ × ℕ) : Type 0
   pub stands : new.nodes i ≡ Some node
   pub owned : owner_told node ≡ owner
 
--- a directory is
+-- a directory gets an owner
 pub directory_given : (old new : Tree) (path : List ℕ) (change : Node → Node) (owner : ℕ × ℕ × ℕ) (led : LeadsToDirectory old path)
     → ChangesAt old new led.1.number change → HasNamesOf (Some led.0) (Some (change led.0)) → is_directory (change led.0) ≡ is_directory led.0
     → owner_told (change led.0) ≡ owner → Gives old new led.1.number owner

@@ -1,4 +1,4 @@
--- Why an archive isn't imported, and what it comes to where it is.
+-- The faults of an import, and its result if there is none.
 use Rattle.std.proofs.Common.{◌≡◌, ◌≢◌, ◌⊎◌, ℕ, List, Ok, Err, IfOk, IfErr, inl, inr, sym, ap, ◌∙◌, subst}
 use Rattle.std.specs.Prelude.{Result, ◌+◌, nat_le, if◌then◌else◌, length, true, false}
 use Rattle.ustar.specs.Reading.{path_of}
@@ -85,7 +85,7 @@ no_calls edition image archive base now old fault sound is tells =
     (planned_plans (reads_as edition image).tree archive base now (read_members archive))
     (subst (λ (v : Mounted). Tells (calls_to_make (reads_as v.edition v.image).tree archive base now) fault) is tells)
 
--- what isn't mounted is told
+-- a fault of mounting is reported
 unmounted_reason : (edition : Edition) (image : List ℕ) (wanted : Result (List Call) ImportFault) (why : MountFault) → IsFaultOf edition image why
     → IsReason edition image wanted (unmounted why)
 unfolding IsReason
@@ -97,7 +97,7 @@ pub no_volume : (edition : Edition) (image : List ℕ) (wanted : Result (List Ca
 unfolding IsUnmounted
 no_volume edition image wanted fault is = subst (IsReason edition image wanted) (sym is.1) (unmounted_reason edition image wanted is.0 is.2)
 
--- a refused call is told
+-- a refused call is reported
 pub stop_reason : (edition : Edition) (image : List ℕ) (calls : List Call) (new : Mounted) (fault : ImportFault) → IsSound edition image
     → IsStop (mounted edition image) calls new fault → IsReason edition image (Ok calls) fault
 unfolding IsStop IsReason
@@ -127,14 +127,14 @@ all_made edition image archive base bytes now old new calls sound is wanted made
     subst (λ (w : Result (List Call) ImportFault). Imports edition image w bytes) (sym here)
     (imported edition image bytes calls new sound (subst (λ (v : Mounted). AreMade v calls new) is made) consistent left)
 
--- a fault of the plan is told
+-- a fault of the plan is reported
 pub plan_told : (wanted : Result (List Call) PlanFault) (why : PlanFault) (fault : ImportFault) → (why ≢ plans.NoMemory → wanted ≡ Err why)
     → fault ≡ unplanned why → Tells (told wanted) fault
 plan_told wanted why fault tells is = λ other.
     let e : wanted ≡ Err why = tells (λ (same : why ≡ plans.NoMemory). other (is ∙ ap unplanned same)) in
     ap told e ∙ ap Err (sym is)
 
--- a fault of the archive is told
+-- a fault of the archive is reported
 pub archive_told : (tree : Tree) (archive base : List ℕ) (now : ℕ) (why : ArchiveFault) (fault : ImportFault)
     → (why ≢ archives.NoMemory → read_members archive ≡ Err why) → ((fault ≡ faults.NoMemory) × TakesMemory why) ⊎ (fault ≡ unread archive why)
     → Tells (calls_to_make tree archive base now) fault
@@ -144,7 +144,7 @@ archive_told tree archive base now why fault tells (inr is) = λ other.
     let e : read_members archive ≡ Err why = tells (λ (same : why ≡ archives.NoMemory). other (is ∙ ap (unread archive) same)) in
     ap (planned tree archive base now) e ∙ ap Err (sym is)
 
--- what the members of an archive come to, the archive does
+-- the result for the members of an archive is the one for the archive
 pub found_ok : (result : Result (Vec Call) ImportFault) (tree : Tree) (archive base : List ℕ) (now : ℕ) (found : List Member) → read_members archive ≡ Ok found
     → IfOk result (λ calls. told (plan tree base now found) ≡ Ok calls.items) → IfOk result (λ calls. calls_to_make tree archive base now ≡ Ok calls.items)
 unfolding calls_to_make
@@ -157,14 +157,14 @@ unfolding calls_to_make
 found_fault result tree archive base now found e fault =
     subst (λ (read : Result (List Member) ArchiveFault). IfErr result (Tells (planned tree archive base now read))) (sym e) fault
 
--- a stop of calls is told
+-- a refused call among several is reported
 pub stop_told : (old new : Mounted) (calls : List Call) (refusal : Refusal) (call : Call) (fault : ImportFault) → AreStopped old calls new refusal call
     → (fault ≡ faults.NoMemory) ⊎ (fault ≡ faults.Refused refusal call) → IsStop old calls new fault
 unfolding IsStop
 stop_told old new calls refusal call fault stopped (inl none) = subst (IsStop old calls new) (sym none) tt
 stop_told old new calls refusal call fault stopped (inr is) = subst (IsStop old calls new) (sym is) stopped
 
--- what isn't mounted isn't for its reason
+-- an image that isn't mounted has that reason
 pub is_unmounted : (edition : Edition) (image : List ℕ) (why : MountFault) (fault : ImportFault) → fault ≡ unmounted why → IsFaultOf edition image why
     → IsUnmounted edition image fault
 unfolding IsUnmounted

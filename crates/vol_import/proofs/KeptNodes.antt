@@ -1,4 +1,4 @@
--- What a tree that has grown keeps of the nodes that paths led to.
+-- The nodes that paths led to, in a tree that has grown.
 use Rattle.std.proofs.Common.{◌≡◌, ◌≢◌, ◌∙◌, sym, ap, subst, refl, ℕ, ◌%◌, Bool, true, false, cond, List, [], ◌∷◌, Option, None, Some, Result, Ok, Err, arith}
 use Rattle.std.specs.List.{list_any}
 use Rattle.std.specs.Option.{is_some, option_map, unwrap_or}
@@ -50,7 +50,7 @@ small_bits geometry image x node = by (is_number geometry x) (content_of geometr
         let same : node_with (inode_of geometry.edition image x) content ≡ node = cc in
         subst (λ (n : Node). n.permissions % 4096 ≡ n.permissions) same (twice (inode_of geometry.edition image x).mode.bits)
 
--- a path at which a Stat is answered leads to a node
+-- a path whose Stat is answered leads to a node
 record IsTold (tree : Tree) (path : List ℕ) (told : Stat) : Type 0 where
   pub number : ℕ
   pub walked : walk tree user path ≡ Ok number
@@ -120,7 +120,7 @@ node_kept old new path node grows owners plain leads =
           read_answered new path held.0 offset len next plain here content ∙ sym (read_answered old path held.0 offset len node plain leads held.1);
     }
 
--- where each walk leads to a node, all are kept
+-- if each walk leads to a node, all nodes are kept
 nodes_kept : (old new : Tree) → Grows old new → KeepsOwners old new → ((path : List ℕ) (i : ℕ) → walk old user path ≡ Ok i → old.nodes i ≢ None)
     → KeepsNodes old new
 nodes_kept old new grows owners there path told is =
@@ -135,7 +135,7 @@ nodes_kept old new grows owners there path told is =
         found.is ∙ ap (λ (n : Option Node). stat_of found.number (unwrap_or n no_node)) stands in
         subst (KeepsNode old new path) (sym same) (node_kept old new path node grows owners found.plain leads)
 
--- a tree keeps its own
+-- a tree keeps its own nodes
 nodes_same : (tree : Tree) → KeepsNodes tree tree
 nodes_same tree path told is = record {
   stat = told;

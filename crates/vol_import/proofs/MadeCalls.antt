@@ -15,7 +15,7 @@ use Rattle.vol_volume.specs.declared.calls.Call.{Call}
 use Rattle.vol_volume.specs.declared.calls.Done.{Done}
 use Rattle.vol_volume.specs.declared.calls.Record.{Record}
 
--- whatever the calls that are left, in reverse, come to from here, all calls come to from the start
+-- the result of the calls left, in reverse, from here is the result of all calls from the start
 pub record GoesOn (start : Mounted) (all : List Call) (now : Mounted) (left : List Call) : Type 0 where
   pub made : (new : Mounted) → AreMade now (reverse left) new → AreMade start all new
   pub stopped : (new : Mounted) (refusal : Refusal) (call : Call) → AreStopped now (reverse left) new refusal call → AreStopped start all new refusal call
@@ -49,12 +49,12 @@ unfolding AreStopped
 on_refused start all now new left rest call same refusal on is back refuses kept =
     on.stopped new refusal same (subst (λ calls. AreStopped now calls new refusal same) (taken left rest call is) (inl (back, refuses, kept)))
 
--- where no call is left, all are made
+-- if no call is left, all are made
 pub on_end : (start : Mounted) (all : List Call) (now : Mounted) (left : List Call) → GoesOn start all now left → left ≡ [] → AreMade start all now
 unfolding AreMade
 on_end start all now left on none = on.made now (subst (λ (calls : List Call). AreMade now (reverse calls) now) (sym none) refl)
 
--- what accepted calls keep of a volume, and what they append to its journal
+-- the parts of a volume that accepted calls keep, and the records that they append to its journal
 pub record Keeps (old new : Mounted) (calls : List Call) : Type 0 where
   pub edition : new.edition ≡ old.edition
   pub base : new.base ≡ old.base
@@ -97,7 +97,7 @@ unfolding AreMade
 keeps old new [] made = subst (λ volume. Keeps old volume []) (sym made) (keeps_all old)
 keeps old new (call ∷ calls) made = keeps_then old made.0 new call calls made.1 made.2 (keeps made.0 new calls made.3)
 
--- what a journal that leads to an image says of it
+-- the facts about an image to which a journal leads
 abbrev Reads : Edition → List ℕ → List Record → List ℕ → Type 0
 Reads edition base journal image =
     IsLegal (reads_as edition base) journal × (reads_as edition image ≡ after (reads_as edition base) journal) × IsSound edition image

@@ -1,4 +1,4 @@
--- What the calls of a plan leave: the members of the archive.
+-- The result of the calls of a plan: the members of the archive.
 use Rattle.std.proofs.Common.{◌≡◌, ◌∙◌, sym, ap, subst, refl, ℕ, ◌%◌, ◌||◌, Bool, true, false, cond, List, [], ◌∷◌, ◌++◌, Option, None, Some, Ok, Err, arith, ap₂, inl, inr}
 use Rattle.std.specs.Prelude.{Result, reverse}
 use Rattle.std.specs.List.{find, list_any}
@@ -47,7 +47,7 @@ use Rattle.vol_volume.specs.declared.queries.Stat.{Stat}
 use Rattle.vol_import.proofs.DraftedMembers.{AreMadeAs, IsMade, IsMadeAs, IsChecked, dotted, made_as_kept, plan_added}
 use Rattle.vol_import.proofs.KeptNodes.{AreSmall, directory_kind, nodes_left, small_bits}
 
--- what is found in reverse order is there
+-- a member found in reverse order is in the list
 any_reverse : (all : List Member) → list_any is_base (reverse all) ≡ list_any is_base all
 any_reverse [] = refl
 any_reverse (member ∷ rest) =
@@ -61,7 +61,7 @@ any_reverse (member ∷ rest) =
     turned false true = refl
     turned false false = refl
 
--- what the first tree had keeps its owner
+-- the nodes of the first tree keep their owners
 start_kept : (start : Tree) (base : List ℕ) (given : List ℕ → Bool) (known next : List (List ℕ)) (tree : Tree)
     → Follows start base given known next start tree → KeepsOwners start tree
 start_kept start base given known next tree follows x = elim (follows.spares x) [
@@ -72,7 +72,7 @@ start_kept start base given known next tree follows x = elim (follows.spares x) 
       owner_none (start.nodes x) (tree.nodes x) (ap start.nodes same ∙ leads.fresh gave.2)
 ]
 
--- a member that is the directory of the import is one, and its path has no steps
+-- a member for the directory of the import is a directory, and its path has no steps
 base_steps : (member : Member) → is_base member ≡ true → (made_as member.header.flag member.path ≡ Ok Directory) × (steps_of member.path ≡ [])
 base_steps member is = by (made_as member.header.flag member.path) refl is
   where
@@ -87,7 +87,7 @@ base_steps member is = by (made_as member.header.flag member.path) refl is
     by (Ok Link) m e = absurd (cc)
     by (Err fault) m e = absurd (cc)
 
--- and no other member is for no steps
+-- no other member is for no steps
 base_for : (member : Member) → is_for [] member ≡ is_base member
 base_for member = by (made_as member.header.flag member.path)
   where
@@ -101,7 +101,7 @@ base_for member = by (made_as member.header.flag member.path)
     by (Ok Link) = refl
     by (Err fault) = refl
 
--- where none is found, none is among the members
+-- if none is found, none is among the members
 none_among : (all : List Member) → find is_base (reverse all) ≡ None → is_among all [] ≡ false
 none_among all none = bases all ∙ (sym (any_reverse all) ∙ found_none (reverse all) none)
   where
@@ -118,7 +118,7 @@ none_among all none = bases all ∙ (sym (any_reverse all) ∙ found_none (rever
         by true others none = absurd (cc)
         by false others none = others none
 
--- the directory of the import, if members make it, has the permissions of the last one that is it
+-- if members make the directory of the import, it has the permissions of the last of them
 last_given : (start : Tree) (base : List ℕ) (now : ℕ) (all : List Member) (known : List (List ℕ)) (tree : Tree) (perm : ℕ)
     → AreMadeAs start base now all known tree → permissions_given all ≡ Some perm → is_there start base [] ≡ false
     → (led : LeadsToDirectory tree base) × (led.0.permissions ≡ perm % 4096)
@@ -167,7 +167,7 @@ last_given start base now (member ∷ rest) known tree perm are is none =
     by None e others is = one (is_base member) refl e is
     by (Some other) e others is = others (ap told e ∙ is)
 
--- the directory of the import, which the call that ends it gives permissions, has them
+-- the directory of the import already has the permissions that the last call gives it
 closing_led : (start : Tree) (base : List ℕ) (now : ℕ) (all : List Member) (known : List (List ℕ)) (tree : Tree) (perm : ℕ) → AreSmall start
     → Follows start base (is_among all) [] known start tree → AreMadeAs start base now all known tree
     → base_permissions (answer start (queries.Stat user base)) (permissions_given all) ≡ Some perm
@@ -258,7 +258,7 @@ are_kept start base now (member ∷ rest) known next old new follows are =
       are_kept start base now rest known next old new follows are.1,
     )
 
--- what the calls of a plan leave of a tree
+-- the tree after the calls of a plan
 record IsPlanned (start : Tree) (base : List ℕ) (now : ℕ) (all : List Member) (tree : Tree) : Type 0 where
   pub grows : Grows start tree
   pub owners : KeepsOwners start tree
@@ -305,7 +305,7 @@ plan_made from to base now all calls is small dots run = by (plan_onto from.tree
     by (Err fault) e is = absurd (cc)
     by (Ok more) e is = ended_by more e (cc)
 
--- at a path where a Stat finds no directory, the steps lead to none
+-- if a Stat of a path finds no directory, its steps lead to none
 none_below : (tree : Tree) (base path : List ℕ) → DotsLead tree → list_any is_long (names_of path) ≡ false
     → says_directory (answer tree (queries.Stat user (below base path))) ≡ false → is_there tree base (joined (steps_of path)) ≡ false
 none_below tree base path dots short none = by (is_there tree base (joined (steps_of path))) refl
@@ -320,7 +320,7 @@ none_below tree base path dots short none = by (is_there tree base (joined (step
         ap says_directory (stat_answered tree (below base path) here.0 plain here.1) ∙ ap is_directory_kind (directory_kind here.0.content here.2) in
         absurd (true≢false (sym told ∙ none))
 
--- what is made of a member, a query says
+-- a query returns the facts about the node made for a member
 member_had : (start tree : Tree) (base : List ℕ) (now : ℕ) (member : Member) (later : List Member) (known : List (List ℕ)) (made : Made × Cred)
     → DotsLead start → IsChecked member made
     → IsMade start base now member (is_among later (joined (steps_of member.path))) made known tree

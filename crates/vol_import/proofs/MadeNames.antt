@@ -1,4 +1,4 @@
--- Names that are made in a tree: what was found is found still, and the walk to a new name leads to its node.
+-- Names that are made in a tree: old names are still found, and the walk to a new name leads to its node.
 use Rattle.std.proofs.Common.{◌≡◌, ◌≢◌, ◌∙◌, sym, ap, subst, refl, ℕ, ◌+◌, true, false, cond, List, [], ◌∷◌, Option, None, Some, Ok, Err, inl, inr}
 use Rattle.std.specs.Prelude.{Result}
 use Rattle.std.specs.Cmp.Lexicographic.{slice_cmp}
@@ -29,11 +29,11 @@ pub record LeadsTo (tree : Tree) (path : List ℕ) (node : Node) : Type 0 where
   pub walked : walk tree user path ≡ Ok number
   pub stands : tree.nodes number ≡ Some node
 
--- what is found by a name in what is searched
+-- the node found by a name in the map of a search
 abbrev pub found_in : Result Names Refusal → List ℕ → Result ℕ Refusal
 found_in names name = and_then names (λ (ns : Names). ok_or (get ns name) refusals.NoEntry)
 
--- what user 0 finds by a name in a node, if there is one
+-- the node that user 0 finds by a name in a node, if there is one
 abbrev pub found : Option Node → List ℕ → Result ℕ Refusal
 found node name = found_in (searched node) name
 
@@ -45,7 +45,7 @@ HasNamesOf old new = (name : List ℕ) (i : ℕ) → found old name ≡ Ok i →
 abbrev pub KeepsNames : (ℕ → Option Node) → (ℕ → Option Node) → Type 0
 KeepsNames old new = (x : ℕ) → HasNamesOf (old x) (new x)
 
--- what is searched in a node is its map
+-- the map of a node that may be searched
 pub searched_names : (node : Option Node) (names : Names) → searched node ≡ Ok names → unwrap_or (map_of (unwrap_or node no_node).content) [] ≡ names
 searched_names None names is = absurd (cc)
 searched_names (Some node) names is = by node.content is
@@ -55,7 +55,7 @@ searched_names (Some node) names is = by node.content is
     by (Directory ns) is = cc
     by (Device type addresses) is = absurd (cc)
 
--- where nodes keep their names, a walk leads to where it led
+-- if nodes keep their names, a walk leads to where it led
 pub walk_kept : (old new : Tree) → KeepsNames old.nodes new.nodes → (names : List (List ℕ)) (x i : ℕ) → walk_from old user x names ≡ Ok i
     → walk_from new user x names ≡ Ok i
 walk_kept old new keeps [] x i is = is
@@ -72,7 +72,7 @@ unfolding walk
 path_kept old new path i same keeps is =
     ap (λ r. walk_from new user r (components path)) same ∙ walk_kept old new keeps (components path) (root old) i is
 
--- what is no directory has no names
+-- a node that is no directory has no names
 pub no_names : (node new : Option Node) → is_directory (unwrap_or node no_node) ≡ false → HasNamesOf node new
 no_names None new plain name i is = cc
 no_names (Some node) new plain name i is = by node.content plain is
@@ -82,11 +82,11 @@ no_names (Some node) new plain name i is = by node.content plain is
     by (Directory names) plain is = cc
     by (Device type addresses) plain is = cc
 
--- what is told of a node, but for its links and the times that reading it and changing its i-node leave
+-- the facts about a node, except its links and the times that reading it and changing its i-node set
 abbrev pub told : Node → Content × ℕ × ℕ × ℕ × ℕ × ℕ
 told node = (node.content, node.permissions, node.uid, node.gid, node.size, node.modified)
 
--- a node stays: a directory is one still, and of what is none the same is told
+-- a node stays: a directory is still one, and other nodes keep their facts
 abbrev pub Stays : Option Node → Option Node → Type 0
 Stays old new = (node : Node) → old ≡ Some node
     → (next : Node) × (new ≡ Some next) × (is_directory next ≡ is_directory node) × (is_directory node ≡ false → told next ≡ told node)
@@ -107,14 +107,14 @@ keeps_then old mid new first second = (
       (two.0, two.1, two.2 ∙ one.2, λ plain. two.3 (one.2 ∙ plain) ∙ one.3 plain),
 )
 
--- where there is no node, all is kept
+-- if there is no node, all is kept
 pub keeps_none : (old new : Option Node) → old ≡ None → Keeps old new
 keeps_none old new none = (
   no_names old new (ap (λ n. is_directory (unwrap_or n no_node)) none),
   λ x is. let both : None ≡ Some x = sym none ∙ is in absurd (cc),
 )
 
--- another node in place of one of which it keeps something
+-- replacing a node by one with the same property
 set_keeps : (P : Option Node → Option Node → Type 0) → ((node : Option Node) → P node node) → (nodes : ℕ → Option Node) (i : ℕ) (node : Option Node)
     → P (nodes i) node → (x : ℕ) → P (nodes x) (set_at nodes i node x)
 set_keeps P same nodes i node has x = elim (cases_eq x i) [
@@ -131,7 +131,7 @@ nodes_set = set_keeps Keeps keeps_same
 pub names_set : (nodes : ℕ → Option Node) (i : ℕ) (node : Option Node) → HasNamesOf (nodes i) node → KeepsNames nodes (set_at nodes i node)
 names_set = set_keeps HasNamesOf (λ node name j is. is)
 
--- so where it alone changes, a path that led to it leads to it
+-- so if it alone changes, a path that led to it leads to it
 pub leads_still : (old new : Tree) (path : List ℕ) (i : ℕ) (changed : Option Node) → root new ≡ root old → new.nodes ≡ set_at old.nodes i changed
     → is_directory (unwrap_or (old.nodes i) no_node) ≡ false → walk old user path ≡ Ok i → (walk new user path ≡ Ok i) × (new.nodes i ≡ changed)
 leads_still old new path i changed same nodes plain is = (
@@ -140,7 +140,7 @@ leads_still old new path i changed same nodes plain is = (
   ap (λ (ns : ℕ → Option Node). ns i) nodes ∙ set_here old.nodes i changed,
 )
 
--- what is told of a node's owner
+-- the permissions, owner and group of a node
 abbrev pub owner_told : Node → ℕ × ℕ × ℕ
 owner_told node = (node.permissions, node.uid, node.gid)
 
@@ -160,7 +160,7 @@ owner_then old mid new first second x is =
 pub owner_none : (old new : Option Node) → old ≡ None → KeepsOwner old new
 owner_none old new none x is = let both : None ≡ Some x = sym none ∙ is in absurd (cc)
 
--- where a change leaves the owner
+-- a change that keeps the owner
 pub owner_kept : (change : Node → Node) → ((x : Node) → owner_told (change x) ≡ owner_told x) → (node : Option Node)
     → KeepsOwner node (option_map change node)
 owner_kept change same None x is = (x, is, refl)
@@ -190,7 +190,7 @@ entered_owner : (now size i : ℕ) (name : List ℕ) (node : Option Node) → Ke
 entered_owner now size i name node =
     owner_kept (λ x. record (modified now x) { content = change_names (λ names. insert names name i) x.content; size = size }) (λ x. refl) node
 
--- what a map with a name more answers
+-- the result of a map with a name more
 get_insert : (names : Names) (name word : List ℕ) (i : ℕ) → get (insert names name i) word ≡ cond (bytes_eq word name) (Some i) (get names word)
 get_insert names name word i =
     find-put (slice_cmp nat_cmp) nat_list_cmp_total word name i names ∙ ap (λ b. cond b (Some i) (get names word)) (is_eq-slice_cmp word name)
@@ -219,7 +219,7 @@ entered_has now size i name (Some node) names held fresh word j is = by node.con
     by (Directory ns) held is = let same : ns ≡ names = cc in insert_has ns name word i j (ap (λ (m : Names). get m name) same ∙ fresh) is
     by (Device type addresses) held is = cc
 
--- what is searched is a directory
+-- a node that may be searched is a directory
 searched_directory : (node : Node) (names : Names) → searched (Some node) ≡ Ok names → is_directory node ≡ true
 searched_directory node names held = by node.content held
   where
@@ -274,7 +274,7 @@ name_entered nodes now size d i name names held fresh = record {
   named = ap (λ n. found n name) (set_here nodes d (entered now size name i (nodes d))) ∙ entered_found now size i name (nodes d) names held;
 }
 
--- node i is made, where there was none, and has a name in directory d
+-- node i is made, with a number that had none, and has a name in directory d
 pub record MakesName (old new : ℕ → Option Node) (d : ℕ) (name : List ℕ) (i : ℕ) (node : Node) : Type 0 where
   pub free : old i ≡ None
   pub apart : i ≢ d
@@ -333,11 +333,11 @@ grows_then old mid new first second = record {
   kept = λ x. keeps_then (old.nodes x) (mid.nodes x) (new.nodes x) (first.kept x) (second.kept x);
 }
 
--- and all of them their owners
+-- all nodes keep their owners
 abbrev pub KeepsOwners : Tree → Tree → Type 0
 KeepsOwners old new = (x : ℕ) → KeepsOwner (old.nodes x) (new.nodes x)
 
--- what a path led to, it leads to still
+-- a path still leads where it led
 pub grown_path : (old new : Tree) (path : List ℕ) (i : ℕ) → Grows old new → walk old user path ≡ Ok i → walk new user path ≡ Ok i
 grown_path old new path i grows is = path_kept old new path i grows.rooted (λ x. (grows.kept x).0) is
 

@@ -1,4 +1,4 @@
--- What an accepted call leaves at its path: a new node, or a file with other bytes; and what is answered of it.
+-- The node at the path of an accepted call: a new one, or a file with other bytes; and the answers about it.
 use Rattle.std.proofs.Common.{◌≡◌, ◌≢◌, ◌∙◌, sym, ap, subst, refl, ℕ, ◌+◌, max, Bool, true, false, cond, not, nat_lt, nat_le, ◌&&◌, List, [], ◌∷◌, ◌++◌, length, Option, None, Some, Result, Ok, Err, arith}
 use Rattle.std.specs.List.{list_any}
 use Rattle.std.specs.Option.{is_none, is_some, option_map, unwrap_or}
@@ -111,7 +111,7 @@ mkdir_gains state now perm path (Made i) accepted free =
 mkdir_gains state now perm path (Wrote n) accepted free = absurd free
 mkdir_gains state now perm path Plain accepted free = absurd free
 
--- where nothing speaks against a node, there is one
+-- if no check of a node fails, there is one
 pub node_found : (walked : Result ℕ Refusal) (others : ℕ → Option Refusal) → of_node walked others ≡ None → (i : ℕ) × (walked ≡ Ok i) × (others i ≡ None)
 node_found (Ok i) others e = (i, refl, e)
 node_found (Err refusal) others e = absurd (cc)
@@ -194,7 +194,7 @@ pub good_id : (edition : Edition) → is_bad_id edition 0 0 ≡ false
 good_id V6 = refl
 good_id V7 = refl
 
--- a query that nothing speaks against is answered
+-- a query of which no check fails is answered
 answered : (bad zero : Bool) (walked : Result ℕ Refusal) (others : ℕ → Option Refusal) (reply : ℕ → Reply) (i : ℕ) → bad ≡ false → zero ≡ false
     → walked ≡ Ok i → others i ≡ None
     → refused_or (cond bad (Some refusals.BadId) (cond zero (Some refusals.Invalid) (of_node walked others))) (reply_at walked reply) ≡ Ok (reply i)
@@ -205,7 +205,7 @@ answered false false (Ok j) others reply i good plain is none =
     let same : j ≡ i = cc in
     ap (λ (o : Option Refusal). refused_or o (Ok (reply j))) (ap others same ∙ none) ∙ ap (λ k. Ok (reply k)) same
 
--- a Stat tells of the node that a path leads to
+-- a Stat returns the attributes of the node that a path leads to
 pub walk_answered : (tree : Tree) (path : List ℕ) (i : ℕ) → list_any has_zero (path ∷ []) ≡ false → walk tree user path ≡ Ok i
     → answer tree (queries.Stat user path) ≡ Ok (replies.Stat (stat_of i (node_at tree i)))
 unfolding query_refusal reply_of
@@ -219,7 +219,7 @@ stat_answered tree path node plain leads =
     walk_answered tree path leads.number plain leads.walked
     ∙ ap (λ (n : Option Node). Ok (replies.Stat (stat_of leads.number (unwrap_or n no_node)))) leads.stands
 
--- what is asked of a file that is read, by its node, and by what it holds
+-- the checks of a file that is read, by its node and its content
 abbrev read_tests : Node → Option Refusal
 read_tests node =
     first_of ((is_directory node, refusals.IsDirectory) ∷ (is_device node.content, refusals.NotRegular) ∷ (not (grants may_read user node), refusals.Access) ∷ [])

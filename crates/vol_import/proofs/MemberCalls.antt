@@ -1,4 +1,4 @@
--- What the calls that make a member leave.
+-- The result of the calls that make a member.
 use Rattle.std.proofs.Common.{◌≡◌, ◌∙◌, sym, ap, subst, refl, ℕ, ◌+◌, ◌%◌, ◌&&◌, ◌==◌, max, Bool, true, false, cond, List, [], ◌∷◌, ◌++◌, length, Option, Some, arith}
 use Rattle.std.specs.List.{list_any}
 use Rattle.std.specs.Option.{is_some}
@@ -42,7 +42,7 @@ run_parts old new (call ∷ front) rest run =
     let parts = run_parts (step old call run.0) new front rest run.3 in
     (parts.0, (run.0, run.1, run.2, parts.1), parts.2)
 
--- a new node of which this is told
+-- a new node with these facts
 pub record GainsNode (old new : Tree) (path : List ℕ) (facts : Content × ℕ × ℕ × ℕ × ℕ × ℕ) : Type 0 where
   pub node : Node
   pub gains : Gains old new path node

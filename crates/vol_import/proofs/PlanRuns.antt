@@ -12,7 +12,7 @@ use Rattle.vol_import.specs.declared.reading.Member.{Member}
 abbrev pub with_checked : Tree → List ℕ → ℕ → Drafted → Member → Result Drafted PlanFault
 with_checked tree base now front member = onto tree base now front member (check tree.geometry.edition member)
 
--- the calls of members that are left in reverse, where the last of them is taken
+-- the calls of the members left, in reverse, when the last of them is taken
 taken : (tree : Tree) (base : List ℕ) (now : ℕ) (front : Drafted) (left rest : List Member) (member : Member) → left ≡ rest ++ member ∷ []
     → plan_onto tree base now front (reverse left)
     ≡ and_next (with_checked tree base now front member) (λ front. plan_onto tree base now front (reverse rest))
@@ -34,7 +34,7 @@ pub on_fault : (tree : Tree) (base : List ℕ) (now : ℕ) (front : Drafted) (le
 on_fault tree base now front left rest member all fault on is done =
     sym on ∙ (rw done at (taken tree base now front left rest member is))
 
--- where no member is left, the calls so far are all
+-- if no member is left, the calls so far are all
 pub on_end : (tree : Tree) (base : List ℕ) (now : ℕ) (front : Drafted) (left : List Member) (all : Result (List Call) PlanFault)
     → plan_onto tree base now front (reverse left) ≡ all → left ≡ [] → all ≡ Ok front.1
 unfolding plan_onto

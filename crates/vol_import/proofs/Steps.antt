@@ -10,11 +10,11 @@ use Rattle.vol_import.specs.Plan.{Drafted, way_of, with_way, with_way_directory}
 abbrev pub texts : List (Bor (List ℕ)) → List (List ℕ)
 texts steps = map (λ step. step.now) steps
 
--- a step, where one is asked for that isn't used
+-- a step for places where its value doesn't matter
 abbrev pub no_step : Bor (List ℕ)
 no_step = record { ref_ptr = (0, 0); now = [] }
 
--- the texts of the steps but for the last
+-- the texts of the steps except the last
 pub way_texts : (n : ℕ) (taken steps : List (Bor (List ℕ))) (names : List (List ℕ)) → n ≡ length steps - 1 → taken ≡ steps → texts steps ≡ names
     → texts (take n taken) ≡ way_of names
 way_texts n taken steps names count same is =
@@ -34,7 +34,7 @@ way_more tree base now path next steps i other before after all inside on is mad
     ∙ sym (at_drop_more (λ (l : List (Bor (List ℕ))). with_way tree base now path (texts l) before) steps i other inside)
     ∙ on
 
--- where no step is left, the draft is the whole
+-- if no step is left, the draft is the whole
 pub way_end : (tree : Tree) (base : List ℕ) (now : ℕ) (path : List ℕ) (steps : List (Bor (List ℕ))) (i : ℕ) (before all : Drafted)
     → length steps ≤ i → with_way tree base now path (texts (drop i steps)) before ≡ all → before ≡ all
 unfolding with_way

@@ -1,4 +1,4 @@
--- Walks in the tree of a sound image: the parent that they lead to, and what stands where they end.
+-- Walks in the tree of a sound image: the parent that they lead to, and the node at their end.
 use Rattle.std.proofs.Common.{◌≡◌, ◌≢◌, ◌∙◌, sym, ap, refl, ℕ, ◌≤◌, Bool, true, false, cond, List, [], ◌∷◌, ◌++◌, Option, None, Some, Ok, Err, arith}
 use Rattle.std.specs.Prelude.{Result}
 use Rattle.std.specs.List.{list_any}
@@ -22,15 +22,15 @@ use Rattle.vol_layout.specs.Ids.{is_bad_id}
 use Rattle.vol_volume.specs.Verdict.{then_others, of_parent}
 use Rattle.vol_volume.proofs.NodeReadings.{used_first, used_some}
 
--- what user 0 finds to search in a node, if there is one
+-- the map that user 0 may search in a node, if there is one
 abbrev pub searched : Option Node → Result Names Refusal
 searched node = option_map_or (search_node user) node (Err refusals.NotDirectory)
 
--- what is searched of what a node holds, if it is a map
+-- the map to search in a content, if it has one
 abbrev pub named : Option Names → Result Names Refusal
 named held = option_map_or (λ (names : Names). Ok names) held (Err refusals.NotDirectory)
 
--- where nothing speaks against a call, its first tests are passed
+-- if no check of a call fails, its first checks are passed
 pub record PassesFirst (tree : Tree) (paths : List (List ℕ)) (others : Option Refusal) : Type 0 where
   pub good_id : is_bad_id tree.geometry.edition 0 0 ≡ false
   pub no_zero : list_any has_zero paths ≡ false
@@ -49,7 +49,7 @@ pub passes_first : (tree : Tree) (path : List ℕ) (others : Option Refusal) →
     → PassesFirst tree (path ∷ []) others
 passes_first tree path = passes_paths tree (path ∷ [])
 
--- what comes before the last name, with a name before it
+-- the names before the last, with one more name before them
 abbrev longer : List ℕ → Option (List (List ℕ) × List ℕ) → List (List ℕ) × List ℕ
 longer name parts = option_map_or (λ (some : List (List ℕ) × List ℕ). (name ∷ some.0, some.1)) parts ([], name)
 
@@ -85,7 +85,7 @@ pub record Reaches (tree : Tree) (path : List ℕ) (d : ℕ) (name : List ℕ) :
   pub names : Names
   pub searched : search tree user d ≡ Ok names
 
--- where nothing speaks against the parent, there is one
+-- if no check of the parent fails, there is one
 pub parent_found : (parent : Option (Result (ℕ × List ℕ) Refusal)) (bare : Refusal) (tests : ℕ → List ℕ → List (Bool × Refusal)) → of_parent parent bare tests ≡ None
     → (d : ℕ) × (name : List ℕ) × (parent ≡ Some (Ok (d, name)))
 parent_found None bare tests e = cc
@@ -96,7 +96,7 @@ parent_found (Some (Ok found)) bare tests e = (found.0, found.1, refl)
 abbrev at_parent : List ℕ → ℕ → Result (ℕ × List ℕ) Refusal
 at_parent last i = Ok (i, last)
 
--- where a walk to the parent leads
+-- the directory to which a walk to the parent leads
 pub reaches : (t : Tree) (path : List ℕ) (d : ℕ) (name : List ℕ) → walk_parent t user path ≡ Some (Ok (d, name)) → Reaches t path d name
 unfolding walk_parent
 reaches t path d name e = by_parts (split_last (components path)) refl e
@@ -130,12 +130,12 @@ reaches t path d name e = by_parts (split_last (components path)) refl e
         let same : parent_from t user parts ≡ Ok (d, name) = cc in
         by_walk parts.0 parts.1 (walk_from t user (root t) parts.0) (split_is (components path) parts.0 parts.1 is) refl same
 
--- what is in use is a node
+-- an i-number in use has a node
 in_use_node : (geometry : Geometry) (image : List ℕ) (i : ℕ) → Rules3To7 geometry image → IsInUse geometry image i → (tree geometry image).nodes i ≢ None
 in_use_node geometry image i files used none =
     false≢true (sym (used_some geometry image i (used_first geometry image i used) files used) ∙ ap is_none none)
 
--- what is searched is the map of a directory
+-- the map of a search is that of a directory
 pub searched_slots : (geometry : Geometry) (image : List ℕ) (x : ℕ) (others : Names) → search (tree geometry image) user x ≡ Ok others
     → IsDirectory geometry image x × (names_of (slots geometry image x) ≡ others)
 searched_slots geometry image x others is =

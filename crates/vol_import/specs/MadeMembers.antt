@@ -1,4 +1,4 @@
--- What an import leaves of the members of an archive.
+-- The members of an archive after an import.
 use Rattle.std.specs.Prelude.{◌≡◌, ◌≢◌, ℕ, Bool, false, List, [], ◌∷◌, Result, Ok, Err, length}
 use Rattle.std.specs.List.{list_any}
 use Rattle.std.specs.Str.{bytes_eq}
@@ -16,7 +16,7 @@ use Rattle.vol_import.specs.declared.checking.MemberFault.{MemberFault}
 use Rattle.vol_import.specs.declared.faults.ArchiveFault.{ArchiveFault}
 use Rattle.vol_import.specs.declared.reading.Member.{Member}
 
--- a path leads to a regular file of these bytes: a Stat says so, and a Read from any offset on gives them (stat, read)
+-- a path leads to a regular file of these bytes: a Stat says that it is one, and a Read from any offset on returns them (stat, read)
 pub record HasFile (tree : Tree) (path bytes : List ℕ) : Type 0 where
   pub stat : Stat
   pub found : answer tree (queries.Stat user path) ≡ Ok (replies.Stat stat)
@@ -24,7 +24,7 @@ pub record HasFile (tree : Tree) (path bytes : List ℕ) : Type 0 where
   pub size : stat.size ≡ length bytes
   pub read : (offset len : ℕ) → answer tree (queries.Read user path offset len) ≡ Ok (replies.Bytes (read_bytes bytes offset len))
 
--- a path leads to a file as a member has it: its bytes, permissions, owner and group, and the time of its last change (POSIX, ustar interchange format)
+-- a path leads to a file as its member describes it: its bytes, permissions, owner and group, and the time of its last change (POSIX, ustar interchange format)
 pub record HasMemberFile (tree : Tree) (path : List ℕ) (now : ℕ) (member : Member) : Type 0 where
   pub file : HasFile tree path member.content
   pub permissions : file.stat.permissions ≡ permissions_of member.header
@@ -32,7 +32,7 @@ pub record HasMemberFile (tree : Tree) (path : List ℕ) (now : ℕ) (member : M
   pub gid : file.stat.gid ≡ member.header.gid
   pub modified : file.stat.modified ≡ moment_of member.header now
 
--- two paths lead to one file: a Stat of each says the same, with the same i-number (link)
+-- two paths lead to one file: a Stat of each returns the same, with the same i-number (link)
 pub record HasLink (tree : Tree) (source target : List ℕ) : Type 0 where
   pub stat : Stat
   pub at_source : answer tree (queries.Stat user source) ≡ Ok (replies.Stat stat)
@@ -44,33 +44,33 @@ pub record HasDirectory (tree : Tree) (path : List ℕ) : Type 0 where
   pub found : answer tree (queries.Stat user path) ≡ Ok (replies.Stat stat)
   pub kind : stat.kind ≡ kinds.Directory
 
--- a Stat says what a member does of permissions, owner and group (POSIX, ustar interchange format)
+-- a Stat returns the permissions, owner and group of a member (POSIX, ustar interchange format)
 pub record IsGiven (stat : Stat) (member : Member) : Type 0 where
   pub permissions : stat.permissions ≡ permissions_of member.header
   pub uid : stat.uid ≡ member.header.uid
   pub gid : stat.gid ≡ member.header.gid
 
--- a path leads to a directory as a member has it, with its permissions, owner and group, if there was none before, and no later member is for this directory again (POSIX, ustar interchange format)
+-- a path leads to a directory; if there was none before and no later member is for it, it has the permissions, owner and group of its member (POSIX, ustar interchange format)
 pub record HasMemberDirectory (old tree : Tree) (path : List ℕ) (member : Member) (again : Bool) : Type 0 where
   pub directory : HasDirectory tree path
   pub given : is_directory (answer old (queries.Stat user path)) ≡ false → again ≡ false → IsGiven directory.stat member
 
--- whether what is made as something, at a path of its own, is a directory of these steps (this project)
+-- true if a member that is made so, at this path, is the directory with these steps (this project)
 abbrev pub is_made_at : Result Made MemberFault → List ℕ → List ℕ → Bool
 is_made_at (Ok Directory) path steps = bytes_eq (joined (steps_of path)) steps
 is_made_at (Ok File) path steps = false
 is_made_at (Ok Link) path steps = false
 is_made_at (Err fault) path steps = false
 
--- whether a member is the directory of these steps (this project)
+-- true if a member is the directory with these steps (this project)
 abbrev pub is_for : List ℕ → Member → Bool
 is_for steps member = is_made_at (made_as member.header.flag member.path) member.path steps
 
--- whether one of some members is the directory of these steps (this project)
+-- true if one of some members is the directory with these steps (this project)
 abbrev pub is_among : List Member → List ℕ → Bool
 is_among all steps = list_any (is_for steps) all
 
--- a tree has a member below a path, as what it is to be made as, which another tree came to have; one that can't be made it hasn't (POSIX, ustar interchange format)
+-- a tree made from another one has a member below a path, as the node that it is to be made as; it has none that can't be made (POSIX, ustar interchange format)
 abbrev pub HasMember : Tree → Tree → List ℕ → ℕ → Member → List Member → Result Made MemberFault → Type 0
 HasMember old tree base now member later (Ok File) = HasMemberFile tree (below base member.path) now member
 HasMember old tree base now member later (Ok Link) = HasLink tree (below base member.link) (below base member.path)
@@ -78,13 +78,13 @@ HasMember old tree base now member later (Ok Directory) =
     HasMemberDirectory old tree (below base member.path) member (is_among later (joined (steps_of member.path)))
 HasMember old tree base now member later (Err fault) = ⊥
 
--- and has each of some members (POSIX, ustar interchange format)
+-- a tree has each of some members (POSIX, ustar interchange format)
 unfoldable pub HasMembers : Tree → Tree → List ℕ → ℕ → List Member → Type 0
 HasMembers old tree base now [] = Unit {0}
 HasMembers old tree base now (member ∷ later) =
     HasMember old tree base now member later (made_as member.header.flag member.path) × HasMembers old tree base now later
 
--- a path leads to the node of which this was told before, which keeps its kind, permissions, owner and group; if it is no directory, its size and the time of its last change too, and a regular file its bytes (stat, read)
+-- a path leads to the same node as before, with the same kind, permissions, owner and group; a node other than a directory also has the same size and time of its last change, and a regular file the same bytes (stat, read)
 pub record KeepsNode (old tree : Tree) (path : List ℕ) (told : Stat) : Type 0 where
   pub stat : Stat
   pub found : answer tree (queries.Stat user path) ≡ Ok (replies.Stat stat)
@@ -98,11 +98,11 @@ pub record KeepsNode (old tree : Tree) (path : List ℕ) (told : Stat) : Type 0 
   pub read : told.kind ≡ kinds.Regular → (offset len : ℕ)
       → answer tree (queries.Read user path offset len) ≡ answer old (queries.Read user path offset len)
 
--- each path that led to a node of a tree leads to it still (stat)
+-- each path that led to a node of a tree still leads to it (stat)
 abbrev pub KeepsNodes : Tree → Tree → Type 0
 KeepsNodes old tree = (path : List ℕ) (told : Stat) → answer old (queries.Stat user path) ≡ Ok (replies.Stat told) → KeepsNode old tree path told
 
--- a tree has all members of an archive, which can be read, and keeps what another one had (POSIX, ustar interchange format)
+-- a tree has all members of an archive, which can be read, and keeps the nodes of another one (POSIX, ustar interchange format)
 unfoldable pub HasArchive : Tree → Tree → List ℕ → ℕ → Result (List Member) ArchiveFault → Type 0
 HasArchive old tree base now (Ok all) = HasMembers old tree base now all × KeepsNodes old tree
 HasArchive old tree base now (Err fault) = ⊥

@@ -35,28 +35,28 @@ use Rattle.vol_import.specs.declared.planning.PlanFault.{PlanFault}
 use Rattle.vol_import.specs.declared.planning.PlanFault.TheVariants as plans
 use Rattle.vol_import.specs.declared.reading.Member.{Member}
 
--- what comes after an Ok; a fault ends it (this project)
+-- the next step after an Ok; a fault ends it (this project)
 abbrev pub and_then : {X Y : Type 0} → Result X MemberFault → (X → Result Y MemberFault) → Result Y MemberFault
 and_then (Ok x) next = next x
 and_then (Err fault) next = Err fault
 
--- whether a path is above the 4,096 bytes that a member's may have (this project)
+-- true if a path is longer than the 4,096 bytes that a member's may have (this project)
 abbrev pub is_long_path : List ℕ → Bool
 is_long_path path = nat_lt 4096 (length path)
 
--- the names of a path: what stands between its slashes (POSIX, ustar interchange format)
+-- the names in a path: the parts between its slashes (POSIX, ustar interchange format)
 abbrev pub names_of : List ℕ → List (List ℕ)
 names_of path = slice_split (λ c. c == 47) path
 
--- whether a name is above the 14 bytes that an entry of a directory has room for (manual section 5, directories)
+-- true if a name is longer than the 14 bytes that an entry of a directory can hold (manual section 5, directories)
 abbrev pub is_long : List ℕ → Bool
 is_long name = nat_lt 14 (length name)
 
--- whether a name leads to the parent (manual section 5, directories)
+-- true if a name leads to the parent (manual section 5, directories)
 abbrev pub is_dot_dot : List ℕ → Bool
 is_dot_dot name = bytes_eq name (codes "..")
 
--- a path that can be made: it isn't above 4,096 bytes, no name of it is above 14 bytes, and none is `..` (this project)
+-- a path that can be made: it is at most 4,096 bytes long, no name in it is longer than 14 bytes, and none is `..` (this project)
 abbrev pub check_path : List ℕ → Result (Unit {0}) MemberFault
 check_path path =
     if is_long_path path then Err faults.LongPath
@@ -64,11 +64,11 @@ check_path path =
     else if list_any is_dot_dot (names_of path) then Err faults.DotDot
     else Ok tt
 
--- whether a path ends in a slash (POSIX, ustar interchange format)
+-- true if a path ends in a slash (POSIX, ustar interchange format)
 abbrev pub ends_in_slash : List ℕ → Bool
 ends_in_slash path = nat_lt 0 (length path) && (slice_index path (length path - 1) == 47)
 
--- what a member is made as; a regular file whose path ends in a slash is a directory, as archives before POSIX's have it; no call makes a special file, and the editions have no symbolic links (POSIX, ustar interchange format)
+-- the node that a member is made as; a regular file whose path ends in a slash is a directory, as in archives before POSIX; no call makes a special file, and the editions have no symbolic links (POSIX, ustar interchange format)
 abbrev pub made_as : TypeFlag → List ℕ → Result Made MemberFault
 made_as (flags.Member members.File) path = Ok (if ends_in_slash path then Directory else File)
 made_as (flags.Member members.Directory) path = Ok Directory
@@ -84,7 +84,7 @@ made_as flags.Global path = Err faults.Kind
 made_as flags.VolumeLabel path = Err faults.Kind
 made_as (flags.Other c) path = Err faults.Kind
 
--- the path that a member leads to, if it is a link, can be walked: it isn't above 4,096 bytes, no name of it is above 14 bytes, and none is `..` (this project)
+-- the path that a member links to, if it is a link, can be walked: it is at most 4,096 bytes long, no name in it is longer than 14 bytes, and none is `..` (this project)
 abbrev pub check_link : Made → List ℕ → Result (Unit {0}) MemberFault
 check_link Link link =
     if is_long_path link then Err faults.LongLinkPath
@@ -94,12 +94,12 @@ check_link Link link =
 check_link File link = Ok tt
 check_link Directory link = Ok tt
 
--- the owner and the group of a member, where they are numbers of the edition (manual section 5, file system)
+-- the owner and the group of a member, if they are numbers of the edition (manual section 5, file system)
 abbrev pub owner_of : Edition → ReadHeader → Result Cred MemberFault
 owner_of edition header =
     if is_bad_id edition header.uid header.gid then Err faults.Owner else Ok (record { uid = header.uid; gid = header.gid })
 
--- what a member is made as in a volume of an edition, and for whom, or the first thing that speaks against it: its kind, its path, the path that it leads to, its owner (this project)
+-- the node that a member is made as in a volume of an edition, and its owner, or the first fault: of its kind, its path, the path that it links to, its owner (this project)
 unfoldable pub check : Edition → Member → Result (Made × Cred) MemberFault
 check edition member =
     and_then (made_as member.header.flag member.path) (λ made.
@@ -115,11 +115,11 @@ below base path = base ++ 47 ∷ path
 abbrev pub permissions_of : ReadHeader → ℕ
 permissions_of header = header.permissions % 4096
 
--- the moment of a member's calls: that of its last change, where it has 32 bits (this project)
+-- the time of a member's calls: that of its last change if it fits 32 bits (this project)
 abbrev pub moment_of : ReadHeader → ℕ → ℕ
 moment_of header now = if nat_lt header.modified 4294967296 then header.modified else now
 
--- the call that gives a file or a directory to its owner: none where that is user 0 of group 0, who makes it (this project)
+-- the call that gives a file or a directory to its owner; none if that is user 0 of group 0, who makes it (this project)
 abbrev pub owner_calls : ℕ → List ℕ → Cred → List Call
 owner_calls moment path owner =
     if owner.uid == 0 && owner.gid == 0 then [] else calls.Chown user moment path owner.uid owner.gid ∷ []
@@ -134,7 +134,7 @@ abbrev pub file_calls : ℕ → List ℕ → ℕ → Cred → List ℕ → List 
 file_calls moment path perm owner content =
     calls.Create user moment path perm ∷ [] ++ write_calls moment path content ++ owner_calls moment path owner
 
--- whether a node is a directory (manual section 5, file system)
+-- true if a node is a directory (manual section 5, file system)
 abbrev pub is_directory_kind : Kind → Bool
 is_directory_kind kinds.Directory = true
 is_directory_kind kinds.Regular = false
@@ -142,30 +142,30 @@ is_directory_kind kinds.Special = false
 is_directory_kind kinds.Free = false
 is_directory_kind kinds.Odd = false
 
--- whether a question for a path answers that it is a directory (this project)
+-- true if the answer for a path says that it is a directory (this project)
 abbrev pub is_directory : Result Reply Refusal → Bool
 is_directory (Ok (replies.Stat stat)) = is_directory_kind stat.kind
 is_directory (Ok (replies.Bytes bytes)) = false
 is_directory (Ok (replies.Names names)) = false
 is_directory (Err refusal) = false
 
--- a draft of a plan: the paths of directories that are there, or that the calls make, in order, and the calls (this project)
+-- a draft of a plan: the paths of directories that exist or that the calls make, in order, and the calls (this project)
 abbrev pub Drafted : Type 0
 Drafted = List (List ℕ) × List Call
 
--- paths in order, with one more unless it is among them (std's BTreeSet)
+-- paths in order, with one added unless it is among them (std's BTreeSet)
 abbrev pub with_path : List (List ℕ) → List ℕ → List (List ℕ)
 with_path known path = insert_key (slice_cmp nat_cmp) known path
 
--- whether a path is among paths in order (std's BTreeSet)
+-- true if a path is among paths in order (std's BTreeSet)
 abbrev pub is_known : List (List ℕ) → List ℕ → Bool
 is_known known path = list_any (is_at (slice_cmp nat_cmp path)) known
 
--- whether there is a directory at a path below another (this project)
+-- true if there is a directory at a path below another (this project)
 abbrev pub is_there : Tree → List ℕ → List ℕ → Bool
 is_there tree base path = is_directory (answer tree (queries.Stat user (base ++ path)))
 
--- whether a directory is missing at a path below another: it isn't known, and is not there (this project)
+-- true if a directory is missing at a path below another: it isn't known, and doesn't exist (this project)
 abbrev pub is_missing : Tree → List ℕ → List (List ℕ) → List ℕ → Bool
 is_missing tree base known path = not (is_known known path) && not (is_there tree base path)
 
@@ -173,34 +173,34 @@ is_missing tree base known path = not (is_known known path) && not (is_there tre
 abbrev pub way_call : ℕ → List ℕ → Call
 way_call now path = calls.Mkdir user now path 0o755
 
--- a draft with a directory on the way to a member, made where it is missing; it is known then (this project)
+-- a draft with a directory on the way to a member, made if it is missing; it is then known (this project)
 abbrev pub with_way_directory : Tree → List ℕ → ℕ → List ℕ → Drafted → Drafted
 with_way_directory tree base now path drafted =
     (with_path drafted.0 path, drafted.1 ++ (if is_missing tree base drafted.0 path then way_call now (base ++ path) ∷ [] else []))
 
--- whether a name leads on: `.` leads nowhere else (manual section 5, directories)
+-- true if a name leads to another directory: `.` doesn't (manual section 5, directories)
 abbrev pub is_step : List ℕ → Bool
 is_step name = not (bytes_eq name (codes "."))
 
--- the steps of a path: its components but for `.` (Lions on namei)
+-- the steps of a path: its components except `.` (Lions on namei)
 abbrev pub steps_of : List ℕ → List (List ℕ)
 steps_of path = filter is_step (components path)
 
--- the steps but for the last: those on the way (this project)
+-- the steps except the last: those on the way (this project)
 abbrev pub way_of : List (List ℕ) → List (List ℕ)
 way_of steps = take (length steps - 1) steps
 
--- a path of steps, each behind a slash (Lions on namei)
+-- a path of steps, each after a slash (Lions on namei)
 abbrev pub joined : List (List ℕ) → List ℕ
 joined steps = flat_map (λ step. 47 ∷ step) steps
 
--- a draft with the directories that steps go through, from a path below another on, each in turn (this project)
+-- a draft with the directories on a way, given by its steps from a path below another on, each in turn (this project)
 unfoldable pub with_way : Tree → List ℕ → ℕ → List ℕ → List (List ℕ) → Drafted → Drafted
 with_way tree base now path [] drafted = drafted
 with_way tree base now path (step ∷ steps) drafted =
     with_way tree base now (path ++ 47 ∷ step) steps (with_way_directory tree base now (path ++ 47 ∷ step) drafted)
 
--- a draft with calls at its end (this project)
+-- a draft with calls added at its end (this project)
 abbrev pub with_calls : Drafted → List Call → Drafted
 with_calls drafted more = (drafted.0, drafted.1 ++ more)
 
@@ -208,11 +208,11 @@ with_calls drafted more = (drafted.0, drafted.1 ++ more)
 abbrev pub directory_calls : ℕ → List ℕ → ℕ → Cred → List Call
 directory_calls moment path perm owner = calls.Mkdir user moment path perm ∷ [] ++ owner_calls moment path owner
 
--- the calls that give a directory, which calls before them make, other permissions and another owner (this project)
+-- the calls that give a directory made by earlier calls other permissions and another owner (this project)
 abbrev pub given_calls : ℕ → List ℕ → ℕ → Cred → List Call
 given_calls moment path perm owner = calls.Chmod user moment path perm ∷ calls.Chown user moment path owner.uid owner.gid ∷ []
 
--- a draft with a member at a path below another that is a directory: one that is there stays, what calls make is given its permissions and its owner, and else it is made; it is known then (this project)
+-- a draft with a member that is a directory, at a path below another: one that exists stays, one that earlier calls make is given its permissions and its owner, and else it is made; it is then known (this project)
 abbrev pub with_directory : Tree → List ℕ → List ℕ → ℕ → List ℕ → ℕ → Cred → Drafted → Drafted
 with_directory tree base steps moment path perm owner drafted = (
   with_path drafted.0 steps,
@@ -222,7 +222,7 @@ with_directory tree base steps moment path perm owner drafted = (
       else directory_calls moment path perm owner),
 )
 
--- a draft with the calls that make a member as something, for its owner, after the directories on the way to it (this project)
+-- a draft with the calls that make a member as a node of some kind, for its owner, after the directories on the way to it (this project)
 abbrev pub with_made : Made → Tree → List ℕ → ℕ → Member → Cred → Drafted → Drafted
 with_made File tree base now member owner drafted =
     with_calls drafted (file_calls (moment_of member.header now) (below base member.path) (permissions_of member.header) owner member.content)
@@ -232,40 +232,40 @@ with_made Directory tree base now member owner drafted =
 with_made Link tree base now member owner drafted =
     with_calls drafted (calls.Link user (moment_of member.header now) (below base member.link) (below base member.path) ∷ [])
 
--- whether a draft knows more directories than a volume has i-nodes (manual section 5, file system)
+-- true if a draft knows more directories than a volume has i-nodes (manual section 5, file system)
 abbrev pub is_crowded : Tree → Drafted → Bool
 is_crowded tree drafted = nat_lt tree.geometry.last_inode (length drafted.0)
 
--- a draft that has the directories on the way to a member, with the member made as something, for its owner; where these are more than the volume has i-nodes, the member can't be made, as a call at its path in the volume would say (this project)
+-- a draft with the directories on the way to a member, and then the calls that make it, for its owner; if these directories are more than the volume has i-nodes, the member can't be made, and the fault has its path in the volume, as that of a call does (this project)
 abbrev pub with_member : Tree → List ℕ → ℕ → Member → Made × Cred → Drafted → Result Drafted PlanFault
 with_member tree base now member made drafted =
     if is_crowded tree drafted then Err (plans.Member (below base member.path) faults.NoInode) else Ok (with_made made.0 tree base now member made.1 drafted)
 
--- a draft with a member, which may be made as something; or why it can't be made (this project)
+-- a draft with a member, if it can be made, or the reason why it can't (this project)
 abbrev pub onto : Tree → List ℕ → ℕ → Drafted → Member → Result (Made × Cred) MemberFault → Result Drafted PlanFault
 onto tree base now drafted member (Ok made) =
     with_member tree base now member made (with_way tree base now [] (way_of (steps_of member.path)) drafted)
 onto tree base now drafted member (Err cause) = Err (plans.Member member.path cause)
 
--- what comes after an Ok; a fault ends it (this project)
+-- the next step after an Ok; a fault ends it (this project)
 abbrev pub and_next : {X Y : Type 0} → Result X PlanFault → (X → Result Y PlanFault) → Result Y PlanFault
 and_next (Ok x) next = next x
 and_next (Err fault) next = Err fault
 
--- a draft, and then the calls that make members, each in turn: the calls then (this project)
+-- the calls of a draft, followed by those that make members, each in turn (this project)
 unfoldable pub plan_onto : Tree → List ℕ → ℕ → Drafted → List Member → Result (List Call) PlanFault
 plan_onto tree base now drafted [] = Ok drafted.1
 plan_onto tree base now drafted (member ∷ rest) =
     and_next (onto tree base now drafted member (check tree.geometry.edition member)) (λ next. plan_onto tree base now next rest)
 
--- whether a member is a directory, if it is made, at a path (this project)
+-- true if a member that can be made is a directory at a path (this project)
 abbrev pub is_directory_at : Result Made MemberFault → List ℕ → Bool
 is_directory_at (Ok Directory) path = is_nil (steps_of path)
 is_directory_at (Ok File) path = false
 is_directory_at (Ok Link) path = false
 is_directory_at (Err fault) path = false
 
--- whether a member is the directory in which the import is made: its path has no steps (this project)
+-- true if a member is the directory of the import: its path has no steps (this project)
 abbrev pub is_base : Member → Bool
 is_base member = is_directory_at (made_as member.header.flag member.path) member.path
 
@@ -277,19 +277,19 @@ permissions_given all = option_map (λ (member : Member). permissions_of member.
 abbrev pub permissions_told : Kind → ℕ → Option ℕ → Option ℕ
 permissions_told kind permissions given = if is_directory_kind kind then Some permissions else given
 
--- the permissions of the directory of the import, by the answer to a question for it; where it isn't there, those given (this project)
+-- the permissions of the directory of the import, by the answer for it; if it doesn't exist, those given (this project)
 abbrev pub base_permissions : Result Reply Refusal → Option ℕ → Option ℕ
 base_permissions (Ok (replies.Stat stat)) given = permissions_told stat.kind stat.permissions given
 base_permissions (Ok (replies.Bytes bytes)) given = given
 base_permissions (Ok (replies.Names names)) given = given
 base_permissions (Err refusal) given = given
 
--- the call that ends an import: it gives the directory of the import the permissions that it has, and so the volume the time; none where it has none (this project)
+-- the call that ends an import: it gives the directory of the import the permissions that it has, and so sets the volume's time; none if it has none (this project)
 abbrev pub closing_calls : ℕ → List ℕ → Option ℕ → List Call
 closing_calls now base (Some permissions) = calls.Chmod user now base permissions ∷ []
 closing_calls now base None = []
 
--- calls with the one that ends an import, if there are any (this project)
+-- calls, followed by the one that ends an import if there are any (this project)
 abbrev pub closed : ℕ → List ℕ → Option ℕ → List Call → List Call
 closed now base permissions [] = []
 closed now base permissions (call ∷ more) = call ∷ more ++ closing_calls now base permissions
@@ -299,18 +299,18 @@ abbrev pub ended : Tree → List ℕ → ℕ → List Member → Result (List Ca
 ended tree base now all made =
     and_next made (λ more. Ok (closed now base (base_permissions (answer tree (queries.Stat user base)) (permissions_given all)) more))
 
--- the calls that make the members of an archive below a path, each in turn, after the directories on the way to it that are missing, and the one that ends it; or the first member that can't be made, and why (this project)
+-- the calls that make the members of an archive below a path, each in turn after the missing directories on the way to it, and the one that ends the import; or the first member that can't be made, with the reason (this project)
 abbrev pub plan : Tree → List ℕ → ℕ → List Member → Result (List Call) PlanFault
 plan tree base now all = ended tree base now all (plan_onto tree base now ([], []) all)
 
--- a draft, as it stands (this project)
+-- a draft as contracts see it (this project)
 abbrev pub drafted : Draft → Drafted
 drafted draft = (draft.known.keys, draft.calls.items)
 
--- a fault is the one that is to be told, or want of memory (this project)
+-- a fault is the one to report, or NoMemory (this project)
 abbrev pub Tells : {X : Type 0} → Result X PlanFault → PlanFault → Type 0
 Tells wanted fault = fault ≢ plans.NoMemory → wanted ≡ Err fault
 
--- the fault where memory runs out (this project)
+-- the fault when memory runs out (this project)
 abbrev pub no_memory : PlanFault
 no_memory = plans.NoMemory

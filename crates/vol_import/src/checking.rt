@@ -1,4 +1,4 @@
-//! What speaks against making a member.
+//! Checks that a member can be made.
 ghost use Rattle.std.specs.Prelude.{◌≡◌, ◌==◌};
 ghost use Rattle.std.specs.List.{list_any};
 ghost use Rattle.vol_import.specs.Plan.{is_long_path, names_of, is_long, is_dot_dot, check_path, ends_in_slash, made_as, check_link, owner_of, check};
@@ -10,58 +10,58 @@ use vol_dir::Cred;
 use vol_layout::Edition;
 use vol_layout::slot::NAME;
 
-/// How many bytes the path of a member may have, and the path that it links to.
+/// The greatest number of bytes in the path of a member, and in the path that it links to.
 pub const MOST_PATH_BYTES: usize = 4096;
 
-/// What a member is made as.
+/// The node that a member is made as.
 #[derive(Clone, Copy, Debug, PartialEq, Eq)]
 pub enum Made {
     /// A regular file.
     File,
     /// A directory.
     Directory,
-    /// A further name of a file.
+    /// Another name of a file.
     Link,
 }
 
-/// Why no calls make a member.
+/// The reason why no calls make a member.
 #[derive(Clone, Copy, Debug, PartialEq, Eq, Error)]
 pub enum MemberFault {
-    /// It is a special file, a symbolic link, or of a kind that isn't known.
+    /// It is a special file, a symbolic link, or of an unknown kind.
     #[error("no call makes its kind")]
     Kind,
-    /// Its path is above [`MOST_PATH_BYTES`].
+    /// Its path is longer than [`MOST_PATH_BYTES`].
     #[error("its path is above 4096 bytes")]
     LongPath,
-    /// A name of its path is above 14 bytes.
+    /// A name in its path is longer than 14 bytes.
     #[error("a name is above 14 bytes")]
     LongName,
     /// Its path has a name `..`.
     #[error("its path leads up by ..")]
     DotDot,
-    /// It is a link, and the path that it leads to is above [`MOST_PATH_BYTES`].
+    /// It is a link to a path longer than [`MOST_PATH_BYTES`].
     #[error("it links to a path above 4096 bytes")]
     LongLinkPath,
-    /// It is a link, and a name of the path that it leads to is above 14 bytes.
+    /// It is a link to a path with a name longer than 14 bytes.
     #[error("it links to a name above 14 bytes")]
     LongLink,
-    /// It is a link, and the path that it leads to has a name `..`.
+    /// It is a link to a path with a name `..`.
     #[error("it links to a path that leads up by ..")]
     DotDotLink,
-    /// The number of its owner or of its group is above the edition's highest: 255 in the sixth, 32,767 in the seventh.
+    /// The number of its owner or of its group is above the edition's limit: 255 in the sixth, 32,767 in the seventh.
     #[error("no user or group of the edition")]
     Owner,
-    /// The directories of the members before it, with those on its way, are more than the volume has i-nodes. It is told with
-    /// its path in the volume, as a refused call is.
+    /// The directories of the members before it, and those on the way to it, are more than the volume has i-nodes. The fault
+    /// has the member's path in the volume, as that of a refused call does.
     #[error("more directories than the volume has i-nodes")]
     NoInode,
-    /// A field of its header is no number. Its path is the one in the header.
+    /// A field of its header has no number. The fault has the path in the header.
     #[error("a field of its header is no number")]
     Number,
 }
 
-/// What a member is made as in a volume of an edition, and for whom, or the first thing that speaks against it: its kind, its path,
-/// the path that it leads to, its owner.
+/// Returns what a member is made as in a volume of an edition, and its owner, or the first fault: of its kind, its path, the
+/// path that it links to, its owner.
 #[tactic(auto, unfolding(crate::specs::Plan::check))]
 pub fn check(edition: Edition, member: &Member) -> Result<(Made, Cred), MemberFault>
     ensures { result ≡ check edition member.now }
@@ -74,7 +74,7 @@ pub fn check(edition: Edition, member: &Member) -> Result<(Made, Cred), MemberFa
     Ok((made, owner))
 }
 
-/// What a member is made as, by its type flag and its path.
+/// Returns what a member is made as, by its type flag and its path.
 pub(crate) fn made_as(flag: TypeFlag, path: &[u8]) -> Result<Made, MemberFault>
     ensures { result ≡ made_as flag path.now }
 {
@@ -91,14 +91,15 @@ pub(crate) fn made_as(flag: TypeFlag, path: &[u8]) -> Result<Made, MemberFault>
     }
 }
 
-/// Whether a path ends in a slash.
+/// True if a path ends in a slash.
 fn ends_in_slash(path: &[u8]) -> bool
     ensures { result ≡ ends_in_slash path.now }
 {
     path.len() > 0 && path[path.len() - 1] == b'/'
 }
 
-/// Whether a path can be made: it isn't above [`MOST_PATH_BYTES`], no name of it is above 14 bytes, and none is `..`.
+/// Checks that a path can be made: it is at most [`MOST_PATH_BYTES`] long, no name in it is longer than 14 bytes, and none is
+/// `..`.
 fn check_path(path: &[u8]) -> Result<(), MemberFault>
     ensures { result ≡ check_path path.now }
 {
@@ -113,21 +114,21 @@ fn check_path(path: &[u8]) -> Result<(), MemberFault>
     }
 }
 
-/// Whether a path is above [`MOST_PATH_BYTES`].
+/// True if a path is longer than [`MOST_PATH_BYTES`].
 fn is_long_path(path: &[u8]) -> bool
     ensures { result ≡ is_long_path path.now }
 {
     path.len() > MOST_PATH_BYTES
 }
 
-/// Whether a name of a path is above 14 bytes.
+/// True if a name in a path is longer than 14 bytes.
 fn has_long_name(path: &[u8]) -> bool
     ensures { result ≡ list_any is_long (names_of path.now) }
 {
     path.split(|c| *c == b'/').any(|name| name.len() > NAME)
 }
 
-/// Whether a name of a path is `..`.
+/// True if a name in a path is `..`.
 fn has_dot_dot(path: &[u8]) -> bool
     ensures { result ≡ list_any is_dot_dot (names_of path.now) }
 {
@@ -135,7 +136,7 @@ fn has_dot_dot(path: &[u8]) -> bool
         .any(|name| name == b"..".as_slice())
 }
 
-/// Whether the path that a member leads to, if it is a link, can be walked.
+/// Checks that the path that a member links to, if it is a link, can be walked.
 fn check_link(made: Made, link: &[u8]) -> Result<(), MemberFault>
     ensures { result ≡ check_link made link.now }
 {
@@ -147,7 +148,7 @@ fn check_link(made: Made, link: &[u8]) -> Result<(), MemberFault>
     }
 }
 
-/// The owner and the group of a member, where they are numbers of the edition.
+/// Returns the owner and the group of a member, if they are numbers of the edition.
 fn owner_of(edition: Edition, header: &ReadHeader) -> Result<Cred, MemberFault>
     ensures { result ≡ owner_of edition header.now }
 {

@@ -17,7 +17,7 @@ use vol_dir::Cred;
 use vol_layout::Kind;
 use vol_volume::{Bytes, Call, Query, Reply, Volume};
 
-/// The permissions that the last member for the directory of the import gives it, if one does.
+/// Returns the permissions that the last member for the directory of the import gives it, or `None` if there is no such member.
 pub(crate) fn permissions_given(members: &[Member]) -> Option<u16>
     ensures { result ≡ permissions_given members.now }
 {
@@ -27,14 +27,14 @@ pub(crate) fn permissions_given(members: &[Member]) -> Option<u16>
     }
 }
 
-/// The last member for the directory of the import.
+/// Returns the last member for the directory of the import.
 fn last_base(members: &[Member]) -> Option<&Member>
     ensures { option_map (λ member. member.now) result ≡ find is_base (reverse members.now) }
 {
     members.iter().rev().find(|member| is_base(member))
 }
 
-/// Whether a member is the directory of the import itself.
+/// True if a member is the directory of the import itself.
 fn is_base(member: &Member) -> bool
     ensures { result ≡ is_base member.now }
 {
@@ -46,8 +46,8 @@ fn is_base(member: &Member) -> bool
     }
 }
 
-/// Appends the call that ends an import, if there are calls: the directory in which the import is made, if it is there or these
-/// make it, is given the permissions that it has, at `now`.
+/// Appends the call that ends an import, if there are calls: if the directory of the import exists or these calls make it, it
+/// is given the permissions that it has, at time `now`.
 pub(crate) fn close(
     alloc: Global,
     volume: &Volume,
@@ -73,7 +73,7 @@ pub(crate) fn close(
     Ok(())
 }
 
-/// The permissions of the directory at a path; where there is none, those that it is given.
+/// Returns the permissions of the directory at a path, or, if there is none, those that it is given.
 fn base_permissions(
     alloc: Global,
     volume: &Volume,
@@ -93,7 +93,7 @@ fn base_permissions(
     }
 }
 
-/// The permissions of a node that is a directory; else those that are given.
+/// Returns the permissions of a node that is a directory, else `given`.
 fn permissions_told(kind: Kind, permissions: u16, given: Option<u16>) -> Option<u16>
     ensures { result ≡ permissions_told kind permissions given }
 {

@@ -1,4 +1,4 @@
-//! A plan that is being made, and the directories on the way to its members.
+//! A plan in progress, and the directories on the way to its members.
 ghost use Rattle.std.specs.Prelude.{◌≡◌, ◌<◌, ◌++◌, ◌∷◌, [], IfOk, IfSome, MatchOption, OnOk, length, map, not};
 ghost use Rattle.vol_volume.specs.Answer.{answer};
 ghost use Rattle.vol_volume.specs.Volume.{reads_as};
@@ -13,20 +13,20 @@ use vol_dir::{Cred, split_component};
 use vol_layout::Kind;
 use vol_volume::{Bytes, Call, Query, Reply, Volume};
 
-/// Permissions of a directory on the way to a member.
+/// The permissions of a directory on the way to a member.
 const PERMISSIONS: u16 = 0o755;
 
-/// A plan that is being made.
+/// A plan in progress.
 #[derive(Drop)]
 pub(crate) struct Draft {
-    /// The paths of directories that are there, or that the calls make.
+    /// The paths of directories that exist or that the calls make.
     pub(crate) known: BTreeSet<StepPath>,
     /// The calls.
     pub(crate) calls: Vec<Call>,
 }
 
 impl Draft {
-    /// A plan without calls.
+    /// Returns a plan without calls.
     pub(crate) fn new(alloc: Global) -> Draft
         ensures { drafted result ≡ ([], []) }
     {
@@ -44,7 +44,7 @@ impl Draft {
         Ok(())
     }
 
-    /// Whether more directories are known than a volume has i-nodes.
+    /// True if more directories are known than a volume has i-nodes.
     #[tactic(auto, unfolding(vol_dir::specs::Tree::tree))]
     pub(crate) fn is_crowded(&self, volume: &Volume) -> bool
         ensures { result ≡ is_crowded (reads_as volume.now.edition volume.now.image).tree (drafted self.now) }
@@ -52,7 +52,7 @@ impl Draft {
         self.known.len() > usize::from(volume.geometry().last_inode)
     }
 
-    /// The calls.
+    /// Returns the calls.
     pub(crate) fn into_calls(self) -> Vec<Call>
         ensures { result.items ≡ self.calls.items }
     {
@@ -74,9 +74,9 @@ pub(crate) fn note_known(
     Ok(known.insert(StepPath::from_vec(Vec::from_slice(alloc, path)?))?)
 }
 
-/// Notes the path of a directory below another. Returns true if it is missing: it wasn't known, and is not there.
+/// Notes the path of a directory below another. Returns true if it is missing: it wasn't known, and doesn't exist.
 ///
-/// Costs a walk where it wasn't known.
+/// Costs a walk if it wasn't known.
 pub(crate) fn note_directory(
     alloc: Global,
     volume: &Volume,
@@ -93,7 +93,7 @@ pub(crate) fn note_directory(
     Ok(!is_there(alloc, volume, base, path)?)
 }
 
-/// A path behind another.
+/// Returns two paths, one after the other.
 fn behind(alloc: Global, base: &[u8], path: &[u8]) -> Result<Bytes, AllocError>
     ensures { IfOk result (λ whole. whole ≡ base.now ++ path.now) }
 {
@@ -102,7 +102,7 @@ fn behind(alloc: Global, base: &[u8], path: &[u8]) -> Result<Bytes, AllocError>
     Ok(Bytes::from_vec(bytes))
 }
 
-/// Whether there is a directory at a path below another.
+/// True if there is a directory at a path below another.
 pub(crate) fn is_there(
     alloc: Global,
     volume: &Volume,
@@ -114,7 +114,7 @@ pub(crate) fn is_there(
     Ok(is_directory(alloc, volume, behind(alloc, base, path)?))
 }
 
-/// Whether a path leads to a directory.
+/// True if a path leads to a directory.
 fn is_directory(alloc: Global, volume: &Volume, path: Bytes) -> bool
     ensures { result ≡ is_directory (answer (reads_as volume.now.edition volume.now.image).tree (questions.Stat user path)) }
 {
@@ -131,7 +131,7 @@ fn is_directory(alloc: Global, volume: &Volume, path: Bytes) -> bool
     }
 }
 
-/// Whether a node is a directory.
+/// True if a node is a directory.
 pub(crate) fn is_directory_kind(kind: Kind) -> bool
     ensures { result ≡ is_directory_kind kind }
 {
@@ -141,7 +141,7 @@ pub(crate) fn is_directory_kind(kind: Kind) -> bool
     }
 }
 
-/// The steps of a path: its components but for `.`, which leads nowhere else.
+/// Returns the steps of a path: its components except `.`, which leads nowhere else.
 pub(crate) fn steps_of<'a>(alloc: Global, path: &'a [u8]) -> Result<Vec<&'a [u8]>, AllocError>
     ensures { IfOk result (λ steps. map (λ step. step.now) steps.items ≡ steps_of path.now) }
 {
@@ -154,7 +154,7 @@ pub(crate) fn steps_of<'a>(alloc: Global, path: &'a [u8]) -> Result<Vec<&'a [u8]
     Ok(steps)
 }
 
-/// The first step of a path, and what follows it; None where the path has no step.
+/// Returns the first step of a path and the rest of the path, or `None` if the path has no step.
 pub(crate) fn first_step(path: &[u8]) -> Option<(&[u8], &[u8])>
     ensures parts { MatchOption result (steps_of path.now ≡ [])
         (λ parts. steps_of path.now ≡ parts.0.now ∷ steps_of parts.1.now) }
@@ -170,14 +170,14 @@ pub(crate) fn first_step(path: &[u8]) -> Option<(&[u8], &[u8])>
     None
 }
 
-/// Whether a name leads on.
+/// True if a name leads to another directory.
 fn is_step(name: &[u8]) -> bool
     ensures { result ≡ is_step name.now }
 {
     name != b".".as_slice()
 }
 
-/// The path of steps, each behind a slash.
+/// Returns the path of steps, each after a slash.
 pub(crate) fn joined(alloc: Global, steps: &[&[u8]]) -> Result<Vec<u8>, AllocError>
     ensures { IfOk result (λ path. path.items ≡ joined (map (λ step. step.now) steps.now)) }
 {
@@ -197,7 +197,7 @@ fn push_step(path: &mut Vec<u8>, step: &[u8]) -> Result<(), AllocError>
     Ok(())
 }
 
-/// Appends the calls that make the directories which steps go through, where they are missing, each in turn.
+/// Appends the calls that make the directories on a way, given by its steps, that are missing, each in turn.
 pub(crate) fn push_way(
     alloc: Global,
     volume: &Volume,
@@ -216,7 +216,7 @@ pub(crate) fn push_way(
     Ok(())
 }
 
-/// Appends the call that makes a directory on the way to a member, where it is missing.
+/// Appends the call that makes a directory on the way to a member, if it is missing.
 fn push_way_directory(
     alloc: Global,
     volume: &Volume,

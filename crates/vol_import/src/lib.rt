@@ -1,4 +1,4 @@
-//! Tar archives, read, and made by the calls of a volume.
+//! Reading tar archives, and making their members by the calls of a volume.
 #![tactic(auto)]
 
 pub mod checking;

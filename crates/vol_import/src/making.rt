@@ -18,18 +18,18 @@ use vol_dir::Refusal;
 use vol_layout::Edition;
 use vol_volume::{Bytes, Call, MountFault, Volume};
 
-/// Why an archive isn't imported.
+/// The reason why an archive isn't imported.
 #[derive(Debug, Drop)]
 pub enum ImportFault {
-    /// The image isn't sound. The least of the twelve rules that it breaks.
+    /// The image isn't sound: the first of the twelve rules that it breaks.
     Unsound(u8),
     /// The archive can't be read.
     Archive(ArchiveFault),
-    /// No calls make the member at this path of the archive; with [`MemberFault::NoInode`], of the volume.
+    /// No calls make the member at this path of the archive; with [`MemberFault::NoInode`], at this path of the volume.
     Member(Bytes, MemberFault),
     /// A call is refused, with its path in the volume.
     Refused(Refusal, Call),
-    /// An allocation was refused.
+    /// Memory ran out.
     NoMemory,
 }
 
@@ -46,12 +46,12 @@ impl From<MountFault> for ImportFault {
     }
 }
 
-/// Makes the members of an archive below the path `base` of the volume in some bytes, and answers its bytes then. All calls that
-/// [`plan`] gives are made, in their order and as user 0; or nothing is to be saved, and the fault says why: the image
-/// first, then the archive, the members, and the calls.
+/// Makes the members of an archive below the path `base` of the volume in some bytes, and returns the new bytes. Makes all
+/// calls of [`plan`], in order and as user 0; or there is nothing to save, and the fault has the first reason: of the image,
+/// then of the archive, then of the members, then of the calls.
 ///
-/// Takes memory to mount the image, for the paths of the members twice, and for their bytes once, beside what the calls take. The
-/// archive is dropped once its members are read.
+/// Takes memory to mount the image, for the paths of the members twice and for their bytes once, and what the calls take. Drops
+/// the archive once its members are read.
 pub fn import(
     alloc: Global,
     edition: Edition,
@@ -70,7 +70,7 @@ pub fn import(
     Ok(volume.unmount())
 }
 
-/// Mounts the volume in some bytes. Where it isn't sound, or memory runs out, the fault says so.
+/// Mounts the volume in some bytes. Fails if it isn't sound or memory runs out.
 ///
 /// Takes memory and costs what [`Volume::mount`] does.
 #[tactic(auto, using(crate::proofs::ImportFaults::is_unmounted))]
@@ -82,7 +82,8 @@ pub fn mount(alloc: Global, edition: Edition, image: Vec<u8>) -> Result<Volume, 
     Volume::mount(alloc, edition, image).map_err(|(fault, _)| ImportFault::from(fault))
 }
 
-/// An archive can't be read, for this reason. A member whose header has a field that is no number is named by the path in it.
+/// Returns the fault of an archive that can't be read. A member whose header has a field without a number is named by the path
+/// in it.
 fn unread(alloc: Global, archive: &[u8], fault: ArchiveFault) -> ImportFault
     ensures { ((result ≡ ImportFault.NoMemory) × TakesMemory fault) ⊎ (result ≡ unread archive.now fault) }
 {
@@ -102,14 +103,14 @@ fn unread(alloc: Global, archive: &[u8], fault: ArchiveFault) -> ImportFault
     }
 }
 
-/// Whether an archive has a whole block at a place.
+/// True if an archive has a whole block at a position.
 fn has_block(archive: &[u8], at: usize) -> bool
     ensures { result ≡ nat_le (at + 512) (length archive.now) }
 {
     archive.len() >= 512 && archive.len() - 512 >= at
 }
 
-/// There are no calls that make the members of an archive, for this reason.
+/// Returns the fault of members for which there are no calls.
 pub fn unplanned(fault: PlanFault) -> ImportFault
     ensures { result ≡ unplanned fault }
 {
@@ -119,7 +120,7 @@ pub fn unplanned(fault: PlanFault) -> ImportFault
     }
 }
 
-/// The calls that make the members of an archive below a path of a volume. Drops the archive once its members are read.
+/// Returns the calls that make the members of an archive below a path of a volume. Drops the archive once its members are read.
 fn calls_to_make(
     alloc: Global,
     volume: &Volume,
@@ -139,7 +140,7 @@ fn calls_to_make(
     }
 }
 
-/// The calls that make members below a path of a volume.
+/// Returns the calls that make members below a path of a volume.
 fn calls_for(
     alloc: Global,
     volume: &Volume,
@@ -156,7 +157,7 @@ fn calls_for(
     }
 }
 
-/// Makes calls on a volume, and tells as an import does which of them is refused.
+/// Makes calls on a volume, up to the first that is refused, which becomes the fault of the import.
 pub fn make(alloc: Global, volume: &mut Volume, calls: Vec<Call>) -> Result<(), ImportFault>
     ensures made { OnOk result (AreMade volume.old calls.items volume.new) }
     ensures fault { IfErr result (IsStop volume.old calls.items volume.new) }
@@ -167,7 +168,7 @@ pub fn make(alloc: Global, volume: &mut Volume, calls: Vec<Call>) -> Result<(), 
     }
 }
 
-/// A call is refused so.
+/// Returns the fault of a refused call.
 fn stopped(refusal: Refusal, call: Call) -> ImportFault
     ensures { (result ≡ ImportFault.NoMemory) ⊎ (result ≡ ImportFault.Refused refusal call) }
 {
@@ -177,8 +178,8 @@ fn stopped(refusal: Refusal, call: Call) -> ImportFault
     }
 }
 
-/// Makes calls on a volume, each in turn, up to the first that is refused: it comes back with its refusal, and the volume is as the
-/// calls before it left it.
+/// Makes calls on a volume, each in turn, up to the first that is refused. That call is handed back with its refusal, and the
+/// volume is as the calls before it left it.
 pub fn make_all(alloc: Global, volume: &mut Volume, calls: Vec<Call>) -> Result<(), (Refusal, Call)>
     ensures made { OnOk result (AreMade volume.old calls.items volume.new) }
     ensures refused { IfErr result (λ (refusal, call). AreStopped volume.old calls.items volume.new refusal call) }

@@ -12,15 +12,15 @@ use ustar::ReadHeader;
 use vol_dir::Cred;
 use vol_volume::{Bytes, Call, Volume};
 
-/// Times below this have room in a volume.
+/// The bound below which times fit a volume.
 const TIMES: u64 = 4_294_967_296;
 
-/// Why there are no calls that make the members of an archive.
+/// The reason why there are no calls that make the members of an archive.
 #[derive(Debug, Drop)]
 pub enum PlanFault {
-    /// No calls make the member at this path of the archive; with [`MemberFault::NoInode`], of the volume.
+    /// No calls make the member at this path of the archive; with [`MemberFault::NoInode`], at this path of the volume.
     Member(Bytes, MemberFault),
-    /// An allocation was refused.
+    /// Memory ran out.
     NoMemory,
 }
 
@@ -34,26 +34,26 @@ impl From<AllocError> for PlanFault {
     }
 }
 
-/// The calls that make the members of an archive below the path `base` of a volume, as user 0, each member's in turn: a regular
-/// file is made, written if it has bytes, and given to its owner if that isn't user 0 of group 0; a directory is made so, if it
-/// isn't there, and one that calls make already is given its permissions and its owner; a link becomes a further name. A call is
-/// made at the moment of its member's last change, or `now` where that has no 32 bits. Before a member each directory on the way
-/// to it that is missing is made, at `now`, with permissions 0755; that at `base` isn't. The last call, if there are any, gives
-/// the directory at `base` the permissions that it has, at `now`, which becomes the time of the volume; it is left out where no
-/// directory is there and no member makes it.
+/// Returns the calls that make the members of an archive below the path `base` of a volume, as user 0, each member's in turn. A
+/// regular file is made, written if it has bytes, and given to its owner unless that is user 0 of group 0. A directory is made
+/// in the same way if it doesn't exist; one that earlier calls make is given its permissions and its owner. A link becomes
+/// another name. A call's time is that of its member's last change, or `now` if that doesn't fit 32 bits. Before a member, each
+/// missing directory on the way to it is made, at `now`, with permissions 0755, but not the one at `base`. The last call, if
+/// there are any, gives the directory at `base` the permissions that it has, at `now`, which becomes the time of the volume; it
+/// is left out if there is no directory and no member makes it.
 ///
-/// Where no calls make a member, it is told with its path in the archive and the reason. But it is told as NoInode, with its path
-/// in the volume, where the directories of the members so far, with those on the way to it, are more than the volume has i-nodes.
-/// Calls would be refused for that too, but mostly at a member before it.
+/// If no calls make a member, the fault has its path in the archive and the reason. The fault is NoInode, with the path in the
+/// volume, if the directories of the members so far, and those on the way to it, are more than the volume has i-nodes. Calls
+/// would be refused for that too, but mostly at an earlier member.
 ///
-/// The bytes of the members go into the calls. Takes memory for the calls, each with its whole path, which is `base` and 4,097
-/// bytes at most: up to three for a member, and one for each directory that is missing. Takes memory too for the paths of
-/// directories, of members and on the way to them: each is kept once, and they are no more than the volume has i-nodes and one
-/// way has names.
+/// The bytes of the members are moved into the calls. Takes memory for the calls, each with its whole path, of at most `base`
+/// and 4,097 bytes: up to three for a member, and one for each missing directory. Also takes memory for the paths of
+/// directories, of members and on the way to them: each is kept once, and there are at most as many as the volume has i-nodes,
+/// plus the names of one way.
 ///
-/// Each member costs the square of the length of its way, since the path of each directory on it is copied and looked up, also
-/// where all are known: about 4 MB and 2,048 look-ups for a path of 4,096 bytes. A directory that isn't known costs a walk
-/// besides, and so does each member that is a directory.
+/// Each member costs the square of the length of its way, since the path of each directory on it is copied and looked up, even
+/// if all are known: about 4 MB and 2,048 look-ups for a path of 4,096 bytes. A directory that isn't known also costs a walk,
+/// and so does each member that is a directory.
 pub fn plan(
     alloc: Global,
     volume: &Volume,
@@ -102,7 +102,7 @@ fn push_member(
     }
 }
 
-/// Appends the calls that make the directories on the way to a path, where they are missing.
+/// Appends the calls that make the missing directories on the way to a path.
 fn push_way_to(
     alloc: Global,
     volume: &Volume,
@@ -118,7 +118,7 @@ fn push_way_to(
     push_way(alloc, volume, base, now, way, draft)
 }
 
-/// Appends the calls that make a member as something, for its owner.
+/// Appends the calls that make a member as a node of some kind, for its owner.
 fn push_made(
     alloc: Global,
     volume: &Volume,
@@ -151,7 +151,7 @@ fn push_made(
     }
 }
 
-/// The path of a member below another path.
+/// Returns the path of a member below another path.
 pub fn below(alloc: Global, base: &[u8], path: &[u8]) -> Result<Bytes, AllocError>
     ensures { IfOk result (λ whole. whole ≡ below base.now path.now) }
 {
@@ -161,14 +161,14 @@ pub fn below(alloc: Global, base: &[u8], path: &[u8]) -> Result<Bytes, AllocErro
     Ok(Bytes::from_vec(bytes))
 }
 
-/// The permission bits of a member.
+/// Returns the permission bits of a member.
 pub(crate) fn permissions_of(header: &ReadHeader) -> u16
     ensures { result ≡ permissions_of header.now }
 {
     (header.permissions % 4096) as u16
 }
 
-/// The moment of a member's calls: that of its last change, where it has 32 bits.
+/// Returns the time of a member's calls: that of its last change if it fits 32 bits, else `now`.
 fn moment_of(header: &ReadHeader, now: u32) -> u32
     ensures { result ≡ moment_of header.now now }
 {
@@ -180,7 +180,7 @@ fn moment_of(header: &ReadHeader, now: u32) -> u32
     }
 }
 
-/// Appends the call that gives a file or a directory to its owner: none where that is user 0 of group 0.
+/// Appends the call that gives a file or a directory to its owner, unless that is user 0 of group 0.
 fn push_owner(moment: u32, path: Bytes, owner: Cred, draft: &mut Draft) -> Result<(), AllocError>
     ensures { OnOk result (drafted draft.new ≡ with_calls (drafted draft.old) (owner_calls moment path owner)) }
 {
@@ -240,8 +240,8 @@ fn push_file(
     push_owner(moment, path, owner, draft)
 }
 
-/// Appends the calls of a member at a path below another that is a directory: none where it is there, its permissions and its
-/// owner where calls make it already, and else those that make it.
+/// Appends the calls of a member that is a directory, at a path below another: none if it exists, those that give it its
+/// permissions and its owner if earlier calls make it, else those that make it.
 fn push_directory(
     alloc: Global,
     volume: &Volume,

@@ -1,4 +1,4 @@
-//! The paths of directories, in an order.
+//! The paths of directories, as keys in order.
 ghost use Rattle.std.specs.Prelude.{◌≡◌, Some, refl};
 ghost use Rattle.std.specs.Cmp.{partial_equiv_from_equiv};
 ghost use Rattle.std.specs.Cmp.Lexicographic.{pointwise, slice_cmp, nat_list_eq_equiv, nat_list_cmp_total, texts_ties, texts_po};
@@ -8,8 +8,8 @@ ghost use Rattle.std.specs.Str.{bytes_eq};
 use std::cmp::Ordering;
 use std::marker::Model;
 
-/// The path of a directory below that of an import: its steps, each behind a slash. In the order of its bytes. A caller sees it as
-/// their list.
+/// The path of a directory below that of an import: its steps, each after a slash. Ordered by its bytes. Contracts see it as
+/// the list of these.
 #[derive(Debug, Drop)]
 pub(crate) struct StepPath {
     bytes: Vec<u8>,
@@ -24,14 +24,14 @@ impl Model for StepPath {
 }
 
 impl StepPath {
-    /// A path of these bytes. Takes no memory.
+    /// Wraps these bytes as a path. Takes no memory.
     pub(crate) fn from_vec(bytes: Vec<u8>) -> StepPath
         ensures { result ≡ bytes.items }
     {
         StepPath { bytes }
     }
 
-    /// All its bytes.
+    /// Returns all its bytes.
     pub(crate) fn as_slice(&self) -> &[u8]
         ensures { result.now ≡ self.now }
     {
@@ -44,7 +44,7 @@ impl PartialEq for StepPath {
 
     ghost laws = { partial_equiv_from_equiv nat_list_eq_equiv };
 
-    /// Whether they are the same bytes.
+    /// True if both have the same bytes.
     fn eq(&self, other: &StepPath) -> bool {
         self.as_slice() == other.as_slice()
     }

@@ -2,7 +2,7 @@ use Rattle.std.proofs.Common.{length}
 use Rattle.vol_import.proofs.MadeCalls.{GoesOn}
 use Rattle.vol_import.proofs.making.make_all.Given as goal
 
--- whatever the calls that are left come to from here, all calls come to from the start
+-- the result of the calls left from here is the result of all calls from the start
 abbrev pub invariant-calls : goal.invariant-calls
 invariant-calls l = GoesOn l.initial.volume l.fn.calls.items l.volume l.left.items
 

@@ -60,7 +60,7 @@ place_over g one other i p same place = record {
   place = subst (λ m. IsPlace (form_of g.edition m) p) (sym same) place.place;
 }
 
--- what a file that stays names
+-- the blocks that a file which stays names
 named_after : (g : Geometry) (old new : List ℕ) (i k : ℕ) (p : List ℕ) → KeepsContent g old new i → NamedBy g old i p k → NamedBy g new i p k
 named_after g old new i k p kept by =
     record { place = place_over g old new i p kept.mode by.place; is = kept.names p by.place ∙ by.is; some = by.some }
@@ -69,7 +69,7 @@ named_before : (g : Geometry) (old new : List ℕ) (i k : ℕ) (p : List ℕ) �
 named_before g old new i k p kept by =
     let place = place_over g new old i p (sym kept.mode) by.place in record { place = place; is = sym (kept.names p place) ∙ by.is; some = by.some }
 
--- a block that is named by a file goes back with it
+-- a block that a file names is freed with it
 freed_in : (g : Geometry) (image : List ℕ) (i k : ℕ) (p : List ℕ) → NamedBy g image i p k → IsIn k (blocks_freed g image i)
 freed_in g image i k p by =
     let all : blocks_freed g image i ≡ blocks_of g image i = ap (λ t. if t then blocks_of g image i else []) by.place.file.kind in
@@ -117,7 +117,7 @@ frees_or_keeps g old new d i freed rules after listed kept gone = record {
   ];
 }
   where
-    -- who names it now is who did
+    -- the file that names it now named it before
     owner : (j k f : ℕ) (p q : List ℕ) → NamedBy g old j p k → j ≡ d → NamedBy g new f q k → f ≡ j
     owner j k f p q by parent now = elim (cases_eq f d) [
       | inl same ↦ same ∙ sym parent
@@ -143,12 +143,12 @@ frees_or_keeps g old new d i freed rules after listed kept gone = record {
               inr (found.1, subst (λ f. NamedBy g new f found.1 k) (owner j k found.0 p found.1 by parent now) now)
         ]
 
--- a node that loses its last link goes
+-- a node that loses its last link is freed
 release_gone : (state : State) (now i : ℕ) → nat_le (node_at state.tree i).links 1 ≡ true → (release now i state).tree.nodes i ≡ None
 release_gone state now i few =
     ap (λ b. (cond b (remove_node i state) (drop_link now i state)).tree.nodes i) few ∙ set_here state.tree.nodes i None
 
--- what an Unlink of a name of node i in directory d reaches, by whether it was the last
+-- the reach of an Unlink of a name of node i in directory d, by whether it was the last
 abbrev kept_of : ℕ → Reach
 kept_of d = record { file = d; other = d; listed = as_before; put = None }
 

@@ -42,7 +42,7 @@ use Rattle.vol_removal.specs.Freeing.{own_names, led_to, takes_name, FreesNumber
 use Rattle.vol_removal.specs.Removal.{Takes, call_of, names_of}
 use Rattle.vol_removal.proofs.GoneTrees.{Stays, kept_name, root_stays, stays_rmdir, stays_unlink, unlinked, without}
 
--- what another node in place of one like it doesn't change
+-- replacing a node by one like it changes nothing
 pub set_alike : {X : Type 0} (f : Option Node → X) (nodes : ℕ → Option Node) (d : ℕ) (changed : Option Node) (x : ℕ) → f changed ≡ f (nodes d)
     → f (set_at nodes d changed x) ≡ f (nodes x)
 set_alike f nodes d changed x same = elim (cases_eq x d) [
@@ -74,7 +74,7 @@ pub without_links : (now : ℕ) (name : List ℕ) (node : Option Node) → links
 without_links now name None = refl
 without_links now name (Some node) = refl
 
--- the own names of a directory, and of what is none
+-- the own names of a directory, and of other nodes
 own_map : (node : Option Node) → is_map node ≡ true → own_names node ≡ 1
 own_map None is = absurd (cc)
 own_map (Some node) is = ap (λ b. cond b 1 node.links) is
@@ -83,7 +83,7 @@ own_links : (node : Option Node) → is_map node ≡ false → own_names node �
 own_links None is = refl
 own_links (Some node) is = ap (λ b. cond b 1 node.links) is
 
--- a link less is one of them, but for a directory
+-- a link fewer is a name fewer, except for a directory
 map_unlinked : (now : ℕ) (node : Option Node) → is_map node ≡ true → own_names (unlinked now node) ≡ own_names node
 map_unlinked now None is = refl
 map_unlinked now (Some node) is = ap (λ b. cond b 1 (node.links - 1)) is ∙ sym (ap (λ b. cond b 1 node.links) is)
@@ -104,7 +104,7 @@ own_set nodes i changed less x = elim (cases_eq x i) [
       ap own_names (set_beside nodes i changed x other) ∙ (none ∙ ap (λ b. own_names (nodes x) - cond b 1 0) (sym (ne_eqb x i other)))
 ]
 
--- what is searched is a directory
+-- a node that may be searched is a directory
 pub searched_is : (node : Option Node) (names : Names) → searched node ≡ Ok names → is_map node ≡ true
 searched_is None names is = absurd (cc)
 searched_is (Some node) names is = by node.content is
@@ -124,7 +124,7 @@ walk_joined tree path front name d i parts walks found =
     ∙ (ap (λ (r : Result ℕ Refusal). and_then r (λ j. walk_from tree user j (name ∷ []))) walks
     ∙ ap (λ (r : Result ℕ Refusal). and_then r (λ j. Ok j)) found))
 
--- what a call that takes away a name leaves of the own names of nodes, and of the names that are found
+-- the own names of nodes, and the names that are found, after a call that removes a name
 pub record TakesName (state new : State) (path : List ℕ) : Type 0 where
   pub i : ℕ
   pub walked : walk state.tree user path ≡ Ok i
@@ -160,7 +160,7 @@ names_were old new now d name stays x word j is =
       | inr other ↦ ap (λ n. found n word) (sym (set_beside old d less x other)) ∙ mid
     ]
 
--- the path of a name that is there leads to what it names
+-- the path of a name that exists leads to the node that it names
 number_walked : (tree : Tree) (path : List ℕ) (d : ℕ) (name : List ℕ) → Reaches tree path d name → has_name tree d name ≡ true
     → walk tree user path ≡ Ok (number_of_name tree d name)
 number_walked tree path d name reached there =

@@ -1,4 +1,4 @@
--- What the last of the calls leaves of the path.
+-- The path after the last of the calls.
 use Rattle.std.proofs.Common.{◌≡◌, ◌≢◌, ◌∙◌, sym, ap, subst, ℕ, false, cond, List, [], ◌∷◌, ◌++◌, None, Some, Ok, Err}
 use Rattle.std.specs.Prelude.{Option}
 use Rattle.std.specs.List.{list_any}
@@ -28,7 +28,7 @@ use Rattle.vol_volume.specs.declared.calls.Call.TheVariants.{Unlink, Rmdir}
 use Rattle.vol_volume.specs.declared.calls.Done.{Done}
 use Rattle.vol_volume.specs.declared.queries.Query.TheVariants as queries
 
--- a walk that is refused is what a question is refused
+-- a Stat of a path is refused as its walk is
 answer_of : (tree : Tree) (path : List ℕ) (refusal : Refusal) → is_bad_id tree.geometry.edition 0 0 ≡ false → list_any has_zero (path ∷ []) ≡ false
     → walk tree user path ≡ Err refusal → answer tree (queries.Stat user path) ≡ Err refusal
 unfolding query_refusal

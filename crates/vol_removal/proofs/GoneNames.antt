@@ -9,7 +9,7 @@ use Rattle.vol_dir.specs.declared.cred.Cred.{Cred}
 use Rattle.vol_dir.specs.declared.refusal.Refusal.{Refusal}
 use Rattle.vol_dir.specs.declared.refusal.Refusal.TheVariants as refusals
 
--- the new tree is the old one, but that directory d has lost a name, and that what no name leads to may be gone
+-- the new tree is the old one, except that directory d has lost a name, and that a node without names may be freed
 pub record LosesName (old new : Tree) (cred : Cred) (d : ℕ) (name : List ℕ) : Type 0 where
   pub searched : (x : ℕ) (names : Names) → new.nodes x ≢ None → search old cred x ≡ Ok names → (others : Names) × (search new cred x ≡ Ok others)
   pub kept : (x : ℕ) (names others : Names) (word : List ℕ) (y : ℕ) → new.nodes x ≢ None → search old cred x ≡ Ok names → search new cred x ≡ Ok others
@@ -17,7 +17,7 @@ pub record LosesName (old new : Tree) (cred : Cred) (d : ℕ) (name : List ℕ) 
   pub lost : (others : Names) → new.nodes d ≢ None → search new cred d ≡ Ok others → get others name ≡ None
   pub leads : (x : ℕ) (others : Names) (word : List ℕ) (y : ℕ) → search new cred x ≡ Ok others → get others word ≡ Some y → new.nodes y ≢ None
 
--- where a map has a name, a search goes on
+-- a search continues from a name that the map has
 found_from : (tree : Tree) (cred : Cred) (x : ℕ) (names : Names) (word : List ℕ) (words : List (List ℕ)) (found : Option ℕ) → search tree cred x ≡ Ok names
     → get names word ≡ found
     → walk_from tree cred x (word ∷ words) ≡ and_then (ok_or found refusals.NoEntry) (λ y. walk_from tree cred y words)

@@ -18,7 +18,7 @@ use Rattle.vol_change.proofs.NodeEdits.{set_here}
 use Rattle.vol_import.proofs.TreeWalks.{named, searched}
 use Rattle.vol_removal.proofs.GoneNames.{LosesName}
 
--- what still is a node is searched as before
+-- a node that still exists is searched as before
 abbrev pub Stays : (ℕ → Option Node) → (ℕ → Option Node) → Type 0
 Stays old new = (x : ℕ) → new x ≢ None → (old x ≢ None) × (searched (new x) ≡ searched (old x))
 
@@ -28,7 +28,7 @@ stays_then old mid new first second x is =
     let a = first x b.0 in
     (a.0, b.1 ∙ a.1)
 
--- a node goes
+-- a node is removed
 stays_removed : (nodes : ℕ → Option Node) (i : ℕ) → Stays nodes (set_at nodes i None)
 stays_removed nodes i x is = elim (cases_eq x i) [
   | inl here ↦ absurd (is (ap (set_at nodes i None) here ∙ set_here nodes i None))
@@ -52,7 +52,7 @@ stays_unlinked nodes now i x is = elim (cases_eq x i) [
   | inr other ↦ let same = set_beside nodes i (unlinked now (nodes i)) x other in (λ none. is (same ∙ none), ap searched same)
 ]
 
--- a node loses a link, and goes with the last
+-- a node loses a link, and is removed with the last
 stays_released : (state : State) (now i : ℕ) → Stays state.tree.nodes (release now i state).tree.nodes
 stays_released state now i =
     elim (nat_le (node_at state.tree i).links 1) as (λ b. Stays state.tree.nodes (cond b (remove_node i state) (drop_link now i state)).tree.nodes) [
@@ -96,7 +96,7 @@ with_name now name (Some node) others is =
 lost_name : (names : Names) (name : List ℕ) → get (remove names name) name ≡ None
 lost_name names name = get_remove names name name ∙ ap (λ b. cond b None (get names name)) (bytes_same name name refl)
 
--- what else is found was there
+-- any other name that is found existed before
 pub kept_name : (names : Names) (name word : List ℕ) (y : ℕ) → get (remove names name) word ≡ Some y → get names word ≡ Some y
 kept_name names name word y is =
     elim (bytes_eq name word) as (λ b. cond b None (get names word) ≡ Some y → get names word ≡ Some y) [
@@ -137,7 +137,7 @@ loses old new now d name stays leads = record {
     beside : (x : ℕ) → x ≢ d → set_at old.nodes d (without now name (old.nodes d)) x ≡ old.nodes x
     beside x other = set_beside old.nodes d (without now name (old.nodes d)) x other
 
--- a name goes
+-- a name is removed
 stays_without : (state : State) (now d : ℕ) (name : List ℕ) → Stays (set_at state.tree.nodes d (without now name (state.tree.nodes d))) (remove_entry now d name state).tree.nodes
 stays_without state now d name x is = (is, refl)
 

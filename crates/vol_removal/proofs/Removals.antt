@@ -1,4 +1,4 @@
--- What a removal comes to, and why there is none.
+-- The result of a removal, and the reasons why there is none.
 use Rattle.std.proofs.Common.{◌≡◌, ◌∙◌, sym, ap, subst, refl, ℕ, List, [], ◌∷◌, ◌++◌, Err}
 use Rattle.vol_layout.specs.Geometry.{geometry_of}
 use Rattle.vol_judge.specs.Sound.{IsSound}
@@ -90,7 +90,7 @@ all_removed edition image path bytes now old new calls sound is removal made con
     (subst (λ (v : Mounted). IsRemoval (reads_as v.edition v.image).tree path now calls) is removal)
     (subst (λ (v : Mounted). AreMade v calls new) is made) consistent)
 
--- what isn't mounted is told
+-- a fault of mounting is reported
 unmounted_reason : (edition : Edition) (image path : List ℕ) (now : ℕ) (why : MountFault) → IsFaultOf edition image why → IsReason edition image path now (unmounted why)
 unfolding IsReason
 unmounted_reason edition image path now (mounts.Unsound rule) is = is
@@ -105,7 +105,7 @@ pub is_unmounted : (edition : Edition) (image : List ℕ) (why : MountFault) (fa
 unfolding IsUnmounted
 is_unmounted edition image why fault is cause = (why, is, cause)
 
--- a path that leads to nothing is told
+-- a path that leads nowhere is reported
 missing_reason : (edition : Edition) (image path : List ℕ) (now : ℕ) (fault : RemovalFault) → IsSound edition image
     → IsNotFound (reads_as edition image).tree path fault → IsReason edition image path now fault
 unfolding IsReason
@@ -119,7 +119,7 @@ pub not_found : (edition : Edition) (image path : List ℕ) (now : ℕ) (old : M
 not_found edition image path now old fault sound is missing =
     missing_reason edition image path now fault sound (subst (λ (v : Mounted). IsNotFound (reads_as v.edition v.image).tree path fault) is missing)
 
--- a refused call is told
+-- a refused call is reported
 stop_reason : (edition : Edition) (image path : List ℕ) (now : ℕ) (calls : List Call) (new : Mounted) (fault : RemovalFault) → IsSound edition image
     → IsRemoval (reads_as edition image).tree path now calls → IsStop (mounted edition image) calls new fault → IsReason edition image path now fault
 unfolding IsStop IsReason

@@ -1,4 +1,4 @@
--- The calls that take away what paths lead to.
+-- The calls that remove paths.
 use Rattle.std.proofs.Common.{◌≡◌, ◌∙◌, sym, ap, subst, refl, ℕ, List, [], ◌∷◌, ◌++◌, append_assoc}
 use Rattle.std.specs.Prelude.{reverse}
 use Rattle.std.proofs.lemmas.List.{append-nil, reverse-append}
@@ -20,7 +20,7 @@ takes_split tree now (path ∷ paths) more _ (Takes.next _ _ inner others below 
       parts.4,
     )
 
--- the calls of more paths behind those of the first
+-- the calls of more paths after those of the first
 takes_join : (tree : Tree) (now : ℕ) (paths more : List (List ℕ)) (first second : List Call) → Takes tree now paths first → Takes tree now more second
     → Takes tree now (paths ++ more) (first ++ second)
 takes_join tree now _ more _ second Takes.none rest = rest
@@ -43,7 +43,7 @@ takes_once tree now _ _ _ (Takes.next path rest inner others below beside) (Take
     ap (λ calls. calls ++ call ∷ others) (takes_once tree now _ inner inner2 below below2)
     ∙ ap (λ calls. inner2 ++ call ∷ calls) (takes_once tree now rest others others2 beside beside2)
 
--- whatever calls take away what is pending, those before the calls so far, in reverse, take away what the path leads to
+-- if some calls remove the pending paths, they and then the calls so far, in reverse, remove the path
 pub TakesOn : Tree → ℕ → List ℕ → List (List ℕ) → List Call → Type 0
 TakesOn tree now path pending calls = (first : List Call) → Takes tree now pending first → Takes tree now (path ∷ []) (first ++ reverse calls)
 
@@ -72,7 +72,7 @@ on_path tree now path next pending rest after calls more call on popped pushed i
     ∙ (ap (λ cs. cs ++ call ∷ reverse calls) (sym parts.2) ∙ ap (λ cs. first ++ cs) (sym turned))) in
     subst (Takes tree now (path ∷ [])) same (on (parts.0 ++ (parts.1 ++ call ∷ [])) all)
 
--- where no path is pending, all calls are there
+-- if no path is pending, all calls are there
 pub on_end : (tree : Tree) (now : ℕ) (path : List ℕ) (pending : List (List ℕ)) (calls : List Call) → TakesOn tree now path pending calls → pending ≡ []
     → Takes tree now (path ∷ []) (reverse calls)
 unfolding TakesOn

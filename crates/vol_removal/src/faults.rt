@@ -1,20 +1,20 @@
-//! Why nothing is taken away.
+//! The reasons why nothing is removed.
 ghost use Rattle.std.specs.Prelude.{◌≡◌};
 
 use std::alloc::AllocError;
 use vol_dir::Refusal;
 use vol_volume::{Call, MountFault};
 
-/// Why what a path leads to isn't taken away.
+/// The reason why a path isn't removed.
 #[derive(Debug, Drop)]
 pub enum RemovalFault {
-    /// The image isn't sound. The least of the twelve rules that it breaks.
+    /// The image isn't sound: the first of the twelve rules that it breaks.
     Unsound(u8),
-    /// The path leads to nothing: a question for it is refused so.
+    /// The path leads nowhere: the refusal of a Stat of it.
     Missing(Refusal),
     /// A call is refused.
     Refused(Refusal, Call),
-    /// An allocation was refused.
+    /// Memory ran out.
     NoMemory,
 }
 

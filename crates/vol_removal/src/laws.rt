@@ -1,7 +1,7 @@
-//! A law of removals. A call does nothing: what matters is the contract, which is proved.
+//! A law about removals. The function does nothing: the contract, which is proved, is the point.
 ghost use Rattle.vol_removal.specs.Laws.{IsOneRemoval};
 
-/// Of every tree, one list of calls alone takes away what a path leads to.
+/// In every tree, exactly one list of calls removes a path.
 pub fn removals_are_one()
     ensures { IsOneRemoval }
 {}

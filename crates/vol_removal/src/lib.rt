@@ -1,4 +1,4 @@
-//! What a path leads to, and all that is below it, taken away by the calls of a volume.
+//! Removing a path and everything below it, by the calls of a volume.
 #![tactic(auto)]
 
 pub mod faults;

@@ -1,4 +1,4 @@
-//! The calls that take away what a path leads to.
+//! The calls that remove a path.
 ghost use Rattle.std.specs.Prelude.{◌≡◌, ◌++◌, ◌∷◌, [], IfOk, IfErr, OnOk, Some};
 ghost use Rattle.vol_volume.specs.Volume.{reads_as};
 ghost use Rattle.vol_removal.specs.Removal.{IsFound, IsNotFound, IsRemoval, Takes, names_of, path_of, paths_of, call_of};
@@ -9,15 +9,14 @@ use vol_dir::{Cred, Refusal, is_dots};
 use vol_import::planning::below;
 use vol_volume::{Bytes, Call, Listing, Query, Reply, Volume};
 
-/// The calls that take away what a path of a volume leads to, as user 0 and at the moment `now`: of a directory first all that is
-/// below it, the names of each directory in ascending order of their bytes, and then the directory itself by an Rmdir; of what is
-/// no directory the one name, by an Unlink, whatever other names it has. The path of what is in a directory is that of the
-/// directory, a slash and the name. Nothing changes. The calls may be refused: no Rmdir takes the root, or a directory whose path
-/// ends in `.` or `..`.
+/// Returns the calls that remove a path of a volume, as user 0 and at time `now`: for a directory, first everything below it,
+/// with the names of each directory in ascending order of their bytes, and then the directory itself, by an Rmdir; for any
+/// other node the one name, by an Unlink, whatever other names it has. The path of an entry in a directory is that of the
+/// directory, a slash and the name. Changes nothing. The calls may be refused: no Rmdir removes the root, or a directory whose
+/// path ends in `.` or `..`.
 ///
-/// Where the path leads to nothing, the fault tells the refusal of a Stat of it. Takes memory for the calls with a path each, and
-/// for the names of one directory at a time. Costs for each thing that is met the walk of its path, and for each directory what a
-/// List of it costs.
+/// If the path leads nowhere, the fault has the refusal of a Stat of it. Takes memory for the calls, with a path each, and for
+/// the names of one directory at a time. Costs the walk of the path of each node that is met, and a List of each directory.
 pub fn removal(
     alloc: Global,
     volume: &Volume,
@@ -31,7 +30,7 @@ pub fn removal(
     Ok(calls_for(alloc, volume, Bytes::from_slice(alloc, path)?, now)?)
 }
 
-/// Asks whether a path leads to anything.
+/// Checks that a path leads somewhere.
 fn find(alloc: Global, volume: &Volume, path: Bytes) -> Result<(), RemovalFault>
     ensures found { OnOk result (IsFound (reads_as volume.now.edition volume.now.image).tree path) }
     ensures fault { IfErr result (IsNotFound (reads_as volume.now.edition volume.now.image).tree path) }
@@ -48,7 +47,7 @@ fn find(alloc: Global, volume: &Volume, path: Bytes) -> Result<(), RemovalFault>
     }
 }
 
-/// The calls that take away what a path leads to, with all that is below it.
+/// Returns the calls that remove a path and everything below it.
 fn calls_for(alloc: Global, volume: &Volume, path: Bytes, now: u32) -> Result<Vec<Call>, AllocError>
     ensures { IfOk result (λ calls. Takes (reads_as volume.now.edition volume.now.image).tree now (path ∷ []) calls.items) }
 {
@@ -62,7 +61,7 @@ fn calls_for(alloc: Global, volume: &Volume, path: Bytes, now: u32) -> Result<Ve
     Ok(calls)
 }
 
-/// The call that takes away what a path leads to. Appends the paths of what is in it, if it is a directory.
+/// Returns the call that removes a path. Appends the paths of the entries in it, if it is a directory.
 fn call_for(
     alloc: Global,
     volume: &Volume,
@@ -88,7 +87,7 @@ fn call_for(
     })
 }
 
-/// The names of the directory that a path leads to; None where it leads to no directory.
+/// Returns the names of the directory to which a path leads, or `None` if it leads to no directory.
 fn names_of(alloc: Global, volume: &Volume, path: Bytes) -> Result<Option<Listing>, AllocError>
     ensures { IfOk result (λ names. names ≡ names_of (reads_as volume.now.edition volume.now.image).tree path) }
 {
@@ -105,7 +104,7 @@ fn names_of(alloc: Global, volume: &Volume, path: Bytes) -> Result<Option<Listin
     }
 }
 
-/// Appends the paths of names, but for `.` and `..`, in the directory that a path leads to.
+/// Appends the paths of names, except `.` and `..`, in the directory to which a path leads.
 fn push_paths(
     alloc: Global,
     path: &[u8],
@@ -120,7 +119,7 @@ fn push_paths(
     Ok(())
 }
 
-/// Appends the path of a name in the directory that a path leads to; of `.` and `..` not.
+/// Appends the path of a name in the directory to which a path leads, unless the name is `.` or `..`.
 fn push_path(
     alloc: Global,
     path: &[u8],

@@ -1,4 +1,4 @@
-//! Taking away what a path leads to, all or nothing.
+//! Removing a path, all or nothing.
 ghost use Rattle.std.specs.Prelude.{◌≡◌, IfOk, IfErr, OnOk};
 ghost use Rattle.vol_judge.specs.Sound.{IsSound};
 ghost use Rattle.vol_volume.specs.Volume.{mounted};
@@ -13,11 +13,11 @@ use vol_import::make_all;
 use vol_layout::Edition;
 use vol_volume::{Call, Volume};
 
-/// Takes away what a path of the volume in some bytes leads to, and of a directory all that is below it, and answers the bytes of
-/// the volume then, in which the path leads to nothing. All calls that [`removal`] gives are made, in their order and as user 0; or
-/// nothing is to be saved, and the fault says why: the image first, then the path, and the calls.
+/// Removes a path of the volume in some bytes, and for a directory everything below it, and returns the new bytes of the
+/// volume, in which the path leads nowhere. Makes all calls of [`removal`], in order and as user 0; or there is nothing to
+/// save, and the fault has the first reason: of the image, then of the path, then of the calls.
 ///
-/// Takes memory to mount the image, and what [`removal`] and the calls take. Costs that and the calls: each thing that goes costs
+/// Takes memory to mount the image, and what [`removal`] and the calls take. Costs that and the calls: for each node removed,
 /// the walk of its path and a search of its directory.
 pub fn remove_all(
     alloc: Global,
@@ -45,7 +45,7 @@ fn mount(alloc: Global, edition: Edition, image: Vec<u8>) -> Result<Volume, Remo
     Volume::mount(alloc, edition, image).map_err(|(fault, _)| RemovalFault::from(fault))
 }
 
-/// Makes calls on a volume, and tells which of them is refused.
+/// Makes calls on a volume, up to the first that is refused, which becomes the fault.
 #[tactic(auto, unfolding(crate::specs::Removing::IsStop))]
 fn make(alloc: Global, volume: &mut Volume, calls: Vec<Call>) -> Result<(), RemovalFault>
     ensures made { OnOk result (AreMade volume.old calls.items volume.new) }

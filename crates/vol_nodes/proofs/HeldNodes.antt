@@ -1,4 +1,4 @@
--- What an i-node of some kind says of its node.
+-- The node that an i-node of some kind describes.
 use Rattle.std.proofs.Common.{◌≡◌, ◌≢◌, ℕ, ◌≤◌, ◌<◌, ◌/◌, ◌%◌, ◌==◌, cond, if◌then◌else◌, true, false, List, None, Some, Ok, Err, refl, ap, sym, ◌∙◌, arith}
 use Rattle.std.specs.Prelude.{Option, slice_index}
 use Rattle.std.specs.Option.{is_some, option_map, option_map_or, ok_or}
@@ -64,7 +64,7 @@ module _ (geometry : Geometry) (image : List ℕ) where
   held i kind first last is used known =
       record { first = first; last = last; is = sym is; some = some_by i kind used known; node = node_by i kind first last (sym is) }
 
-  -- what is told of an i-node of some kind
+  -- the attributes of an i-node of some kind
   abbrev told : ℕ → ℕ → Kind → Inode → Stat
   told i permissions kind node = record {
     number = i;
@@ -87,12 +87,12 @@ module _ (geometry : Geometry) (image : List ℕ) where
   told_by i kinds.Special has = sym (ap (option_map (stat_of i)) has.node)
   told_by i kinds.Odd has = absurd (false≢true has.some)
 
-  -- what is told of an i-node is told of its node
+  -- the attributes of an i-node are those of its node
   pub told_is : (i permissions : ℕ) (kind : Kind) (node : Inode) → HasNode geometry image i kind → node ≡ inode_of geometry.edition image i
       → permissions ≡ node.mode.bits % 4096 → Some (told i permissions kind node) ≡ stat_in (tree geometry image) i
   told_is i permissions kind node has node_is permissions_are = rw (permissions_are, node_is) (told_by i kind has)
 
-  -- and nothing of no node
+  -- and no node has none
   pub told_none : (i : ℕ) → (tree geometry image).nodes i ≡ None → stat_in (tree geometry image) i ≡ None
   told_none i none = ap (option_map (stat_of i)) none
 
@@ -140,7 +140,7 @@ module _ (geometry : Geometry) (image : List ℕ) where
   pub number_none : (i : ℕ) → (tree geometry image).nodes i ≡ None → number_in (tree geometry image) i ≡ Err faults.Stale
   number_none i none = ap (λ (node : Option Node). after_ok (ok_or node faults.Stale) (λ _. Ok i)) none
 
-  -- a special file stands for what its i-node says
+  -- the device of a special file is the one in its i-node
   pub special_is : (i number : ℕ) (node : Inode) → HasNode geometry image i kinds.Special → node ≡ inode_of geometry.edition image i
       → number ≡ slice_index node.addresses 0 % 65536
       → special_in (tree geometry image) i ≡ Some (record { is_block = is_block (special_kind node); major = number / 256; minor = number % 256 })
@@ -156,7 +156,7 @@ module _ (geometry : Geometry) (image : List ℕ) where
         minor = slice_index stored.addresses 0 % 65536 % 256;
       })) halved)
 
-  -- another kind stands for none
+  -- a node of another kind has no device
   pub special_other : (i : ℕ) (kind : Kind) → HasNode geometry image i kind → kind ≢ kinds.Special → special_in (tree geometry image) i ≡ None
   special_other i kinds.Free has other = absurd (false≢true has.some)
   special_other i kinds.Regular has other = ap (λ (node : Option Node). option_map_or (λ (n : Node). special_of n.content) node None) has.node

@@ -1,4 +1,4 @@
--- The entries that a listing meets are those of all slots.
+-- The entries that a listing finds are those of all slots.
 use Rattle.std.proofs.Common.{◌≡◌, ℕ, zero, suc, ◌+◌, ◌-◌, ◌<◌, ◌≤◌, List, [], ◌∷◌, map, None, Some, refl, ap, ◌∙◌, arith}
 use Rattle.std.specs.Prelude.{Option}
 use Rattle.std.specs.List.{range_with_len}
@@ -21,7 +21,7 @@ names_empty entry from (suc n) none =
     ap (λ first. names_of (first ∷ map entry (range_with_len (from + 1) n))) (none from (omega arith) (omega arith))
     ∙ names_empty entry (from + 1) n (λ t low high. none t (omega arith) (omega arith))
 
--- and are passed over
+-- and are skipped
 names_passed : (entry : ℕ → Option (List ℕ × ℕ)) (from k n s : ℕ) → from + k ≡ s → ((t : ℕ) → from ≤ t → t < s → entry t ≡ None)
     → names_of (map entry (range_with_len from (k + n))) ≡ names_of (map entry (range_with_len s n))
 names_passed entry from zero n s is none =

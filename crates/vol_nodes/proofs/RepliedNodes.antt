@@ -1,4 +1,4 @@
--- Of a sound image, answers by i-number are those to queries by path.
+-- On a sound image, requests by i-number agree with queries by path.
 use Rattle.std.proofs.Common.{◌≡◌, ◌≢◌, ℕ, ◌≤◌, false, not, nat_lt, ◌||◌, if◌then◌else◌, List, [], ◌∷◌, ◌++◌, length, Option, None, Some, Result, Ok, Err, refl, ap, ◌∙◌, arith}
 use Rattle.std.specs.Prelude.{◌↔◌}
 use Rattle.std.specs.Option.{is_some, option_map, option_map_or, ok_or, unwrap_or}
@@ -50,7 +50,7 @@ good_id : (edition : Edition) → is_bad_id edition 0 0 ≡ false
 good_id V6 = refl
 good_id V7 = refl
 
--- of a path without zero byte what follows is asked
+-- a path without a zero byte passes this check
 asked : (geometry : Geometry) (image path : List ℕ) (others : Option Refusal) → has_zero path ≡ false
     → then_others (tree geometry image) user (path ∷ []) others ≡ others
 unfolding tree
@@ -58,15 +58,15 @@ asked geometry image path others nonzero =
     ap (λ b. if b then Some refusals.BadId else if has_zero path || false then Some refusals.Invalid else others) (good_id geometry.edition)
     ∙ ap (λ z. if z || false then Some refusals.Invalid else others) nonzero
 
--- a reply to what isn't refused is the answer
+-- the reply to a query that isn't refused is the answer
 answered : (tree : Tree) (query : Query) (reply : Reply) → query_refusal tree query ≡ None → reply_of tree query ≡ Ok reply → answer tree query ≡ Ok reply
 answered tree query reply none is = ap (λ r. refused_or r (reply_of tree query)) none ∙ is
 
--- what is refused has no reply
+-- a refused query has no reply
 unanswered : (tree : Tree) (query : Query) (refusal : Refusal) → query_refusal tree query ≡ Some refusal → answer tree query ≡ Err refusal
 unanswered tree query refusal is = ap (λ r. refused_or r (reply_of tree query)) is
 
--- the node of a number, where there is one
+-- the node of a number, if there is one
 at_node : (tree : Tree) (i : ℕ) (n : Node) → tree.nodes i ≡ Some n → node_at tree i ≡ n
 at_node tree i n is = ap (λ m. unwrap_or m no_node) is
 
@@ -84,15 +84,15 @@ stats_replied edition image path i leads nonzero =
           ∙ ap (λ n. Ok (replies.Stat (stat_of i n))) (at_node t i node.0 node.1)),
     )
 
--- what a Read is refused for, by what the node holds
+-- the refusal of a Read, by the node's content
 abbrev tested : Content → Option Refusal
 tested content = first_of ((is_some (map_of content), refusals.IsDirectory) ∷ (is_device content, refusals.NotRegular) ∷ (false, refusals.Access) ∷ [])
 
--- what bytes are read, by what the node holds
+-- the bytes of a Read, by the node's content
 abbrev bytes_by : Content → ℕ → ℕ → Result (List ℕ) NodeFault
 bytes_by content offset len = after_ok (ok_or (bytes_of content) faults.NotRegular) (λ bytes. Ok (read_bytes bytes offset len))
 
--- bytes are read if and only if they are replied, by what the node holds
+-- bytes are read if and only if they are replied, by the node's content
 same_bytes : (content : Content) (read : Result (List ℕ) NodeFault) (refusal : Option Refusal) (reply : Result Reply Refusal) (offset len : ℕ) (bytes : List ℕ)
     → read ≡ bytes_by content offset len → refusal ≡ tested content → reply ≡ Ok (replies.Bytes (read_bytes (body_of content) offset len))
     → (read ≡ Ok bytes) ↔ (refused_or refusal reply ≡ Ok (replies.Bytes bytes))
@@ -129,7 +129,7 @@ none_leads : (look : Result ℕ NodeFault) (find : Result ℕ Refusal) (i : ℕ)
     → (look ≡ Ok i) ↔ (find ≡ Ok i)
 none_leads look find i fault refusal look_is find_is = (λ e. cc, λ e. cc)
 
--- what a name leads to, by what a map has for it
+-- the node that a name leads to, by a map's entry for it
 abbrev numbered : Tree → Option ℕ → Result ℕ NodeFault
 numbered t found = after_ok (ok_or found faults.NoEntry) (number_in t)
 
@@ -141,11 +141,11 @@ same_found t (Some y) look find i there look_is find_is =
     let node = some_node (t.nodes y) (there y refl) in
     both_lead look find i y (look_is ∙ ap (λ (n : Option Node). after_ok (ok_or n faults.Stale) (λ _. Ok y)) node.1) find_is
 
--- the map that user 0 finds in a node, by what it holds
+-- the map that user 0 finds in a node, by its content
 abbrev searched : Content → Result Names Refusal
 searched content = option_map_or (λ names. Ok names) (map_of content) (Err refusals.NotDirectory)
 
--- a name leads from a node as a step of a walk does, by what the node holds
+-- a name leads from a node as a step of a walk does, by the node's content
 same_step : (t : Tree) (d i : ℕ) (name : List ℕ) (content : Content) (look : Result ℕ NodeFault) (find : Result ℕ Refusal)
     → ((names : Names) (y : ℕ) → searched content ≡ Ok names → get names name ≡ Some y → t.nodes y ≢ None)
     → look ≡ after_ok (ok_or (map_of content) faults.NotDirectory) (λ names. numbered t (get names name))

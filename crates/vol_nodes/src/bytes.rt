@@ -10,7 +10,7 @@ use crate::nodes::node_kind;
 use pdp_words::Image;
 use vol_layout::{Geometry, Kind};
 
-/// Returns Ok if node `i` is a regular file.
+/// Returns `Ok` if node `i` is a regular file.
 fn regular(image: &Image, geometry: &Geometry, i: u16) -> Result<(), NodeFault>
     requires fits { Fits geometry.now image.now }
     ensures bytes { MatchResult result
@@ -26,10 +26,10 @@ fn regular(image: &Image, geometry: &Geometry, i: u16) -> Result<(), NodeFault>
     }
 }
 
-/// Reads bytes of regular file `i` from byte `offset` on, as many as there are and `buffer` has room for, and returns how many: none
-/// at the end of the file and past it. The rest of `buffer` stays. Holes read as zeros.
+/// Reads bytes of regular file `i` from byte `offset` into `buffer`, up to the file's end or the buffer's, and returns their
+/// number: 0 at the end of the file and past it. The rest of `buffer` is unchanged. Holes read as zeros.
 ///
-/// Stale if no node has this number, then NotRegular; `buffer` stays.
+/// Returns `Stale` if no node has this number, then `NotRegular`; `buffer` is then unchanged.
 ///
 /// Takes no memory. Costs what [`vol_file::read`] costs.
 pub fn read(

@@ -1,16 +1,16 @@
-//! Why there is no answer for a node.
+//! Errors of a node.
 use thiserror::Error;
 
-/// Why there is no answer for a node.
+/// Why a request for a node failed.
 #[derive(Clone, Copy, Debug, PartialEq, Eq, Error)]
 pub enum NodeFault {
-    /// The number is not that of a node: it isn't the volume's, or its i-node is free or of no kind of the edition.
+    /// The number isn't that of a node: it is outside the volume, or its i-node is free or of no kind of the edition.
     #[error("no node has this number")]
     Stale,
-    /// The node is no directory.
+    /// The node isn't a directory.
     #[error("not a directory")]
     NotDirectory,
-    /// The node is no regular file.
+    /// The node isn't a regular file.
     #[error("not a regular file")]
     NotRegular,
     /// The directory has no such name.

@@ -1,23 +1,24 @@
-//! Laws of the answers by i-number: of a sound image they are those to queries by path. A call does nothing: what matters is the
-//! contract, which is proved.
+//! Laws of requests by i-number: on a sound image they agree with queries by path. Calling a law does nothing; its contract is
+//! proved.
 ghost use Rattle.vol_nodes.specs.Laws.{StatsAreReplied, BytesAreReplied, NamesLeadAsWalks, ListingsAreReplied};
 
-/// Where a path leads to a node, what the node is is what a Stat of the path replies.
+/// If a path leads to a node, `stat` of the node is the reply to a Stat of the path.
 pub fn stats_are_replied()
     ensures { StatsAreReplied }
 {}
 
-/// Where a path leads to a node, its bytes are those that a Read of the path replies.
+/// If a path leads to a node, its bytes are those in the reply to a Read of the path.
 pub fn bytes_are_replied()
     ensures { BytesAreReplied }
 {}
 
-/// Where a path leads to a directory, a name leads from there where the path goes with the name after it.
+/// If a path leads to a directory, looking up a name there leads where the path followed by the name does.
 pub fn names_lead_as_walks()
     ensures { NamesLeadAsWalks }
 {}
 
-/// Where a path leads to a directory, the entries from its first slot on are, as a map, the names that a List of the path replies.
+/// If a path leads to a directory, the entries from its first slot on are, as a map, the names in the reply to a List of the
+/// path.
 pub fn listings_are_replied()
     ensures { ListingsAreReplied }
 {}

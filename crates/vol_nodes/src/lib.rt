@@ -1,4 +1,4 @@
-//! The nodes of a volume by i-number, of any image in which rules 1 and 2 hold: what a file server asks for.
+//! The nodes of a volume by i-number, as a file server needs them, for any image in which rules 1 and 2 hold.
 #![tactic(auto)]
 
 pub mod bytes;

@@ -14,7 +14,7 @@ use vol_dir::{find, next_entry};
 use vol_layout::slot::NAME;
 use vol_layout::{Geometry, Kind, Slot};
 
-/// Returns Ok if node `dir` is a directory.
+/// Returns `Ok` if node `dir` is a directory.
 fn directory(image: &Image, geometry: &Geometry, dir: u16) -> Result<(), NodeFault>
     requires fits { Fits geometry.now image.now }
     ensures names { MatchResult result
@@ -29,11 +29,11 @@ fn directory(image: &Image, geometry: &Geometry, dir: u16) -> Result<(), NodeFau
     }
 }
 
-/// Returns the number of the node that `name` leads to in directory `dir`. Of entries with one name the first counts, and `.` and
-/// `..` are entries like others.
+/// Returns the number of the node that `name` leads to in directory `dir`. If several entries have the name, the first counts;
+/// `.` and `..` are entries like any other.
 ///
-/// Stale if no node has the number `dir`, then NotDirectory, then LongName, then NoEntry. Last, Stale if the name is there but leads
-/// to no node, as in a damaged image: a listing has the name, so it isn't missing.
+/// Returns `Stale` if no node has the number `dir`, then `NotDirectory`, then `LongName`, then `NoEntry`; last, `Stale` if the
+/// entry leads to no node, as in a damaged image: a listing shows the name, so it isn't missing.
 ///
 /// Takes no memory. Costs what [`find`] costs.
 pub fn look_up(image: &Image, geometry: &Geometry, dir: u16, name: &[u8]) -> Result<u16, NodeFault>
@@ -51,13 +51,13 @@ pub fn look_up(image: &Image, geometry: &Geometry, dir: u16, name: &[u8]) -> Res
     }
 }
 
-/// Returns the first entry of directory `dir` in slot `from` or after it, with its slot; None after the last. A listing goes on in the
-/// slot after the one returned: so it meets each slot once, however many names come and go meanwhile. Which bytes stand
-/// after the name's first zero byte is left open.
+/// Returns the first entry of directory `dir` in slot `from` or after it, with its slot, or `None` after the last. A listing
+/// continues in the slot after the returned one, so it visits each slot once even while names are added and removed. The bytes
+/// after the name's first zero byte are unspecified.
 ///
-/// Stale if no node has the number `dir`, then NotDirectory. The entry's number need not be that of a node.
+/// Returns `Stale` if no node has the number `dir`, then `NotDirectory`. The entry's number may be that of no node.
 ///
-/// Takes no memory. Costs what [`next_entry`] costs: holes are passed, whatever the directory's size is.
+/// Takes no memory. Costs what [`next_entry`] costs: holes are skipped, however large the directory is.
 pub fn next_name(
     image: &Image,
     geometry: &Geometry,

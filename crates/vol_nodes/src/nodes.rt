@@ -1,4 +1,4 @@
-//! What a node is.
+//! The attributes of a node.
 ghost use Rattle.std.specs.Prelude.{◌≡◌, None, Some, MatchOption};
 ghost use Rattle.vol_layout.specs.Geometry.{Fits};
 ghost use Rattle.vol_dir.specs.Tree.{tree};
@@ -11,18 +11,18 @@ use vol_layout::i_list::kind;
 use vol_layout::{Geometry, Kind, inode};
 use vol_volume::Stat;
 
-/// What a special file stands for.
+/// The device of a special file.
 #[derive(Clone, Copy, Debug, PartialEq, Eq)]
 pub struct SpecialFile {
-    /// True of a block special file, false of a character special file.
+    /// True for a block special file, false for a character special file.
     pub is_block: bool,
-    /// The major number of its device.
+    /// The device's major number.
     pub major: u8,
-    /// The minor number.
+    /// The device's minor number.
     pub minor: u8,
 }
 
-/// Returns the kind of node `i`; None if no node has this number.
+/// Returns the kind of node `i`, or `None` if no node has this number.
 #[tactic(auto, using(crate::proofs::HeldNodes::none_zero, crate::proofs::HeldNodes::none_above, crate::proofs::HeldNodes::none_free, crate::proofs::HeldNodes::none_odd, crate::proofs::HeldNodes::held))]
 pub(crate) fn node_kind(image: &Image, geometry: &Geometry, i: u16) -> Option<Kind>
     requires { Fits geometry.now image.now }
@@ -37,8 +37,8 @@ pub(crate) fn node_kind(image: &Image, geometry: &Geometry, i: u16) -> Option<Ki
     }
 }
 
-/// Returns what node `i` is. None if no node has this number: it isn't the volume's, or its i-node is free or of no kind of the
-/// edition.
+/// Returns the attributes of node `i`. Returns `None` if no node has this number: it is outside the volume, or its i-node is free
+/// or of no kind of the edition.
 pub fn stat(image: &Image, geometry: &Geometry, i: u16) -> Option<Stat>
     requires { Fits geometry.now image.now }
     ensures { result ≡ stat_in (tree geometry.now image.now) i }
@@ -59,8 +59,8 @@ pub fn stat(image: &Image, geometry: &Geometry, i: u16) -> Option<Stat>
     })
 }
 
-/// Returns what special file `i` stands for; None if it isn't one. Of the multiplexor types of the seventh edition, 070000 counts as
-/// a block and 030000 as a character special file.
+/// Returns the device of special file `i`, or `None` if it isn't one. Of the seventh edition's multiplexor types, 070000 counts
+/// as a block and 030000 as a character special file.
 pub fn special_file(image: &Image, geometry: &Geometry, i: u16) -> Option<SpecialFile>
     requires { Fits geometry.now image.now }
     ensures { result ≡ special_in (tree geometry.now image.now) i }
@@ -71,7 +71,7 @@ pub fn special_file(image: &Image, geometry: &Geometry, i: u16) -> Option<Specia
     }
 }
 
-/// Returns what special file `i` stands for.
+/// Returns the device of special file `i`.
 fn device_at(image: &Image, geometry: &Geometry, i: u16) -> SpecialFile
     requires fits { Fits geometry.now image.now }
     requires node { HasNode geometry.now image.now i Kind.Special }

@@ -1,4 +1,4 @@
--- A receipt that agrees with a journal goes on to agree, however the journal grows, and where it is cut below the receipt.
+-- A receipt that agrees with a journal still agrees when the journal grows, and when it is cut below the receipt.
 use Rattle.std.proofs.Common.{◌≡◌, ℕ, zero, suc, ◌+◌, ◌-◌, ◌≤◌, List, [], ◌∷◌, ◌++◌, length, take, ap, sym, subst, ◌∙◌, arith, length-append}
 use Rattle.std.specs.Prelude.{Some}
 use Rattle.std.specs.List.{slice_get}
@@ -15,20 +15,19 @@ use Rattle.vol_receipts.specs.declared.receipts.Outcome.TheVariants.{Accepted}
 use Rattle.vol_receipts.specs.declared.receipts.Origin.{Origin}
 use Rattle.vol_receipts.specs.declared.receipts.Receipt.{Receipt}
 
--- what stands in the first list stands there in both together
+-- an element of the first list is at the same index in both together
 pub get_before : {X : Type 0} (xs ys : List X) (k : ℕ) (x : X) → slice_get xs k ≡ Some x → slice_get (xs ++ ys) k ≡ Some x
 get_before [] ys k x is = cc
 get_before (y ∷ xs) ys zero x is = is
 get_before (y ∷ xs) ys (suc k) x is = get_before xs ys k x is
 
--- what stands in the second list stands behind the first in both together
+-- an element of the second list follows the first list in both together
 pub get_behind : {X : Type 0} (xs ys : List X) (k m : ℕ) → k ≡ length xs + m → slice_get (xs ++ ys) k ≡ slice_get ys m
 get_behind [] ys k m at = let same : k ≡ m = omega arith in ap (slice_get ys) same
 get_behind (x ∷ xs) ys zero m at = absurd (omega arith)
 get_behind (x ∷ xs) ys (suc k) m at = get_behind xs ys k m (omega arith)
 
--- where an outcome is the one after so many records of a journal, by what the records up to there are and what they make, it is the
--- one after so many of another
+-- an outcome that is the one after some records of a journal is also the one after some of another, if the same records are next and the states are equal
 agrees_where : (old new : Origin) (was is : List Record) (k m : ℕ) (asked : Asked) (outcome : Outcome)
     → ((entry : Record) → slice_get was k ≡ Some entry → slice_get is m ≡ Some entry)
     → (k ≤ length was → m ≤ length is)
@@ -51,7 +50,7 @@ agrees_grows origin journal more receipt agrees =
           agrees.1,
     )
 
--- agreement stays where records go that stand before the receipt's number, and the journal starts from what they made
+-- agreement stays if records before the receipt's number are cut, and the journal starts from the state that they made
 pub agrees_after_cut : (old new : Origin) (gone journal : List Record) (receipt : Receipt) → new.first ≡ old.first + length gone
     → start new ≡ after (start old) gone
     → new.first ≤ receipt.at

@@ -1,4 +1,4 @@
--- Findings that are put in their places, one after another.
+-- Findings are stored at their receipts' indexes, one after another.
 use Rattle.std.proofs.Common.{◌≡◌, ◌⊎◌, ℕ, zero, suc, ◌+◌, ◌-◌, ◌<◌, ◌≤◌, List, [], ◌∷◌, ◌++◌, length, get_or, refl, ap, sym, subst, ◌∙◌, inl, inr, arith, below_more}
 use Rattle.std.specs.Prelude.{Option, Some, None}
 use Rattle.std.specs.List.{slice_get, All, Contains}
@@ -17,7 +17,7 @@ use Rattle.vol_receipts.specs.declared.finding.Numbered.{Numbered}
 use Rattle.vol_receipts.specs.declared.receipts.Origin.{Origin}
 use Rattle.vol_receipts.specs.declared.receipts.Receipt.{Receipt}
 
--- what stands at a place after a write: what was written there, or, elsewhere, what stood there
+-- the element at an index after a write: the written one, or, elsewhere, the old one
 get_set : {X : Type 0} (xs : List X) (k i : ℕ) (y z : X) → slice_get (set xs k y) i ≡ Some z
     → ((i ≡ k) × (z ≡ y)) ⊎ ((i ≡ k → ⊥) × (slice_get xs i ≡ Some z))
 get_set [] zero i y z is = cc
@@ -29,7 +29,7 @@ get_set (x ∷ xs) (suc k) (suc i) y z is =
     elim (get_set xs k i y z is) as (λ _. ((suc i ≡ suc k) × (z ≡ y)) ⊎ ((suc i ≡ suc k → ⊥) × (slice_get xs i ≡ Some z)))
     [ inl at ↦ inl (ap suc at.0, at.1) | inr there ↦ inr ((λ at. there.0 (omega (arith, at))), there.1) ]
 
--- what stands at a place as the finding of the receipt there is right
+-- the element at an index is the right finding on the receipt with that index
 abbrev pub IsFoundAt : Origin → List Record → List Receipt → List Finding → ℕ → Type 0
 IsFoundAt origin journal receipts findings i =
     (receipt : Receipt) (finding : Finding)
@@ -42,7 +42,7 @@ pub record AreFoundUpTo (origin : Origin) (journal : List Record) (receipts : Li
   pub len : length findings ≡ length receipts
   pub each : (j : ℕ) (d : Numbered) → j < k → IsFoundAt origin journal receipts findings (get_or order j d).index
 
--- a right finding that is put in its place leaves right what was right, and is right there
+-- storing a right finding keeps the others right, and is right itself
 put_found : (origin : Origin) (journal : List Record) (receipts : List Receipt) (findings : List Finding) (k i : ℕ) (receipt : Receipt) (finding : Finding)
     → slice_get receipts k ≡ Some receipt
     → IsFound origin journal receipt finding
@@ -90,7 +90,7 @@ found_all origin journal receipts order findings k in_order end done = record {
       (done.each there.0 (record { at = receipt.at; index = i }) (omega (arith, there.1))) receipt finding at stands;
 }
 
--- what is at most so many is at most more
+-- at most `m` replayed records are at most `n`, if m ≤ n
 pub at_most_more : (volume : Mounted) (again : Option Mounted) (m n : ℕ) → m ≤ n → HasAtMost volume again m → HasAtMost volume again n
 at_most_more volume None m n le behind = behind
 at_most_more volume (Some made) m n le behind = (behind.0, omega (arith, behind.1, le))
@@ -131,14 +131,14 @@ in_order receipts order sorted k all end moved ascending = record {
       (all.whole j receipt (omega (arith, slice_get_within receipts j receipt at, end)) at);
 }
 
--- a number that is at hand has its place among the receipts
+-- a number in the list belongs to one of the receipts
 pub place_within : (receipts : List Receipt) (order : List Numbered) (k : ℕ) (d : Numbered) → All (IsNumberOf receipts) order → k < length order
     → (get_or order k d).index < length receipts
 place_within receipts order k d right within =
     let number : IsNumberOf receipts (get_or order k d) = All-get_or (IsNumberOf receipts) order k d within right in
     slice_get_within receipts (get_or order k d).index number.0 number.1
 
--- what is read at the place of a number that is at hand is its receipt
+-- the receipt read at the index of such a number is the one with that number
 pub receipt_at : (receipts : List Receipt) (order : List Numbered) (k : ℕ) (d : Numbered) (read : Receipt) → All (IsNumberOf receipts) order
     → k < length order
     → read ≡ get_or receipts (get_or order k d).index read

@@ -37,7 +37,7 @@ legal_at state [] k entry legal at = absurd cc
 legal_at state (next ∷ rest) zero entry legal at = let same : next ≡ entry = cc in subst (MayFollow state) same legal.0
 legal_at state (next ∷ rest) (suc k) entry legal at = legal_at (step state next.call next.done) rest k entry legal.1 at
 
--- the last element of a list stands behind those before it
+-- the last element of a list follows those before it
 last : {X : Type 0} (xs : List X) (x : X) → slice_get (xs ++ x ∷ []) (length xs) ≡ Some x
 last [] x = refl
 last (y ∷ xs) x = last xs x
@@ -73,7 +73,7 @@ has_more volume old new k entry has at accepts = record {
       ∙ sym (take_more volume.journal k entry (slice_get_within volume.journal k entry at));
 }
 
--- what the volume answers agrees with its journal
+-- the volume's answer agrees with its journal
 pub agrees_last : (volume : Mounted) (asked : Asked) (outcome : Outcome) → IsConsistent volume
     → IsAnswer (reads_as volume.edition volume.image) asked outcome
     → AgreesAfter (origin_of volume) volume.journal (length volume.journal) asked outcome
@@ -81,7 +81,7 @@ agrees_last volume (Change call) (Accepted done) keeps answer = absurd answer
 agrees_last volume asked outcome keeps answer =
     (omega arith, subst (λ state. IsAnswer state asked outcome) (sym (reads_all volume keeps)) answer)
 
--- the receipt of what the volume answers agrees with its journal
+-- the receipt of the volume's answer agrees with its journal
 pub agrees_told : (volume : Mounted) (at : ℕ) (asked : Asked) (outcome : Outcome) → IsConsistent volume
     → at ≡ volume.first + length volume.journal
     → IsAnswer (reads_as volume.edition volume.image) asked outcome

@@ -14,19 +14,19 @@ use Rattle.vol_receipts.specs.declared.receipts.Outcome.TheVariants.{Accepted, R
 use Rattle.vol_receipts.specs.declared.receipts.Origin.{Origin}
 use Rattle.vol_receipts.specs.declared.receipts.Receipt.{Receipt}
 
--- what a volume's journal starts from (this project)
+-- the start of a volume's journal (this project)
 abbrev pub origin_of : Mounted → Origin
 origin_of volume = record { edition = volume.edition; bytes = volume.base; first = volume.first }
 
--- the tree and the shapes that a journal starts from (this project)
+-- the state at a journal's start (this project)
 abbrev pub start : Origin → State
 start origin = reads_as origin.edition origin.bytes
 
--- what the first records of a journal make of it (this project)
+-- the state after the first `count` records of a journal (this project)
 abbrev pub state_after : Origin → List Record → ℕ → State
 state_after origin journal count = after (start origin) (take count journal)
 
--- a refusal or a reply is that of a state: the verdict on a call, or the answer to a query (this project)
+-- an outcome other than an accepted call is the one in a state: the verdict on a call, or the answer to a query (this project)
 abbrev pub IsAnswer : State → Asked → Outcome → Type 0
 IsAnswer state (Change call) (Refused refusal) = verdict state call ≡ Some refusal
 IsAnswer state (Question query) (Refused refusal) = answer state.tree query ≡ Err refusal
@@ -35,13 +35,13 @@ IsAnswer state (Change call) (Accepted done) = ⊥
 IsAnswer state (Change call) (Answered reply) = ⊥
 IsAnswer state (Question query) (Accepted done) = ⊥
 
--- an outcome is the one after so many records of a journal: an accepted call is the next record, with its answer; all others are those of the state that the records make, of which there are as many (this project)
+-- an outcome is the one after the first `count` records of a journal: an accepted call is the next record, with its result; any other outcome is the one in the state after these records, which the journal has (this project)
 abbrev pub AgreesAfter : Origin → List Record → ℕ → Asked → Outcome → Type 0
 AgreesAfter origin journal count (Change call) (Accepted done) = slice_get journal count ≡ Some (record { call = call; done = done })
 AgreesAfter origin journal count asked outcome =
     (count ≤ length journal) × IsAnswer (state_after origin journal count) asked outcome
 
--- a receipt agrees with a journal, whose records are numbered from the origin's first on (this project)
+-- a receipt agrees with a journal, whose first record has the origin's number (this project)
 abbrev pub Agrees : Origin → List Record → Receipt → Type 0
 Agrees origin journal receipt =
     (origin.first ≤ receipt.at) × AgreesAfter origin journal (receipt.at - origin.first) receipt.asked receipt.outcome

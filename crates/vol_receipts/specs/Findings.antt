@@ -1,4 +1,4 @@
--- What is found of many receipts.
+-- The findings on many receipts.
 use Rattle.std.specs.Prelude.{◌≡◌, ℕ, ◌<◌, ◌≤◌, Bool, true, false, List, length, Some}
 use Rattle.std.specs.List.{slice_get, count_by, All, Contains}
 use Rattle.std.specs.List.Sorted.{IsNonDecreasingBy}
@@ -11,13 +11,13 @@ use Rattle.vol_receipts.specs.declared.finding.Finding.{Finding}
 use Rattle.vol_receipts.specs.declared.finding.Finding.TheVariants as kinds
 use Rattle.vol_receipts.specs.declared.finding.Numbered.{Numbered}
 
--- what is found of a receipt by a journal: that it agrees, that it doesn't, or that what it speaks of was cut (this project)
+-- the finding on a receipt is right: it agrees with the journal, it doesn't, or its record was cut (this project)
 abbrev pub IsFound : Origin → List Record → Receipt → Finding → Type 0
 IsFound origin journal receipt kinds.Agrees = Agrees origin journal receipt
 IsFound origin journal receipt kinds.Differs = (origin.first ≤ receipt.at) × (Agrees origin journal receipt → ⊥)
 IsFound origin journal receipt kinds.Gone = receipt.at < origin.first
 
--- each receipt has its finding, in their order (this project)
+-- each receipt has its right finding, in their order (this project)
 pub record AreFound (origin : Origin) (journal : List Record) (receipts : List Receipt) (findings : List Finding) : Type 0 where
   pub len : length findings ≡ length receipts
   pub each : (k : ℕ) (receipt : Receipt) (finding : Finding)
@@ -25,30 +25,30 @@ pub record AreFound (origin : Origin) (journal : List Record) (receipts : List R
       → slice_get findings k ≡ Some finding
       → IsFound origin journal receipt finding
 
--- a number with a place is that of the receipt which stands there (this project)
+-- a number and an index belong to one of the receipts (this project)
 abbrev pub IsNumberOf : List Receipt → Numbered → Type 0
 IsNumberOf receipts numbered =
     (receipt : Receipt) × (slice_get receipts numbered.index ≡ Some receipt) × (numbered.at ≡ receipt.at)
 
--- the numbers of some receipts, each with its receipt's place, ascending (this project)
+-- the numbers of all receipts, each with its receipt's index, ascending (this project)
 pub record IsInOrder (receipts : List Receipt) (order : List Numbered) : Type 0 where
   pub ascending : IsNonDecreasingBy (λ numbered. numbered.at) order
   pub right : All (IsNumberOf receipts) order
   pub whole : (k : ℕ) (receipt : Receipt) → slice_get receipts k ≡ Some receipt → Contains order (record { at = receipt.at; index = k })
 
--- whether a receipt was found to agree (this project)
+-- true if a receipt was found to agree (this project)
 abbrev pub is_agreeing : Finding → Bool
 is_agreeing kinds.Agrees = true
 is_agreeing kinds.Differs = false
 is_agreeing kinds.Gone = false
 
--- whether a receipt was found to be gone (this project)
+-- true if a receipt's record was found to be cut (this project)
 abbrev pub is_gone : Finding → Bool
 is_gone kinds.Agrees = false
 is_gone kinds.Differs = false
 is_gone kinds.Gone = true
 
--- how many of the receipts agree, and how many are gone, each counted once (this project)
+-- the numbers of receipts that agree and of those whose records were cut (this project)
 pub record AreCounted (origin : Origin) (journal : List Record) (receipts : List Receipt) (confirmed : Confirmed) : Type 0 where
   pub findings : List Finding
   pub found : AreFound origin journal receipts findings

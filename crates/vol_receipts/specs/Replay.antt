@@ -1,14 +1,14 @@
--- A volume's first records, made again.
+-- Replaying a volume's first records.
 use Rattle.std.specs.Prelude.{◌≡◌, ℕ, ◌≤◌, length, take, Option, IfSome}
 use Rattle.vol_volume.specs.Volume.{Mounted}
 
--- a volume that starts from the same bytes has the first records of a volume (this project)
+-- `again` starts from the same bytes as a volume and has its first `count` records (this project)
 pub record HasFirst (volume again : Mounted) (count : ℕ) : Type 0 where
   pub edition : again.edition ≡ volume.edition
   pub base : again.base ≡ volume.base
   pub journal : again.journal ≡ take count volume.journal
 
--- some of a volume's first records are made again, at most `count` of them, or it isn't begun (this project)
+-- `again` is either not begun, or has at most `count` of the volume's first records (this project)
 abbrev pub HasAtMost : Mounted → Option Mounted → ℕ → Type 0
 HasAtMost volume again count =
     IfSome again (λ made. HasFirst volume made (length made.journal) × (length made.journal ≤ count))

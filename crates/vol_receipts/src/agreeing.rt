@@ -1,4 +1,4 @@
-//! Whether a receipt agrees with a journal, by its records and by a volume that has the first of them.
+//! Compares a receipt with a journal's records, and with a volume that replays the first of them.
 ghost use Rattle.std.specs.Prelude.{◌≡◌, ◌≤◌, ◌↔◌, [], length, IsTrue, IfOk, OnErr, Some, Ok, Err};
 ghost use Rattle.std.specs.List.{slice_get};
 ghost use Rattle.vol_volume.specs.Answer.{answer};
@@ -13,8 +13,8 @@ use std::alloc::{AllocError, Global};
 use vol_dir::Refusal;
 use vol_volume::{Call, Done, Listing, Query, Record, Reply, Volume};
 
-/// Whether what came of a receipt's question is what comes after the first `count` records of a volume. Of
-/// these, some may be made again already; they go on to `count` where the outcome is no accepted call.
+/// True if a receipt's outcome follows the first `count` records of a volume. `again` is a volume that may
+/// have replayed some of them; it is brought up to `count` unless the outcome is an accepted call.
 pub(crate) fn agrees_after(
     volume: &Volume,
     again: &mut Option<Volume>,
@@ -37,7 +37,7 @@ pub(crate) fn agrees_after(
     Ok(agrees)
 }
 
-/// Whether a volume as it stands refuses or answers so what is asked of it.
+/// True if a volume, in its present state, gives this outcome.
 fn is_answer(
     volume: &Volume,
     alloc: Global,
@@ -54,12 +54,12 @@ fn is_answer(
         (Asked::Question(query), Outcome::Answered(reply)) => {
             is_answered(volume, alloc, query, reply)
         }
-        // A volume as it stands makes no record, and answers no call as a query.
+        // The present state accepts no call, and a call never has a query's reply.
         _ => Ok(false),
     }
 }
 
-/// Whether a journal's record `k`, counted from its first, is that of a call with an answer.
+/// True if record `k` of a journal, counted from its first, is this call with this result.
 #[tactic(auto, using(std::proofs::lemmas::Option::slice_get_read, std::proofs::lemmas::Option::slice_get_past))]
 fn is_record(journal: &[Record], k: usize, call: &Call, done: Done) -> bool
     ensures { IsTrue result ↔ (slice_get journal.now k ≡ Some (record { call = call.now; done = done })) }
@@ -70,14 +70,14 @@ fn is_record(journal: &[Record], k: usize, call: &Call, done: Done) -> bool
     }
 }
 
-/// Whether a record is that of a call with an answer.
+/// True if a record is this call with this result.
 fn is_of(entry: &Record, call: &Call, done: Done) -> bool
     ensures { IsTrue result ↔ (entry.now ≡ record { call = call.now; done = done }) }
 {
     entry.call == *call && entry.done == done
 }
 
-/// Whether a volume would refuse a call so.
+/// True if a volume would refuse a call with this refusal.
 fn refuses(volume: &Volume, call: &Call, refusal: Refusal) -> bool
     ensures { IsTrue result ↔ (verdict (reads_as volume.now.edition volume.now.image) call.now ≡ Some refusal) }
 {
@@ -87,7 +87,7 @@ fn refuses(volume: &Volume, call: &Call, refusal: Refusal) -> bool
     }
 }
 
-/// Whether a volume refuses a query so.
+/// True if a volume refuses a query with this refusal.
 fn is_refused(
     volume: &Volume,
     alloc: Global,
@@ -103,7 +103,7 @@ fn is_refused(
     }
 }
 
-/// Whether a volume answers a query so.
+/// True if a volume gives this reply to a query.
 fn is_answered(
     volume: &Volume,
     alloc: Global,
@@ -119,7 +119,7 @@ fn is_answered(
     }
 }
 
-/// Whether two replies are the same.
+/// True if two replies are equal.
 fn is_same(one: &Reply, other: &Reply) -> bool
     ensures { IsTrue result ↔ (one.now ≡ other.now) }
 {
@@ -131,7 +131,7 @@ fn is_same(one: &Reply, other: &Reply) -> bool
     }
 }
 
-/// Whether two listings are the same.
+/// True if two listings are equal.
 fn is_same_listing(one: &Listing, other: &Listing) -> bool
     ensures { IsTrue result ↔ (one.now ≡ other.now) }
 {

@@ -13,11 +13,12 @@ use std::alloc::{AllocError, Global};
 use vol_dir::Refusal;
 use vol_volume::{Call, Done, Query, Volume};
 
-/// Makes a call, and tells what came of it; the receipt has the copy. An accepted call is the journal's next
-/// record, and a refused one changes nothing. The bytes that no call changes stay.
+/// Makes a call and returns its receipt, which holds the copy `asked`. An accepted call becomes the journal's
+/// next record; a refused one changes nothing. The bytes that no call changes stay as they are.
 ///
-/// Where nothing else speaks against the call and the journal has no room for a record, the call comes back and nothing
-/// changes. Room ends with the memory, and with the numbers below 2^64. Costs what [`Volume::call`] does.
+/// If the call would be accepted but the journal has no room for a record, the call is handed back and
+/// nothing changes. There is no room when memory runs out or the record's number would reach 2^64 - 1. Costs
+/// what [`Volume::call`] does.
 pub fn change(
     volume: &mut Volume,
     alloc: Global,
@@ -51,10 +52,10 @@ pub fn change(
     }
 }
 
-/// Asks a query, and tells what came of it.
+/// Runs a query and returns its receipt.
 ///
-/// The query comes back where its reply takes memory and that runs out, and where the number of the next record is
-/// not below 2^64. Costs what [`Volume::ask`] does.
+/// The query is handed back if memory for its reply runs out, or if the number of the next record isn't below
+/// 2^64. Costs what [`Volume::ask`] does.
 pub fn reply(volume: &Volume, alloc: Global, query: Query) -> Result<Receipt, (AllocError, Query)>
     ensures at { IfOk result (λ receipt. receipt.at ≡ volume.now.first + length volume.now.journal) }
     ensures asked { IfOk result (λ receipt. receipt.asked ≡ Asked.Question query) }
@@ -73,7 +74,7 @@ pub fn reply(volume: &Volume, alloc: Global, query: Query) -> Result<Receipt, (A
     Ok(told(volume, at, Asked::Question(query), outcome))
 }
 
-/// The number of the journal's next record, where it is below 2^64.
+/// Returns the number of the journal's next record, or `None` if it isn't below 2^64.
 fn end_of(volume: &Volume) -> Option<u64>
     ensures number { IfSome result (λ at. at ≡ volume.now.first + length volume.now.journal) }
     ensures none { result ≡ None → 2 ^ 64 ≤ volume.now.first + length volume.now.journal }
@@ -81,7 +82,7 @@ fn end_of(volume: &Volume) -> Option<u64>
     volume.first().checked_add(volume.journal().len() as u64)
 }
 
-/// The number of the journal's next record, where the one after it has a number too.
+/// Returns the number of the journal's next record, or `None` if the one after it isn't below 2^64.
 fn next_number(volume: &Volume) -> Option<u64>
     ensures number { IfSome result (λ at. (at ≡ volume.now.first + length volume.now.journal) × (at + 1 < 2 ^ 64)) }
     ensures none { result ≡ None → 2 ^ 64 ≤ volume.now.first + length volume.now.journal + 1 }
@@ -90,7 +91,7 @@ fn next_number(volume: &Volume) -> Option<u64>
     if at == u64::MAX { None } else { Some(at) }
 }
 
-/// The receipt of a call that was accepted, whose record is the journal's last.
+/// Returns the receipt of an accepted call, whose record is the journal's last.
 fn accepted(volume: &Volume, at: u64, asked: Call, done: Done) -> Receipt
     requires first { volume.now.first ≤ at }
     requires last { slice_get volume.now.journal (at - volume.now.first) ≡ Some (record { call = asked; done = done }) }
@@ -99,7 +100,7 @@ fn accepted(volume: &Volume, at: u64, asked: Call, done: Done) -> Receipt
     ensures outcome { result.outcome ≡ Outcome.Accepted done }
     ensures agrees { Agrees (origin_of volume.now) volume.now.journal result }
 {
-    // What the receipt agrees with is for the contract alone.
+    // Only the contract reads the volume.
     let _ = volume;
     Receipt {
         at,
@@ -108,7 +109,7 @@ fn accepted(volume: &Volume, at: u64, asked: Call, done: Done) -> Receipt
     }
 }
 
-/// The receipt of a refusal or of a reply, which come of the tree that all records make.
+/// Returns the receipt of a refusal or a reply, given in the state after all records.
 #[tactic(auto, using(crate::proofs::Records::agrees_told))]
 fn told(volume: &Volume, at: u64, asked: Asked, outcome: Outcome) -> Receipt
     requires at { at ≡ volume.now.first + length volume.now.journal }

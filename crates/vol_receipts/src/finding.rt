@@ -1,4 +1,4 @@
-//! Many receipts confirmed, in one pass over the journal.
+//! Confirms many receipts in one pass over the journal.
 ghost use Rattle.std.specs.Prelude.{◌≡◌, ◌≤◌, ◌-◌, [], IfOk, OnErr};
 ghost use Rattle.vol_receipts.specs.Agrees.{origin_of, record_of};
 ghost use Rattle.vol_receipts.specs.Findings.{IsFound, AreFound, AreCounted, IsInOrder};
@@ -9,28 +9,28 @@ use crate::receipts::Receipt;
 use std::alloc::{AllocError, Global};
 use vol_volume::Volume;
 
-/// What is found of a receipt.
+/// The finding on one receipt.
 #[derive(Clone, Copy, Debug, PartialEq, Eq)]
 pub enum Finding {
     /// It agrees with the journal.
     Agrees,
     /// It doesn't agree.
     Differs,
-    /// Its number is below that of the journal's first record: what it speaks of was cut.
+    /// Its number is below that of the journal's first record: its record was cut.
     Gone,
 }
 
-/// How many receipts were confirmed.
+/// Counts of confirmed receipts.
 #[derive(Clone, Copy, Debug, PartialEq, Eq)]
 pub struct Confirmed {
-    /// How many agree with the journal.
+    /// The number of receipts that agree with the journal.
     pub agree: u64,
-    /// How many speak of what was cut.
+    /// The number of receipts whose records were cut.
     pub gone: u64,
 }
 
-/// How many of some receipts agree with a volume's journal, and of how many what they speak of was cut. Takes
-/// memory and costs as [`find_all`].
+/// Counts the receipts that agree with a volume's journal, and those whose records were cut. Takes the memory
+/// and time of [`find_all`].
 pub fn confirm_all(
     volume: &Volume,
     alloc: Global,
@@ -45,12 +45,12 @@ pub fn confirm_all(
     })
 }
 
-/// What is found of some receipts by a volume's journal, in their order.
+/// Returns the finding on each receipt, in the order of the receipts.
 ///
-/// The receipts are taken by ascending numbers, so that each record is made again once at most. Takes memory
-/// for the bytes that the journal starts from, their mounting, a copy of the records that are made again, and
-/// a number and a finding for each receipt; costs as much as mounting, making those records, and sorting. One
-/// allocation that is refused leaves all without a finding.
+/// Takes the receipts by ascending number, so that each record is replayed at most once. Takes memory for the
+/// journal's starting bytes, for mounting them, for a copy of each replayed record, and for a number and a
+/// finding per receipt. Costs as much as mounting, replaying and sorting. If one allocation is refused, no
+/// finding is returned.
 pub fn find_all(
     volume: &Volume,
     alloc: Global,
@@ -62,7 +62,7 @@ pub fn find_all(
     find_in_order(volume, alloc, receipts, &order)
 }
 
-/// What is found of some receipts, whose numbers are sorted.
+/// Returns the findings on receipts, which are visited in the order of their numbers.
 fn find_in_order(
     volume: &Volume,
     alloc: Global,
@@ -81,14 +81,14 @@ fn find_in_order(
     Ok(findings)
 }
 
-/// The number of a receipt, and where it stands among the receipts.
+/// The number of a receipt, and the receipt's index.
 #[derive(Clone, Copy, Debug)]
 struct Numbered {
     at: u64,
     index: usize,
 }
 
-/// The numbers of some receipts, ascending.
+/// Returns the receipts' numbers, ascending.
 fn by_number(alloc: Global, receipts: &[Receipt]) -> Result<Vec<Numbered>, AllocError>
     ensures { IfOk result (λ order. IsInOrder receipts.now order.items) }
 {
@@ -103,8 +103,8 @@ fn by_number(alloc: Global, receipts: &[Receipt]) -> Result<Vec<Numbered>, Alloc
     Ok(order)
 }
 
-/// What is found of a receipt by a volume's journal. Of its records some may be made again already; they go on to the
-/// receipt's number where they are needed.
+/// Returns the finding on a receipt. `again` is a volume that may have replayed some of the records; it is
+/// brought up to the receipt's number if they are needed.
 pub(crate) fn find(
     volume: &Volume,
     again: &mut Option<Volume>,

@@ -1,4 +1,4 @@
-//! Receipts: what was asked of a volume and what came of it, and whether a journal agrees with that.
+//! Receipts: a call or query with its outcome, and checks that a journal agrees with them.
 #![tactic(auto)]
 
 mod agreeing;

@@ -1,49 +1,49 @@
-//! What a receipt holds.
+//! The contents of a receipt.
 use std::collections::LinkedList;
 use vol_dir::Refusal;
 use vol_layout::Edition;
 use vol_volume::{Call, Done, Query, Reply};
 
-/// What was asked of a volume.
+/// A call or a query.
 #[derive(Debug, PartialEq, Eq, Drop)]
 pub enum Asked {
-    /// To change it.
+    /// A call, which may change the volume.
     Change(Call),
-    /// A question, which changes nothing.
+    /// A query, which changes nothing.
     Question(Query),
 }
 
-/// What came of it.
+/// The outcome of a call or query.
 #[derive(Debug, PartialEq, Eq, Drop)]
 pub enum Outcome {
-    /// The call was accepted, and answered this.
+    /// The call was accepted, with this result.
     Accepted(Done),
-    /// The call or the query was refused. Never NoMemory, for which there is no receipt.
+    /// The call or query was refused. Never `NoMemory`, for which there is no receipt.
     Refused(Refusal),
-    /// The query was answered.
+    /// The query was answered with this reply.
     Answered(Reply),
 }
 
-/// That something was asked of a volume, and what came of it.
+/// A record of one call or query and its outcome.
 #[derive(Debug, PartialEq, Eq, Drop)]
 pub struct Receipt {
-    /// The number of the record that an accepted call made. For all others, how many records there were when
-    /// they were asked, those that were cut counted too: the outcome is that of the tree which these make.
+    /// The record number of an accepted call. For any other outcome, the number of records when it was given,
+    /// including those that were cut: the outcome is the one in the state after them.
     pub at: u64,
-    /// What was asked.
+    /// The call or query.
     pub asked: Asked,
-    /// What came of it.
+    /// Its outcome.
     pub outcome: Outcome,
 }
 
-/// What a journal starts from: the bytes that were mounted or left by the last cut, and how many records were
-/// cut before. It is for contracts alone, and no value of it is made.
+/// The start of a journal: the bytes that were mounted or left by the last cut, and the number of records cut
+/// so far. Only contracts use it; no value of it is made.
 #[derive(Debug, Drop)]
 pub struct Origin {
-    /// The edition whose layout the bytes have.
+    /// The edition of the bytes.
     pub edition: Edition,
-    /// The bytes.
+    /// The bytes of the image.
     pub bytes: LinkedList<u8>,
-    /// How many records were cut before, which is the number of the journal's first.
+    /// The number of records that were cut, which is the number of the journal's first.
     pub first: u64,
 }

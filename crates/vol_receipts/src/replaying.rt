@@ -1,4 +1,4 @@
-//! A volume's records, made once more.
+//! Replays a volume's records.
 ghost use Rattle.std.specs.Prelude.{◌≡◌, ◌≤◌, ◌<◌, ◌+◌, length, IfOk, OnOk, Some};
 ghost use Rattle.std.specs.List.{slice_get};
 ghost use Rattle.vol_receipts.specs.Replay.{HasFirst, HasAtMost};
@@ -6,7 +6,7 @@ ghost use Rattle.vol_receipts.specs.Replay.{HasFirst, HasAtMost};
 use std::alloc::{AllocError, Global};
 use vol_volume::{MountFault, Record, Volume};
 
-/// A volume as its first `count` records left it, by one that has some of them already, if there is one.
+/// Returns a volume with the first `count` records replayed, continuing `again` if given.
 pub(crate) fn go_on(
     volume: &Volume,
     again: Option<Volume>,
@@ -27,7 +27,7 @@ pub(crate) fn go_on(
     Ok(made)
 }
 
-/// A volume as it was before the first record of its journal.
+/// Returns a copy of a volume as it was before its journal's first record.
 fn begin(volume: &Volume, alloc: Global) -> Result<Volume, AllocError>
     ensures { IfOk result (λ made. HasFirst volume.now made 0) }
 {
@@ -40,7 +40,8 @@ fn begin(volume: &Volume, alloc: Global) -> Result<Volume, AllocError>
     }
 }
 
-/// Makes a volume's record `k`, counted from the journal's first, on one that has those before.
+/// Replays record `k` of a volume, counted from its journal's first, on `made`, which has the records before
+/// it.
 #[tactic(auto, using(crate::proofs::Records::has_more))]
 fn redo_next(volume: &Volume, made: &mut Volume, alloc: Global, k: usize) -> Result<(), AllocError>
     requires first { HasFirst volume.now made.old k }
@@ -56,7 +57,7 @@ fn redo_next(volume: &Volume, made: &mut Volume, alloc: Global, k: usize) -> Res
     }
 }
 
-/// A copy of a journal's record `k`.
+/// Returns a copy of record `k` of a journal.
 #[tactic(auto, using(std::proofs::lemmas::Option::slice_get_read))]
 fn copy_of(journal: &[Record], k: usize) -> Result<Record, AllocError>
     requires { k < length journal.now }

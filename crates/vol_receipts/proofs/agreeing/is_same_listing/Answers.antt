@@ -6,7 +6,7 @@ use Rattle.std.proofs.lemmas.Bool.Decides.{Decides-like, Decides-and, Decides-eq
 use Rattle.std.proofs.lemmas.Slice.Eq.{slice_eq-Decides, bytes_eq-Decides}
 use Rattle.vol_receipts.proofs.agreeing.is_same_listing.Goals as goal
 
--- a name with its number is told from others
+-- comparing a name and its number decides whether two entries are equal
 named_decides : (p q : List ℕ × ℕ) → Decides (pointwise ◌==◌ p.0 q.0 && (p.1 == q.1)) (p ≡ q)
 named_decides p q =
     Decides-like _ (λ both. (λ j. (both.0 j, both.1 j))) (λ same. (ap (λ x. x.0) same, ap (λ x. x.1) same))

@@ -17,7 +17,7 @@ shown log = []
 abbrev pub moved : List LogEntry → List LogEntry → ℕ → Type 0
 moved before after answer = Unit {0}
 
--- what the owner of a log sees, whose next entry takes word `key`
+-- the owner's view of a log whose next entry takes word `key`
 abbrev pub owns : List LogEntry → ℕ → View LogEntry ℕ
 owns log key = (log, (nib may_write key 0, None))
 
@@ -87,7 +87,7 @@ compare_at log seen entry n made left counted away =
       (omega (arith, all, last), refl),
     )
 
--- whatever the log is, the owner's look finds it no longer than the owner knows
+-- whatever the log is, the owner's comparison finds it no longer than the owner knows
 pub compare_moves : (seen : List LogEntry) (entry : LogEntry) (n : ℕ)
     → Moves IsKept shown moved 0 (owns seen (suc n)) same (Compares (step 0 0 0 entry) (owns seen (suc n)))
 compare_moves seen entry n cs log kept begins away =
@@ -95,7 +95,7 @@ compare_moves seen entry n cs log kept begins away =
     let out = subst (λ c. (suc n < length c) × ((cell c (suc n)).1 ≡ false)) kept.cells_are (away refl) in
     subst P (sym kept.cells_are) (omega arith, refl, compare_at log seen entry n kept.made kept.left kept.counted out.1)
 
--- a number that is raised where it is the one expected
+-- a number that is raised if it is the expected one
 abbrev pub raised : ℕ → ℕ → ℕ
 raised old n = either (n == old) (old + 1) n
 
@@ -126,7 +126,7 @@ add_goes log seen entry old made left counted false is =
       rw is tt,
     )
 
--- whatever the log is, a word is added where there are as many as expected
+-- whatever the log is, a word is added if there are as many as expected
 pub add_moves : (seen : List LogEntry) (entry : LogEntry) (old : ℕ)
     → Moves IsKept shown moved 0 (seen, (no_nib, None)) (raised old) (Adds (step 0 old (old + 1) entry) (seen, (no_nib, None)))
 add_moves seen entry old cs log kept begins away =

@@ -1,4 +1,4 @@
--- What logs say.
+-- Records and numbers of logs.
 use Rattle.std.proofs.Common.{◌≡◌, ◌+◌, List, [], ◌∷◌, ◌++◌, length, refl, ap, sym, ◌∙◌, arith, append_assoc, length-append}
 use Rattle.std.proofs.lemmas.List.{append-nil}
 use Rattle.vol_dir.specs.Tree.{State}
@@ -14,17 +14,17 @@ use Rattle.vol_views.specs.States.{state_of}
 use Rattle.vol_views.proofs.States.{state_first, state_more, applied_next}
 use Rattle.vol_views.specs.Logs.{history_of, origin_in, number_of}
 
--- the records of two logs, one behind the other
+-- the records of two logs, one after the other
 pub history_append : (a b : List LogEntry) → history_of (a ++ b) ≡ history_of a ++ history_of b
 history_append [] b = refl
 history_append (Opened origin journal ∷ a) b = ap (λ w. journal ++ w) (history_append a b) ∙ sym (append_assoc journal (history_of a) (history_of b))
 history_append (Made entry ∷ a) b = ap (λ w. entry ∷ w) (history_append a b)
 
--- an entry more is a record more
+-- one entry more is one record more
 pub history_more : (log : List LogEntry) (entry : Record) → history_of (log ++ Made entry ∷ []) ≡ history_of log ++ entry ∷ []
 history_more log entry = history_append log (Made entry ∷ [])
 
--- from the same start
+-- with the same origin
 pub origin_more : (log : List LogEntry) (entry : Record) → origin_in (log ++ Made entry ∷ []) ≡ origin_in log
 origin_more [] entry = refl
 origin_more (Opened origin journal ∷ log) entry = refl
@@ -42,7 +42,7 @@ pub after_more : (state : State) (journal : List Record) (entry : Record) → af
 after_more state [] entry = refl
 after_more state (first ∷ journal) entry = after_more (step state first.call first.done) journal entry
 
--- a log whose entries come to what its records make of their start does so with a record more that may come next
+-- a log whose state is the one after its records keeps this with one more record that may come next
 pub reads_more : (log : List LogEntry) (entry : Record) → state_of log ≡ after (start (origin_in log)) (history_of log) → MayFollow (state_of log) entry
     → state_of (log ++ Made entry ∷ []) ≡ after (start (origin_in (log ++ Made entry ∷ []))) (history_of (log ++ Made entry ∷ []))
 reads_more log entry reads may =

@@ -43,7 +43,7 @@ known_more p known front all begins j other at =
 pub admits : Admits Holds nothing_reached
 admits p known h = (h.0, known_more p known nothing_reached h.1 (inl refl))
 
--- what is first published may be
+-- the first version may be published
 pub holds_first : (p : Published) → IsRight p → Holds p (nothing_reached ∷ [])
 holds_first p right = (right, known_more p [] nothing_reached (λ seat front at. absurd cc) (inl refl))
 
@@ -65,13 +65,13 @@ shows seat front p next right book goes_on known h at =
       refl,
     )
 
--- one tells what it knows
+-- the owner reports its log
 pub forks : (seat : ℕ) (front : Reached) → Forks Holds seat front front front
 forks seat front p known h at =
     let begins = h.1 seat front at in
     (h.0, known_more p (set known seat front) front (known_set p known seat front h.1 begins) begins)
 
--- and one learns it
+-- and a reader learns it
 pub merges : (seat : ℕ) (front : Reached) (other : ℕ) (told : Reached) → Merges Holds seat front other told told nothing_reached
 merges seat front other told p known h at apart there =
     let begins : Begins told p.front =
@@ -79,18 +79,18 @@ merges seat front other told p known h at apart there =
     (at_set known seat other told told there) in
     (h.0, known_set p (set known seat told) other nothing_reached (known_set p known seat told h.1 begins) (inl refl))
 
--- what operations make may be shown
+-- the version that operations make may be shown
 pub may_show : (seat : ℕ) (front : Reached) (p next : Published) (operations : List Operation) → MayShow p operations → next ≡ fold absorbed p operations
     → TurnsAt Holds seat front p next (λ before shown then after. after ≡ then.front)
 may_show seat front p next operations may is =
     subst (λ (x : Published). TurnsAt Holds seat front p x (λ before shown then after. after ≡ then.front)) (sym is)
     (shows seat front p (fold absorbed p operations) may.right may.book may.goes_on)
 
--- nothing that is pending may be shown
+-- with nothing pending, the next version may be shown
 pub shows_same : (p : Published) → IsRight p → MayShow p []
 shows_same p right = record { right = right; book = refl; goes_on = prefix_self p.front.log }
 
--- so may an operation that changes nothing, twice
+-- two operations that change nothing may be pending
 pub shows_empty : (p : Published) (front : Reached) (at : ℕ) (operations : List Operation) → IsRight p → p.at ≡ at → p.front ≡ front
     → operations ≡ empty_operation at front ∷ empty_operation at front ∷ [] → MayShow p operations
 shows_empty p front at operations right number same pending =
@@ -110,7 +110,7 @@ longer_some : (log : List LogEntry) (entry : LogEntry) → (log ++ entry ∷ [])
 longer_some [] entry e = absurd cc
 longer_some (first ∷ log) entry e = absurd cc
 
--- and so may a record that may come next
+-- and so may a record that can come next
 pub shows_record : (p : Published) (old new : Reached) (entry : Record) (at : ℕ) (operations : List Operation) → IsRight p → p.front ≡ old
     → new.book ≡ old.book → new.log ≡ old.log ++ Made entry ∷ [] → MayFollow (state_of old.log) entry → at ≡ number_of old.log + 1
     → operations ≡ (record { made = Some entry; at = at; front = new }) ∷ [] → MayShow p operations
@@ -137,7 +137,7 @@ right_first volume p log version number =
       reads = rw log (reads_first volume);
     }
 
--- what is shown after these operations: the same, or with the front of the last
+-- the version that is shown after these operations: the same, or one with the last one's prefix
 pub shown_same : (p shown : Published) (operations : List Operation) → operations ≡ [] → shown ≡ fold absorbed p operations → shown ≡ p
 shown_same p shown operations pending is = is ∙ ap (λ os. fold absorbed p os) pending
 

@@ -1,4 +1,4 @@
--- What logs come to.
+-- The states that logs make.
 use Rattle.std.proofs.Common.{◌≡◌, true, false, if◌then◌else◌, List, [], ◌∷◌, ◌++◌, refl, ap, sym, None, Some, Option, is_none, arith}
 use Rattle.std.proofs.lemmas.Bool.{true≢false, and_parts}
 use Rattle.std.proofs.lemmas.Bool.Decides.{nat_tests}
@@ -23,7 +23,7 @@ taken_more : (state : State) (log : List LogEntry) (entry : LogEntry) → taken_
 taken_more state [] entry = refl
 taken_more state (first ∷ log) entry = taken_more (taken state first) log entry
 
--- a log with an entry more
+-- a log with one more entry
 pub state_more : (log : List LogEntry) (entry : LogEntry) → state_of (log ++ entry ∷ []) ≡ taken (state_of log) entry
 unfolding state_of
 state_more log entry = taken_more (start (record { edition = editions.V6; bytes = []; first = 0 })) log entry

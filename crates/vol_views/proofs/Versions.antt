@@ -1,4 +1,4 @@
--- What every version keeps.
+-- Facts about every version.
 use Rattle.std.proofs.Common.{◌≡◌, ◌↔◌, ℕ, Bool, true, false, List, [], ◌∷◌, ◌++◌, refl, ap, sym, ◌∙◌, IsTrue}
 use Rattle.std.proofs.lemmas.Bool.{true≢false}
 use Rattle.vol_layout.specs.Geometry.{geometry_of}
@@ -27,7 +27,7 @@ made_of volume geometry image free log consistent sizes same count begun =
     rw (sizes, same, count, begun)
     (consistent.image_sound, refl, refl, consistent.reads ∙ sym (state_first (origin_of volume) volume.journal))
 
--- what a version reads as once a record was applied
+-- the state of a version after a record was applied
 pub applied_reads : (geometry : Geometry) (old new : List ℕ) (log : List LogEntry) (entry : Record) (is_next : Bool)
     → state geometry old ≡ state_of log → IsTrue is_next ↔ MayFollow (state geometry old) entry
     → (is_next ≡ true → Performs geometry old new entry.call entry.done) → (is_next ≡ false → new ≡ old)

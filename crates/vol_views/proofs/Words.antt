@@ -1,11 +1,11 @@
--- The words beside the first.
+-- The words after the first.
 use Rattle.std.proofs.Common.{◌≡◌, ℕ, zero, suc, ◌+◌, ◌==◌, true, false, List, [], ◌∷◌, ◌++◌, length, refl, ap, sym, arith, set}
 use Rattle.std.proofs.lemmas.Bool.Decides.{nat_tests}
 use prog.Atomic.{either}
 use Rattle.logbook.specs.Pages.{Cell}
 use Rattle.vol_views.specs.LogRule.{words}
 
--- how many there are
+-- their number
 pub words_length : (n m : ℕ) → length (words n m) ≡ n + m
 words_length zero zero = refl
 words_length zero (suc m) = let rest = words_length zero m in omega (arith, rest)
@@ -16,13 +16,13 @@ pub word_set : (n m : ℕ) → set (words n (suc m)) n (0, true) ≡ words (suc 
 word_set zero m = refl
 word_set (suc n) m = ap (λ (cs : List Cell). (0, true) ∷ cs) (word_set n m)
 
--- a word more
+-- one word more
 pub word_more : (n m : ℕ) → words n m ++ (0, false) ∷ [] ≡ words n (suc m)
 word_more zero zero = refl
 word_more zero (suc m) = ap (λ (cs : List Cell). (0, false) ∷ cs) (word_more zero m)
 word_more (suc n) m = ap (λ (cs : List Cell). (0, true) ∷ cs) (word_more n m)
 
--- a number that 0 would take for 0 stays
+-- a number that is replaced only if it is 0, by 0, stays
 pub stays : (n : ℕ) → either (n == 0) 0 n ≡ n
 stays n =
     elim (n == 0) as (λ b. (n == 0) ≡ b → either b 0 n ≡ n) [

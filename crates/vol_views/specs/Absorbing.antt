@@ -1,4 +1,4 @@
--- What an operation makes of a published version.
+-- The effect of an operation on a published version.
 use Rattle.std.specs.Prelude.{ℕ, List, [], ◌∷◌, ◌++◌, Option, None, Some}
 use Rattle.vol_volume.specs.declared.calls.Record.{Record}
 use Rattle.vol_views.specs.History.{Reached}
@@ -7,15 +7,15 @@ use Rattle.vol_views.specs.declared.history.LogEntry.TheVariants.{Made}
 use Rattle.vol_views.specs.declared.published.Published.{Published}
 use Rattle.vol_views.specs.declared.published.Operation.{Operation}
 
--- the entry of a record, if there is one (this project)
+-- the log entries of a record, if there is one (this project)
 abbrev pub entries_of : Option Record → List LogEntry
 entries_of None = []
 entries_of (Some entry) = Made entry ∷ []
 
--- a published version once an operation was absorbed (this project)
+-- a published version after an operation (this project)
 abbrev pub absorbed : Published → Operation → Published
 absorbed p o = record { version = p.version ++ entries_of o.made; at = o.at; front = o.front }
 
--- an operation that changes nothing, of a version with this number and front (this project)
+-- an operation that changes nothing, with a version's number and log prefix (this project)
 abbrev pub empty_operation : ℕ → Reached → Operation
 empty_operation at front = record { made = None; at = at; front = front }

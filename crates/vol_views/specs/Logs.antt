@@ -1,4 +1,4 @@
--- What a log says: the records, what they start from, and the number of the next.
+-- The records of a log, their origin, and the number of the next record.
 use Rattle.std.specs.Prelude.{ℕ, ◌+◌, List, [], ◌∷◌, ◌++◌, length}
 use Rattle.vol_layout.specs.declared.edition.Edition.TheVariants as editions
 use Rattle.vol_volume.specs.declared.calls.Record.{Record}
@@ -12,12 +12,12 @@ history_of [] = []
 history_of (Opened origin journal ∷ log) = journal ++ history_of log
 history_of (Made entry ∷ log) = entry ∷ history_of log
 
--- what the records of a log start from, which its first entry says (this project)
+-- the origin of a log's records, which is in its first entry (this project)
 abbrev pub origin_in : List LogEntry → Origin
 origin_in [] = record { edition = editions.V6; bytes = []; first = 0 }
 origin_in (Opened origin journal ∷ log) = origin
 origin_in (Made entry ∷ log) = record { edition = editions.V6; bytes = []; first = 0 }
 
--- the number of the record that comes next (this project)
+-- the number of the next record (this project)
 abbrev pub number_of : List LogEntry → ℕ
 number_of log = (origin_in log).first + length (history_of log)

@@ -1,4 +1,4 @@
--- What holds of what is published and of what readers know.
+-- The invariant of the published version and its readers.
 use Rattle.std.specs.Prelude.{◌≡◌, ◌≢◌, ◌⊎◌, ℕ, List, [], fold}
 use mathlib.Core.List.{IsPrefix}
 use mathlib.Core.Option.{some}
@@ -12,30 +12,30 @@ use Rattle.vol_views.specs.Absorbing.{absorbed}
 use Rattle.vol_views.specs.declared.published.Published.{Published}
 use Rattle.vol_views.specs.declared.published.Operation.{Operation}
 
--- a published version is right: what became of it are the entries of its front, of which there are some and which come to what the front's records make of their start, and its number is that of the next record (this project)
+-- a published version is right: it was made by the entries of its log prefix, which isn't empty and makes the state after the prefix's records, and its number is that of the next record (this project)
 pub record IsRight (p : Published) : Type 0 where
   pub begun : p.front.log ≢ []
   pub version : p.version ≡ p.front.log
   pub at : p.at ≡ number_of p.front.log
   pub reads : state_of p.front.log ≡ after (start (origin_in p.front.log)) (history_of p.front.log)
 
--- no log yet (this project)
+-- the empty prefix of no log (this project)
 abbrev pub nothing_reached : Reached
 nothing_reached = record { book = record { number = 0; log_name = 0; cells_name = 0 }; log = [] }
 
--- a front is known to begin another; one of no log is (this project)
+-- a prefix is empty, or a prefix of another of the same log (this project)
 abbrev pub Begins : Reached → Reached → Type 0
 Begins front whole = (front.log ≡ []) ⊎ ((front.book ≡ whole.book) × IsPrefix front.log whole.log)
 
--- what is published is right, and goes on from each front that is known (this project)
+-- the published version is right, and extends each prefix that a reader knows (this project)
 abbrev pub Holds : Published → List Reached → Type 0
 Holds p known = IsRight p × ((seat : ℕ) (front : Reached) → get_elem? known seat ≡ some front → Begins front p.front)
 
--- the version that was entered is right, goes on from what the reader knew, and is what it knows then (this project)
+-- the version that was entered is right and extends what the reader knew, and the reader knows its prefix from then on (this project)
 abbrev pub Enters : Reached → Published → Published → Reached → Type 0
 Enters before entered same after = IsRight entered × Begins before entered.front × (after ≡ entered.front)
 
--- the version that operations make may be shown: it is right, and goes on from the one that is shown (this project)
+-- the version that operations make may be shown: it is right, and extends the one that is shown (this project)
 pub record MayShow (shown : Published) (operations : List Operation) : Type 0 where
   pub right : IsRight (fold absorbed shown operations)
   pub book : shown.front.book ≡ (fold absorbed shown operations).front.book

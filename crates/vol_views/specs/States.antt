@@ -1,4 +1,4 @@
--- What the entries of a log come to, applied one by one.
+-- The state that a log's entries make, applied one by one.
 use Rattle.std.specs.Prelude.{◌==◌, ◌&&◌, Bool, true, false, if◌then◌else◌, List, [], ◌∷◌, length, is_none}
 use Rattle.vol_dir.specs.Tree.{State}
 use Rattle.vol_volume.specs.Journal.{after}
@@ -14,7 +14,7 @@ use Rattle.vol_receipts.specs.Agrees.{start}
 use Rattle.vol_views.specs.declared.history.LogEntry.{LogEntry}
 use Rattle.vol_views.specs.declared.history.LogEntry.TheVariants as entries
 
--- whether an accepted call may answer so: the number of what it made is any that can be taken, and a write writes all bytes (this project)
+-- true if an accepted call may have this result: the number of a new file is any free one, and a write writes all bytes (this project)
 abbrev pub is_answer : State → Call → Done → Bool
 is_answer state (Create cred now path perm) (Made i) = is_free_number state.tree i
 is_answer state (Mkdir cred now path perm) (Made i) = is_free_number state.tree i
@@ -28,24 +28,24 @@ is_answer state (Chown cred now path uid gid) Plain = true
 is_answer state (Times cred now path atime mtime) Plain = true
 is_answer state _ _ = false
 
--- whether a record may come next (this project)
+-- true if a record may come next (this project)
 unfoldable pub is_next : State → Record → Bool
 is_next state entry = is_none (verdict state entry.call) && is_answer state entry.call entry.done
 
--- the state once a record was applied: a record that may not come next changes nothing (this project)
+-- the state after a record was applied; a record that may not come next changes nothing (this project)
 unfoldable pub applied : State → Record → State
 applied state entry = if is_next state entry then step state entry.call entry.done else state
 
--- the state once an entry was taken: a volume that is opened is what its journal makes of what that starts from (this project)
+-- the state after an entry: a volume that is opened has the state after its journal (this project)
 abbrev pub taken : State → LogEntry → State
 taken state (entries.Opened origin journal) = after (start origin) journal
 taken state (entries.Made entry) = applied state entry
 
--- the state once some entries were taken (this project)
+-- the state after some entries (this project)
 abbrev pub taken_all : State → List LogEntry → State
 taken_all state [] = state
 taken_all state (entry ∷ log) = taken_all (taken state entry) log
 
--- what the entries of a log come to; before the first, what no bytes read as (this project)
+-- the state of a log's entries; before the first, it is that of an empty image (this project)
 unfoldable pub state_of : List LogEntry → State
 state_of log = taken_all (start (record { edition = editions.V6; bytes = []; first = 0 })) log

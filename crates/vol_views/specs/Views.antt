@@ -1,4 +1,4 @@
--- What a view knows, and what it answers.
+-- A view's knowledge and its answers.
 use Rattle.std.specs.Prelude.{◌≡◌, List, [], ◌∷◌, ◌++◌, Option, None, Some}
 use mathlib.Core.List.{IsPrefix}
 use Rattle.logbook.specs.Pages.{Book}
@@ -8,13 +8,13 @@ use Rattle.vol_views.specs.History.{Reached}
 use Rattle.vol_views.specs.declared.history.LogEntry.{LogEntry}
 use Rattle.vol_views.specs.Logs.{history_of, origin_in, number_of}
 
--- a view: of which log, the front of it that the view knows, and the receipts that it gave (this project)
+-- a view: the log's identity, the prefix of it that the view knows, and the receipts that it gave (this project)
 pub record Watched : Type 0 where
   pub book : Book
   pub log : List LogEntry
   pub receipts : List Receipt
 
--- the records of a log go on from those of another, from the same start (this project)
+-- one log extends another: the same origin, and the other's records come first (this project)
 pub record GoesOn (old new : List LogEntry) : Type 0 where
   pub origin : origin_in new ≡ origin_in old
   pub records : IsPrefix (history_of old) (history_of new)
@@ -23,19 +23,19 @@ pub record GoesOn (old new : List LogEntry) : Type 0 where
 abbrev pub AgreesIn : List LogEntry → Receipt → Type 0
 AgreesIn log receipt = Agrees (origin_in log) (history_of log) receipt
 
--- a view after it gave a receipt: that is of the front which it knows now, and joins its receipts (this project)
+-- a view after it gave a receipt: the receipt agrees with what the view now knows, and is added to its receipts (this project)
 pub record Sees (old new : Watched) (receipt : Receipt) : Type 0 where
   pub at : receipt.at ≡ number_of new.log
   pub agrees : AgreesIn new.log receipt
   pub receipts : new.receipts ≡ old.receipts ++ receipt ∷ []
 
--- a view that asked nothing yet, and knows a whole log (this project)
+-- a view that gave no receipt yet, and knows a whole log (this project)
 pub record IsNew (whole : Reached) (view : Watched) : Type 0 where
   pub book : view.book ≡ whole.book
   pub log : view.log ≡ whole.log
   pub receipts : view.receipts ≡ []
 
--- which log what was told is of, if anything was (this project)
+-- the identity of the log that was told, if any (this project)
 abbrev pub book_in : Option Reached → Option Book
 book_in None = None
 book_in (Some reached) = Some reached.book

@@ -1,11 +1,11 @@
-//! Beginnings of the log.
+//! Prefixes of the log.
 ghost use Rattle.std.specs.Prelude.{◌≡◌, ◌⊎◌};
 ghost use mathlib.Core.List.{IsPrefix};
 
 use crate::log_rule::Beginning;
 use std::marker::Model;
 
-/// A beginning of a volume's log that was seen. The log always goes on from it. It has no bytes.
+/// A prefix of a volume's log that was observed; the log always extends it. It has no size at run time.
 #[derive(Drop)]
 pub struct Front {
     pub(crate) seen: Beginning,
@@ -20,7 +20,7 @@ impl Model for Front {
 }
 
 impl Front {
-    /// A copy.
+    /// Returns a copy.
     pub fn again(&self) -> Front
         ensures { result ≡ self.now }
     {
@@ -29,7 +29,7 @@ impl Front {
         }
     }
 
-    /// Does nothing: of two beginnings of one log, one begins the other.
+    /// Does nothing; its contract says that of two prefixes of one log, one is a prefix of the other.
     pub fn in_line(&self, other: &Front)
         requires { other.now.book ≡ self.now.book }
         ensures { IsPrefix self.now.log other.now.log ⊎ IsPrefix other.now.log self.now.log }

@@ -1,11 +1,11 @@
-//! Lists that contracts alone see.
+//! Lists that only contracts see.
 ghost use Rattle.std.specs.Prelude.{◌≡◌, ◌++◌, ◌∷◌, []};
 
 use logbook::{Opening, Plain, Rule, Seen, Start};
 use std::marker::PhantomData;
 use std::snapshot::Snapshot;
 
-/// The rule of a list that holds any entries.
+/// The rule of a list with arbitrary entries.
 pub struct AnyEntries;
 
 impl<T> Rule<T, u64> for AnyEntries {
@@ -25,10 +25,10 @@ impl<T> Rule<T, u64> for AnyEntries {
     ghost moves = { λ ask before after answer. Unit {0} };
 }
 
-/// A list that nobody appends to; one with an entry more is a new one. It has no bytes.
+/// A list that is never appended to; [`longer`] makes a new one. It has no size at run time.
 pub(crate) type GhostList<T> = Seen<T, u64, AnyEntries>;
 
-/// No entries.
+/// An opening with no entries.
 struct NoEntries;
 
 impl<T> Opening<(), T> for NoEntries {
@@ -37,7 +37,7 @@ impl<T> Opening<(), T> for NoEntries {
     ghost log = { λ count about. [] };
 }
 
-/// An entry is itself.
+/// The maker whose entry is its argument.
 pub(crate) struct Itself;
 
 impl<T> Plain<T, T, u64> for Itself {
@@ -48,14 +48,14 @@ impl<T> Plain<T, T, u64> for Itself {
     ghost state = { λ entry. None };
 }
 
-/// A list, and what the entry after it is made of.
+/// A list, and the argument from which the next entry is made.
 #[derive(Drop)]
 struct Grown<T, X> {
     list: GhostList<T>,
     about: Snapshot<X>,
 }
 
-/// A list with the entry that `M` makes.
+/// An opening with a list's entries and the one that `M` makes.
 struct More<M> {
     marker: PhantomData<M>,
 }
@@ -66,14 +66,14 @@ impl<T, X, M: Plain<X, T, u64>> Opening<Grown<T, X>, T> for More<M> {
     ghost log = { λ count grown. grown.list.log ++ M.ask grown.about.value ∷ [] };
 }
 
-/// The empty list.
+/// Returns an empty list.
 pub(crate) fn empty<T>() -> GhostList<T>
     ensures { result.log ≡ [] }
 {
     list_of::<T, (), NoEntries>(&())
 }
 
-/// The list that `M` makes of something.
+/// Returns the list that `M` makes from `about`.
 pub(crate) fn list_of<T, X, M: Opening<X, T>>(about: &X) -> GhostList<T>
     ensures { result.log ≡ M.log 0 about.now }
 {
@@ -81,7 +81,7 @@ pub(crate) fn list_of<T, X, M: Opening<X, T>>(about: &X) -> GhostList<T>
     list
 }
 
-/// The list with one entry more, which `M` makes of something.
+/// Returns the list with one more entry, which `M` makes from `about`.
 pub(crate) fn longer<T, X, M: Plain<X, T, u64>>(list: &GhostList<T>, about: &X) -> GhostList<T>
     ensures { result.log ≡ list.now.log ++ M.ask about.now ∷ [] }
 {

@@ -1,11 +1,11 @@
-//! What the log holds.
+//! Entries of the log.
 use std::collections::LinkedList;
 use vol_receipts::Origin;
 use vol_volume::Record;
 
 /// An entry of the log. No value of it is made.
 pub enum LogEntry {
-    /// The volume was opened: what its journal started from, and its journal.
+    /// The volume was opened, with this origin and journal.
     Opened(Origin, LinkedList<Record>),
     /// A call was accepted.
     Made(Record),

@@ -12,7 +12,7 @@ use logbook::{Offer, Pen, Seen, Start};
 use std::marker::Model;
 use vol_volume::{Record, Volume};
 
-/// The owner of a volume's log: it alone appends to it, so it knows the whole.
+/// The owner of a volume's log. Only the owner appends to the log, so it knows all of it.
 #[derive(Drop)]
 pub struct Ledger {
     head: Head,
@@ -57,8 +57,9 @@ impl Model for Permit {
 }
 
 impl Ledger {
-    /// The owner of a new log, which begins with a volume as it is opened. None never comes, which no contract can say:
-    /// only where the log's word held another number than it was just made with.
+    /// Returns the owner of a new log, whose first entry is a volume as it is opened. Never returns `None`,
+    /// which no contract can say: `None` would mean that the log's first word had lost the number it was just
+    /// made with.
     ///
     /// Takes no memory.
     pub fn open(volume: &Volume) -> Option<Ledger>
@@ -76,8 +77,8 @@ impl Ledger {
         })
     }
 
-    /// The right to append the next entry. None where the log has 2^64 - 2 entries, and where there is such a right
-    /// already.
+    /// Returns the right to append the next entry, or `None` if the log has 2^64 - 1 entries or this right
+    /// was already given.
     pub fn ready(&self) -> Option<Permit>
         ensures book { IfSome result (λ permit. permit.book ≡ self.now.book) }
         ensures next { IfSome result (λ permit. permit.at ≡ length self.now.log) }
@@ -106,7 +107,7 @@ impl Ledger {
         self.made += 1;
     }
 
-    /// The whole log, as a front.
+    /// Returns the whole log as a prefix.
     pub fn front(&self) -> Front
         ensures { result ≡ self.now }
     {
@@ -115,7 +116,7 @@ impl Ledger {
         }
     }
 
-    /// Does nothing: the whole log goes on from each beginning of it.
+    /// Does nothing; its contract says that the whole log extends each of its prefixes.
     pub fn covers(&mut self, front: &Front)
         requires { front.now.book ≡ self.old.book }
         ensures same { self.new ≡ self.old }

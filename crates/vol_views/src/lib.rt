@@ -1,7 +1,7 @@
-//! Answers without the volume's lock. The history of a volume is a log of which every thread may know a beginning, and to
-//! which one owner alone appends; it exists in proofs alone. Versions are images by themselves, to which records are applied
-//! one by one; a publisher shows each to readers that take no lock, with the front of the log that it stands after. Views
-//! answer queries from what is published, and leave receipts.
+//! Queries without the volume's lock. A volume's history is a log, which exists only in proofs: one owner
+//! appends to it, and every thread may know a prefix of it. A version is a copy of the image to which records
+//! are applied one by one. A publisher shows each version, with the log prefix that it reflects, to readers
+//! that take no lock. Views answer queries from the published version and leave receipts.
 #![tactic(auto)]
 
 pub mod front;

@@ -1,9 +1,9 @@
-//! What holds of the log between any two steps, and what each step tells.
+//! The invariant of the log, and the effect of each step.
 use crate::history::LogEntry;
 use logbook::{Gain, Opening, Plain, Play, Rule, Seen, Word};
 use vol_volume::{Record, Volume};
 
-/// The rule of the log: each entry but the first takes a word that one pen alone may write.
+/// The rule of the log: each entry except the first takes a word that only one pen may write.
 pub struct OneOwner;
 
 impl Rule<LogEntry, u64> for OneOwner {
@@ -24,13 +24,13 @@ impl Rule<LogEntry, u64> for OneOwner {
     ghost moves = { λ ask before after answer. Unit {0} };
 }
 
-/// The word on which all steps are made: how many words there are beside it.
+/// The word on which all steps are made: the number of words after it.
 pub(crate) type Head = Word<LogEntry, u64, OneOwner>;
 
-/// A beginning of the log that was seen.
+/// A prefix of the log that was observed.
 pub(crate) type Beginning = Seen<LogEntry, u64, OneOwner>;
 
-/// What a step trades: nothing.
+/// The gain of a step that gains nothing.
 pub(crate) struct Nothing;
 
 impl Gain<LogEntry, u64> for Nothing {
@@ -48,7 +48,7 @@ impl Opening<Volume, LogEntry> for Begin {
     ghost log = { λ count volume. first_log volume };
 }
 
-/// A step that adds a word, and gives the pen for it.
+/// A step that adds a word and gives a pen for it.
 pub(crate) struct Add;
 
 impl Play<LogEntry, u64> for Add {
@@ -66,7 +66,7 @@ impl Play<LogEntry, u64> for Append {
     ghost then = { Appends };
 }
 
-/// What is appended: the record of an accepted call.
+/// Appends the record of an accepted call.
 impl Plain<Record, LogEntry, u64> for Append {
     ghost use Rattle.std.specs.Prelude.{None};
     ghost use Rattle.vol_views.specs.declared.history.LogEntry.TheVariants.{Made};
@@ -76,7 +76,7 @@ impl Plain<Record, LogEntry, u64> for Append {
     ghost state = { λ entry. None };
 }
 
-/// A step that looks how long the log is.
+/// A step that compares the log's length.
 pub(crate) struct Compare;
 
 impl Play<LogEntry, u64> for Compare {
@@ -85,7 +85,7 @@ impl Play<LogEntry, u64> for Compare {
     ghost then = { Compares };
 }
 
-/// A step that appends nothing asks for nothing.
+/// A step that appends nothing has no entry to append.
 impl Plain<(), LogEntry, u64> for Compare {
     ghost use Rattle.std.specs.Prelude.{None};
     ghost use Rattle.vol_views.specs.LogRule.{no_entry};

@@ -1,4 +1,4 @@
-//! Pens for words that the log will take.
+//! Pens for words that later entries will take.
 ghost use Rattle.std.specs.Prelude.{◌≡◌, ◌+◌, ◌<◌, ◌^◌, IfSome};
 ghost use Rattle.logbook.specs.Pages.{nib, may_write};
 ghost use Rattle.vol_views.specs.LogRule.{head_of};
@@ -7,7 +7,7 @@ use crate::history::LogEntry;
 use crate::log_rule::{Add, Beginning, Compare, Head, Nothing, OneOwner};
 use logbook::{Offer, Pen};
 
-/// A pen for the word after so many. None where there aren't just so many.
+/// Returns a pen for the word after the first `words`, or `None` if their number differs.
 pub(crate) fn new_pen(head: &Head, seen: &Beginning, words: u64) -> Option<Pen>
     requires head { head.now ≡ head_of seen.now.book }
     requires room { words + 1 < 2 ^ 64 }
@@ -29,7 +29,7 @@ pub(crate) fn new_pen(head: &Head, seen: &Beginning, words: u64) -> Option<Pen>
     if found != words {
         return None;
     }
-    // The pen is to write the word; nobody reads it.
+    // The pen needs a word to write; nobody reads it.
     let _word: Head = Head::tracked(0, &mut pen);
     Some(pen)
 }

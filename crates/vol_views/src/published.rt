@@ -1,4 +1,4 @@
-//! What is published, and what makes the next of it.
+//! The published version, and the operations that advance it.
 ghost use Rattle.std.specs.Prelude.{◌≡◌, ◌++◌};
 ghost use Rattle.vol_views.specs.Absorbing.{entries_of};
 
@@ -8,26 +8,26 @@ use left_right::Absorb;
 use std::alloc::AllocError;
 use vol_volume::Record;
 
-/// A version that readers take: with the number of the record that comes next, and the front of the log that it stands
-/// after.
+/// A version for readers, with the number of the next record and the log prefix that the version reflects.
 #[derive(Drop)]
 pub struct Published {
     /// The version.
     pub version: Version,
-    /// How many records it stands after, those that were cut among them.
+    /// The number of records that it reflects, including those that were cut.
     pub at: u64,
-    /// The front.
+    /// The log prefix that it reflects.
     pub front: Front,
 }
 
-/// What makes a version the next: the record that is applied, if one is, and what stands beside the version then.
+/// An operation on the published version: a record to apply, if any, and the number and the prefix that go
+/// with the result.
 #[derive(Drop)]
 pub struct Operation {
     /// The record of an accepted call.
     pub made: Option<Record>,
-    /// How many records the version stands after then.
+    /// The number of records that the result reflects, including those that were cut.
     pub at: u64,
-    /// The front then.
+    /// The log prefix that the result reflects.
     pub front: Front,
 }
 

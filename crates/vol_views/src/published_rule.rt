@@ -1,11 +1,11 @@
-//! What holds of what is published and of what readers know, and what each step tells.
+//! The invariant of the published version and its readers, and the effect of each step.
 use crate::front::Front;
 use crate::published::{Operation, Published};
 use atomic_table::{Join, Split};
 use crossbeam_utils::rule::{Outcome, Protocol};
 use left_right::writer::Writer;
 
-/// The rule: what is published is right, and goes on from what each reader knows. A reader knows a front.
+/// The rule: the published version is right, and its log extends the prefix that each reader knows.
 pub struct OneHistory;
 
 impl Protocol<Published, Front> for OneHistory {
@@ -16,10 +16,10 @@ impl Protocol<Published, Front> for OneHistory {
     ghost first = { nothing_reached };
 }
 
-/// The two copies, as their owner holds them.
+/// The two copies of the published version, as their owner holds them.
 pub(crate) type Copies = Writer<Published, Operation, Front, OneHistory>;
 
-/// The next version is shown.
+/// Shows the next version.
 pub(crate) struct Show;
 
 impl Outcome<Published, Front> for Show {
@@ -28,7 +28,7 @@ impl Outcome<Published, Front> for Show {
     ghost then = { λ before shown next after. after ≡ next.front };
 }
 
-/// What is published is taken to be read.
+/// Enters the published version to read it.
 pub(crate) struct Enter;
 
 impl Outcome<Published, Front> for Enter {
@@ -37,7 +37,7 @@ impl Outcome<Published, Front> for Enter {
     ghost then = { Enters };
 }
 
-/// The owner tells all that it knows.
+/// Tells a reader the log that the owner knows.
 pub(crate) struct Tell;
 
 impl Split<Front> for Tell {
@@ -46,7 +46,7 @@ impl Split<Front> for Tell {
     ghost right = { λ known. known };
 }
 
-/// A reader knows what it was told.
+/// Makes a reader know the prefix that it was told.
 pub(crate) struct Learn;
 
 impl Join<Front> for Learn {

@@ -1,4 +1,4 @@
-//! Who publishes versions.
+//! Publishing versions.
 ghost use Rattle.std.specs.Prelude.{◌≡◌, ◌≢◌, ◌<◌, ◌+◌, ◌^◌, ◌++◌, ◌∷◌, [], length, IfOk, IfSome, drop};
 ghost use mathlib.Core.List.{IsPrefix};
 ghost use Rattle.vol_volume.specs.Journal.{MayFollow, after};
@@ -21,7 +21,7 @@ use std::marker::Model;
 use std::sync::Wait;
 use vol_volume::{Record, Volume};
 
-/// The owner of a volume's log and of the two copies of its version that readers take. It is never dropped:
+/// The owner of a volume's log and of the two copies of its version that readers use. It is never dropped:
 /// [`Publisher::end`] ends it.
 pub struct Publisher {
     ledger: Ledger,
@@ -44,9 +44,9 @@ impl Model for Publisher {
 }
 
 impl Publisher {
-    /// Publishes a volume as it is, for so many readers.
+    /// Publishes a volume as it is, for at most `readers` readers.
     ///
-    /// Takes memory for two copies of its image, and some bytes for each reader.
+    /// Takes memory for two copies of the image, and a few bytes for each reader.
     pub fn open<R: Wait>(
         rt: &R,
         alloc: Global,
@@ -65,29 +65,29 @@ impl Publisher {
         let copies = Copies::new(alloc, first, second, readers.max(1))?;
         let copies = make_room(rt, copies, at, &ledger)?;
         let copies = show(rt, copies);
-        // The second copy takes the operations too, and then there is room for two.
+        // After the second copy has taken the operations too, there is room for two more.
         let copies = show(rt, copies);
         Ok(Publisher { ledger, copies })
     }
 
-    /// The number of the next record.
+    /// Returns the number of the next record.
     pub fn next_record(&self) -> u64
         ensures { result ≡ number_of self.now.log }
     {
         self.copies.published().at
     }
 
-    /// Does nothing: what every publisher keeps is in the contract. Its log has begun, and comes to what its records make
-    /// of their start.
+    /// Does nothing; its contract says what every publisher keeps: its log has begun, and the state of the
+    /// log is the one after all its records.
     pub fn check(&self)
         ensures begun { self.now.log ≢ [] }
         ensures reads { state_of self.now.log ≡ after (start (origin_in self.now.log)) (history_of self.now.log) }
     {
-        // What is read of a publisher brings what every publisher keeps into the proof.
+        // Reading a field adds the facts that every publisher keeps to the proof.
         let _ = &self.copies;
     }
 
-    /// The right to publish one record.
+    /// Returns the right to publish one record, or `None` as [`Ledger::ready`] does.
     pub fn ready(&self) -> Option<Permit>
         ensures book { IfSome result (λ permit. permit.book ≡ self.now.book) }
         ensures next { IfSome result (λ permit. permit.at ≡ length self.now.log) }
@@ -95,9 +95,9 @@ impl Publisher {
         self.ledger.ready()
     }
 
-    /// Publishes the record of an accepted call, which may come next.
+    /// Publishes the record of an accepted call, which must be able to come next.
     ///
-    /// Takes no memory. Waits for readers that still read the copy which was shown before the last, and applies the
+    /// Takes no memory. Waits until nobody reads the copy that was shown before the last one, and applies the
     /// record to both copies in turn.
     pub fn publish<R: Wait>(self, rt: &R, permit: Permit, made: Record) -> Publisher
         requires book { permit.book ≡ self.book }
@@ -122,9 +122,9 @@ impl Publisher {
         Publisher { ledger, copies }
     }
 
-    /// A place at what is published, which knows the whole log. None where each place was found in use.
+    /// Returns a subscriber that knows the whole log, or `None` if all readers' seats were found in use.
     ///
-    /// Takes a count of an owner, and no memory.
+    /// Takes no memory; increments an owner count.
     pub fn subscriber(&mut self) -> Option<Subscriber>
         ensures same { self.new ≡ self.old }
         ensures knows { IfSome result (λ subscriber. subscriber ≡ self.old) }
@@ -134,14 +134,14 @@ impl Publisher {
         Some(Subscriber { reader })
     }
 
-    /// The whole log, as a front.
+    /// Returns the whole log as a prefix.
     pub fn front(&self) -> Front
         ensures { result ≡ self.now }
     {
         self.ledger.front()
     }
 
-    /// Does nothing: the whole log goes on from each beginning of it.
+    /// Does nothing; its contract says that the whole log extends each of its prefixes.
     pub fn covers(&mut self, front: &Front)
         requires { front.now.book ≡ self.old.book }
         ensures same { self.new ≡ self.old }
@@ -150,14 +150,14 @@ impl Publisher {
         self.ledger.covers(front);
     }
 
-    /// Ends it, once no reader reads.
+    /// Ends publishing. Waits until no reader reads.
     pub fn end<R: Wait>(self, rt: &R) {
         let Publisher { ledger: _, copies } = self;
         copies.take(rt);
     }
 }
 
-/// The number of a volume's next record.
+/// Returns the number of a volume's next record, or an error if it isn't below 2^64.
 fn next_number(volume: &Volume) -> Result<u64, AllocError>
     ensures { IfOk result (λ at. at ≡ number_of (first_log volume.now)) }
 {
@@ -165,7 +165,7 @@ fn next_number(volume: &Volume) -> Result<u64, AllocError>
     volume.first().checked_add(records).ok_or(AllocError)
 }
 
-/// What is published of a volume that is opened.
+/// Returns the first version that is published of a volume.
 fn first_version(
     alloc: Global,
     volume: &Volume,
@@ -185,7 +185,8 @@ fn first_version(
     })
 }
 
-/// Adds two operations that change nothing, so that there is room for two. Where memory runs out, the copies end.
+/// Adds two operations that change nothing, so that there is room for two. Ends the copies if memory runs
+/// out.
 fn make_room<R: Wait>(
     rt: &R,
     copies: Copies,
@@ -200,7 +201,7 @@ fn make_room<R: Wait>(
     add_empty(rt, copies, at, ledger)
 }
 
-/// Adds an operation that changes nothing. Where memory runs out, the copies end.
+/// Adds an operation that changes nothing. Ends the copies if memory runs out.
 fn add_empty<R: Wait>(
     rt: &R,
     copies: Copies,

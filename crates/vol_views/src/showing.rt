@@ -1,4 +1,4 @@
-//! Operations are added, and the next version is shown.
+//! Adding operations and showing the next version.
 ghost use Rattle.std.specs.Prelude.{◌≡◌, ◌++◌, ◌∷◌, [], drop, fold};
 ghost use Rattle.left_right.specs.Sides.{view};
 ghost use Rattle.vol_views.specs.Absorbing.{absorbed};
@@ -9,8 +9,8 @@ use crate::published_rule::{Copies, Show};
 use std::sync::Wait;
 use std::thread;
 
-/// Adds an operation. There is room for two, which is all that there ever are; no contract says so, and where there
-/// were none this would try again.
+/// Adds an operation. There are never more than two, and there is room for two; no contract says so, and
+/// without room this would try again.
 pub(crate) fn add<R: Wait>(rt: &R, copies: &mut Copies, operation: Operation)
     ensures desk { copies.new.desk ≡ copies.old.desk }
     ensures pending { drop copies.new.behind copies.new.log.items ≡ drop copies.old.behind copies.old.log.items ++ operation ∷ [] }
@@ -26,7 +26,7 @@ pub(crate) fn add<R: Wait>(rt: &R, copies: &mut Copies, operation: Operation)
     unreachable!()
 }
 
-/// Shows readers the version that all operations make.
+/// Shows readers the version that all pending operations make.
 pub(crate) fn show<R: Wait>(rt: &R, copies: Copies) -> Copies
     requires { MayShow copies.desk.shown.value (drop copies.behind copies.log.items) }
     ensures shown { result.desk.shown.value ≡ fold absorbed copies.desk.shown.value (drop copies.behind copies.log.items) }

@@ -1,4 +1,4 @@
-//! A place of one thread at what is published. How a view learns is in `view.rt`.
+//! One thread's access to the published version. Learning is in `view.rt`.
 ghost use Rattle.std.specs.Prelude.{◌≡◌, ◌≢◌, [], IfOk, IfErr};
 ghost use mathlib.Core.List.{IsPrefix};
 ghost use Rattle.vol_volume.specs.Answer.{Answers};
@@ -16,8 +16,8 @@ use std::marker::Model;
 use vol_dir::Refusal;
 use vol_volume::{Query, Reply};
 
-/// A place of one thread at what is published. It takes no lock. Contracts see the front that it entered or was told
-/// last.
+/// One thread's access to the published version. It takes no lock. Contracts see the log prefix that it last
+/// read or was told.
 #[derive(Drop)]
 pub struct Subscriber {
     pub(crate) reader: Reader<Published, Front, OneHistory>,
@@ -34,22 +34,22 @@ impl Model for Subscriber {
     ghost invariant = { λ s. s.reader.place.me.0.client.log ≢ [] };
 }
 
-/// What a query was answered by what is published.
+/// A query's answer from the published version.
 #[derive(Drop)]
 pub struct Answered {
-    /// How many records the answer stands after, those that were cut among them.
+    /// The number of records that the answer reflects, including those that were cut.
     pub at: u64,
-    /// The front that those records are.
+    /// The log prefix of those records.
     pub front: Front,
-    /// The answer.
+    /// The reply or the refusal.
     pub reply: Result<Reply, Refusal>,
 }
 
 impl Subscriber {
-    /// Asks a query of the version that is published. It comes back with nothing where it couldn't enter, which is only
-    /// once the publisher is gone.
+    /// Runs a query on the published version. Returns only itself if it couldn't enter, which happens only
+    /// after the publisher has ended.
     ///
-    /// Takes memory and costs what [`crate::Version::ask`] does, and waits for nobody.
+    /// Takes memory and costs what [`crate::Version::ask`] does, and never waits.
     pub fn ask(self, alloc: Global, query: &Query) -> Result<(Subscriber, Answered), Subscriber>
         ensures book { IfOk result (λ (subscriber, answered). subscriber.book ≡ self.book) }
         ensures goes_on { IfOk result (λ (subscriber, answered). IsPrefix self.log subscriber.log) }
@@ -73,7 +73,7 @@ impl Subscriber {
     }
 }
 
-/// The answer of what is published.
+/// Returns the answer of the published version.
 fn answer(alloc: Global, published: &Published, query: &Query) -> Answered
     requires { IsRight published.now }
     ensures front { result.front ≡ published.now.front }

@@ -1,4 +1,4 @@
-//! How far a volume has come, as its publisher tells it.
+//! The progress of a volume, as its publisher reports it.
 ghost use Rattle.std.specs.Prelude.{◌≡◌, ◌≤◌, IfSome};
 ghost use Rattle.vol_views.specs.Logs.{number_of};
 ghost use Rattle.vol_views.specs.Views.{GoesOn, book_in};
@@ -7,7 +7,8 @@ use crate::front::Front;
 use crate::publisher::Publisher;
 use std::marker::Model;
 
-/// A front of a volume's log that has begun, and the number of the record that comes next there. Contracts see the front.
+/// A non-empty prefix of a volume's log, and the number of the next record after it. Contracts see the
+/// prefix.
 #[derive(Drop)]
 pub struct Told {
     pub(crate) front: Front,
@@ -27,7 +28,7 @@ impl Model for Told {
 }
 
 impl Told {
-    /// All that is published.
+    /// Returns the publisher's whole log.
     pub fn of(publisher: &Publisher) -> Told
         ensures { result ≡ publisher.now }
     {
@@ -38,7 +39,7 @@ impl Told {
         }
     }
 
-    /// A copy.
+    /// Returns a copy.
     pub fn again(&self) -> Told
         ensures { result ≡ self.now }
     {
@@ -48,7 +49,8 @@ impl Told {
         }
     }
 
-    /// Does nothing: of two fronts of one log, the one with the greater number goes on from the other.
+    /// Does nothing; its contract says that of two prefixes of one log, the one with the greater number
+    /// extends the other.
     pub(crate) fn goes_on(&self, later: &Told)
         requires book { later.now.book ≡ self.now.book }
         requires later { number_of self.now.log ≤ number_of later.now.log }
@@ -57,7 +59,7 @@ impl Told {
         self.front.in_line(&later.front);
     }
 
-    /// Does nothing: all that is published goes on from it.
+    /// Does nothing; its contract says that the published log extends this prefix.
     pub(crate) fn is_covered(&self, publisher: &mut Publisher)
         requires { self.now.book ≡ publisher.old.book }
         ensures same { publisher.new ≡ publisher.old }
@@ -66,7 +68,7 @@ impl Told {
         publisher.covers(&self.front);
     }
 
-    /// The number of the record that comes next.
+    /// Returns the number of the next record.
     pub fn next_record(&self) -> u64
         ensures { result ≡ number_of self.now.log }
     {
@@ -74,7 +76,7 @@ impl Told {
     }
 }
 
-/// Who may have been told how far a volume has come.
+/// A type that may hold a volume's progress.
 pub trait Informed {
     ghost use Rattle.std.specs.Prelude.{Option, ℕ};
     ghost use Rattle.logbook.specs.Pages.{Book};
@@ -83,7 +85,7 @@ pub trait Informed {
 
     ghost next: { Self → ℕ };
 
-    /// What was told last, if anything was: a front of the volume's log, up to a number.
+    /// Returns the last prefix that was told, if any: one of the volume's log, up to a number.
     fn told(&self) -> Option<Told>
         ensures book { book_in result ≡ Self.book self.now }
         ensures next { IfSome result (λ told. number_of told.log ≡ Self.next self.now) };

@@ -1,4 +1,4 @@
-//! An image by itself.
+//! A copy of the image that replays records.
 ghost use Rattle.std.specs.Prelude.{◌≡◌, ◌↔◌, ◌++◌, ◌∷◌, [], IsTrue, IfOk};
 ghost use Rattle.vol_views.specs.LogRule.{first_log};
 ghost use Rattle.vol_views.specs.declared.history.LogEntry.TheVariants.{Made};
@@ -16,9 +16,9 @@ use vol_dir::Refusal;
 use vol_layout::Geometry;
 use vol_volume::{Query, Record, Reply, Volume, apply, ask_image};
 
-/// The image of a volume by itself, with its geometry and the number of its free blocks beside it, so that neither is
-/// found anew for a record. Contracts see what became of it: the volume that it was made of, and the records that were
-/// applied since. It always reads as what these come to.
+/// A copy of a volume's image that replays records. It caches the geometry and the number of free blocks, so
+/// that a record doesn't recount them. Contracts see the volume that it was copied from and the records
+/// applied since; it always reads as the state that these make.
 #[derive(Drop)]
 pub struct Version {
     geometry: Geometry,
@@ -46,9 +46,9 @@ impl Model for Version {
 }
 
 impl Version {
-    /// A version of a volume as it is.
+    /// Copies a volume as it is.
     ///
-    /// Takes memory for a copy of the image, and costs that copy.
+    /// Takes memory for the image, and costs a copy of it.
     pub fn new(alloc: Global, volume: &Volume) -> Result<Version, AllocError>
         ensures { IfOk result (λ version. version ≡ first_log volume.now) }
     {
@@ -62,7 +62,8 @@ impl Version {
         })
     }
 
-    /// Applies a record, where it may come next; true where it does. Else the image stays.
+    /// Applies a record if it can come next, and returns true; else returns false and leaves the image as it
+    /// is.
     ///
     /// Takes no memory. Costs what [`vol_volume::apply`] does.
     pub fn apply(&mut self, entry: &Record) -> bool
@@ -74,7 +75,7 @@ impl Version {
         is_next
     }
 
-    /// The answer to a query, with the refusals of [`Volume::ask`].
+    /// Returns the reply to a query, or a refusal as [`Volume::ask`] does.
     ///
     /// Takes memory and costs what [`vol_volume::ask_image`] does.
     pub fn ask(&self, alloc: Global, query: &Query) -> Result<Reply, Refusal>

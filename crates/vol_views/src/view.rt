@@ -1,4 +1,4 @@
-//! Views.
+//! Queries by views.
 ghost use Rattle.std.specs.Prelude.{◌≡◌, ◌≢◌, ◌≤◌, ◌++◌, ◌∷◌, [], true, Some, IfOk, IfErr, IfSome, OnErr, All};
 ghost use mathlib.Core.List.{IsPrefix};
 ghost use Rattle.vol_volume.specs.Answer.{Answers, takes_memory};
@@ -19,11 +19,12 @@ use vol_dir::Refusal;
 use vol_receipts::{Asked, Outcome, Receipt};
 use vol_volume::Query;
 
-/// The most views that a volume may be opened with.
+/// The greatest number of views of a volume.
 pub const MOST_VIEWS: usize = 16;
 
-/// A view of a volume, for one thread at a time: it answers queries from what is published, and takes no lock. What it
-/// answers is never older than what it answered or learnt before. It keeps, for contracts alone, its receipts.
+/// A view of a volume, for one thread at a time. It answers queries from the published version and takes no
+/// lock. An answer is never older than one it gave or learnt before. For contracts alone, it keeps its
+/// receipts.
 #[derive(Drop)]
 pub struct View {
     subscriber: Option<Subscriber>,
@@ -47,20 +48,20 @@ impl Model for View {
 /// Why a view gave no answer.
 #[derive(Clone, Copy, Debug, PartialEq, Eq, Error)]
 pub enum ViewFault {
-    /// Memory ran out.
+    /// Out of memory.
     #[error("out of memory")]
     NoMemory,
-    /// The view couldn't read what is published, which happens only once that has ended, or its answer was older than
-    /// what the view knows, and was thrown away. Neither happens while the volume is shared, which no contract can
-    /// say. The caller may ask again, or by a session.
+    /// The published version couldn't be read, which happens only after publishing has ended, or the answer
+    /// was older than what the view knows and was dropped. Neither happens while the volume is shared, which
+    /// no contract can say. The caller may ask again, or use a session.
     #[error("what is published couldn't be read")]
     NotEntered,
 }
 
 impl View {
-    /// A view that knows all that is published. None where each place for one was found in use.
+    /// Returns a view that knows all that is published, or `None` if all readers' seats were found in use.
     ///
-    /// Takes a count of an owner, and no memory.
+    /// Takes no memory; increments an owner count.
     pub fn new(publisher: &mut Publisher) -> Option<View>
         ensures same { publisher.new ≡ publisher.old }
         ensures view { IfSome result (λ view. IsNew publisher.old view) }
@@ -73,11 +74,11 @@ impl View {
         })
     }
 
-    /// The answer to a query, of what is published. NoMemory where the reply takes memory and there was none; NotEntered
-    /// where what is published couldn't be read, or the answer was older than what is known. Either leaves the receipts
-    /// as they were, and NotEntered leaves all.
+    /// Answers a query from the published version, with a receipt. Returns `NoMemory` if memory for the reply
+    /// runs out, and `NotEntered` if the published version couldn't be read or is older than what the view
+    /// knows. After either error the receipts are unchanged; after `NotEntered` the whole view is.
     ///
-    /// Takes memory and costs what [`Subscriber::ask`] does, and waits for nobody.
+    /// Takes memory and costs what [`Subscriber::ask`] does, and never waits.
     #[tactic(auto, using(crate::proofs::Views::number_on))]
     pub fn ask(&mut self, alloc: Global, query: Query) -> Result<Receipt, (ViewFault, Query)>
         ensures book { self.new.book ≡ self.old.book }
@@ -105,7 +106,8 @@ impl View {
         }
     }
 
-    /// The receipt of an answer, unless it is older than what is known. That never happens, which no contract can say.
+    /// Returns the receipt of an answer, unless the answer is older than what the view knows, which never
+    /// happens (no contract can say so).
     fn take_over(&mut self, answered: Answered, query: Query) -> Result<Receipt, (ViewFault, Query)>
         requires book { answered.front.book ≡ self.old.book }
         requires begun { answered.front.log ≢ [] }
@@ -133,7 +135,7 @@ impl View {
         Ok(self.tell(at, Asked::Question(query), outcome))
     }
 
-    /// The receipt of what is known, which joins the receipts.
+    /// Makes a receipt for what the view now knows, and keeps it among the receipts.
     fn tell(&mut self, at: u64, asked: Asked, outcome: Outcome) -> Receipt
         requires at { at ≡ number_of self.old.log }
         requires answer { IsAnswer (after (start (origin_in self.old.log)) (history_of self.old.log)) asked outcome }
@@ -148,7 +150,7 @@ impl View {
         receipt
     }
 
-    /// Knows a front that isn't older than what is known.
+    /// Advances to a log prefix that isn't older than the known one.
     fn know(&mut self, told: Told)
         requires book { told.book ≡ self.old.book }
         requires later { number_of self.old.log ≤ number_of told.log }
@@ -161,7 +163,7 @@ impl View {
         self.known = told;
     }
 
-    /// Learns what a session was told: from now on each answer stands after all that the session knows of.
+    /// Learns a session's progress: from now on each answer reflects all that the session knows.
     ///
     /// Takes no memory.
     #[tactic(auto, using(crate::proofs::Views::number_on))]
@@ -180,7 +182,7 @@ impl View {
         self.learn_told(told);
     }
 
-    /// Knows a front that was told, if it is newer.
+    /// Advances to a log prefix that was told, if it is newer.
     fn learn_told(&mut self, told: Told)
         requires { told.book ≡ self.old.book }
         ensures book { self.new.book ≡ self.old.book }
@@ -195,7 +197,8 @@ impl View {
         }
     }
 
-    /// Does nothing: the log that is published goes on from what a view knows, with which all its receipts agree.
+    /// Does nothing; its contract says that the published log extends what a view knows, with which all its
+    /// receipts agree.
     pub fn is_covered(&self, publisher: &mut Publisher)
         requires { self.now.book ≡ publisher.old.book }
         ensures same { publisher.new ≡ publisher.old }

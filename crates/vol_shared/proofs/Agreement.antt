@@ -16,7 +16,7 @@ use Rattle.vol_receipts.specs.declared.receipts.Receipt.{Receipt}
 use Rattle.vol_shared.specs.Stored.{Stored, Follows}
 
 module _ (opened : Stored) (gone : List Record) (found : Stored) (follows : Follows opened gone found) (journal : List Record) where
-  -- what some records of the journal make is what these and those cut before make of the start
+  -- the state after some records of the journal is that after the records cut before and these, from the start
   states : (k m : ℕ) → k ≡ length gone + m → state_after found.origin journal m ≡ state_after opened.origin (gone ++ journal) k
   states k m split =
       sym (ap (λ n. after (start opened.origin) (take n (gone ++ journal))) split

@@ -1,4 +1,4 @@
--- What a session has after a call.
+-- Facts about a session after a call.
 use Rattle.std.proofs.Common.{◌≡◌, ℕ, ◌+◌, ◌≤◌, List, [], ◌∷◌, ◌++◌, length, Option, None, sym, refl, ap, ◌∙◌, length-append, arith}
 use Rattle.atomic_table.specs.Table.{Me}
 use Rattle.atomic_table.specs.Seated.{TableId}
@@ -12,7 +12,7 @@ use Rattle.vol_shared.specs.Plays.{Event, nothing, receipt, took, gave, FindsVol
 use Rattle.vol_shared.specs.Sessions.{known_by, knowledge_of, IsIdle, Got, HasCut}
 use Rattle.vol_shared.specs.declared.knowledge.Knowledge.{Knowledge}
 
--- what is found has a number for the next record that isn't below the least that a session's receipt may have
+-- the next record of the volume that is found has a number that isn't below the least that a session's receipt may have
 pub reaches : (v : Knowledge) (gone : List Record) (found : Stored) → FindsVolume v gone found
     → v.opened.origin.first + length v.history ≤ next_number found
 reaches v gone found finds =
@@ -59,13 +59,13 @@ has_cut views next count mine is me end found given first took-it cut-it told ga
       receipts = ap (λ (w : Knowledge). w.receipts) here;
     }
 
--- what a seat was opened with stays
+-- a seat's opened volume stays
 pub keeps_opened : (v : Knowledge) (given : Stored) (event : Event) → (gave v given event).opened ≡ v.opened
 keeps_opened v given nothing = refl
 keeps_opened v given (receipt r) = refl
 keeps_opened v given cut = refl
 
--- so does the log in which the volume is published
+-- so does the log that has the volume's records
 pub same_book : (views later : List Knowledge) (me end : Me (Option Stored) Knowledge) (found given : Stored) (event : Event)
     → Took (knowledge_of views, []) me found None → end ≡ (gave me.0 given event, []) → later ≡ end.0 ∷ []
     → (knowledge_of later).opened.book ≡ (knowledge_of views).opened.book
@@ -76,7 +76,7 @@ same_book views later me end found given event took-it gave-it is =
     let four = ap (λ (m : Me (Option Stored) Knowledge). m.0.opened.book) took-it.2 in
     one ∙ (two ∙ (three ∙ four))
 
--- what is published of what is given back is in the log of what was opened
+-- the log of the volume that is given back is that of the opened one
 pub told_book : (views later : List Knowledge) (me end : Me (Option Stored) Knowledge) (found given : Stored) (event : Event) (told : Option Reached)
     → Took (knowledge_of views, []) me found None → given.book ≡ found.book → end ≡ (gave me.0 given event, []) → later ≡ end.0 ∷ []
     → book_in told ≡ given.book → book_in told ≡ (knowledge_of later).opened.book

@@ -1,4 +1,4 @@
--- What is known of a shared volume that was closed, by what its sessions did.
+-- Facts about a shared volume that was closed, from what its sessions did.
 use Rattle.std.proofs.Common.{◌≡◌, ℕ, ◌+◌, ◌≤◌, List, [], ◌++◌, length, max, ap, ◌∙◌, subst, arith, All}
 use Rattle.count_table.specs.Sums.{total, below}
 use Rattle.count_table.proofs.Totals.{total_ones, below_ones}
@@ -14,7 +14,7 @@ use Rattle.vol_shared.specs.Stored.{Stored, stored_of, next_number, Continues}
 use Rattle.vol_shared.specs.declared.knowledge.Knowledge.{Knowledge}
 use Rattle.vol_shared.proofs.Lists.{total_flat, greatest_flat, length_flat, flat_none, all_flat, no_length}
 
--- the volume of which this is what lies under the lock
+-- a volume that has these contents of the lock
 volume_of : Stored → Mounted
 volume_of stored = record {
   edition = stored.origin.edition;
@@ -24,12 +24,12 @@ volume_of stored = record {
   first = stored.origin.first;
 }
 
--- what lies under the lock is all of a volume
+-- the contents of the lock are all of a volume
 pub same_volume : (one other : Mounted) → stored_of one ≡ stored_of other → one ≡ other
 unfolding volume_of
 same_volume one other e = ap volume_of e
 
--- as many places as records were made since
+-- there are as many places as records made since
 pub counts : (opened : Stored) (v : Knowledge) (last : Stored) → IsSettled opened v last → length v.places + next_number opened ≡ next_number last
 counts opened v last is =
     let p = is.places (λ n. 1) in
@@ -71,7 +71,7 @@ module _ (opened : Stored) (sessions : List Known) (v : Knowledge) (last : Store
       let c = counts opened v last is in
       omega arith
 
-  -- all receipts agree with the records that were cut and the journal behind them
+  -- all receipts agree with the records that were cut followed by the journal
   end_whole : All (λ s. All (Agrees opened.origin (is.goes_on.0 ++ last.journal)) s.receipts) sessions
   end_whole = all_flat (λ (s : Known). s.receipts) (Agrees opened.origin (is.goes_on.0 ++ last.journal)) sessions
       (subst (All (Agrees opened.origin (is.goes_on.0 ++ last.journal))) gathered.receipts is.goes_on.2)

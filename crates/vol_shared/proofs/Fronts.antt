@@ -1,4 +1,4 @@
--- What is published, and what views know of it.
+-- Facts about published volumes and what views know of them.
 use Rattle.std.proofs.Common.{◌≡◌, ◌≢◌, ℕ, ◌+◌, ◌≤◌, List, [], ◌∷◌, ◌++◌, length, All, Option, None, Some, IfSome, refl, ap, sym, ◌∙◌, subst, arith, append_assoc, append-nil, length-append}
 use Rattle.std.proofs.lemmas.List.Elements.{All-append, All-cons, All-nil}
 use mathlib.Core.List.{IsPrefix}
@@ -45,12 +45,12 @@ published_first volume log is = subst (λ (l : List LogEntry). IsPublished l (st
   starts = refl;
 })
 
--- the log's next record has the number of the volume's
+-- the log's next record has the number of the volume's next
 pub published_number : (log : List LogEntry) (stored : Stored) → IsPublished log stored → number_of log ≡ next_number stored
 published_number log stored is =
     let longer = ap length is.records ∙ length-append is.gone stored.journal in omega (arith, longer, is.first)
 
--- and its records come to the state that the volume reads as
+-- and the state after its records is the one that the volume reads as
 pub published_state : (volume : Mounted) (log : List LogEntry) → IsConsistent volume → IsPublished log (stored_of volume)
     → state_of log ≡ after (start (origin_in log)) (history_of log) → state_of log ≡ reads_as volume.edition volume.image
 published_state volume log keeps is reads =
@@ -59,7 +59,7 @@ published_state volume log keeps is reads =
     ∙ (after-append (start (origin_in log)) is.gone volume.journal
     ∙ (ap (λ (s : State). after s volume.journal) (sym is.starts) ∙ sym keeps.reads)))
 
--- with a record more, in both
+-- with one record more in both
 pub published_more : (old new : Stored) (log : List LogEntry) (entry : Record) → IsPublished log old → new.origin ≡ old.origin
     → new.journal ≡ old.journal ++ entry ∷ [] → IsPublished (log ++ Made entry ∷ []) new
 published_more old new log entry is origin journal = record {
@@ -76,7 +76,7 @@ published_more old new log entry is origin journal = record {
     longer [] e = absurd cc
     longer (x ∷ xs) e = absurd cc
 
--- a cut takes nothing off the log
+-- a cut removes nothing from the log
 pub published_cut : (old new : Stored) (log : List LogEntry) → IsPublished log old → IsCut old new → IsPublished log new
 published_cut old new log is cut = record {
   gone = is.gone ++ old.journal;
@@ -142,7 +142,7 @@ next_is found given receipt is =
     let at = is.at in
     next_where (next_number given) receipt.at given.origin given.journal _ receipt.asked receipt.outcome is.agrees.1 (omega (arith, first, longer, at))
 
--- a volume covers what a view knows that stands behind its log
+-- a volume covers the knowledge of a view that its log extends
 pub covers_view : (last : Stored) (log : List LogEntry) (view : Watched) → IsPublished log last → IsBehind log view → Covers last view
 covers_view last log view is behind = record {
   gone = is.gone;
@@ -155,7 +155,7 @@ covers_view last log view is behind = record {
       (agree_on view.log log behind.goes_on (lib.ListN.get_or view.receipts k d) (behind.agree k d lt)));
 }
 
--- and a receipt of the view agrees with its journal, if it isn't of before the last cut
+-- and a receipt of the view agrees with its journal, unless it is older than the last cut
 pub covers_receipt : (last : Stored) (log : List LogEntry) (view : Watched) → IsPublished log last → IsBehind log view → (receipt : Receipt)
     → AgreesIn view.log receipt → last.origin.first ≤ receipt.at → Agrees last.origin last.journal receipt
 covers_receipt last log view is behind receipt agrees le =
@@ -163,7 +163,7 @@ covers_receipt last log view is behind receipt agrees le =
     agrees_after_cut (origin_in log) last.origin is.gone last.journal receipt is.first is.starts le
     (subst (λ (l : List Record). Agrees (origin_in log) l receipt) is.records on)
 
--- so it is for all views
+-- the same for all views
 pub all_covered : (last : Stored) (log : List LogEntry) (views : List Watched) → IsPublished log last → All (IsBehind log) views → All (Covers last) views
 all_covered last log views is all k d lt = covers_view last log _ is (all k d lt)
 
@@ -181,7 +181,7 @@ own_views book of views is all k d lt = same (is ∙ all k d lt)
     same : {one other : Book} → Some one ≡ Some other → other ≡ one
     same e = cc
 
--- where nothing is published there is no view
+-- if nothing is published there is no view
 pub no_views : (of : Option Book) (views : List Watched) (P : Watched → Type 0) → None ≡ of → All (λ v. of ≡ Some v.book) views → All P views
 no_views of views P is all k d lt = absurd (differ (is ∙ all k d lt))
   where
@@ -192,12 +192,12 @@ no_views of views P is all k d lt = absurd (differ (is ∙ all k d lt))
 pub all_pushed : {A : Type 0} (P : A → Type 0) (xs : List A) (x : A) → All P xs → P x → All P (xs ++ x ∷ [])
 all_pushed P xs x all one = All-append P xs (x ∷ []) all (All-cons P x [] one (All-nil P))
 
--- what holds of a value, if there is one
+-- a fact that follows for a value, if there is one
 pub some_map : {A : Type 0} (P Q : A → Type 0) (o : Option A) → ((x : A) → P x → Q x) → IfSome o P → IfSome o Q
 some_map P Q None f h = tt
 some_map P Q (Some x) f h = f x h
 
--- what is settled of what lies under the lock is so of the volume by itself
+-- facts about the contents of the lock hold without the log
 pub settled_alone : (opened : Stored) (v : Knowledge) (last : Stored) → IsSettled opened v last → IsSettled opened v (unpublished last)
 settled_alone opened v last is = record {
   goes_on = (
@@ -216,7 +216,7 @@ settled_alone opened v last is = record {
   uncut = is.uncut;
 }
 
--- a view that is made of what is published of a volume just opened
+-- a view made of a published volume that was just opened
 pub new_view : (volume : Mounted) (opened : Stored) (book : Book) (view : Watched) → unpublished opened ≡ stored_of volume → opened.book ≡ Some book
     → IsNew (record { book = book; log = first_log volume }) view → IsNewView opened view
 new_view volume opened book view same own is = record {
@@ -226,7 +226,7 @@ new_view volume opened book view same own is = record {
   receipts = is.receipts;
 }
 
--- so it is for all of them
+-- the same for all of them
 pub all_new : (volume : Mounted) (opened : Stored) (whole : Reached) (views : List Watched) → unpublished opened ≡ stored_of volume → opened.book ≡ Some whole.book
     → whole.log ≡ first_log volume → All (IsNew whole) views → All (IsNewView opened) views
 all_new volume opened whole views same own log all k d lt =

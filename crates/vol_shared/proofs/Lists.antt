@@ -1,4 +1,4 @@
--- Laws of beginnings, greatest values and lists as_one.
+-- Laws of prefixes, greatest values and joined lists.
 use Rattle.std.proofs.Common.{◌≡◌, ◌⊎◌, ℕ, zero, suc, ◌≤◌, List, [], ◌∷◌, ◌++◌, length, set, max, sym, refl, ap, ◌∙◌, subst, append_assoc, append-nil, length-append, inl, inr, arith, All}
 use Rattle.std.specs.List.{flat_map}
 use Rattle.std.proofs.lemmas.List.Elements.{All-cons, All-head, All-nil, All-tail}
@@ -18,7 +18,7 @@ module _ {A : Type 0} where
   pub begins_on : (xs ys zs : List A) → BeginsWith zs ys → BeginsWith ys xs → BeginsWith zs xs
   begins_on xs ys zs b a = (a.0 ++ b.0, b.1 ∙ (ap (λ (l : List A). l ++ b.0) a.1 ∙ append_assoc xs a.0 b.0))
 
-  -- of two beginnings of one list the longer begins with the other
+  -- of two prefixes of one list the longer begins with the other
   begins_between : (xs ys zs : List A) → BeginsWith zs xs → BeginsWith zs ys → length xs ≤ length ys → BeginsWith ys xs
   begins_between [] ys zs a b le = (ys, refl)
   begins_between (x ∷ xs) [] zs a b le = absurd (omega arith)
@@ -86,7 +86,7 @@ module _ {A : Type 0} (weight : A → ℕ) where
   greatest_part (z ∷ xs) zero x e = let s = ap weight (some-injective z x e) in omega arith
   greatest_part (z ∷ xs) (suc i) x e = let h = greatest_part xs i x e in omega arith
 
-  -- what bounds all members bounds the greatest
+  -- a bound of all members bounds the greatest
   pub greatest_all : (bound : ℕ) (xs : List A) → ((i : ℕ) (x : A) → get_elem? xs i ≡ some x → weight x ≤ bound) → greatest weight xs ≤ bound
   unfolding greatest
   greatest_all bound [] each = omega arith
@@ -106,17 +106,17 @@ module _ {A B : Type 0} (f : A → List B) where
       let h = greatest_flat weight xs in omega arith
 
 module _ {A : Type 0} (P : A → Type 0) where
-  -- what holds of all members holds of the last
+  -- a fact of all members is one of the last
   pub all_last : (xs : List A) (x : A) → All P (xs ++ x ∷ []) → P x
   all_last [] x h = h 0 x (omega arith)
   all_last (y ∷ xs) x h = all_last xs x (All-tail P y (xs ++ x ∷ []) h)
 
-  -- and of those in front
+  -- and of those before it
   pub all_front : (xs ys : List A) → All P (xs ++ ys) → All P xs
   all_front [] ys h = All-nil P
   all_front (x ∷ xs) ys h = All-cons P x xs (All-head P x (xs ++ ys) h) (all_front xs ys (All-tail P x (xs ++ ys) h))
 
-  -- and of those behind
+  -- and of those after it
   pub all_back : (xs ys : List A) → All P (xs ++ ys) → All P ys
   all_back [] ys h = h
   all_back (x ∷ xs) ys h = all_back xs ys (All-tail P x (xs ++ ys) h)

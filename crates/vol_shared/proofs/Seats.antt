@@ -1,4 +1,4 @@
--- The table opens, seats are cut and as_one, and what holds once one seat stands for all sessions.
+-- The table opens, seats are split and joined, and the facts once one seat represents all sessions.
 use Rattle.std.proofs.Common.{◌≡◌, ◌≢◌, ◌⊎◌, inl, inr, ℕ, zero, suc, ◌+◌, ◌-◌, ◌<◌, ◌≤◌, List, [], ◌∷◌, ◌++◌, length, set, false, Option, Some, All, sym, refl, ap, ◌∙◌, subst, append_assoc, append-nil, length-append, arith, ⊎_elim}
 use Rattle.std.proofs.lemmas.Bool.{cases_eq}
 use Rattle.std.proofs.lemmas.List.Elements.{All-append, All-nil}
@@ -35,7 +35,7 @@ fresh_fits opened parts last history begins = record {
   spent = λ e. (refl, refl, refl);
 }
 
--- a seat that stands for no session fits
+-- a seat that represents no session fits
 blank_fits : (opened last : Stored) (history : List Record) → SeatFits opened last history nobody
 blank_fits opened last history = record {
   same = λ e. absurd (omega arith);
@@ -45,7 +45,7 @@ blank_fits opened last history = record {
   spent = λ e. (refl, refl, refl);
 }
 
--- what a volume is goes on from itself
+-- a volume continues itself
 follows_itself : (opened : Stored) → Follows opened [] opened
 follows_itself opened = record {
   edition = refl;
@@ -79,7 +79,7 @@ opens key slots full = subst (λ (l : List (Option Stored)). Locked key (opening
         (fresh_fits key.stock key.sessions key.stock key.stock.journal (begins_itself key.stock.journal))
     only (suc id) v e = absurd (some-ne-none v (sym e))
 
--- one session is cut off a seat that did nothing yet
+-- one session is split off a seat that did nothing yet
 pub splits : (key : Start) (id : ℕ) (v : Knowledge) (parts : ℕ) → 1 ≤ parts → v ≡ fresh parts key.stock → Splits (Locked key) id v (kept_part v) (given_part v)
 splits key id v parts some-parts is s kept at =
     subst (λ (x : Knowledge). Locked key record { words = s.words; homes = s.homes; views = set s.views id (kept_part x) ++ given_part x ∷ [] }) (sym is) record {
@@ -124,13 +124,13 @@ splits key id v parts some-parts is s kept at =
     fits : (n : ℕ) → SeatFits key.stock kept.last (kept.gone ++ kept.last.journal) (fresh n key.stock)
     fits n = fresh_fits key.stock n kept.last (kept.gone ++ kept.last.journal) kept.follows.begins
 
--- receipts that agree with what was known agree with all that it begins
+-- receipts that agree with a prefix of the history agree with the history
 agree_front : (opened : Stored) (known history : List Record) (receipts : List Receipt) → BeginsWith history known
     → All (Agrees opened.origin known) receipts → All (Agrees opened.origin history) receipts
 agree_front opened known history receipts front agree = subst (λ (l : List Record). All (Agrees opened.origin l) receipts) (sym front.1)
     (λ k d lt. agrees_grows opened.origin known front.0 _ (agree k d lt))
 
--- two seats become one
+-- two seats are joined
 pub joins : (key : Start) (id : ℕ) (v : Knowledge) (other : ℕ) (w : Knowledge) → 0 < v.parts → v.holds ≡ false → w.holds ≡ false
     → Joins (Locked key) id v other w (as_one v w) nobody
 joins key id v other w some-parts first-free second-free s kept at apart there = record {
@@ -195,7 +195,7 @@ joins key id v other w some-parts first-free second-free s kept at apart there =
 
 module _ (key : Start) (s : State (Option Stored) Knowledge) (kept : Locked key s) (id : ℕ) (v : Knowledge) (at : get_elem? s.views id ≡ some v)
     (all : v.parts ≡ key.sessions) where
-  -- the other seats stand for no session
+  -- the other seats represent no session
   others_spent : (j : ℕ) (x : Knowledge) → j ≢ id → get_elem? s.views j ≡ some x → x.parts ≡ 0
   others_spent j x ne there =
       let h = shifts key s kept id v at (λ x. x.parts) nobody in
@@ -227,7 +227,7 @@ module _ (key : Start) (s : State (Option Stored) Knowledge) (kept : Locked key 
   agree_end : All (Agrees key.stock.origin (kept.gone ++ kept.last.journal)) v.receipts
   agree_end = agree_front key.stock v.history (kept.gone ++ kept.last.journal) v.receipts (kept.each id v at).front (kept.each id v at).agree
 
-  -- what holds at the end
+  -- the facts at the end
   pub ends : v.holds ≡ false → (get_elem? s.homes 0 ≡ some (some (Some kept.last))) × IsSettled key.stock v kept.last
   ends free = (
     kept.home (kept.lock ∙ (alone hold_of refl (λ x spent. idle x spent.0) ∙ idle v free)),
@@ -240,7 +240,7 @@ module _ (key : Start) (s : State (Option Stored) Knowledge) (kept : Locked key 
     },
   )
 
--- what is taken out of the table at the end
+-- the contents of the table at the end
 pub taken_at_end : (key : Start) (id : ℕ) (v : Knowledge) (words : List ℕ) (slots : List (Option Stored)) (found : Option Stored)
     → v.parts ≡ key.sessions → v.holds ≡ false → Final (Seen (Locked key) id v) words slots → get_elem? slots 0 ≡ some found
     → (last : Stored) × (found ≡ Some last) × IsSettled key.stock v last × (last.book ≡ key.stock.book)
@@ -249,7 +249,7 @@ taken_at_end key id v words slots found all free final there =
     let e = ends key final.0 kept id v final.1.1 all free in
     (kept.last, some-injective found (Some kept.last) (sym there ∙ final.4 0 (Some kept.last) e.0), e.1, kept.book)
 
--- the members of a list's last list join those behind
+-- the members of a list's last list follow the others
 pub last_joins : {A B : Type 0} (f : A → List B) (xs : List A) (x : A) (ys all : List B) → flat_map f (xs ++ x ∷ []) ++ ys ≡ all → flat_map f xs ++ (f x ++ ys) ≡ all
 last_joins f xs x ys all e =
     let a : flat_map f (xs ++ x ∷ []) ≡ flat_map f xs ++ f x = flat_map-append f xs (x ∷ []) ∙ ap (λ (l : List _). flat_map f xs ++ l) (append-nil (f x)) in

@@ -41,12 +41,12 @@ idle v e = ap (λ (b : Bool). cond {A = ℕ} b 1 0) e
 hold_small : (v : Knowledge) → hold_of v ≤ 1
 hold_small v = grind arith
 
--- one word, set to what it is
+-- one word, set to its own value
 one_word : (words : List ℕ) → length words ≡ 1 → set words 0 (slice_index words 0) ≡ words
 one_word [] e = absurd (omega arith)
 one_word (x ∷ xs) e = refl
 
--- what one seat's step does, where no other seat holds the volume: `last` and `gone` become `next` and `lost`, v becomes w
+-- the effect of one seat's step while no other seat holds the volume: `last` and `gone` become `next` and `lost`, v becomes w
 pub record Moves (opened last : Stored) (gone : List Record) (v : Knowledge) (next : Stored) (lost : List Record) (w : Knowledge) : Type 0 where
   pub follows : Follows opened lost next
   pub book : next.book ≡ last.book
@@ -66,7 +66,7 @@ module _ (key : Start) (s : State (Option Stored) Knowledge) (kept : Locked key 
   pub own : SeatFits key.stock kept.last (kept.gone ++ kept.last.journal) v
   own = kept.each id v at
 
-  -- where the word is what this seat makes it, no other seat holds the volume
+  -- if the word is the one that this seat makes, no other seat holds the volume
   others_idle : slice_index s.words 0 ≡ hold_of v → (j : ℕ) (x : Knowledge) → j ≢ id → get_elem? s.views j ≡ some x → x.holds ≡ true → ⊥
   others_idle alone j x ne there holds =
       let h = shifts hold_of nobody in
@@ -78,7 +78,7 @@ module _ (key : Start) (s : State (Option Stored) Knowledge) (kept : Locked key 
 
   module _ (next : Stored) (lost : List Record) (w : Knowledge) (alone : slice_index s.words 0 ≡ hold_of v)
       (moves : Moves key.stock kept.last kept.gone v next lost w) where
-    -- what another seat knows is still right
+    -- the knowledge of another seat is still right
     still : (j : ℕ) (x : Knowledge) → j ≢ id → get_elem? s.views j ≡ some x → SeatFits key.stock next (lost ++ next.journal) x
     still j x ne there =
         let f = kept.each j x there in
@@ -108,7 +108,7 @@ module _ (key : Start) (s : State (Option Stored) Knowledge) (kept : Locked key 
         let e = u.0 in
         u.1 ∙ kept.uncut (omega arith)
 
-    -- a step of a seat, where no other holds the volume, keeps the rule
+    -- a step of a seat, while no other holds the volume, keeps the rule
     pub moved : (homes : List (mathlib.Core.Option.Option (Option Stored))) → (hold_of w ≡ 0 → get_elem? homes 0 ≡ some (some (Some next)))
         → Locked key record { words = set s.words 0 (hold_of w); homes = homes; views = set s.views id w }
     moved homes home =
@@ -132,7 +132,7 @@ module _ (key : Start) (s : State (Option Stored) Knowledge) (kept : Locked key 
               (λ (t : (j ≢ id) × (get_elem? s.views j ≡ some x)). still j x t.0 t.1) (at_set s.views id j w x e);
         }
 
-  -- receipts that agree with what was known agree with all that it begins
+  -- receipts that agree with a prefix of the history agree with the history
   agree_more : (history : List Record) → BeginsWith history v.history
       → All (Agrees key.stock.origin v.history) v.receipts → All (Agrees key.stock.origin history) v.receipts
   agree_more history front agree = subst (λ (l : List Record). All (Agrees key.stock.origin l) v.receipts) (sym front.1)
@@ -147,7 +147,7 @@ module _ (key : Start) (s : State (Option Stored) Knowledge) (kept : Locked key 
       let b = below_ones (next_number kept.last) in
       omega arith
 
-  -- what is taken goes on from what was known
+  -- the volume that is taken continues what was known
   pub finds : 0 < v.parts → FindsVolume v kept.gone kept.last
   finds some-parts = record {
     follows = subst (λ (o : Stored). Follows o kept.gone kept.last) (sym (own.same some-parts)) kept.follows;
@@ -186,7 +186,7 @@ module _ (key : Start) (s : State (Option Stored) Knowledge) (kept : Locked key 
   misses : Locked key (stepped s 0 (slice_index s.words 0) id [] v keeps)
   misses = subst (Locked key) (λ i. record { words = sym (one_word s.words kept.word) i; homes = s.homes; views = sym (set_again s.views id v at) i }) kept
 
-  -- where this seat holds the volume, no other does
+  -- while this seat holds the volume, no other does
   holder : v.holds ≡ true → slice_index s.words 0 ≡ hold_of v
   holder holds =
       let o = kept.one in
@@ -195,11 +195,11 @@ module _ (key : Start) (s : State (Option Stored) Knowledge) (kept : Locked key 
       let h = held v holds in
       omega arith
 
-  -- what cuts answered is at most the journal's first number
+  -- the numbers that cuts returned are at most the journal's first number
   pub cuts_low : cut_of v ≤ kept.last.origin.first
   cuts_low = let g = greatest_part cut_of s.views id v at in let k = kept.first in omega arith
 
-  -- where no byte changes, those that no call changes stay
+  -- if no byte changes, those that no call changes stay
   around_stays : (given : Stored) → given.image ≡ kept.last.image → KeepsAround key.stock given
   around_stays given same = subst (λ (bytes : List ℕ). StaysAround (geometry_of key.stock.origin.edition key.stock.image) key.stock.image bytes) (sym same) kept.follows.around
 
@@ -349,7 +349,7 @@ module _ (key : Start) (s : State (Option Stored) Knowledge) (kept : Locked key 
       moved given (kept.gone ++ kept.last.journal) (gave v given cut) (holder holds) (giving_cut given some-parts mine.0 is)
       (set s.homes 0 (mathlib.Core.Option.some (Some given))) (λ e. set_here s.homes 0 (mathlib.Core.Option.some (Some given)) wide)
 
--- a try to take the volume
+-- an attempt to take the volume
 tries_free : (key : Start) (slots id : ℕ) (v : Knowledge) (st : Step (Option Stored)) → 0 < v.parts → v.holds ≡ false
     → Allows (Locked key) slots id (v, []) 0 (λ n. either (n == 0) 1 n) (Tries st (v, []))
 tries_free key slots id v st some-parts free s kept long at small =
@@ -371,12 +371,12 @@ tries key slots id me st empty some-parts free =
     subst (λ (held : List (ℕ × Option Stored)). Allows (Locked key) slots id (me.0, held) 0 (λ n. either (n == 0) 1 n) (Tries st (me.0, held)))
     (sym empty) (tries_free key slots id me.0 st some-parts free)
 
--- what stands in the slot that was taken last
+-- the contents of the slot that was taken last
 slot_of : List (ℕ × Option Stored) → Option Stored
 slot_of [] = None
 slot_of (x ∷ xs) = x.1
 
--- what is taken out of the slot is what was found there
+-- the value taken out of the slot is the one that was found there
 pub took_out : (before mid end : Me (Option Stored) Knowledge) (stored : Stored) (found : Option Stored) → Took before mid stored (Some stored)
     → mid.1 ≡ (0, found) ∷ rest mid.1 → end ≡ (mid.0, (0, None) ∷ rest mid.1) → (found ≡ Some stored) × Took before end stored None
 unfolding slot_of

@@ -1,4 +1,4 @@
--- Beginnings of lists, and greatest values.
+-- Prefixes of lists, and greatest values.
 use Rattle.std.specs.Prelude.{◌≡◌, ℕ, List, [], ◌∷◌, ◌++◌, length, max, nat_le, if◌then◌else◌}
 
 -- a list begins with another (this project)

@@ -1,4 +1,4 @@
--- How each step changes what a seat knows, and what it tells.
+-- The effect of each step on a seat's knowledge.
 use Rattle.std.specs.Prelude.{◌≡◌, ◌≢◌, ℕ, ◌+◌, ◌-◌, ◌≤◌, List, [], ◌∷◌, ◌++◌, length, true, false, Option, Some}
 use Rattle.atomic_table.specs.Table.{Me, Step}
 use Rattle.vol_volume.specs.declared.calls.Record.{Record}
@@ -9,13 +9,13 @@ use Rattle.vol_shared.specs.Stored.{Stored, nothing_stored, next_number, KeepsAr
 use Rattle.vol_shared.specs.declared.knowledge.Knowledge.{Knowledge}
 use Rattle.vol_shared.specs.declared.knowledge.Start.{Start}
 
--- what came of the work on a volume that is given back: nothing, a receipt, or a cut of its journal (this project)
+-- the result of the work on a volume that is given back: nothing, a receipt, or a cut of its journal (this project)
 pub data Event : Type 0 where
   nothing : Event
   receipt : Receipt → Event
   cut : Event
 
--- a seat that stands for some sessions of a volume just opened (this project)
+-- a seat that represents some sessions of a volume just opened (this project)
 abbrev pub fresh : ℕ → Stored → Knowledge
 fresh parts opened = record {
   parts = parts;
@@ -28,15 +28,15 @@ fresh parts opened = record {
   receipts = [];
 }
 
--- the first seat stands for all sessions (this project)
+-- the first seat represents all sessions (this project)
 abbrev pub first_knowledge : Start → Knowledge
 first_knowledge key = fresh key.sessions key.stock
 
--- a seat that stands for no session (this project)
+-- a seat that represents no session (this project)
 abbrev pub nobody : Knowledge
 nobody = fresh 0 nothing_stored
 
--- what is left of a seat that gives one session away (this project)
+-- a seat after it gave one session away (this project)
 abbrev pub kept_part : Knowledge → Knowledge
 kept_part v = record v { parts = v.parts - 1 }
 
@@ -44,7 +44,7 @@ kept_part v = record v { parts = v.parts - 1 }
 abbrev pub given_part : Knowledge → Knowledge
 given_part v = fresh 1 v.opened
 
--- two seats as one (this project)
+-- two seats joined (this project)
 abbrev pub as_one : Knowledge → Knowledge → Knowledge
 as_one v w = record {
   parts = v.parts + w.parts;
@@ -57,11 +57,11 @@ as_one v w = record {
   receipts = w.receipts ++ v.receipts;
 }
 
--- a seat once it took the volume, all of whose records, those that were cut among them, are the history (this project)
+-- a seat after it took the volume; the history has all records of the volume, including those that were cut (this project)
 abbrev pub took : Knowledge → Stored → List Record → Knowledge
 took v found history = record v { holds = true; found = found; history = history }
 
--- a seat once it gave the volume back (this project)
+-- a seat after it gave the volume back (this project)
 abbrev pub gave : Knowledge → Stored → Event → Knowledge
 gave v given nothing = record v { holds = false; found = given }
 gave v given (receipt r) = record v {
@@ -73,14 +73,14 @@ gave v given (receipt r) = record v {
 }
 gave v given cut = record v { holds = false; found = given; cuts = v.cuts ++ given.origin.first ∷ [] }
 
--- what a seat finds goes on from what was opened and from all that it knew, has a number for each of its places, and is published in the log of what was opened (this project)
+-- the volume that a seat finds continues the one that was opened and all that the seat knew, has a record for each of the seat's places, and is published in the same log (this project)
 pub record FindsVolume (v : Knowledge) (gone : List Record) (found : Stored) : Type 0 where
   pub follows : Follows v.opened gone found
   pub goes_on : BeginsWith (gone ++ found.journal) v.history
   pub counted : length v.places ≤ next_number found
   pub book : found.book ≡ v.opened.book
 
--- the volume was taken, and in its slot lies what is left there (this project)
+-- the volume was taken, and `left` is in its slot (this project)
 abbrev pub Took : Me (Option Stored) Knowledge → Me (Option Stored) Knowledge → Stored → Option Stored → Type 0
 Took before after found left =
     (gone : List Record) × FindsVolume before.0 gone found × (after ≡ (took before.0 found (gone ++ found.journal), (0, left) ∷ []))
@@ -90,7 +90,7 @@ abbrev pub Tries : Step (Option Stored) → Me (Option Stored) Knowledge → ℕ
 Tries st before found after =
     (found ≡ 0 → (stored : Stored) × Took before after stored (Some stored)) × (found ≢ 0 → after ≡ before)
 
--- a call or query was answered on a volume: the receipt agrees with its journal, which has the record of an accepted call more; where there is none, the journal and the image stay; the bytes that no call changes and the log stay (this project)
+-- a call or query was answered on a volume: the receipt agrees with its journal, to which an accepted call added its record; for any other outcome the journal and the image stay; the bytes that no call changes and the log stay (this project)
 pub record IsAnswered (found given : Stored) (r : Receipt) : Type 0 where
   pub origin : given.origin ≡ found.origin
   pub journal : given.journal ≡ found.journal ++ record_of r.asked r.outcome
@@ -100,13 +100,13 @@ pub record IsAnswered (found given : Stored) (r : Receipt) : Type 0 where
   pub agrees : Agrees given.origin given.journal r
   pub book : given.book ≡ found.book
 
--- how a volume that was taken may be given back: with the same journal, with at most one record more, or with its journal cut (this project)
+-- a volume that was taken may be given back so: with the same journal, with at most one record more, or with its journal cut (this project)
 abbrev pub MayGive : Stored → Stored → Event → Type 0
 MayGive found given nothing = IsUnchanged found given
 MayGive found given (receipt r) = IsAnswered found given r
 MayGive found given cut = IsCut found given
 
--- the volume was given back, and with it what came of the work on it (this project)
+-- the volume was given back, with the result of the work on it (this project)
 abbrev pub Gives : Event → Step (Option Stored) → Me (Option Stored) Knowledge → ℕ → Me (Option Stored) Knowledge → Type 0
 Gives event st before found after =
     (given : Stored) → before.1 ≡ (0, Some given) ∷ [] → after ≡ (gave before.0 given event, [])

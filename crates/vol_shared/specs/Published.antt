@@ -1,4 +1,4 @@
--- What is published of a volume that lies under the lock.
+-- The published part of the volume under the lock.
 use Rattle.std.specs.Prelude.{◌≡◌, ◌≢◌, ◌+◌, List, [], ◌++◌, length}
 use Rattle.vol_volume.specs.Journal.{after}
 use Rattle.vol_volume.specs.declared.calls.Record.{Record}
@@ -7,7 +7,7 @@ use Rattle.vol_views.specs.declared.history.LogEntry.{LogEntry}
 use Rattle.vol_views.specs.Logs.{history_of, origin_in}
 use Rattle.vol_shared.specs.Stored.{Stored}
 
--- all records of a volume are published: those of the log are the ones that were cut and then the journal, which starts from what the former made of the log's start (this project)
+-- all records of a volume are published: the log has those that were cut followed by the journal, which starts from the state that the former made (this project)
 pub record IsPublished (log : List LogEntry) (stored : Stored) : Type 0 where
   pub gone : List Record
   pub begun : log ≢ []

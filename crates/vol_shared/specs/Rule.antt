@@ -1,4 +1,4 @@
--- What holds of the lock's table between any two steps.
+-- The invariant of the lock's table.
 use Rattle.std.specs.Prelude.{◌≡◌, ℕ, ◌+◌, ◌<◌, ◌≤◌, List, [], ◌++◌, length, slice_index, max, true, false, if◌then◌else◌, Option, Some, All}
 use mathlib.Core.Option.{some}
 use lib.ListN.{get_elem?}
@@ -15,7 +15,7 @@ use Rattle.vol_shared.specs.declared.knowledge.Start.{Start}
 abbrev pub hold_of : Knowledge → ℕ
 hold_of v = if v.holds then 1 else 0
 
--- what a seat knows is right: its receipts agree with the records that it knows, which the history begins with; a seat that holds the volume knows all; one that stands for no session did nothing (this project)
+-- a seat's knowledge is right: its receipts agree with the records that it knows, which the history begins with; a seat that holds the volume knows all records; one that represents no session did nothing (this project)
 pub record SeatFits (opened last : Stored) (history : List Record) (v : Knowledge) : Type 0 where
   pub same : 0 < v.parts → v.opened ≡ opened
   pub front : BeginsWith history v.history
@@ -23,7 +23,7 @@ pub record SeatFits (opened last : Stored) (history : List Record) (v : Knowledg
   pub mine : v.holds ≡ true → (v.history ≡ history) × (v.found ≡ last)
   pub spent : v.parts ≡ 0 → (v.holds ≡ false) × (v.places ≡ []) × (v.cuts ≡ [])
 
--- the word is 1 while a seat holds the volume, else the volume that was given back last is at home; it goes on from the one that was opened; the places of all seats are the numbers of the records made since, each once; the journal's first number is the greatest that a cut answered, or that of the start; the log in which the records are published stays (this project)
+-- the word is 1 while a seat holds the volume; otherwise the volume that was last given back is in the slot; it continues the one that was opened; the places of all seats are the numbers of the records made since, each once; the journal's first number is the greatest that a cut returned, or that of the start; the log that has the records stays (this project)
 pub record Locked (key : Start) (s : State (Option Stored) Knowledge) : Type 0 where
   pub last : Stored
   pub gone : List Record

@@ -1,4 +1,4 @@
--- What a session is to its callers.
+-- The callers' view of a session.
 use Rattle.std.specs.Prelude.{◌≡◌, ℕ, ◌+◌, ◌≤◌, List, [], ◌∷◌, ◌++◌, length, false, Option, IfSome}
 use Rattle.logbook.specs.Pages.{Book}
 use Rattle.atomic_table.specs.Seated.{TableId}
@@ -10,12 +10,12 @@ use Rattle.vol_views.specs.Views.{book_in}
 use Rattle.vol_shared.specs.Plays.{nobody}
 use Rattle.vol_shared.specs.declared.knowledge.Knowledge.{Knowledge}
 
--- which shared volume it is, of all that were ever opened: its table, and the log in which its records are published, if they are (this project)
+-- the identity of a shared volume: its table, and the log that has its records, if they are published (this project)
 pub record Identity : Type 0 where
   pub table : TableId
   pub book : Option Book
 
--- a session: its shared volume, the least number that its next receipt may have, the numbers of the records that its calls made, the numbers that its cuts answered, and its receipts (this project)
+-- a session: its shared volume, the least number that its next receipt may have, the numbers of the records that its calls made, the numbers that its cuts returned, and its receipts (this project)
 pub record Known : Type 0 where
   pub of : Identity
   pub next : ℕ
@@ -23,16 +23,16 @@ pub record Known : Type 0 where
   pub cuts : List ℕ
   pub receipts : List Receipt
 
--- a session that asked nothing yet (this project)
+-- a session that made no call or query yet (this project)
 abbrev pub new_session : Identity → ℕ → Known
 new_session of next = record { of = of; next = next; places = []; cuts = []; receipts = [] }
 
--- what the one seat of a session knows (this project)
+-- the knowledge of a session's one seat (this project)
 abbrev pub knowledge_of : List Knowledge → Knowledge
 knowledge_of [] = nobody
 knowledge_of (v ∷ vs) = v
 
--- what a session's parts are to its callers (this project)
+-- the callers' view of a session, from its parts (this project)
 abbrev pub known_by : TableId → ℕ → Knowledge → Known
 known_by table next v = record {
   of = record { table = table; book = v.opened.book };
@@ -42,7 +42,7 @@ known_by table next v = record {
   receipts = v.receipts;
 }
 
--- a session between two calls, and what it was told of the log that its volume is published in: the front up to the least number that its next receipt may have (this project)
+-- a session between two calls, and its progress in the volume's log: the prefix up to the least number that its next receipt may have (this project)
 pub record IsIdle (views : List Knowledge) (next count : ℕ) (told : Option Reached) : Type 0 where
   pub one : views ≡ knowledge_of views ∷ []
   pub free : (knowledge_of views).holds ≡ false
@@ -52,7 +52,7 @@ pub record IsIdle (views : List Knowledge) (next count : ℕ) (told : Option Rea
   pub book : book_in told ≡ (knowledge_of views).opened.book
   pub number : IfSome told (λ t. number_of t.log ≡ next)
 
--- a session after it got a receipt: its number isn't below the least that it might have, and joins the places if it is that of an accepted call (this project)
+-- a session after it got a receipt: the receipt's number isn't below the least that it might have, and is added to the places if it is that of an accepted call (this project)
 pub record Got (old new : Known) (receipt : Receipt) : Type 0 where
   pub at : old.next ≤ receipt.at
   pub next : new.next ≡ next_of receipt.at receipt.outcome

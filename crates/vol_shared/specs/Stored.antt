@@ -1,4 +1,4 @@
--- The volume as the lock's rule sees it. The rule reads what its journal starts from, and its journal.
+-- The volume as the lock's rule sees it.
 use Rattle.std.specs.Prelude.{◌≡◌, ℕ, ◌+◌, List, [], ◌++◌, length, Option, None}
 use Rattle.logbook.specs.Pages.{Book}
 use Rattle.vol_change.specs.Whole.{StaysAround}
@@ -12,30 +12,30 @@ use Rattle.vol_receipts.specs.declared.receipts.Origin.{Origin}
 use Rattle.vol_receipts.specs.declared.receipts.Receipt.{Receipt}
 use Rattle.vol_shared.specs.Lists.{BeginsWith}
 
--- what lies under the lock: what its journal starts from, the journal, the image, and the log in which its records are published, if they are (this project)
+-- the contents of the lock: the journal's origin, the journal, the image, and the log that has the records, if they are published (this project)
 pub record Stored : Type 0 where
   pub origin : Origin
   pub journal : List Record
   pub image : List ℕ
   pub book : Option Book
 
--- what lies under the lock of a volume whose records are published in a log, or not (this project)
+-- the contents of the lock for a volume and its log, if it has one (this project)
 abbrev pub stored_with : Option Book → Mounted → Stored
 stored_with book volume = record { origin = origin_of volume; journal = volume.journal; image = volume.image; book = book }
 
--- what lies under the lock of a volume whose records aren't published (this project)
+-- the contents of the lock for a volume that isn't published (this project)
 abbrev pub stored_of : Mounted → Stored
 stored_of volume = stored_with None volume
 
--- the volume that lies under the lock, by itself (this project)
+-- the contents of the lock without the log (this project)
 abbrev pub unpublished : Stored → Stored
 unpublished stored = record { origin = stored.origin; journal = stored.journal; image = stored.image; book = None }
 
--- nothing that was ever stored (this project)
+-- the contents of no lock (this project)
 abbrev pub nothing_stored : Stored
 nothing_stored = record { origin = record { edition = editions.V6; bytes = []; first = 0 }; journal = []; image = []; book = None }
 
--- the number that the next record gets (this project)
+-- the number of the next record (this project)
 abbrev pub next_number : Stored → ℕ
 next_number stored = stored.origin.first + length stored.journal
 
@@ -43,7 +43,7 @@ next_number stored = stored.origin.first + length stored.journal
 abbrev pub KeepsAround : Stored → Stored → Type 0
 KeepsAround old new = StaysAround (geometry_of old.origin.edition old.image) old.image new.image
 
--- a volume goes on from another: the records cut since are `gone`, and the journal starts from what they made; the bytes that no call changes stay (this project)
+-- a volume continues another: `gone` are the records cut since, and the journal starts from the state that they made; the bytes that no call changes stay (this project)
 pub record Follows (opened : Stored) (gone : List Record) (last : Stored) : Type 0 where
   pub edition : last.origin.edition ≡ opened.origin.edition
   pub first : last.origin.first ≡ opened.origin.first + length gone
@@ -51,18 +51,18 @@ pub record Follows (opened : Stored) (gone : List Record) (last : Stored) : Type
   pub begins : BeginsWith (gone ++ last.journal) opened.journal
   pub around : KeepsAround opened last
 
--- a volume goes on from another, whatever records were cut since; and of these records, with the journal behind them, some receipts are true, those of before a cut too (this project)
+-- a volume continues another, whatever records were cut since; some receipts agree with these records followed by the journal, also those given before a cut (this project)
 abbrev pub Continues : Stored → Stored → ((Receipt → Type 0) → Type 0) → Type 0
 Continues opened last are_true = (gone : List Record) × Follows opened gone last × are_true (Agrees opened.origin (gone ++ last.journal))
 
--- a volume has the same journal, from the same start, and the same image, and is published in the same log (this project)
+-- a volume has the same origin, journal, image and log (this project)
 pub record IsUnchanged (old new : Stored) : Type 0 where
   pub origin : new.origin ≡ old.origin
   pub journal : new.journal ≡ old.journal
   pub image : new.image ≡ old.image
   pub book : new.book ≡ old.book
 
--- a volume's journal is cut: all its records go, and it starts from the bytes of its image, which are what they made; the image stays (this project)
+-- a volume's journal was cut: it is empty, and its origin is the image, which reads as the state that the removed records made; the image stays (this project)
 pub record IsCut (old new : Stored) : Type 0 where
   pub edition : new.origin.edition ≡ old.origin.edition
   pub bytes : new.origin.bytes ≡ old.image

@@ -1,4 +1,4 @@
--- What views know of a volume that lies under the lock.
+-- The views' knowledge of the volume under the lock.
 use Rattle.std.specs.Prelude.{◌≡◌, ◌+◌, List, [], ◌++◌, length, All, Some}
 use mathlib.Core.List.{IsPrefix}
 use Rattle.vol_volume.specs.Journal.{after}
@@ -9,19 +9,19 @@ use Rattle.vol_views.specs.Logs.{history_of, origin_in}
 use Rattle.vol_views.specs.Views.{Watched, GoesOn, AgreesIn}
 use Rattle.vol_shared.specs.Stored.{Stored}
 
--- a view of a shared volume that was just opened: it knows all its records, and asked nothing yet (this project)
+-- a view of a shared volume that was just opened: it knows all its records, and gave no receipt yet (this project)
 pub record IsNewView (opened : Stored) (view : Watched) : Type 0 where
   pub own : opened.book ≡ Some view.book
   pub origin : origin_in view.log ≡ opened.origin
   pub records : history_of view.log ≡ opened.journal
   pub receipts : view.receipts ≡ []
 
--- a view stands behind a log: that goes on from what the view knows, with which its receipts agree (this project)
+-- a log extends what a view knows, and the view's receipts agree with what it knows (this project)
 pub record IsBehind (log : List LogEntry) (view : Watched) : Type 0 where
   pub goes_on : GoesOn view.log log
   pub agree : All (AgreesIn view.log) view.receipts
 
--- a volume covers what a view knows: the records cut since the log began, and then the journal, go on from it, and all receipts of the view agree with them (this project)
+-- a volume covers a view's knowledge: the records cut since the log began, followed by the journal, extend it, and all receipts of the view agree with them (this project)
 pub record Covers (last : Stored) (view : Watched) : Type 0 where
   pub gone : List Record
   pub first : last.origin.first ≡ (origin_in view.log).first + length gone

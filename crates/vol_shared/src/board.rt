@@ -1,4 +1,4 @@
-//! The lock's table, a `Board`: made, and its place dealt out to sessions.
+//! The lock's table, a `Board`: it is made here, and its seat is split among the sessions.
 ghost use Rattle.std.specs.Prelude.{◌≡◌, ◌+◌, ◌<◌, ◌≤◌, [], ◌∷◌, ◌++◌, length, vec_len, vec_capacity, All, IsSome, IfOk, IfErr, IfSome};
 ghost use Rattle.vol_views.specs.Logs.{number_of};
 ghost use Rattle.vol_views.specs.Views.{book_in};
@@ -17,7 +17,8 @@ use vol_views::Told;
 /// The table of a shared volume.
 pub(crate) type Board = Table<Option<Stock>, Knowledge, Start, OneHolder, Global>;
 
-/// A table with the volume at home, and the one place that stands for all its sessions.
+/// Returns a table that holds the volume, and the one seat that represents all its sessions. Hands the volume
+/// back if memory runs out.
 pub(crate) fn lay(alloc: Global, stock: Stock, sessions: u64) -> Result<(Board, Place), Stock>
     requires { 1 ≤ sessions }
     ensures lock { IfOk result (λ r. IsLock r.0.shared.table_id r.0.shared.key (next_number stock)) }
@@ -41,7 +42,7 @@ pub(crate) fn lay(alloc: Global, stock: Stock, sessions: u64) -> Result<(Board, 
     }
 }
 
-/// The one volume in a list.
+/// Returns the one volume in a list.
 fn only(mut slots: Vec<Option<Stock>>) -> Stock
     requires one { vec_len slots ≡ 1 }
     requires full { All (λ slot. IsSome slot) slots.items }
@@ -52,7 +53,7 @@ fn only(mut slots: Vec<Option<Stock>>) -> Stock
     slot.unwrap()
 }
 
-/// Cuts a place that stands for so many sessions into as many, and puts them on the list.
+/// Splits a seat that represents `sessions` sessions, and adds these sessions to the list.
 pub(crate) fn deal(
     lock: &Lock,
     mut place: Place,
@@ -79,7 +80,7 @@ pub(crate) fn deal(
     seat_one(all, place, records, told);
 }
 
-/// Puts one session on the list.
+/// Adds one session to the list.
 fn seat_one(all: &mut Vec<Session>, place: Place, records: u64, told: &Option<Told>)
     requires free { place.me.1 ≡ [] }
     requires room { vec_len all.old < vec_capacity all.old }
@@ -97,7 +98,7 @@ fn seat_one(all: &mut Vec<Session>, place: Place, records: u64, told: &Option<To
     });
 }
 
-/// A copy of what a session is told.
+/// Returns a copy of a session's known progress.
 fn copy_of(told: &Option<Told>) -> Option<Told>
     ensures { result ≡ told.now }
 {

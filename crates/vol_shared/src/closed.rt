@@ -1,4 +1,4 @@
-//! A volume that no thread shares any more.
+//! A shared volume after it was closed.
 ghost use Rattle.std.specs.Prelude.{◌≡◌, ◌+◌, ◌<◌, ◌^◌, ◌↔◌, [], IfOk, IsTrue, Err};
 ghost use Rattle.vol_receipts.specs.Agrees.{origin_of, Agrees, record_of};
 ghost use Rattle.vol_receipts.specs.Findings.{AreCounted};
@@ -9,7 +9,7 @@ use std::marker::Model;
 use vol_receipts::{ConfirmFault, Confirmed, Receipt, confirm, confirm_all};
 use vol_volume::Volume;
 
-/// A volume that no thread shares any more, with the number of records that all its sessions know of.
+/// A shared volume after it was closed, with the number of records that its sessions counted.
 #[derive(Debug, Drop)]
 pub struct Closed {
     pub(crate) volume: Volume,
@@ -29,7 +29,7 @@ impl Model for Closed {
 }
 
 impl Closed {
-    /// A volume that was opened with so many records, and on which so many calls were accepted since.
+    /// Returns a closed volume that was opened with `records` records, and that accepted `calls` calls since.
     pub(crate) fn new(volume: Volume, records: u64, calls: u128) -> Closed
         requires numbered { next_number (stored_of volume) < 2 ^ 64 }
         requires counted { calls + records ≡ next_number (stored_of volume) }
@@ -41,14 +41,14 @@ impl Closed {
         }
     }
 
-    /// The volume, with the records that all sessions made since the last cut.
+    /// Returns the volume, with the records that all sessions made since the last cut.
     pub fn volume(&self) -> &Volume
         ensures { result.now ≡ self.now }
     {
         &self.volume
     }
 
-    /// The same volume, for the caller to keep. Takes no memory.
+    /// Returns the volume for the caller to keep. Takes no memory.
     pub fn into_volume(self) -> Volume
         ensures { result ≡ self }
     {
@@ -59,16 +59,17 @@ impl Closed {
         volume
     }
 
-    /// How many records the journal had when the volume was opened and how many calls the sessions counted as accepted
-    /// since, added up; those that were cut count too.
+    /// Returns the number of records when the volume was opened plus the number of calls that sessions
+    /// counted as accepted. Includes records that were cut.
     pub fn accepted(&self) -> u64
         ensures { result ≡ next_number (stored_of self.now) }
     {
         self.accepted
     }
 
-    /// Whether a receipt agrees with the journal. Cut where its number is below that of the journal's first record;
-    /// NoMemory where an allocation was refused, which never comes for the receipt of an accepted call.
+    /// True if a receipt agrees with the journal. Returns `Cut` if its number is below that of the journal's
+    /// first record, and `NoMemory` if an allocation was refused, which never happens for the receipt of an
+    /// accepted call.
     ///
     /// Takes memory and costs what [`vol_receipts::confirm`] does.
     pub fn confirm(&self, alloc: Global, receipt: &Receipt) -> Result<bool, ConfirmFault>
@@ -79,8 +80,9 @@ impl Closed {
         confirm(&self.volume, alloc, receipt)
     }
 
-    /// How many of some receipts agree with the journal, and of how many what they speak of was cut. Which ones do,
-    /// [`vol_receipts::find_all`] says by [`Closed::volume`]. Takes memory and costs as [`vol_receipts::confirm_all`].
+    /// Counts the receipts that agree with the journal, and those whose records were cut. To learn which they
+    /// are, pass [`Closed::volume`] to [`vol_receipts::find_all`]. Takes the memory and time of
+    /// [`vol_receipts::confirm_all`].
     pub fn confirm_all(&self, alloc: Global, receipts: &[Receipt]) -> Result<Confirmed, AllocError>
         ensures { IfOk result (λ confirmed. AreCounted (origin_of self.now) self.now.journal receipts.now confirmed) }
     {

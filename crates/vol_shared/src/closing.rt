@@ -1,4 +1,4 @@
-//! All sessions become one place, and the table ends.
+//! Closing: all sessions are joined into one seat, and the table ends.
 ghost use Rattle.std.specs.Prelude.{◌≡◌, ◌≤◌, [], ◌∷◌, length, vec_len, All, false};
 ghost use Rattle.vol_shared.specs.Closing.{IsGathered, IsSettled};
 
@@ -7,7 +7,7 @@ use crate::knowledge::{Gather, Lock, Place};
 use crate::session::Session;
 use crate::stock::Stock;
 
-/// One place that stands for all sessions of a list, and their accepted calls added up.
+/// Joins all sessions of a list into one seat, and adds up their accepted calls.
 pub(crate) fn gather(lock: &Lock, mut sessions: Vec<Session>) -> (Place, u128)
     requires words { lock.now.table_id.words ≡ 1 }
     requires some_sessions { 1 ≤ vec_len sessions }
@@ -27,7 +27,7 @@ pub(crate) fn gather(lock: &Lock, mut sessions: Vec<Session>) -> (Place, u128)
     (place, total)
 }
 
-/// A session's place, and its accepted calls.
+/// Returns a session's seat and the number of its accepted calls.
 fn seat_of(session: Session) -> (Place, u64)
     ensures own { result.0.table_id ≡ session.of.table }
     ensures free { result.0.me.1 ≡ [] }
@@ -43,7 +43,7 @@ fn seat_of(session: Session) -> (Place, u64)
     (badge.into_seat(), count)
 }
 
-/// The volume, once one place stands for all sessions.
+/// Returns the volume, once one seat represents all sessions.
 pub(crate) fn finish(board: Board, place: Place) -> Stock
     requires words { board.shared.table_id.words ≡ 1 }
     requires slots { board.shared.table_id.slots ≡ 1 }

@@ -1,16 +1,16 @@
-//! What lay under the lock, as contracts keep it.
+//! A snapshot, for contracts alone, of the volume under the lock.
 use std::marker::Model;
 use std::snapshot::Snapshot;
 use vol_views::Front;
 use vol_volume::Volume;
 
-/// What lay under the lock: the volume, and a front of the log in which its records are published. It has no bytes but whether
-/// they are.
+/// A snapshot, for contracts alone, of the volume under the lock and the log prefix that has its records. At
+/// run time it only knows whether there is a log.
 #[derive(Drop)]
 pub struct Kept {
     /// The volume.
     pub volume: Snapshot<Volume>,
-    /// A front of the log.
+    /// The log prefix, if the records are published.
     pub front: Option<Front>,
 }
 

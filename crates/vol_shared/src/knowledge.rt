@@ -1,4 +1,4 @@
-//! What a seat at the lock's table knows, what holds between any two steps, and what each step tells.
+//! The knowledge of a seat at the lock's table, the table's invariant, and the effect of each step.
 ghost use Rattle.vol_shared.specs.Plays.{Event, Tries, Gives, first_knowledge, kept_part, given_part, as_one, nobody};
 ghost use Rattle.vol_shared.specs.Rule.{Locked};
 
@@ -10,34 +10,34 @@ use std::marker::{Brand, PhantomData};
 use vol_receipts::Receipt;
 use vol_volume::Record;
 
-/// What a seat knows. No value of it is made.
+/// The knowledge of a seat. No value of it is made.
 pub struct Knowledge {
-    /// How many sessions it stands for.
+    /// The number of sessions that it represents.
     pub parts: u64,
-    /// Whether it holds the volume.
+    /// True while it holds the volume.
     pub holds: bool,
     /// The volume that was opened.
     pub opened: Kept,
-    /// The volume that it took or gave back last.
+    /// The volume that it last took or gave back.
     pub found: Kept,
-    /// All records of that volume since it was opened, those that were cut among them.
+    /// All records of that volume since it was opened, including those that were cut.
     pub history: LinkedList<Record>,
     /// The numbers of the records that its calls made, in order.
     pub places: LinkedList<u64>,
-    /// The numbers that its cuts answered, in order.
+    /// The numbers that its cuts returned, in order.
     pub cuts: LinkedList<u64>,
     /// Its receipts, in order.
     pub receipts: LinkedList<Receipt>,
 }
 
-/// What the table is made with: the volume that is opened, and for how many sessions.
+/// The start of a table: the volume that is opened, and the number of sessions.
 #[derive(Drop)]
 pub struct Start {
     pub stock: Kept,
     pub sessions: u64,
 }
 
-/// The rule of the table: one seat at most holds the volume.
+/// The rule of the table: at most one seat holds the volume.
 pub struct OneHolder;
 
 impl TableRule<Option<Stock>, Knowledge, Start> for OneHolder {
@@ -46,20 +46,21 @@ impl TableRule<Option<Stock>, Knowledge, Start> for OneHolder {
     ghost first = { first_knowledge };
 }
 
-/// The table as threads see it. Its one word is 1 while a seat holds the volume, and its one slot has it else.
+/// The table as threads see it. Its one word is 1 while a seat holds the volume; otherwise the volume is in
+/// its one slot.
 pub(crate) type Lock = Shared<Option<Stock>, Knowledge, Start, OneHolder>;
 
-/// A session's place at the table.
+/// A session's seat at the table.
 pub(crate) type Place = Seat<Option<Stock>, Knowledge>;
 
-/// A try to take the volume.
+/// An attempt to take the volume.
 pub(crate) struct Try;
 
 impl Play<Option<Stock>, Knowledge> for Try {
     ghost then = { Tries };
 }
 
-/// What came of the work on the volume that is given back.
+/// The result of the work on a volume that is given back.
 pub(crate) trait Telling {
     ghost event: { Event };
 }
@@ -68,7 +69,7 @@ impl Telling for Brand {
     ghost event = { Event.nothing };
 }
 
-/// The volume is given back, and what came of the work on it.
+/// Gives the volume back, with the result of the work on it.
 pub(crate) struct Give<J> {
     marker: PhantomData<J>,
 }
@@ -77,7 +78,7 @@ impl<J: Telling> Play<Option<Stock>, Knowledge> for Give<J> {
     ghost then = { Gives J.event };
 }
 
-/// One session is cut off a seat that did nothing yet.
+/// Splits one session off a seat that did nothing yet.
 pub(crate) struct Deal;
 
 impl Split<Knowledge> for Deal {
@@ -86,7 +87,7 @@ impl Split<Knowledge> for Deal {
     ghost right = { given_part };
 }
 
-/// Two seats become one.
+/// Joins two seats.
 pub(crate) struct Gather;
 
 impl Join<Knowledge> for Gather {

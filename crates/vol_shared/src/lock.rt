@@ -1,4 +1,4 @@
-//! The volume is taken and given back.
+//! Taking the volume and giving it back.
 ghost use Rattle.std.specs.Prelude.{◌≡◌, ◌<◌, [], ◌∷◌, None, IfSome, IfNone, true, false};
 ghost use Rattle.vol_shared.specs.Plays.{Event, Took, MayGive, gave};
 
@@ -9,7 +9,7 @@ use std::sync::Wait;
 use std::thread;
 use vol_receipts::Receipt;
 
-/// Takes the volume, once no other holds it.
+/// Takes the volume, waiting until no other seat holds it.
 pub(crate) fn take<R: Wait>(rt: &R, lock: &Lock, place: &mut Place) -> Stock
     requires own { place.old.table_id ≡ lock.now.table_id }
     requires words { lock.now.table_id.words ≡ 1 }
@@ -29,7 +29,7 @@ pub(crate) fn take<R: Wait>(rt: &R, lock: &Lock, place: &mut Place) -> Stock
     unreachable!()
 }
 
-/// Takes the volume, unless another holds it; then nothing changes.
+/// Takes the volume, or returns `None` and changes nothing if another seat holds it.
 fn try_take(lock: &Lock, place: &mut Place) -> Option<Stock>
     requires own { place.old.table_id ≡ lock.now.table_id }
     requires words { lock.now.table_id.words ≡ 1 }
@@ -47,7 +47,7 @@ fn try_take(lock: &Lock, place: &mut Place) -> Option<Stock>
     lock.exchange(place, 0, None)
 }
 
-/// Gives the volume back, and what came of the work on it.
+/// Gives the volume back, with the result of the work on it.
 fn give<J: Telling>(lock: &Lock, place: &mut Place, stock: Stock)
     requires own { place.old.table_id ≡ lock.now.table_id }
     requires words { lock.now.table_id.words ≡ 1 }
@@ -63,7 +63,7 @@ fn give<J: Telling>(lock: &Lock, place: &mut Place, stock: Stock)
     lock.store::<Give<J>>(place, 0, 0);
 }
 
-/// Lets go of what isn't there.
+/// Drops an empty slot.
 fn expect_none<T>(slot: Option<T>)
     requires { slot ≡ None }
 {
@@ -89,7 +89,7 @@ pub(crate) fn give_back(lock: &Lock, mut place: Place, stock: Stock) -> Place
     place
 }
 
-/// Gives the volume back with what was answered.
+/// Gives the volume back with a receipt.
 pub(crate) fn give_answered(lock: &Lock, mut place: Place, stock: Stock, receipt: &Receipt) -> Place
     requires own { place.table_id ≡ lock.now.table_id }
     requires words { lock.now.table_id.words ≡ 1 }
@@ -105,7 +105,7 @@ pub(crate) fn give_answered(lock: &Lock, mut place: Place, stock: Stock, receipt
     place
 }
 
-/// Gives the volume back with what was answered, whose name the caller picks.
+/// Gives the volume back with a receipt, whose event the caller names.
 fn give_as<J: Telling>(lock: &Lock, place: &mut Place, stock: Stock, receipt: &Receipt)
     requires own { place.old.table_id ≡ lock.now.table_id }
     requires words { lock.now.table_id.words ≡ 1 }
@@ -118,7 +118,7 @@ fn give_as<J: Telling>(lock: &Lock, place: &mut Place, stock: Stock, receipt: &R
     ensures own { place.new.table_id ≡ place.old.table_id }
     ensures gave { place.new.me ≡ (gave place.old.me.0 stock J.event, []) }
 {
-    // Which receipt it is only the proof reads.
+    // Only the proof reads the receipt.
     let _ = receipt;
     give::<J>(lock, place, stock);
 }

@@ -1,4 +1,4 @@
-//! Calls whose records are published. All that wants memory is taken before the first byte changes.
+//! Calls whose records are published. All memory is taken before the first byte changes.
 ghost use Rattle.std.specs.Prelude.{◌≡◌, ◌+◌, ◌-◌, ◌<◌, ◌≤◌, ◌^◌, ◌⊎◌, length, None, Some, IfOk, IfErr, OnErr};
 ghost use Rattle.std.specs.List.{slice_get};
 ghost use Rattle.vol_volume.specs.Journal.{MayFollow};
@@ -20,7 +20,7 @@ use vol_receipts::{Asked, Outcome, Receipt};
 use vol_views::Publisher;
 use vol_volume::{Call, Done, Record, Volume};
 
-/// Makes a call, publishes its record where it has one, and tells what came of it.
+/// Makes a call, publishes its record if it is accepted, and returns its receipt.
 pub(crate) fn change_published<R: Wait>(
     rt: &R,
     alloc: Global,
@@ -56,7 +56,7 @@ pub(crate) fn change_published<R: Wait>(
     }
 }
 
-/// A volume with who publishes its records.
+/// Returns the volume together with its publisher.
 fn together(volume: Volume, publisher: Publisher) -> Stock
     requires numbered { next_number (stored_of volume) < 2 ^ 64 }
     requires published { IsPublished publisher.log (stored_of volume) }
@@ -68,7 +68,7 @@ fn together(volume: Volume, publisher: Publisher) -> Stock
     }
 }
 
-/// Makes a call as it was foreseen, and publishes its record.
+/// Makes a call whose result was foreseen, and publishes its record.
 fn make_foreseen<R: Wait>(
     rt: &R,
     alloc: Global,
@@ -111,7 +111,7 @@ fn make_foreseen<R: Wait>(
     (together(volume, publisher), Ok(receipt))
 }
 
-/// The receipt of a call that was refused.
+/// Returns the receipt of a refused call.
 #[tactic(auto, using(vol_receipts::proofs::Records::agrees_told))]
 fn refused(volume: &Volume, at: u64, asked: Call, refusal: Refusal) -> Receipt
     requires at { at ≡ volume.now.first + length volume.now.journal }
@@ -127,14 +127,14 @@ fn refused(volume: &Volume, at: u64, asked: Call, refusal: Refusal) -> Receipt
     }
 }
 
-/// The receipt of a call that was accepted, whose record is the journal's last.
+/// Returns the receipt of an accepted call, whose record is the journal's last.
 fn accepted(volume: &Volume, at: u64, asked: Call, done: Done) -> Receipt
     requires first { volume.now.first ≤ at }
     requires last { slice_get volume.now.journal (at - volume.now.first) ≡ Some (record { call = asked; done = done }) }
     ensures receipt { result ≡ record { at = at; asked = Change asked; outcome = Accepted done } }
     ensures agrees { Agrees (origin_of volume.now) volume.now.journal result }
 {
-    // What the receipt agrees with is for the contract alone.
+    // Only the contract reads the volume.
     let _ = volume;
     Receipt {
         at,

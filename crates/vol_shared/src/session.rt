@@ -14,9 +14,9 @@ use std::sync::Wait;
 use vol_receipts::{Outcome, Receipt};
 use vol_views::{Informed, Told};
 
-/// A place at a shared volume, for one thread at a time. It keeps the least number that its next receipt may have, and
-/// how many of its calls were accepted; and, where the volume has views, what was published when it last got a receipt or
-/// cut the journal.
+/// A session on a shared volume, for one thread at a time. It keeps the least number that its next receipt
+/// may have and the number of its accepted calls. If the volume has views, it also keeps the log prefix that
+/// was published when it last got a receipt or cut the journal.
 #[derive(Drop)]
 pub struct Session {
     pub(crate) badge: Badge<Knowledge>,
@@ -48,7 +48,8 @@ impl Informed for Session {
     }
 }
 
-/// Takes the volume for a session, whose badge is its place until the volume is given back.
+/// Takes the volume for a session. The session's badge is replaced by its seat until the volume is given
+/// back.
 pub(crate) fn enter<R: Wait>(rt: &R, lock: &Lock, badge: &mut Badge<Knowledge>) -> (Place, Stock)
     requires own { badge.old.table_id ≡ lock.now.table_id }
     requires words { lock.now.table_id.words ≡ 1 }
@@ -64,7 +65,7 @@ pub(crate) fn enter<R: Wait>(rt: &R, lock: &Lock, badge: &mut Badge<Knowledge>) 
     (place, stock)
 }
 
-/// Counts what came of a call or query of a session.
+/// Counts the receipt of a session's call or query.
 pub(crate) fn note(next: &mut u64, count: &mut u64, receipt: &Receipt)
     requires numbered { next_of receipt.now.at receipt.now.outcome < 2 ^ 64 }
     requires counted { count.old ≤ receipt.now.at }

@@ -24,11 +24,11 @@ use vol_receipts::Receipt;
 use vol_views::{MOST_VIEWS, Publisher, View};
 use vol_volume::{Call, Query, Volume};
 
-/// The most sessions that a volume may be opened with.
+/// The greatest number of sessions of a volume.
 pub const MOST_SESSIONS: usize = 64;
 
-/// A volume that threads share. One thread at a time calls it, by a session of its own; the others wait for it. It is never
-/// dropped: [`Shared::close`] ends it, with all its sessions.
+/// A volume that threads share. One thread at a time uses it, through a session of its own, while the others
+/// wait. It is never dropped: [`Shared::close`] ends it with all its sessions.
 pub struct Shared {
     table: Board,
     records: u64,
@@ -38,10 +38,10 @@ pub struct Shared {
 /// Why a volume wasn't opened with views.
 #[derive(Clone, Copy, Debug, PartialEq, Eq, Error)]
 pub enum OpenFault {
-    /// Memory ran out.
+    /// Out of memory.
     #[error("out of memory")]
     NoMemory,
-    /// There was no place for a view.
+    /// No reader's seat was free for a view.
     #[error("no place for a view")]
     NoPlace,
 }
@@ -58,10 +58,11 @@ impl Model for Shared {
 }
 
 impl Shared {
-    /// A volume under a lock, with so many sessions, 1 to [`MOST_SESSIONS`]. Where memory runs out, the volume comes back.
+    /// Puts a volume under a lock with `sessions` sessions, 1 to [`MOST_SESSIONS`]. Hands the volume back if
+    /// memory runs out.
     ///
-    /// Takes a few bytes for the lock and for each session. Memory counts as run out too where the volume's next
-    /// record has no number below 2^64.
+    /// Takes a few bytes for the lock and for each session. Also reports out of memory if the volume's next
+    /// record number isn't below 2^64.
     pub fn open(
         alloc: Global,
         volume: Volume,
@@ -97,12 +98,12 @@ impl Shared {
         Ok((shared, all))
     }
 
-    /// A volume under a lock, with so many sessions, 1 to [`MOST_SESSIONS`], and so many views, at most
-    /// [`MOST_VIEWS`]. Where memory runs out, or there is no place for a view, the volume comes back. It is ended by
-    /// [`Shared::close_with`].
+    /// Puts a volume under a lock with `sessions` sessions, 1 to [`MOST_SESSIONS`], and `views` views, at
+    /// most [`MOST_VIEWS`]. Hands the volume back if memory runs out or a view finds no seat.
+    /// [`Shared::close_with`] ends it.
     ///
-    /// Takes memory for two copies of the image, and a few bytes for the lock, for each session and for each view. Memory
-    /// counts as run out too where the volume's next record has no number below 2^64.
+    /// Takes memory for two copies of the image, and a few bytes for the lock, for each session and for each
+    /// view. Also reports out of memory if the volume's next record number isn't below 2^64.
     #[tactic(auto, using(crate::proofs::Fronts::own_of_new))]
     pub fn open_with<R: Wait>(
         rt: &R,
@@ -145,13 +146,13 @@ impl Shared {
         Ok((shared, all, seen))
     }
 
-    /// Makes a call, once no other session holds the volume. The receipt has a copy of it, made before the volume is
-    /// taken. Where memory runs out the call comes back, and nothing changes.
+    /// Makes a call, waiting until no other session holds the volume. The receipt has a copy of the call,
+    /// made before the volume is taken. If memory runs out, the call is handed back and nothing changes.
     ///
-    /// Takes memory for the copy and for the journal. Costs the wait, and what [`Volume::call`] does. If the volume has
-    /// views, takes memory for a second copy, which is published. Then an accepted call also costs what
-    /// [`Volume::refusal`] does, is made twice more, on the two copies that views read, and waits for the views that
-    /// still read the older one.
+    /// Takes memory for the copy and for the journal. Costs the wait, and what [`Volume::call`] does. If the
+    /// volume has views, takes memory for a second copy, which is published. Then an accepted call also costs
+    /// what [`Volume::refusal`] does, is made twice more, on the two copies that views read, and waits for
+    /// the views that still read the older one.
     pub fn call<R: Wait>(
         &self,
         rt: &R,
@@ -187,10 +188,10 @@ impl Shared {
         }
     }
 
-    /// Asks a query, once no other session holds the volume. Where its reply takes memory and that runs out, the query
-    /// comes back, and nothing changes.
+    /// Answers a query, waiting until no other session holds the volume. If memory for its reply runs out,
+    /// the query is handed back and nothing changes.
     ///
-    /// Takes memory and costs what [`Volume::ask`] does, and the wait.
+    /// Takes memory and costs what [`Volume::ask`] does, plus the wait.
     pub fn ask<R: Wait>(
         &self,
         rt: &R,
@@ -222,8 +223,9 @@ impl Shared {
         }
     }
 
-    /// Cuts the journal, once no other session holds the volume: its records go, and the first record's number grows by
-    /// as many. Returns that number, below which no later receipt of this session comes.
+    /// Cuts the journal, waiting until no other session holds the volume: removes its records, and adds their
+    /// number to the first record's number. Returns the new first number; no later receipt of this session
+    /// has a smaller one.
     ///
     /// Takes no memory. Costs the wait, and what [`Volume::cut`] does.
     pub fn cut<R: Wait>(&self, rt: &R, session: &mut Session) -> u64
@@ -240,10 +242,11 @@ impl Shared {
         first
     }
 
-    /// Ends a shared volume that was opened without views, with all its sessions. Where none cut the journal, the volume
-    /// starts from what it did when it was opened, and its journal goes on from that one. Each record made since is that
-    /// of one accepted call of one session. Each receipt agrees with the records made, those that were cut and then the
-    /// journal; and with the journal alone, if it isn't of before the last cut.
+    /// Ends a shared volume that was opened without views, with all its sessions. If the journal was never
+    /// cut, the volume still has its origin, and its journal extends the one it was opened with. Each record
+    /// made since then belongs to one accepted call of one session. Each receipt agrees with all records,
+    /// those that were cut followed by the journal; it agrees with the journal alone unless it is older than
+    /// the last cut.
     ///
     /// Takes no memory.
     pub fn close(self, sessions: Vec<Session>) -> Closed
@@ -267,10 +270,11 @@ impl Shared {
         Closed::new(stock.into_volume(), records, calls)
     }
 
-    /// Ends a shared volume with all its sessions and views, as [`Shared::close`] does. The records go on from what each
-    /// view knows, and each receipt of a view agrees with them; and with the journal alone, if it isn't of before the last cut.
+    /// Ends a shared volume with all its sessions and views, as [`Shared::close`] does. The records extend
+    /// what each view knows. Each receipt of a view agrees with them; it agrees with the journal alone unless
+    /// it is older than the last cut.
     ///
-    /// Takes no memory. Waits for a view that still reads.
+    /// Takes no memory. Waits for views that still read.
     pub fn close_with<R: Wait>(self, rt: &R, sessions: Vec<Session>, views: Vec<View>) -> Closed
         requires count { length sessions.items ≡ self.sessions }
         requires own { All (λ s. s.of ≡ self.of) sessions.items }
@@ -297,7 +301,7 @@ impl Shared {
     }
 }
 
-/// Publishes a volume, and makes so many views of it.
+/// Publishes a volume and makes `views` views of it.
 fn publish<R: Wait>(
     rt: &R,
     alloc: Global,
@@ -323,7 +327,7 @@ fn publish<R: Wait>(
     }
 }
 
-/// The volume by itself again, where it isn't shared after all.
+/// Undoes `publish` when opening fails.
 fn end<R: Wait>(rt: &R, stock: Stock) -> Volume
     ensures { stored_of result ≡ unpublished stock }
 {
@@ -334,7 +338,7 @@ fn end<R: Wait>(rt: &R, stock: Stock) -> Volume
     volume
 }
 
-/// A copy of a call.
+/// Returns a copy of a call.
 pub(crate) fn copy_of(call: &Call) -> Result<Call, AllocError>
     ensures { IfOk result (λ copy. copy ≡ call.now) }
 {

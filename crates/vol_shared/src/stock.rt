@@ -1,4 +1,4 @@
-//! What lies under the lock.
+//! The contents of the lock.
 ghost use Rattle.std.specs.Prelude.{◌≡◌, ◌+◌, ◌<◌, ◌^◌, ◌≤◌, ◌⊎◌, length, true, None, Some, IfOk, IfErr, OnErr, IfSome};
 ghost use Rattle.vol_views.specs.LogRule.{first_log};
 ghost use Rattle.vol_views.specs.Logs.{number_of};
@@ -22,8 +22,8 @@ use vol_receipts::{Receipt, change, reply};
 use vol_views::{Publisher, Told};
 use vol_volume::{Call, Query, Volume};
 
-/// What lies under the lock: the volume, and who publishes its records, if it has views. Its next record has a number below
-/// 2^64.
+/// The contents of the lock: the volume and, if it has views, the publisher of its records. The next record's
+/// number is below 2^64.
 pub struct Stock {
     pub(crate) volume: Volume,
     pub(crate) publisher: Option<Publisher>,
@@ -44,7 +44,7 @@ impl Model for Stock {
 }
 
 impl Stock {
-    /// A volume, where its next record has a number below 2^64.
+    /// Wraps a volume; hands it back if its next record number isn't below 2^64.
     pub(crate) fn new(volume: Volume) -> Result<Stock, Volume>
         ensures stored { IfOk result (λ stock. stock ≡ stored_of volume) }
         ensures same { IfErr result (λ same. same ≡ volume) }
@@ -59,7 +59,7 @@ impl Stock {
         })
     }
 
-    /// A volume that is published as it is.
+    /// Wraps a volume that is published as it is.
     pub(crate) fn with_publisher(volume: Volume, publisher: Publisher) -> Stock
         requires { publisher.log ≡ first_log volume }
         ensures { result ≡ stored_with (Some publisher.book) volume }
@@ -71,14 +71,14 @@ impl Stock {
         }
     }
 
-    /// The number of the next record.
+    /// Returns the number of the next record.
     pub(crate) fn end(&self) -> u64
         ensures { result ≡ next_number self.now }
     {
         self.volume.first() + self.volume.journal().len() as u64
     }
 
-    /// What it is, for contracts to keep.
+    /// Returns a snapshot of it, for contracts alone.
     pub(crate) fn kept(&self) -> Kept
         ensures { result ≡ self.now }
     {
@@ -92,7 +92,7 @@ impl Stock {
         }
     }
 
-    /// What a session is told: all that is published, if anything is.
+    /// Returns the progress for a session to keep: all that is published, if anything is.
     pub(crate) fn told(&self) -> Option<Told>
         ensures book { book_in result ≡ self.now.book }
         ensures number { IfSome result (λ told. number_of told.log ≡ next_number self.now) }
@@ -103,8 +103,9 @@ impl Stock {
         }
     }
 
-    /// Makes a call, publishes its record where it has one, and tells what came of it. Memory runs out only for a call
-    /// that no refusal applies to, or where the numbers below 2^64 end.
+    /// Makes a call, publishes its record if it is accepted and the volume has views, and returns its
+    /// receipt. Reports out of memory only for a call that no refusal applies to, or when record numbers
+    /// reach 2^64.
     pub(crate) fn change<R: Wait>(
         self,
         rt: &R,
@@ -138,7 +139,7 @@ impl Stock {
         }
     }
 
-    /// Asks a query, and tells what came of it.
+    /// Runs a query and returns its receipt.
     pub(crate) fn reply(&self, alloc: Global, query: Query) -> Result<Receipt, (AllocError, Query)>
         ensures asked { IfOk result (λ receipt. receipt.asked ≡ Question query) }
         ensures numbered { IfOk result (λ receipt. next_of receipt.at receipt.outcome < 2 ^ 64) }
@@ -150,7 +151,7 @@ impl Stock {
         reply(&self.volume, alloc, query)
     }
 
-    /// Cuts the journal, and tells the number of its first record. Nothing is published.
+    /// Cuts the journal, and returns the number of its first record. Publishes nothing.
     pub(crate) fn cut(self) -> (Stock, u64)
         ensures cut { IsCut self result.0 }
         ensures first { result.1 ≡ next_number self }
@@ -165,7 +166,7 @@ impl Stock {
         (Stock { volume, publisher }, first)
     }
 
-    /// The volume, and who publishes its records.
+    /// Returns the volume and its publisher.
     pub(crate) fn into_parts(self) -> (Volume, Option<Publisher>)
         ensures stored { stored_of result.0 ≡ unpublished self }
         ensures numbered { next_number self < 2 ^ 64 }
@@ -176,7 +177,7 @@ impl Stock {
         (volume, publisher)
     }
 
-    /// The volume, where it isn't published.
+    /// Returns the volume, which must not be published.
     pub(crate) fn into_volume(self) -> Volume
         requires { self.book ≡ None }
         ensures stored { stored_of result ≡ self }

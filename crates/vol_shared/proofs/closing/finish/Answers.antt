@@ -7,7 +7,7 @@ use Rattle.vol_shared.specs.Stored.{Stored}
 use Rattle.vol_shared.proofs.closing.finish.Goals as goal
 use Rattle.vol_shared.proofs.closing.finish.Goals.{After-free}
 
--- what is found at the end
+-- the volume at the end
 at_end : (c : After-free) → (last : Stored) × (c.take-slot.result ≡ Some last) × IsSettled c.args.board.shared.key.stock c.args.place.me.0 last
     × (last.book ≡ c.args.board.shared.key.stock.book)
 at_end c =

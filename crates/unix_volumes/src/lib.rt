@@ -1,33 +1,35 @@
-//! Disk images of Sixth and Seventh Edition Unix, for a program that works on them: all that it names, in one crate.
+//! Disk images of Sixth and Seventh Edition Unix: all that a program needs to work with them, in one crate.
 //!
-//! This crate has no code of its own. It hands on what other crates of the repository have, so that a program names it alone in its
+//! This crate has no code of its own. It re-exports other crates of the repository, so that a program names only this one in its
 //! line of `crates.txt`. `example_volume` is such a program.
 //!
-//! **An image** is a list of bytes in memory. [`load`] reads one from a [`Source`] and [`save`] writes one to a [`Sink`], over any
-//! reader ([`FromRead`]) and writer ([`IntoWrite`]); [`mkfs`] makes one with an empty root, and [`BlankVolume`] writes one straight
-//! to a sink. No function opens a file.
+//! **An image** is a list of bytes in memory. [`load`] reads one from a [`Source`] and [`save`] writes one to a [`Sink`], over
+//! any reader ([`FromRead`]) and writer ([`IntoWrite`]). [`mkfs`] makes one with an empty root, and [`BlankVolume`] writes one
+//! straight to a sink. No function opens a file.
 //!
-//! **A volume.** [`Volume::mount`] takes the bytes of an image and judges them: it mounts a sound image alone, and answers the least
-//! of twelve rules that another breaks ([`MountFault`], [`judge`]). [`Volume::call`] makes one [`Call`] in the name of a user
-//! ([`Cred`]) and at a moment: it answers what was [`Done`], or a [`Refusal`] with the call, and then nothing has changed.
-//! [`Volume::ask`] answers a [`Query`] by a [`Reply`]. [`Volume::journal`] has the calls accepted, and [`Volume::unmount`] the bytes.
-//! To look at an image once, without mounting it, there is [`ask`].
+//! **A volume.** [`Volume::mount`] takes the bytes of an image and judges them: it mounts only a sound image, and reports the
+//! first of twelve rules that a damaged one breaks ([`MountFault`], [`judge`]). [`Volume::call`] makes one [`Call`] for a user
+//! ([`Cred`]) and at a given time. It returns what was [`Done`], or a [`Refusal`] with the call, after which nothing has changed.
+//! [`Volume::ask`] answers a [`Query`] with a [`Reply`]. [`Volume::journal`] has the accepted calls, and [`Volume::unmount`]
+//! returns the bytes. [`ask`] looks at an image once, without mounting it.
 //!
-//! **Sharing.** [`Shared::open`] puts a volume under a lock, with 1 to 64 sessions, and [`Shared::open_with`] with up to 16 views too.
-//! Each thread calls by a [`Session`] of its own, and gets a [`Receipt`] for each call and query. A [`View`] answers queries without
-//! the lock, and knows at least what it learnt of a session ([`View::learn`]). [`Shared::close_with`] ends it: it takes all sessions
-//! and views, and gives the volume back as a [`Closed`], by which each receipt is confirmed against the journal.
+//! **Sharing.** [`Shared::open`] puts a volume under a lock with 1 to 64 sessions, and [`Shared::open_with`] adds up to 16 views.
+//! Each thread calls through a [`Session`] of its own, and gets a [`Receipt`] for each call and query. A [`View`] answers queries
+//! without the lock, and knows at least what it learned from a session ([`View::learn`]). [`Shared::close_with`] ends the
+//! sharing: it takes all sessions and views, and returns the volume as a [`Closed`], which confirms each receipt against the
+//! journal.
 //!
-//! **Checking.** [`icheck`], [`dcheck`] and [`ncheck`] give the reports of the programs of these names, of any image, by 1 to 64
-//! threads; a [`Sweep`] is such a check by steps. [`judge`] answers the least rule broken, and [`rules`] what breaks each of them.
-//! [`salvage`] makes the free list anew where it alone is wrong, and [`migrate`] makes a volume of the seventh edition of one of the
-//! sixth.
+//! **Checking.** [`icheck`], [`dcheck`] and [`ncheck`] give the reports of the programs of these names, for any image, with 1 to
+//! 64 threads; a [`Sweep`] is such a check in steps. [`judge`] returns the first broken rule, and [`rules`] lists what breaks
+//! each of them. [`salvage`] rebuilds the free list if nothing else is wrong, and [`migrate`] turns a volume of the sixth edition
+//! into one of the seventh.
 //!
-//! **Archives.** [`export`] writes all below a directory as a tar archive, and [`import`] makes the members of one in a volume.
+//! **Archives.** [`export`] writes everything below a directory as a tar archive, and [`import`] adds an archive's members to a
+//! volume.
 //!
-//! Memory is always taken from an allocator that the caller gives, and want of it is an error like any other.
+//! Memory always comes from an allocator that the caller passes, and running out of it is an error like any other.
 //!
-//! The definitions that the contracts cite are handed on too: `specs/Lib.antt` lists them.
+//! The definitions that the contracts cite are re-exported too: `specs/Lib.antt` lists them.
 #![tactic(auto)]
 
 pub use pdp_words::{

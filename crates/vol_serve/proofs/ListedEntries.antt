@@ -36,7 +36,7 @@ none_on entry kind (suc count) slot found room low high none =
           ap (λ s. entries_from entry kind s room (suc count)) here ∙ ap (λ n. entries_from entry kind found room n) all
     ]
 
--- the entries from a slot on, by the next one that has an entry
+-- the entries from a slot on, by the next slot that has an entry
 pub from_next : (entry : ℕ → Option (List ℕ × ℕ)) (kind : ℕ → EntryKind) (from count room found : ℕ) (slot : Slot)
     → IsNextEntry entry from count found slot
     → entries_from entry kind from room (count - from)
@@ -50,7 +50,7 @@ from_next entry kind from count room found slot next =
     ∙ (ap (λ n. entries_from entry kind found room n) left
     ∙ ap (λ o. listed kind found room o (λ left. entries_from entry kind (found + 1) left (count - (found + 1)))) next.holds)
 
--- nothing is listed where no slot is left that has an entry
+-- nothing is listed if no slot that is left has an entry
 pub from_last : (entry : ℕ → Option (List ℕ × ℕ)) (kind : ℕ → EntryKind) (from count room : ℕ)
     → ((t : ℕ) → from ≤ t → t < count → entry t ≡ None) → entries_from entry kind from room (count - from) ≡ []
 unfolding entries_from

@@ -3,7 +3,7 @@ use Rattle.std.proofs.Common.{◌∙◌, sym, ap, subst, ℕ, List, [], ◌++◌
 use Rattle.std.proofs.lemmas.List.{append-nil}
 use Rattle.vol_serve.specs.Messages.{Grows}
 
--- more messages, and then some more
+-- more messages, followed by some more
 pub grows_more : (a b c : Option (List (List ℕ))) (xs ys : List (List ℕ)) → Grows a b xs → Grows b c ys → Grows a c (xs ++ ys)
 grows_more None b c xs ys first then = tt
 grows_more (Some old) b c xs ys first then =

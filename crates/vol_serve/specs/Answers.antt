@@ -28,16 +28,16 @@ use Rattle.vol_serve.specs.Statistics.{statistics_of}
 use Rattle.vol_serve.specs.declared.errno.RequestRefusal.{RequestRefusal}
 use Rattle.vol_serve.specs.declared.errno.RequestRefusal.TheVariants.{Node, ReadOnly, Malformed, Version, Unserved}
 
--- what comes after an answer of the nodes; a fault ends it (this project)
+-- the reply made from a node's result; a fault ends it (this project)
 abbrev pub answered : {X : Type 0} → Result X NodeFault → (X → Result (List ℕ) RequestRefusal) → Result (List ℕ) RequestRefusal
 answered (Ok x) next = next x
 answered (Err fault) next = Err (Node fault)
 
--- the i-number of the node that a request is about (this project)
+-- the i-number of the node that a request names (this project)
 abbrev pub number_at : Edition → ℕ → Result ℕ NodeFault
 number_at edition node = ok_or (i_number edition node) nodes.Stale
 
--- what the server can do, by what the kernel that asks can: reading ahead, 128 KiB at once, times of whole seconds (fuse_init_out; FUSE_ASYNC_READ)
+-- the server's settings, given the kernel's: reading ahead, 128 KiB at once, times of whole seconds (fuse_init_out; FUSE_ASYNC_READ)
 abbrev pub settings_of : ℕ → ℕ → Settings
 settings_of max_readahead flags = record {
   max_readahead = max_readahead;
@@ -49,17 +49,17 @@ settings_of max_readahead flags = record {
   max_pages = 0;
 }
 
--- the reply to INIT: a kernel below version 7 is refused, and one above asks again (fuse.h)
+-- the reply to INIT: a kernel below version 7 is refused, and one above sends INIT again (fuse.h)
 abbrev pub init_reply : ℕ → ℕ → ℕ → ℕ → Result (List ℕ) RequestRefusal
 init_reply unique major max_readahead flags =
     if nat_lt major 7 then Err Version else Ok (init_message unique (settings_of max_readahead flags))
 
--- whether an operation would change the volume: SETATTR, SYMLINK, MKNOD to LINK, WRITE, CREATE, FALLOCATE, RENAME2, COPY_FILE_RANGE (fuse_opcode)
+-- true if an operation would change the volume: SETATTR, SYMLINK, MKNOD to LINK, WRITE, CREATE, FALLOCATE, RENAME2, COPY_FILE_RANGE (fuse_opcode)
 abbrev pub is_change : ℕ → Bool
 is_change opcode =
     (opcode == 4) || (opcode == 6) || (nat_le 8 opcode && nat_le opcode 13) || (opcode == 16) || (opcode == 35) || (opcode == 43) || (opcode == 45) || (opcode == 47)
 
--- the reply to OPEN of a node of some kind: only a regular file, and only to be read; the kernel may keep the bytes that it has (FOPEN_KEEP_CACHE; O_ACCMODE)
+-- the reply to OPEN of a node of some kind: only a regular file, and only for reading; the kernel may keep the bytes that it has (FOPEN_KEEP_CACHE; O_ACCMODE)
 abbrev pub open_by : Kind → ℕ → ℕ → Result (List ℕ) RequestRefusal
 open_by kinds.Regular unique flags = if flags % 4 == 0 then Ok (open_message unique 0 2) else Err ReadOnly
 open_by _ unique flags = Err (Node nodes.NotRegular)
@@ -106,7 +106,7 @@ abbrev pub listing_reply : Geometry → List ℕ → ℕ → ℕ → ℕ → ℕ
 listing_reply geometry image unique d offset size =
     answered (listing_in geometry image d offset (min 131072 size)) (λ entries. Ok (data_message unique entries))
 
--- the reply to an operation on node i, or why it is refused; FLUSH among others isn't served (fuse_opcode)
+-- the reply to an operation on node i, or its refusal; FLUSH, for one, isn't served (fuse_opcode)
 unfoldable pub node_reply : Geometry → List ℕ → ℕ → ℕ → Operation → Result (List ℕ) RequestRefusal
 node_reply geometry image unique i (operations.Lookup name) = lookup_reply geometry image unique i name
 node_reply geometry image unique i operations.GetAttr = attributes_reply (tree geometry image) unique i
@@ -116,7 +116,7 @@ node_reply geometry image unique i (operations.Read handle offset size) = read_r
 node_reply geometry image unique i (operations.ReadDir handle offset size) = listing_reply geometry image unique i offset size
 node_reply geometry image unique i _ = Err Unserved
 
--- the reply to an operation that changes nothing, or why it is refused (fuse_opcode)
+-- the reply to an operation that changes nothing, or its refusal (fuse_opcode)
 unfoldable pub served_reply : Geometry → List ℕ → Header → Operation → Result (List ℕ) RequestRefusal
 served_reply geometry image header (operations.Init major minor max_readahead flags) = init_reply header.unique major max_readahead flags
 served_reply geometry image header operations.StatFs = Ok (statfs_message header.unique (statistics_of geometry image))
@@ -127,12 +127,12 @@ served_reply geometry image header (operations.Other opcode) = Err Unserved
 served_reply geometry image header operation =
     answered (number_at geometry.edition header.node) (λ i. node_reply geometry image header.unique i operation)
 
--- the reply to an operation, or why it is refused: all that would change the volume is (this project)
+-- the reply to an operation, or its refusal: all changes of the volume are refused (this project)
 abbrev pub operation_reply : Geometry → List ℕ → Header → Operation → Result (List ℕ) RequestRefusal
 operation_reply geometry image header operation =
     if is_change header.opcode then Err ReadOnly else served_reply geometry image header operation
 
--- a reply, or the message of an error by its number (fuse_out_header)
+-- a reply, or the message with a refusal's error number (fuse_out_header)
 abbrev pub message_of : ℕ → Result (List ℕ) RequestRefusal → List ℕ
 message_of unique (Ok reply) = reply
 message_of unique (Err refusal) = status_message unique (errno refusal)
@@ -141,13 +141,13 @@ message_of unique (Err refusal) = status_message unique (errno refusal)
 abbrev pub waited_for : Header → Result (List ℕ) RequestRefusal → Option (List ℕ)
 waited_for header reply = if wants_reply header.opcode then Some (message_of header.unique reply) else None
 
--- the reply to what was read as a request, if one is sent: without a whole header nobody can be told (this project)
+-- the reply to bytes that were read as a request, if one is sent: without a whole header there is nobody to reply to (this project)
 abbrev pub reply_by : Geometry → List ℕ → Result Request RequestFault → Option (List ℕ)
 reply_by geometry image (Ok request) = waited_for request.header (operation_reply geometry image request.header request.operation)
 reply_by geometry image (Err faults.NoHeader) = None
 reply_by geometry image (Err (faults.Length header)) = waited_for header (Err Malformed)
 reply_by geometry image (Err (faults.Body header)) = waited_for header (Err Malformed)
 
--- the reply to a request's bytes, if one is sent: what the image has for what the request says (this project)
+-- the reply to a request's bytes, if one is sent: the one that the image determines (this project)
 abbrev pub reply_to : Geometry → List ℕ → List ℕ → Option (List ℕ)
 reply_to geometry image bytes = reply_by geometry image (request_of bytes)

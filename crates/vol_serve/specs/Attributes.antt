@@ -1,4 +1,4 @@
--- What a node is, as the kernel is told.
+-- The attributes of a node, as the kernel gets them.
 use Rattle.std.specs.Prelude.{ℕ, ◌+◌, ◌*◌, ◌/◌, if◌then◌else◌, Option, None, Some, Result, unwrap_or}
 use Rattle.std.specs.Option.{option_map, option_map_or, ok_or}
 use Rattle.fuse_words.specs.declared.directory.EntryKind.{EntryKind}
@@ -29,7 +29,7 @@ abbrev pub device_of : Option SpecialFile → ℕ
 device_of None = 0
 device_of (Some file) = 256 * file.major + file.minor
 
--- the attributes of a node: its blocks are of 512 bytes, and holes count; without a time of its i-node's last change, that of its bytes' is told (fuse_attr)
+-- the attributes of a node: its blocks have 512 bytes, and holes count; if its i-node has no time of change, that of its contents is given (fuse_attr)
 abbrev pub attributes_of : Stat → Option SpecialFile → Attributes
 attributes_of stat special = record {
   ino = stat.number;
@@ -50,17 +50,17 @@ attributes_of stat special = record {
 abbrev pub attributes_in : Tree → ℕ → Result Attributes NodeFault
 attributes_in tree i = ok_or (option_map (λ stat. attributes_of stat (special_in tree i)) (stat_in tree i)) faults.Stale
 
--- the kind of a special file, as an entry says it (dirent.h: DT_BLK, DT_CHR)
+-- the kind of a special file in a directory entry (dirent.h: DT_BLK, DT_CHR)
 abbrev pub special_entry : Option SpecialFile → EntryKind
 special_entry None = entries.Character
 special_entry (Some file) = if file.is_block then entries.Block else entries.Character
 
--- the kind of a node, as an entry says it (dirent.h: DT_REG, DT_DIR)
+-- the kind of a node in a directory entry (dirent.h: DT_REG, DT_DIR)
 abbrev pub entry_of : Kind → Option SpecialFile → EntryKind
 entry_of kinds.Regular special = entries.Regular
 entry_of kinds.Directory special = entries.Directory
 entry_of _ special = special_entry special
 
--- the kind of node i, as an entry says it; it isn't known where there is no such node (dirent.h: DT_UNKNOWN)
+-- the kind of node i in a directory entry, unknown if there is no such node (dirent.h: DT_UNKNOWN)
 abbrev pub entry_kind_in : Tree → ℕ → EntryKind
 entry_kind_in tree i = option_map_or (λ (stat : Stat). entry_of stat.kind (special_in tree i)) (stat_in tree i) entries.Unknown

@@ -1,4 +1,4 @@
--- The numbers of errors.
+-- Error numbers.
 use Rattle.std.specs.Prelude.{ℕ}
 use Rattle.vol_nodes.specs.declared.fault.NodeFault.TheVariants as faults
 use Rattle.vol_serve.specs.declared.errno.RequestRefusal.{RequestRefusal}

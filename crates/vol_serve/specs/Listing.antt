@@ -1,4 +1,4 @@
--- The entries of a directory, as READDIR gives them.
+-- Directory entries for READDIR.
 use Rattle.std.specs.Prelude.{ℕ, zero, suc, ◌+◌, ◌-◌, nat_le, if◌then◌else◌, List, [], ◌++◌, Option, None, Some, Result, Ok}
 use Rattle.fuse_words.specs.Replies.{dirent_bytes, dirent_size}
 use Rattle.fuse_words.specs.declared.directory.EntryKind.{EntryKind}
@@ -10,7 +10,7 @@ use Rattle.vol_nodes.specs.Nodes.{after_ok, names_in}
 use Rattle.vol_nodes.specs.declared.fault.NodeFault.{NodeFault}
 use Rattle.vol_serve.specs.Attributes.{entry_kind_in}
 
--- the entry of slot `slot`, unless its name is empty or has a slash, and then more, in at most `room` bytes: without room for it nothing more is listed (fuse_dirent)
+-- the entry of slot `slot`, unless its name is empty or has a slash, followed by more, in at most `room` bytes: the first entry without room ends the listing (fuse_dirent)
 abbrev pub listed : (ℕ → EntryKind) → ℕ → ℕ → Option (List ℕ × ℕ) → (ℕ → List ℕ) → List ℕ
 listed kind slot room None more = more room
 listed kind slot room (Some entry) more =
@@ -19,13 +19,13 @@ listed kind slot room (Some entry) more =
     else [])
     else more room
 
--- the entries of `count` slots from `slot` on, in at most `room` bytes; each brings the slot after it, which asks for the rest (fuse_dirent; this project)
+-- the entries of `count` slots from `slot` on, in at most `room` bytes; the offset of each is the slot after it, where the kernel reads on (fuse_dirent; this project)
 unfoldable pub entries_from : (ℕ → Option (List ℕ × ℕ)) → (ℕ → EntryKind) → ℕ → ℕ → ℕ → List ℕ
 entries_from entry kind slot room zero = []
 entries_from entry kind slot room (suc count) =
     listed kind slot room (entry slot) (λ left. entries_from entry kind (slot + 1) left count)
 
--- the entries of directory d from slot `from` on, in at most `room` bytes, or why there are none (READDIR)
+-- the entries of directory d from slot `from` on, in at most `room` bytes, or the fault if there are none (READDIR)
 abbrev pub listing_in : Geometry → List ℕ → ℕ → ℕ → ℕ → Result (List ℕ) NodeFault
 listing_in geometry image d from room =
     after_ok (names_in (tree geometry image) d) (λ names.

@@ -1,13 +1,13 @@
--- The numbers by which a kernel names nodes.
+-- The kernel's numbers of nodes.
 use Rattle.std.specs.Prelude.{ℕ, ◌+◌, ◌-◌, ◌==◌, ◌&&◌, nat_le, nat_lt, not, if◌then◌else◌, Option, None, Some}
 use Rattle.vol_layout.specs.Edition.{constants}
 use Rattle.vol_layout.specs.declared.edition.Edition.{Edition}
 
--- the number of the node with i-number i: 1 for the root, as the kernel has it; else the i-number and 65536, as no i-number is given out twice (FUSE_ROOT_ID; the rest is this project's)
+-- the number of the node with i-number i: 1 for the root, as the kernel requires; for any other, i + 65536, as i-numbers aren't reused while serving (FUSE_ROOT_ID; the rest is this project's)
 abbrev pub node_number : Edition → ℕ → ℕ
 node_number edition i = if i == (constants edition).root then 1 else 65536 + i
 
--- the i-number of the node with a number, if there can be one (this project)
+-- the i-number of the node with this number, if there can be one (this project)
 abbrev pub i_number : Edition → ℕ → Option ℕ
 i_number edition node =
     if node == 1 then Some (constants edition).root

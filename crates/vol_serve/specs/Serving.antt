@@ -1,12 +1,11 @@
--- Which replies a run sends to the requests that it takes.
+-- The replies that a run sends to the requests that it takes.
 use Rattle.std.specs.Prelude.{◌≡◌, ◌≢◌, ℕ, ◌-◌, ◌^◌, List, [], ◌∷◌, ◌++◌, length, Option, None, Result, Ok, Err}
 use Rattle.std.specs.List.{filter_map}
 use Rattle.vol_serve.specs.Messages.{Grows}
 use Rattle.vol_serve.specs.declared.serving.ServeFault.{ServeFault}
 use Rattle.vol_serve.specs.declared.serving.ServeFault.TheVariants.{NoMemory, Send, Requests}
 
--- the requests of a run that ended so, and the replies sent: one to each request that is to have one, in their order. The last one's
--- could not be sent where sending failed; too many were taken where there may be more (this project)
+-- the requests of a run with this result, and the replies sent: one to each request that gets one, in order; if sending failed, the last one got none; serving also ends after 2^64 - 1 requests (this project)
 abbrev pub AreServed : {X : Type 0} → (List ℕ → Option (List ℕ)) → List (List ℕ) → List (List ℕ) → Result X ServeFault → Type 0
 AreServed reply requests sent (Ok done) = sent ≡ filter_map reply requests
 AreServed reply requests sent (Err NoMemory) = (requests ≡ []) × (sent ≡ [])
@@ -14,7 +13,7 @@ AreServed reply requests sent (Err Send) =
     (before : List (List ℕ)) × (last : List ℕ) × (requests ≡ before ++ last ∷ []) × (reply last ≢ None) × (sent ≡ filter_map reply before)
 AreServed reply requests sent (Err Requests) = (sent ≡ filter_map reply requests) × (length requests ≡ 2 ^ 64 - 1)
 
--- what was taken and what was sent grew by requests and their replies (this project)
+-- the messages taken and sent grew by requests and their replies (this project)
 abbrev pub Serves : {X : Type 0} → (List ℕ → Option (List ℕ)) → Option (List (List ℕ)) → Option (List (List ℕ)) → Option (List (List ℕ))
     → Option (List (List ℕ)) → Result X ServeFault → Type 0
 Serves reply taken taken' sent sent' result =

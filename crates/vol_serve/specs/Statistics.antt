@@ -1,4 +1,4 @@
--- The sizes of a volume, as the kernel is told.
+-- The sizes of a volume, as the kernel gets them.
 use Rattle.std.specs.Prelude.{ℕ, ◌-◌, List, length}
 use Rattle.fuse_words.specs.declared.reply.Statistics.{Statistics}
 use Rattle.vol_layout.specs.declared.geometry.Geometry.{Geometry}

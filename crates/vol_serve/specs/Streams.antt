@@ -1,14 +1,14 @@
--- What stands in the devices that requests come from and replies go to.
+-- The contents of request readers and reply writers.
 use Rattle.std.specs.Prelude.{Bool, Option}
 use Rattle.std.specs.declared.io.Error.{Error}
 use Rattle.vol_serve.specs.declared.streams.RequestReader.{RequestReader}
 use Rattle.vol_serve.specs.declared.streams.ReplyWriter.{ReplyWriter}
 
--- the reader in it (std::io)
+-- the reader of requests (std::io)
 abbrev pub reader_in : {R : Type 0} → RequestReader R → R
 reader_in requests = requests.reader
 
--- whether the reader has no more requests (std::io)
+-- true if the reader has no more requests (std::io)
 abbrev pub has_reader_ended : {R : Type 0} → RequestReader R → Bool
 has_reader_ended requests = requests.ended
 
@@ -16,18 +16,18 @@ has_reader_ended requests = requests.ended
 abbrev pub read_fault : {R : Type 0} → RequestReader R → Option Error
 read_fault requests = requests.fault
 
--- the writer in it (std::io)
+-- the writer of replies (std::io)
 abbrev pub writer_in : {W : Type 0} → ReplyWriter W → W
 writer_in replies = replies.writer
 
--- whether nobody waited for the last reply that was sent (Linux, fs/fuse/dev.c: ENOENT)
+-- true if nobody waited for the last reply that was sent (Linux, fs/fuse/dev.c: ENOENT)
 abbrev pub is_withdrawn : {W : Type 0} → ReplyWriter W → Bool
 is_withdrawn replies = replies.withdrawn
 
--- whether a write has failed (std::io)
+-- true if a write has failed (std::io)
 abbrev pub has_writer_failed : {W : Type 0} → ReplyWriter W → Bool
 has_writer_failed replies = replies.failed
 
--- the error of the write that failed (std::io)
+-- the error of the failed write (std::io)
 abbrev pub write_fault : {W : Type 0} → ReplyWriter W → Option Error
 write_fault replies = replies.fault

@@ -28,7 +28,7 @@ pub(crate) fn answer(served: &Served<'_>, request: &[u8], room: &mut Room) -> bo
     }
 }
 
-/// Puts the reply to a request that is whole into `room`; returns false if the kernel waits for none.
+/// Puts the reply to a well-formed request into `room`; returns false if the kernel waits for none.
 fn answer_request(served: &Served<'_>, request: Request<'_>, room: &mut Room) -> bool
     ensures { waited_for request.entry.header (operation_reply served.now.geometry.now served.now.image.now request.entry.header request.entry.operation)
         ≡ (if result then Some room.new.reply else None) }
@@ -43,14 +43,14 @@ fn answer_request(served: &Served<'_>, request: Request<'_>, room: &mut Room) ->
     true
 }
 
-/// Puts the reply that a refusal is into `room`.
+/// Puts the reply for a refusal into `room`.
 fn refuse(header: &Header, refusal: RequestRefusal, room: &mut Room)
     ensures { room.new.reply ≡ status_message header.now.unique (errno refusal) }
 {
     room.reply.put_status(header.unique, errno(refusal));
 }
 
-/// Puts the reply to an operation into `room`, if it isn't refused. One that would change the volume is.
+/// Puts the reply to an operation into `room`, unless the operation is refused, as any change of the volume is.
 fn put_reply(
     served: &Served<'_>,
     header: &Header,
@@ -67,7 +67,7 @@ fn put_reply(
     put_served(served, header, operation, room)
 }
 
-/// Puts the reply to an operation that changes nothing into `room`, if it isn't refused.
+/// Puts the reply to an operation that changes nothing into `room`, unless it is refused.
 #[tactic(auto, unfolding(crate::specs::Answers::served_reply))]
 fn put_served(
     served: &Served<'_>,
@@ -100,14 +100,14 @@ fn put_served(
     Ok(())
 }
 
-/// The i-number of the node that a request is about. Stale if no i-number has its number.
+/// Returns the i-number of the node that a request names. Returns `Stale` if the node can't be one of the volume's.
 fn number_at(served: &Served<'_>, node: u64) -> Result<u16, NodeFault>
     ensures { result ≡ number_at served.now.geometry.now.edition node }
 {
     i_number(served.geometry.edition, node).ok_or(NodeFault::Stale)
 }
 
-/// Puts the reply to INIT into `room`. A kernel above version 7 reads our version alone, and asks again.
+/// Puts the reply to INIT into `room`. A kernel above version 7 reads only our version from it, and sends INIT again.
 fn put_init(
     unique: u64,
     major: u32,

@@ -1,4 +1,4 @@
-//! What a node is, as the kernel is told.
+//! The attributes of a node, as the kernel gets them.
 ghost use Rattle.std.specs.Prelude.{◌≡◌};
 ghost use Rattle.vol_layout.specs.Geometry.{Fits};
 ghost use Rattle.vol_dir.specs.Tree.{tree};
@@ -10,7 +10,7 @@ use vol_layout::{Geometry, Kind};
 use vol_nodes::{NodeFault, SpecialFile, special_file, stat};
 use vol_volume::Stat;
 
-/// The type bits of a node's mode, of Linux (stat.h).
+/// Returns the type bits of a node's mode on Linux (stat.h).
 fn type_bits(kind: Kind, special: Option<SpecialFile>) -> u32
     ensures { result ≡ type_of kind special }
 {
@@ -24,7 +24,7 @@ fn type_bits(kind: Kind, special: Option<SpecialFile>) -> u32
     }
 }
 
-/// The kernel's number of a special file's device; 0 of another node.
+/// Returns Linux's device number of a special file; 0 for another node.
 fn device(special: Option<SpecialFile>) -> u32
     ensures { result ≡ device_of special }
 {
@@ -34,7 +34,7 @@ fn device(special: Option<SpecialFile>) -> u32
     }
 }
 
-/// The attributes of a node.
+/// Returns the attributes of a node.
 fn attributes_of(stat: &Stat, special: Option<SpecialFile>) -> Attributes
     ensures { result ≡ attributes_of stat.now special }
 {
@@ -54,7 +54,7 @@ fn attributes_of(stat: &Stat, special: Option<SpecialFile>) -> Attributes
     }
 }
 
-/// The attributes of node `i`. Stale if no node has this number.
+/// Returns the attributes of node `i`, or `Stale` if no node has this number.
 pub fn node_attributes(image: &Image, geometry: &Geometry, i: u16) -> Result<Attributes, NodeFault>
     requires { Fits geometry.now image.now }
     ensures { result ≡ attributes_in (tree geometry.now image.now) i }
@@ -65,7 +65,7 @@ pub fn node_attributes(image: &Image, geometry: &Geometry, i: u16) -> Result<Att
     }
 }
 
-/// The kind of node `i`, as an entry of a directory says it.
+/// Returns the kind of node `i` for a directory entry.
 pub(crate) fn entry_kind(image: &Image, geometry: &Geometry, i: u16) -> EntryKind
     requires { Fits geometry.now image.now }
     ensures { result ≡ entry_kind_in (tree geometry.now image.now) i }

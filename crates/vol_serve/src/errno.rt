@@ -1,21 +1,21 @@
-//! Why a request is refused, and the number of the error that the kernel gets for it.
+//! Refusals of requests, and the error numbers that the kernel gets for them.
 ghost use Rattle.std.specs.Prelude.{◌≡◌, ◌<◌};
 ghost use Rattle.vol_serve.specs.Errno.{errno};
 
 use vol_nodes::NodeFault;
 
-/// Why a request is refused.
+/// Why a request was refused.
 #[derive(Clone, Copy, Debug, PartialEq, Eq)]
 pub enum RequestRefusal {
-    /// The nodes have no answer to it.
+    /// The node can't be used so, or doesn't exist.
     Node(NodeFault),
-    /// It would change the volume, which is served for reading alone.
+    /// It would change the volume, which is served read-only.
     ReadOnly,
-    /// It has fewer or more bytes than it should have, or no whole name.
+    /// It has fewer or more bytes than it should have, or an incomplete name.
     Malformed,
     /// The kernel's version of the protocol is too old.
     Version,
-    /// The operation isn't served. The kernel does without.
+    /// The operation isn't served. The kernel manages without it.
     Unserved,
 }
 
@@ -30,7 +30,7 @@ impl From<NodeFault> for RequestRefusal {
     }
 }
 
-/// The number of the error, of Linux (errno.h).
+/// Returns the error number on Linux (errno.h).
 pub fn errno(refusal: RequestRefusal) -> u32
     ensures number { result ≡ errno refusal }
     ensures bound { result < 512 }

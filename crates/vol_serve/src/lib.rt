@@ -1,5 +1,4 @@
-//! A volume served to a Linux kernel over the FUSE protocol, for reading alone: each request that is taken gets the reply that the
-//! image has for it.
+//! Serves a volume read-only to a Linux kernel over the FUSE protocol: each request gets the reply that the image determines.
 #![tactic(auto)]
 
 mod answering;

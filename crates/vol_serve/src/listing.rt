@@ -1,4 +1,4 @@
-//! The entries of a directory, as READDIR gives them.
+//! Directory entries for READDIR.
 ghost use Rattle.std.specs.Prelude.{◌≡◌, ◌≢◌, ◌≤◌, ◌-◌, ℕ, List, ◌++◌, if◌then◌else◌, vec_len, vec_capacity, Ok, Err, MatchResult};
 ghost use Rattle.vol_layout.specs.Geometry.{Fits};
 ghost use Rattle.vol_dir.specs.Entries.{entry_in};
@@ -13,8 +13,8 @@ use vol_archive::is_plain;
 use vol_layout::{Geometry, Slot};
 use vol_nodes::{NodeFault, next_name};
 
-/// Puts the entries of directory `dir` from slot `from` on into `out`, as many as there are within `size` bytes. The offset of each is
-/// the slot after it.
+/// Puts the entries of directory `dir` from slot `from` on into `out`, as many as fit in `size` bytes. The offset of each is the
+/// slot after it.
 pub(crate) fn put_entries(
     image: &Image,
     geometry: &Geometry,
@@ -32,7 +32,7 @@ pub(crate) fn put_entries(
     ensures capacity { vec_capacity out.old ≤ vec_capacity out.new }
 {
     out.clear();
-    // No directory has as many slots.
+    // No directory has this many slots.
     let mut slot = from.min(u64::from(u32::MAX)) as u32;
     'entries: while let Some((found, entry)) = next_name(image, geometry, dir, slot)? {
         if !put_entry(image, geometry, found, &entry, size, out) {
@@ -43,7 +43,7 @@ pub(crate) fn put_entries(
     Ok(())
 }
 
-/// Appends the entry in slot `slot`, if it is listed; returns false if there is no room for it.
+/// Appends the entry in slot `slot`, if it is to be listed; returns false if there is no room for it.
 fn put_entry(
     image: &Image,
     geometry: &Geometry,

@@ -1,4 +1,4 @@
-//! The memory that a server needs, taken once, so that no answer takes any.
+//! The memory of a server. It is taken once, so that no request takes any.
 ghost use Rattle.std.specs.Prelude.{◌≡◌, ◌≤◌, vec_capacity, IfOk};
 ghost use Rattle.vol_layout.specs.Geometry.{Fits};
 ghost use Rattle.vol_serve.specs.Statistics.{statistics_of};
@@ -9,11 +9,11 @@ use pdp_words::Image;
 use std::alloc::{AllocError, Global};
 use vol_layout::Geometry;
 
-/// Bytes of a request, at most: the 128 KiB of a write, and 4096 more. The kernel gives no request to a read with room for fewer than
-/// 8192 bytes.
+/// The greatest number of bytes in a request: 4096 more than the 128 KiB of a write. The kernel fails reads with room for fewer
+/// than 8192 bytes.
 pub const MOST_REQUEST: usize = 135_168;
 
-/// Room for a reply, and for the bytes that one brings.
+/// Room for a reply and its data.
 #[derive(Debug, Drop)]
 pub struct Room {
     /// The reply.
@@ -24,7 +24,7 @@ pub struct Room {
 }
 
 impl Room {
-    /// Takes the room: 262,160 bytes.
+    /// Allocates the room: 262,160 bytes.
     pub fn new(alloc: Global) -> Result<Room, AllocError> {
         let reply = ReplyBuffer::new(alloc)?;
         let content = Vec::with_capacity(alloc, MOST_DATA)?;
@@ -32,7 +32,7 @@ impl Room {
     }
 }
 
-/// What a server needs.
+/// The memory of a server.
 #[derive(Debug, Drop)]
 pub(crate) struct Memory {
     /// Room for a request.
@@ -44,7 +44,7 @@ pub(crate) struct Memory {
 }
 
 impl Memory {
-    /// Takes the memory for a volume, and counts its free blocks and i-nodes.
+    /// Takes the memory for serving a volume, and counts its free blocks and i-nodes.
     pub(crate) fn new(
         alloc: Global,
         image: &Image,

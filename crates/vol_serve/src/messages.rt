@@ -1,17 +1,18 @@
-//! Where requests come from, and where replies go.
+//! Sources of requests and destinations of replies.
 ghost use Rattle.std.specs.Prelude.{◌≡◌, ◌≤◌, ℕ, Bool, List, [], ◌∷◌, Option, length, take, true, IfSome, IfNone, MatchOption};
 ghost use Rattle.std.specs.Bool.{OnTrue, OnFalse};
 ghost use Rattle.vol_serve.specs.Messages.{Grows};
 
-/// What requests are taken from.
+/// A source of requests.
 pub trait Requests {
-    // the requests taken so far, the first one first, where they are known
+    // the requests taken so far, in order, if they are known
     ghost taken: { Self → Option (List (List ℕ)) };
 
-    // whether there are no more requests
+    // true if there are no more requests
     ghost has_ended: { Self → Bool };
 
-    /// Waits for a request, puts it at the front of `buffer`, and returns how many bytes it has; None if there are no more.
+    /// Waits for a request, puts it at the beginning of `buffer`, and returns its length in bytes, or `None` if there are no
+    /// more.
     fn take(&mut self, buffer: &mut [u8]) -> Option<usize>
         ensures bound { IfSome result (λ count. count ≤ length buffer.new) }
         ensures taken { MatchOption result (Grows (taken self.old) (taken self.new) [])
@@ -19,12 +20,12 @@ pub trait Requests {
         ensures ended { IfNone result (has_ended self.new ≡ true) };
 }
 
-/// What replies are sent to.
+/// A destination of replies.
 pub trait Replies {
-    // the replies sent so far, the first one first, where they are known
+    // the replies sent so far, in order, if they are known
     ghost sent: { Self → Option (List (List ℕ)) };
 
-    // whether a reply couldn't be sent
+    // true if a reply couldn't be sent
     ghost has_failed: { Self → Bool };
 
     /// Sends one whole reply; returns false if it couldn't be sent.

@@ -1,14 +1,14 @@
-//! The numbers by which a kernel names the nodes of a volume.
+//! The kernel's numbers of a volume's nodes.
 ghost use Rattle.std.specs.Prelude.{◌≡◌, Some, IfSome};
 ghost use Rattle.vol_serve.specs.NodeNumbers.{node_number, i_number};
 
 use fuse_words::ROOT;
 use vol_layout::Edition;
 
-/// The first number of the nodes that were never given out anew: that of i-number 0, if there were one.
+/// The node number that i-number 0 would have. The numbers from here on are never used for another node.
 const FIRST: u64 = 0x1_0000;
 
-/// The number of the node with i-number `i`.
+/// Returns the number of the node with i-number `i`.
 pub fn node_number(edition: Edition, i: u16) -> u64
     ensures exact { result ≡ node_number edition i }
     ensures back { i_number edition result ≡ Some i }
@@ -20,7 +20,7 @@ pub fn node_number(edition: Edition, i: u16) -> u64
     }
 }
 
-/// The i-number of the node with number `node`; None if no i-number has this one.
+/// Returns the i-number of the node with number `node`, or `None` if no i-number has this node number.
 pub fn i_number(edition: Edition, node: u64) -> Option<u16>
     ensures exact { result ≡ i_number edition node }
     ensures back { IfSome result (λ i. node_number edition i ≡ node) }

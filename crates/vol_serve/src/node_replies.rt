@@ -1,4 +1,4 @@
-//! The replies to requests that are about a node.
+//! Replies to requests for a node.
 ghost use Rattle.std.specs.Prelude.{◌≡◌, Ok, Err, MatchResult};
 ghost use Rattle.vol_layout.specs.Geometry.{Fits};
 ghost use Rattle.vol_dir.specs.Tree.{tree};
@@ -15,10 +15,10 @@ use pdp_words::Image;
 use vol_layout::{Geometry, Kind};
 use vol_nodes::{NodeFault, look_up, read, stat};
 
-/// Seconds for which the kernel may keep names and attributes: an hour. The image never changes.
+/// The number of seconds for which the kernel may keep names and attributes: an hour, as the image never changes.
 const SECONDS: u64 = 3600;
 
-/// Puts the reply to an operation on node `i` into `room`, if it isn't refused.
+/// Puts the reply to an operation on node `i` into `room`, unless the operation is refused.
 #[tactic(auto, unfolding(crate::specs::Answers::node_reply))]
 pub(crate) fn reply_of_node(
     served: &Served<'_>,
@@ -153,7 +153,7 @@ pub fn put_bytes(
         (λ refusal. read_reply (tree geometry.now image.now) unique i offset size ≡ Err refusal) }
 {
     let size = MOST_DATA.min(size as usize);
-    // There is room, so nothing is refused.
+    // There is room, so this cannot fail.
     let _ = room.content.resize(size, 0);
     let count = read(image, geometry, i, offset, &mut room.content)?;
     room.reply.put_data(unique, &room.content[..count]);

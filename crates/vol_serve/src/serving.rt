@@ -30,8 +30,8 @@ pub enum ServeFault {
     Requests,
 }
 
-/// Serves an image, for reading alone, until there are no more requests. Takes 390 KiB, and while it counts the free blocks a byte for
-/// each block of the volume and four for each free one; then no request takes any memory.
+/// Serves an image read-only until there are no more requests. Takes 390 KiB; while it counts the free blocks, also a byte for
+/// each block of the volume and four for each free one. After that no request takes any memory.
 pub fn serve<Q: Requests, P: Replies>(
     alloc: Global,
     image: &Image,
@@ -62,7 +62,7 @@ pub fn serve<Q: Requests, P: Replies>(
     )
 }
 
-/// Answers requests until there are no more.
+/// Replies to requests until there are no more.
 fn run<Q: Requests, P: Replies>(
     served: &Served<'_>,
     buffer: &mut [u8],
@@ -86,7 +86,7 @@ fn run<Q: Requests, P: Replies>(
     Err(ServeFault::Requests)
 }
 
-/// Sends the reply to a request, if it is to have one; returns false if it couldn't be sent.
+/// Sends the reply to a request, if it gets one; returns false if the reply couldn't be sent.
 fn answer_one<P: Replies>(
     served: &Served<'_>,
     request: &[u8],

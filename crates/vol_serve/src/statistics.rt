@@ -1,4 +1,4 @@
-//! The sizes of a volume, as the kernel is told.
+//! The sizes of a volume, as the kernel gets them.
 ghost use Rattle.std.specs.Prelude.{◌≡◌, IfOk};
 ghost use Rattle.vol_layout.specs.Geometry.{Fits};
 ghost use Rattle.vol_serve.specs.Statistics.{statistics_of};

@@ -1,4 +1,4 @@
-//! Requests from a reader, and replies to a writer, as /dev/fuse is: one read gives one request, and one write takes one reply.
+//! Requests from a reader and replies to a writer, such as /dev/fuse: one read gives one request, and one write takes one reply.
 ghost use Rattle.std.specs.Prelude.{◌≡◌, ◌<◌, ◌≤◌, [], ◌∷◌, length, take, true, false, None, IfOk, IfSome, IfNone, MatchBool, MatchOption, MatchResult};
 ghost use Rattle.std.specs.Bool.{OnTrue, OnFalse};
 ghost use Rattle.std.specs.Io.KnownBytes.{Keeps, Consumes, Appends};
@@ -8,7 +8,7 @@ ghost use Rattle.vol_serve.specs.Streams.{reader_in, has_reader_ended, read_faul
 use crate::messages::{Replies, Requests};
 use std::io::{self, Error, ErrorKind, Read, Write};
 
-/// The requests of a reader.
+/// Requests from a reader.
 #[derive(Debug, Drop)]
 pub struct RequestReader<R> {
     reader: R,
@@ -16,18 +16,18 @@ pub struct RequestReader<R> {
     fault: Option<Error>,
 }
 
-/// The replies of a writer.
+/// Replies to a writer.
 #[derive(Debug, Drop)]
 pub struct ReplyWriter<W> {
     writer: W,
-    // whether nobody waited for the last reply that was sent
+    // true if nobody waited for the last reply that was sent
     withdrawn: bool,
     failed: bool,
     fault: Option<Error>,
 }
 
 impl<R: Read + Drop> RequestReader<R> {
-    /// The requests that each read of `reader` gives.
+    /// Returns requests from `reader`, one for each read.
     pub fn new(reader: R) -> RequestReader<R>
         ensures reader { reader_in result ≡ reader }
         ensures fresh { has_reader_ended result ≡ false }
@@ -40,8 +40,8 @@ impl<R: Read + Drop> RequestReader<R> {
         }
     }
 
-    /// The error that ended the requests; None at the end of the reader's bytes. Of /dev/fuse it is the system's error 19
-    /// (ENODEV) once the volume is unmounted.
+    /// Returns the error that ended the requests, or `None` at the end of the reader's bytes. /dev/fuse gives the system's error
+    /// 19 (ENODEV) once the volume is unmounted.
     pub fn into_fault(self) -> Option<Error>
         ensures { result ≡ read_fault self }
     {
@@ -50,7 +50,7 @@ impl<R: Read + Drop> RequestReader<R> {
 }
 
 impl<W: Write + Drop> ReplyWriter<W> {
-    /// The replies go to `writer`, each by one write.
+    /// Sends replies to `writer`, one with each write.
     pub fn new(writer: W) -> ReplyWriter<W>
         ensures writer { writer_in result ≡ writer }
         ensures fresh { has_writer_failed result ≡ false }
@@ -64,7 +64,7 @@ impl<W: Write + Drop> ReplyWriter<W> {
         }
     }
 
-    /// The error of the write that failed, if one did.
+    /// Returns the error of the failed write, if one failed.
     pub fn into_fault(self) -> Option<Error>
         ensures { result ≡ write_fault self }
     {
@@ -73,7 +73,7 @@ impl<W: Write + Drop> ReplyWriter<W> {
 }
 
 impl<R: Read> Requests for RequestReader<R> {
-    // which bytes one read gives isn't known
+    // the bytes of one read aren't known
     ghost taken = { λ reader. None };
 
     ghost has_ended = { has_reader_ended };
@@ -102,7 +102,7 @@ impl<R: Read> Requests for RequestReader<R> {
 }
 
 impl<W: Write> Replies for ReplyWriter<W> {
-    // which bytes one write took isn't known
+    // the bytes of one write aren't known
     ghost sent = { λ writer. None };
 
     ghost has_failed = { has_writer_failed };
@@ -129,8 +129,8 @@ impl<W: Write> Replies for ReplyWriter<W> {
     }
 }
 
-/// Reads one request, and returns how many bytes it has: none at the end. A read that a signal interrupted is tried again, and so is
-/// one whose request was withdrawn meanwhile, which the system calls NotFound.
+/// Reads one request, and returns its length in bytes, 0 at the end. A read is tried again if a signal interrupted it, or if its
+/// request was withdrawn meanwhile, which the system reports as NotFound.
 fn read_request<R: Read>(reader: &mut R, buffer: &mut [u8]) -> io::Result<usize>
     ensures bound { IfOk result (λ count. count ≤ length buffer.new) }
     ensures bytes { MatchResult result (λ count. Consumes (R.remaining reader.old) (R.remaining reader.new) (take count buffer.new))
@@ -146,8 +146,9 @@ fn read_request<R: Read>(reader: &mut R, buffer: &mut [u8]) -> io::Result<usize>
     Err(Error::from(ErrorKind::TimedOut))
 }
 
-/// Writes one reply by one write. A write that a signal interrupted is tried again. One whose request was withdrawn meanwhile, which
-/// the system calls NotFound, counts as done, as nobody waits for it: then the result is true. One that takes only a part is an error.
+/// Writes one reply with one write. A write that a signal interrupted is tried again. If the request was withdrawn meanwhile,
+/// which the system reports as NotFound, the write counts as done, as nobody waits for it, and the result is true. A write that
+/// takes only a part is an error.
 fn write_reply<W: Write>(writer: &mut W, reply: &[u8]) -> io::Result<bool>
     ensures { IfOk result (λ withdrawn. MatchBool withdrawn (Keeps (W.contents writer.old) (W.contents writer.new))
         (Appends (W.contents writer.old) (W.contents writer.new) reply.now)) }
@@ -164,7 +165,7 @@ fn write_reply<W: Write>(writer: &mut W, reply: &[u8]) -> io::Result<bool>
     Err(Error::from(ErrorKind::TimedOut))
 }
 
-/// Returns true if a read that failed so isn't tried again.
+/// True if a read that failed with this error isn't tried again.
 fn is_final(fault: &Error) -> bool {
     !matches!(fault.kind(), ErrorKind::Interrupted | ErrorKind::NotFound)
 }

@@ -1,4 +1,4 @@
--- Calls that are asked one after another.
+-- Calls that are checked one after another.
 use Rattle.std.proofs.Common.{◌≡◌, ◌∙◌, sym, ap, ℕ, ◌+◌, ◌<◌, List, length, drop, get_or}
 use Rattle.std.proofs.lemmas.List.{drop_more}
 use Rattle.vol_dir.specs.Tree.{State}
@@ -6,7 +6,7 @@ use Rattle.vol_volume.specs.Verdict.{verdict}
 use Rattle.vol_volume.specs.declared.calls.Call.{Call}
 use Rattle.vol_mounted.specs.Plans.{first_refused, or_refused}
 
--- the calls from one on are asked by that one, and then by those after it
+-- to check the calls from one on is to check that one, and then those after it
 pub next_asked : (state : State) (tests : List Call) (i : ℕ) (call : Call) → i < length tests → call ≡ get_or tests i call
     → first_refused state (drop i tests) ≡ or_refused (verdict state call) (first_refused state (drop (i + 1) tests))
 next_asked state tests i call within is =

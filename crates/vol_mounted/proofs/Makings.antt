@@ -7,7 +7,7 @@ use Rattle.vol_mounted.specs.Refusals.{no_memory}
 use Rattle.vol_mounted.specs.Servers.{IsStopped, Made, Unmade}
 use Rattle.vol_mounted.specs.declared.refusal.MountedRefusal.{MountedRefusal}
 
--- all calls were made, and what is kept in mind changed nothing of the volume
+-- all calls were made, and updating the known nodes didn't change the volume
 pub made_of : (old mid new : Mounted) (planned : Result (List Call) MountedRefusal) (calls : List Call) → planned ≡ Ok calls
     → AreMade old calls mid → new ≡ mid → Made old planned new
 made_of old mid new planned calls is made same = (calls, is, subst (λ volume. AreMade old calls volume) (sym same) made)

@@ -1,4 +1,4 @@
--- The numbers by which a kernel names the nodes of a volume that changes.
+-- The kernel's numbers of the nodes of a volume that changes.
 use Rattle.std.specs.Prelude.{ℕ, ◌+◌, ◌-◌, ◌*◌, ◌^◌, min, ◌%◌, ◌==◌, if◌then◌else◌, List, slice_get, slice_set, Option, None, Some}
 use Rattle.std.specs.Option.{option_map_or}
 use Rattle.vol_layout.specs.Edition.{constants}
@@ -6,12 +6,12 @@ use Rattle.vol_layout.specs.Slot.{padded_name}
 use Rattle.vol_layout.specs.declared.edition.Edition.{Edition}
 use Rattle.vol_mounted.specs.declared.known.KnownNode.{KnownNode}
 
--- how often an i-number was given out, as far as this server knows (this project)
+-- the number of times that an i-number was allocated, as far as this server knows (this project)
 abbrev pub birth_at : List KnownNode → ℕ → ℕ
 birth_at nodes i = option_map_or (λ (known : KnownNode). known.birth) (slice_get nodes i) 0
 
--- the number of the node with i-number i: 1 for the root, as the kernel has it; else the i-number, below 2^16, and above it how often it was given out, so that no number
--- that the kernel has leads to a node that was made later (FUSE_ROOT_ID; the rest is this project's)
+-- the number of the node with i-number i: 1 for the root; else the i-number in the low 16 bits, and above them the number of times that it was allocated, so that no number
+-- in the kernel leads to a node that was made later (FUSE_ROOT_ID; the rest is this project's)
 abbrev pub node_number : Edition → List KnownNode → ℕ → ℕ
 node_number edition nodes i = if i == (constants edition).root then 1 else 65536 * birth_at nodes i + i
 
@@ -22,23 +22,23 @@ i_number edition nodes node =
     else if node_number edition nodes (node % 65536) == node then Some (node % 65536)
     else None
 
--- what is kept of the i-numbers, after that of i-number i changed (this project)
+-- the records of the i-numbers, after that of i-number i changed (this project)
 abbrev pub with_known : List KnownNode → ℕ → (KnownNode → KnownNode) → List KnownNode
 with_known nodes i change = option_map_or (λ (known : KnownNode). slice_set nodes i (change known)) (slice_get nodes i) nodes
 
--- i-number i was met by a name in a directory (this project)
+-- the records after i-number i was found by a name in a directory (this project)
 abbrev pub met : List KnownNode → ℕ → ℕ → List ℕ → List KnownNode
 met nodes i directory name = with_known nodes i (λ known.
     record known { directory = directory; slot = record { inode = i; name = padded_name name } })
 
--- an i-number was given out anew, as a node that isn't open (this project)
+-- the record of an i-number that was allocated again, for a node that isn't open (this project)
 abbrev pub born : KnownNode → KnownNode
 born known = record known { birth = min (2 ^ 32 - 1) (known.birth + 1); opened = 0 }
 
--- a file was opened once more (open)
+-- the record after a file was opened once more (open)
 abbrev pub opened : KnownNode → KnownNode
 opened known = record known { opened = min (2 ^ 32 - 1) (known.opened + 1) }
 
--- a file was closed once (close)
+-- the record after a file was closed once (close)
 abbrev pub closed : KnownNode → KnownNode
 closed known = record known { opened = known.opened - 1 }

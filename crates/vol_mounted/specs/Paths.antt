@@ -1,4 +1,4 @@
--- The paths of nodes, by the names that they were last met by.
+-- The paths of nodes, by their last known names.
 use Rattle.std.specs.Prelude.{ℕ, zero, suc, ◌==◌, Bool, false, nat_lt, if◌then◌else◌, List, [], ◌∷◌, ◌++◌, length, slice_get, Option, None, Some, Result, Ok, Err}
 use Rattle.std.specs.Option.{ok_or}
 use Rattle.vol_archive.specs.Walking.{is_plain}
@@ -16,24 +16,24 @@ use Rattle.vol_mounted.specs.declared.refusal.MountedRefusal.{MountedRefusal}
 use Rattle.vol_mounted.specs.declared.refusal.MountedRefusal.TheVariants.{Request}
 use Rattle.vol_mounted.specs.declared.known.KnownNode.{KnownNode}
 
--- the directory and the name that a node was last met by, if it was met (this project)
+-- the directory and the name by which a node was last found, if any (this project)
 abbrev pub place_of : Option KnownNode → Option (ℕ × List ℕ)
 place_of None = None
 place_of (Some known) = if known.slot.inode == 0 then None else Some (known.directory, name_of known.slot.name)
 
--- what comes of a directory and a name, if they are known (this project)
+-- the result of a function of a directory and a name, if they are known (this project)
 abbrev pub at_place : {X : Type 0} → Option (ℕ × List ℕ) → (ℕ → List ℕ → Option X) → Option X
 at_place None next = None
 at_place (Some place) next = next place.0 place.1
 
--- the path from the root to node i, and `rest` after it, by going up at most so many directories (this project)
+-- the path from the root to node i, followed by `rest`, found by walking up a limited number of directories (this project)
 unfoldable pub climb : List KnownNode → ℕ → ℕ → ℕ → List ℕ → Option (List ℕ)
 climb nodes root zero i rest = None
 climb nodes root (suc steps) i rest =
     if i == root then Some rest
     else at_place (place_of (slice_get nodes i)) (λ directory name. climb nodes root steps directory (47 ∷ (name ++ rest)))
 
--- whether a walk leads to node i (Lions on namei)
+-- true if a walk leads to node i (Lions on namei)
 abbrev pub leads_to : Result ℕ Refusal → ℕ → Bool
 leads_to (Ok found) i = found == i
 leads_to (Err refusal) i = false
@@ -43,12 +43,12 @@ abbrev pub if_leading : Geometry → List ℕ → ℕ → Option (List ℕ) → 
 if_leading geometry image i None = None
 if_leading geometry image i (Some path) = if leads_to (walk (tree geometry image) user path) i then Some path else None
 
--- the path of node i by the names that were last met, if they lead there (this project)
+-- the path of node i by the last known names, if they lead there (this project)
 abbrev pub path_in : Geometry → List ℕ → List KnownNode → ℕ → Option (List ℕ)
 path_in geometry image nodes i =
     if_leading geometry image i (climb nodes (constants geometry.edition).root (length nodes) i [])
 
--- the path of node i, or that the kernel has to look it up again (errno.h: ESTALE)
+-- the path of node i, or Stale: the kernel has to look it up again (errno.h: ESTALE)
 abbrev pub path_to : Geometry → List ℕ → List KnownNode → ℕ → Result (List ℕ) MountedRefusal
 path_to geometry image nodes i = ok_or (path_in geometry image nodes i) (no_node faults.Stale)
 

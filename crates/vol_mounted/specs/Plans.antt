@@ -28,7 +28,7 @@ use Rattle.vol_mounted.specs.declared.owner.Owner.{Owner}
 use Rattle.vol_mounted.specs.declared.refusal.MountedRefusal.{MountedRefusal}
 use Rattle.vol_mounted.specs.declared.refusal.MountedRefusal.TheVariants as mounted
 
--- what plans are made of: the volume's geometry and image, what is kept of the i-numbers, the user that all nodes are shown as, if so, and the moment (this project)
+-- the input of a plan: the volume's geometry and image, the records of the i-numbers, the user that all nodes are shown as, if any, and the moment (this project)
 pub record Sight : Type 0 where
   pub geometry : Geometry
   pub image : List ℕ
@@ -48,12 +48,12 @@ name_at sight d name = path_of_name sight.geometry sight.image sight.nodes d nam
 abbrev pub cred_of : Edition → ℕ → ℕ → Result Cred MountedRefusal
 cred_of edition uid gid = if is_bad_id edition uid gid then Err (mounted.Call refusals.BadId) else Ok (record { uid = uid; gid = gid })
 
--- whom a new node belongs to: user 0 if all nodes are shown as one user's, else the caller (this project)
+-- the owner of a new node: user 0 if all nodes are shown as one user's, else the caller (this project)
 abbrev pub owner_of : Edition → Option Owner → Header → Result Cred MountedRefusal
 owner_of edition (Some owner) header = Ok user
 owner_of edition None header = cred_of edition header.uid header.gid
 
--- a new node is given to its owner; user 0 has it already (this project)
+-- the call that gives a new node to its owner; none for user 0 of group 0, who has it already (this project)
 abbrev pub given_to : Cred → ℕ → List ℕ → List Call
 given_to owner now path =
     if owner.uid == 0 && owner.gid == 0 then []
@@ -65,7 +65,7 @@ directory_calls sight header d name mode =
     and_then (owner_of sight.geometry.edition sight.owner header) (λ owner.
     and_then (name_at sight d name) (λ path. Ok (calls.Mkdir user sight.now path (mode % 4096) ∷ given_to owner sight.now path)))
 
--- whether the type bits of a mode are a regular file's, or none (Linux, stat.h: S_IFREG)
+-- true if the type bits of a mode are a regular file's, or none (Linux, stat.h: S_IFREG)
 abbrev pub is_regular : ℕ → Bool
 is_regular mode = (mode / 4096 % 16 == 8) || (mode / 4096 % 16 == 0)
 
@@ -91,7 +91,7 @@ link_calls sight i d name =
     and_then (path_at sight i) (λ source.
     and_then (name_at sight d name) (λ target. Ok (calls.Link user sight.now source target ∷ [])))
 
--- a number of 32 bits, or that the file would be too great (errno.h: EFBIG)
+-- a number of 32 bits, or TooBig (errno.h: EFBIG)
 abbrev pub short_number : ℕ → Result ℕ MountedRefusal
 short_number n = if nat_lt n (2 ^ 32) then Ok n else Err (mounted.Call refusals.TooBig)
 
@@ -106,7 +106,7 @@ abbrev pub or_refused : Option Refusal → Option Refusal → Option Refusal
 or_refused (Some refusal) other = Some refusal
 or_refused None other = other
 
--- the first refusal of some calls, each as the volume stands (this project)
+-- the first refusal of some calls, each on the unchanged volume (this project)
 abbrev pub first_refused : State → List Call → Option Refusal
 first_refused state [] = None
 first_refused state (call ∷ calls) = or_refused (verdict state call) (first_refused state calls)
@@ -116,25 +116,25 @@ abbrev pub unless_refused : Option Refusal → List Call → Result (List Call) 
 unless_refused (Some refusal) calls = Err (mounted.Call refusal)
 unless_refused None calls = Ok calls
 
--- calls, of which some were asked as the volume stands; the first that would be refused is the answer (this project)
+-- calls, unless a check of some on the unchanged volume finds a refusal; then the first one (this project)
 abbrev pub asked : Sight → List Call → List Call → Result (List Call) MountedRefusal
 asked sight tests calls = unless_refused (first_refused (state sight.geometry sight.image) tests) calls
 
--- what node i is (stat)
+-- the Stat of node i (stat)
 abbrev pub stat_at : Sight → ℕ → Result Stat MountedRefusal
 stat_at sight i = of_nodes (ok_or (stat_in (tree sight.geometry sight.image) i) faults.Stale)
 
--- whether a kind is a directory's (manual section 5, file system)
+-- true if a kind is a directory's (manual section 5, file system)
 abbrev pub is_directory : Kind → Bool
 is_directory kinds.Directory = true
 is_directory kind = false
 
--- the calls of a rename to a name that isn't there: both are asked first (rename)
+-- the calls of a rename to a name that doesn't exist: both are checked first (rename)
 abbrev pub move_calls : Sight → List ℕ → List ℕ → Result (List Call) MountedRefusal
 move_calls sight source target =
     let moves = calls.Link user sight.now source target ∷ calls.Unlink user sight.now source ∷ [] in asked sight moves moves
 
--- the calls of a rename to the name of another node: what it has is asked first, and whether the file may have one more name for the time being; the slot of the name is there then (rename)
+-- the calls of a rename to the name of another node; both removals are checked first, and that the file may have one more name for a moment; its slot is free then (rename)
 abbrev pub replace_calls : Sight → Stat → Stat → List ℕ → List ℕ → Result (List Call) MountedRefusal
 replace_calls sight stat there source target =
     if is_directory there.kind then Err (mounted.Call refusals.IsDirectory)
@@ -142,25 +142,25 @@ replace_calls sight stat there source target =
     else asked sight (calls.Unlink user sight.now target ∷ calls.Unlink user sight.now source ∷ [])
     (calls.Unlink user sight.now target ∷ calls.Link user sight.now source target ∷ calls.Unlink user sight.now source ∷ [])
 
--- the calls of a rename to a name that has a node, if it may be replaced: two names of one node stay (rename)
+-- the calls of a rename to an existing name, if it may be replaced; two names of one node stay (rename)
 abbrev pub over_calls : Sight → ℕ → Stat → ℕ → List ℕ → List ℕ → Result (List Call) MountedRefusal
 over_calls sight flags stat j source target =
     if flags == 1 then Err (mounted.Call refusals.Exists)
     else if j == stat.number then Ok []
     else and_then (stat_at sight j) (λ there. replace_calls sight stat there source target)
 
--- the calls of a rename of a node, by what its new name leads to (rename)
+-- the calls of a rename of a node, by the node that its new name leads to, if any (rename)
 abbrev pub named_calls : Sight → ℕ → Stat → List ℕ → List ℕ → Result ℕ NodeFault → Result (List Call) MountedRefusal
 named_calls sight flags stat source target (Ok j) = over_calls sight flags stat j source target
 named_calls sight flags stat source target (Err faults.NoEntry) = move_calls sight source target
 named_calls sight flags stat source target (Err fault) = Err (no_node fault)
 
--- the calls of a rename of a node, which isn't a directory (rename)
+-- the calls of a rename of a node other than a directory (rename)
 abbrev pub node_calls : Sight → ℕ → Stat → List ℕ → List ℕ → Result ℕ NodeFault → Result (List Call) MountedRefusal
 node_calls sight flags stat source target there =
     if is_directory stat.kind then Err mounted.IsDirectory else named_calls sight flags stat source target there
 
--- the calls of RENAME and RENAME2: of a name in directory d to another in directory e. The only flag that is served wants a name that isn't there (rename; renameat2: RENAME_NOREPLACE)
+-- the calls of RENAME and RENAME2, of a name in directory d to one in directory e. The only flag served requires a new name that doesn't exist (rename; renameat2: RENAME_NOREPLACE)
 abbrev pub rename_calls : Sight → ℕ → ℕ → List ℕ → ℕ → List ℕ → Result (List Call) MountedRefusal
 rename_calls sight flags d name e new_name =
     if nat_lt 1 flags then Err mounted.Flags
@@ -170,19 +170,19 @@ rename_calls sight flags d name e new_name =
     and_then (stat_at sight i) (λ stat.
     node_calls sight flags stat source target (look_up (tree sight.geometry sight.image) e new_name)))))
 
--- the call that gives a file another size: it is cut, or gets a zero at its end (truncate)
+-- the call that changes a file's size: it is cut, or gets a zero at its end (truncate)
 abbrev pub size_call : ℕ → Stat → List ℕ → Option ℕ → Result (Option Call) MountedRefusal
 size_call now stat path None = Ok None
 size_call now stat path (Some size) =
     and_then (short_number size) (λ size.
     Ok (Some (if nat_le size stat.size then calls.Truncate user now path size else calls.Write user now path (size - 1) (0 ∷ []))))
 
--- the call that gives a node other permissions (chmod)
+-- the call that changes a node's permissions (chmod)
 abbrev pub mode_call : ℕ → List ℕ → Option ℕ → Option Call
 mode_call now path None = None
 mode_call now path (Some mode) = Some (calls.Chmod user now path (mode % 4096))
 
--- the call that gives a node to a user and a group; if all nodes are shown as one user's, it is his (chown)
+-- the call that changes a node's user and group; if all nodes are shown as one user's, it stays that user's (chown)
 abbrev pub given_call : Sight → Stat → List ℕ → Option ℕ → Option ℕ → Option Owner → Result (Option Call) MountedRefusal
 given_call sight stat path uid gid None =
     and_then (cred_of sight.geometry.edition (unwrap_or uid stat.uid) (unwrap_or gid stat.gid)) (λ cred.
@@ -190,12 +190,12 @@ given_call sight stat path uid gid None =
 given_call sight stat path uid gid (Some owner) =
     if (unwrap_or uid owner.uid == owner.uid) && (unwrap_or gid owner.gid == owner.gid) then Ok None else Err mounted.NotPermitted
 
--- the call that gives a node to a user and a group, if one is given (chown)
+-- the call that changes a node's user and group, if one is given (chown)
 abbrev pub owner_call : Sight → Stat → List ℕ → Option ℕ → Option ℕ → Result (Option Call) MountedRefusal
 owner_call sight stat path uid gid =
     if is_none uid && is_none gid then Ok None else given_call sight stat path uid gid sight.owner
 
--- the calls of SETATTR of node i, all of which are asked first (fuse_setattr_in)
+-- the calls of SETATTR of node i, all of which are checked first (fuse_setattr_in)
 abbrev pub attribute_calls : Sight → ℕ → AttributeChanges → Result (List Call) MountedRefusal
 attribute_calls sight i changes =
     and_then (path_at sight i) (λ path.

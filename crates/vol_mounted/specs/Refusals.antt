@@ -1,4 +1,4 @@
--- Why requests are refused, and what comes after an answer.
+-- Refusals of requests, and results that depend on others.
 use Rattle.std.specs.Prelude.{◌≡◌, ◌≢◌, ℕ, List, Result, Ok, Err}
 use Rattle.vol_dir.specs.declared.refusal.Refusal.{Refusal}
 use Rattle.vol_dir.specs.declared.refusal.Refusal.TheVariants as refusals
@@ -8,7 +8,7 @@ use Rattle.vol_serve.specs.declared.errno.RequestRefusal.TheVariants as requests
 use Rattle.vol_mounted.specs.declared.refusal.MountedRefusal.{MountedRefusal}
 use Rattle.vol_mounted.specs.declared.refusal.MountedRefusal.TheVariants.{Request, Call}
 
--- the nodes have no answer (this project)
+-- the refusal for a fault of the nodes (this project)
 abbrev pub no_node : NodeFault → MountedRefusal
 no_node fault = Request (requests.Node fault)
 
@@ -16,22 +16,22 @@ no_node fault = Request (requests.Node fault)
 abbrev pub no_memory : MountedRefusal
 no_memory = Call refusals.NoMemory
 
--- what comes after an Ok; a refusal ends it (this project)
+-- a next step after an Ok; a refusal is passed on (this project)
 abbrev pub and_then : {X Y : Type 0} → Result X MountedRefusal → (X → Result Y MountedRefusal) → Result Y MountedRefusal
 and_then (Ok x) next = next x
 and_then (Err refusal) next = Err refusal
 
--- an answer of the nodes (this project)
+-- a result of the nodes (this project)
 abbrev pub of_nodes : {X : Type 0} → Result X NodeFault → Result X MountedRefusal
 of_nodes (Ok x) = Ok x
 of_nodes (Err fault) = Err (no_node fault)
 
--- a result is the one that is wanted, or memory ran out (this project)
+-- a result is the expected one, or memory ran out (this project)
 abbrev pub Gives : {X : Type 0} → Result X MountedRefusal → Result X MountedRefusal → Type 0
 Gives wanted (Ok x) = wanted ≡ Ok x
 Gives wanted (Err refusal) = refusal ≢ no_memory → wanted ≡ Err refusal
 
--- a reply is the one that is wanted, or there is none for the reason that is wanted, or since memory ran out (this project)
+-- a reply is the expected one, or there is none for the expected reason, or memory ran out (this project)
 abbrev pub Puts : {X : Type 0} → Result (List ℕ) MountedRefusal → Result X MountedRefusal → List ℕ → Type 0
 Puts wanted (Ok done) reply = wanted ≡ Ok reply
 Puts wanted (Err refusal) reply = refusal ≢ no_memory → wanted ≡ Err refusal

@@ -1,4 +1,4 @@
--- What requests are answered, as the tree stands after their calls.
+-- The replies to requests, on the tree after their calls.
 use Rattle.std.specs.Prelude.{ℕ, ◌-◌, ◌^◌, ◌==◌, nat_lt, bit_and, if◌then◌else◌, List, [], ◌∷◌, length, Option, None, Some, Result, Ok, Err}
 use Rattle.std.specs.Option.{ok_or}
 use Rattle.fuse_words.specs.Replies.{status_message, init_message, entry_message, attributes_message, open_message, written_message, statfs_message}
@@ -26,11 +26,11 @@ use Rattle.vol_mounted.specs.declared.owner.Owner.{Owner}
 use Rattle.vol_mounted.specs.declared.refusal.MountedRefusal.{MountedRefusal}
 use Rattle.vol_mounted.specs.declared.refusal.MountedRefusal.TheVariants as mounted
 
--- the i-number of the node that a request is about (this project)
+-- the i-number of the node that a request names (this project)
 abbrev pub number_at : Sight → ℕ → Result ℕ MountedRefusal
 number_at sight node = ok_or (i_number sight.geometry.edition sight.nodes node) (no_node faults.Stale)
 
--- the calls of a rename of a name in one directory to a name in another, both by their numbers (rename)
+-- the calls of a rename from one directory to another, both given by their node numbers (rename)
 abbrev pub renamed : Sight → Header → ℕ → ℕ → List ℕ → List ℕ → Result (List Call) MountedRefusal
 renamed sight header directory flags name new_name =
     and_then (number_at sight header.node) (λ d.
@@ -50,7 +50,7 @@ calls_of sight header (operations.Write handle offset bytes) = and_then (number_
 calls_of sight header (operations.SetAttr changes) = and_then (number_at sight header.node) (λ i. attribute_calls sight i changes)
 calls_of sight header operation = Ok []
 
--- attributes as they are shown: if all nodes are shown as one user's, with his numbers (this project)
+-- attributes as they are shown: if all nodes are shown as one user's, with that user's numbers (this project)
 abbrev pub shown : Option Owner → Attributes → Attributes
 shown None attributes = attributes
 shown (Some owner) attributes = record attributes { uid = owner.uid; gid = owner.gid }
@@ -79,7 +79,7 @@ entry_reply sight unique d name =
 abbrev pub attributes_reply : Sight → ℕ → ℕ → Result (List ℕ) MountedRefusal
 attributes_reply sight unique i = and_then (shown_at sight i) (λ attributes. Ok (attributes_message unique 3600 attributes))
 
--- an answer of a volume that is served for reading alone (this project)
+-- a result of a volume served read-only (this project)
 abbrev pub of_request : {X : Type 0} → Result X RequestRefusal → Result X MountedRefusal
 of_request (Ok x) = Ok x
 of_request (Err refusal) = Err (mounted.Request refusal)
@@ -94,7 +94,7 @@ abbrev pub open_directory_by : Kind → ℕ → Result (List ℕ) MountedRefusal
 open_directory_by kinds.Directory unique = Ok (open_message unique 0 10)
 open_directory_by kind unique = Err (no_node faults.NotDirectory)
 
--- what the server can do, by what the kernel that asks can: reading ahead, 128 KiB at once, also in a write, times of whole seconds (fuse_init_out; FUSE_ASYNC_READ, FUSE_BIG_WRITES)
+-- the server's settings, limited to the kernel's: reading ahead, 128 KiB at once, also in a write, times of whole seconds (fuse_init_out; FUSE_ASYNC_READ, FUSE_BIG_WRITES)
 abbrev pub settings_of : ℕ → ℕ → Settings
 settings_of max_readahead flags = record {
   max_readahead = max_readahead;
@@ -106,20 +106,20 @@ settings_of max_readahead flags = record {
   max_pages = 0;
 }
 
--- the reply to INIT: a kernel below version 7 is refused, and one above asks again (fuse.h)
+-- the reply to INIT: a kernel below version 7 is refused, and one above sends INIT again (fuse.h)
 abbrev pub init_reply : ℕ → ℕ → ℕ → ℕ → Result (List ℕ) MountedRefusal
 init_reply unique major max_readahead flags =
     if nat_lt major 7 then Err (mounted.Request requests.Version) else Ok (init_message unique (settings_of max_readahead flags))
 
--- why an operation is refused that isn't served: a symbolic link can't be made (fuse_opcode: SYMLINK)
+-- the refusal of an operation that isn't served: a symbolic link can't be made (fuse_opcode: SYMLINK)
 abbrev pub refusal_of : ℕ → MountedRefusal
 refusal_of opcode = if opcode == 6 then mounted.NotPermitted else mounted.Request requests.Unserved
 
--- the number of some bytes, as a reply says it; no request brings 2^32 bytes (fuse_write_out)
+-- the number of some bytes, as a reply has it; no request has 2^32 bytes (fuse_write_out)
 abbrev pub count_of : List ℕ → ℕ
 count_of bytes = if nat_lt (length bytes) (2 ^ 32) then length bytes else 2 ^ 32 - 1
 
--- the reply to an operation on node i, as the tree stands (fuse_opcode)
+-- the reply to an operation on node i of the present tree (fuse_opcode)
 unfoldable pub node_reply : Sight → ℕ → ℕ → Operation → Result (List ℕ) MountedRefusal
 node_reply sight unique i (operations.Lookup name) = entry_reply sight unique i name
 node_reply sight unique i (operations.MkNod mode device name) = entry_reply sight unique i name
@@ -138,7 +138,7 @@ node_reply sight unique i (operations.Rename directory name new_name) = Ok (stat
 node_reply sight unique i (operations.Rename2 directory flags name new_name) = Ok (status_message unique 0)
 node_reply sight unique i operation = Err (mounted.Request requests.Unserved)
 
--- the reply to an operation, once its calls were made; FLUSH among others isn't served (fuse_opcode)
+-- the reply to an operation, after its calls; FLUSH among others isn't served (fuse_opcode)
 unfoldable pub reply_of : Sight → Header → Operation → Result (List ℕ) MountedRefusal
 reply_of sight header (operations.Init major minor max_readahead flags) = init_reply header.unique major max_readahead flags
 reply_of sight header operations.StatFs = Ok (statfs_message header.unique (statistics_of sight.geometry sight.image))

@@ -2,7 +2,7 @@
 use Rattle.vol_mounted.specs.Plans.{Sight}
 use Rattle.vol_mounted.specs.declared.scene.Scene.{Scene}
 
--- what a scene shows (this project)
+-- the sight of a scene (this project)
 abbrev pub sight_of : Scene → Sight
 sight_of scene = record {
   geometry = scene.geometry.now;

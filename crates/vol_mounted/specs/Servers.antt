@@ -16,11 +16,11 @@ use Rattle.vol_mounted.specs.declared.server.MountedServer.{MountedServer}
 abbrev pub volume_in : MountedServer → Mounted
 volume_in server = server.volume
 
--- the user that all nodes are shown as, if so (this project)
+-- the user that all nodes are shown as, if any (this project)
 abbrev pub owner_in : MountedServer → Option Owner
 owner_in server = server.owner
 
--- what plans are made of at a moment (this project)
+-- the sight of a server at a moment (this project)
 abbrev pub sight_at : MountedServer → ℕ → Sight
 sight_at server now = record {
   geometry = geometry_of server.volume.edition server.volume.image;
@@ -30,7 +30,7 @@ sight_at server now = record {
   now = now;
 }
 
--- the first of some calls were accepted, and then one was refused so (this project)
+-- the first of some calls were accepted, and the next one got this refusal (this project)
 abbrev pub IsStopped : Mounted → List Call → Mounted → MountedRefusal → Type 0
 IsStopped old calls new refusal =
     (why : Refusal) × (stopped : Call) × (refusal ≡ mounted.Call why) × AreStopped old calls new why stopped
@@ -39,7 +39,7 @@ IsStopped old calls new refusal =
 abbrev pub Made : Mounted → Result (List Call) MountedRefusal → Mounted → Type 0
 Made old planned new = (calls : List Call) × (planned ≡ Ok calls) × AreMade old calls new
 
--- a volume as it was, since nothing was planned for this reason or memory ran out; or one that refused one of the calls so, after those before it were made (this project)
+-- the volume is unchanged, since the plan failed for this reason or memory ran out; or some calls were made, and the next one got this refusal (this project)
 abbrev pub Unmade : Mounted → Result (List Call) MountedRefusal → Mounted → MountedRefusal → Type 0
 Unmade old planned new refusal =
     ((new ≡ old) × (refusal ≢ no_memory → planned ≡ Err refusal))

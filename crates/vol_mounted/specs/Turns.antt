@@ -1,4 +1,4 @@
--- What requests bring about.
+-- The effects of requests.
 use Rattle.std.specs.Prelude.{◌≡◌, ◌≢◌, ◌⊎◌, ℕ, ◌==◌, Bool, true, false, if◌then◌else◌, List, [], ◌∷◌, Option, None, Some, Result, Ok, Err, MatchBool}
 use Rattle.std.specs.List.{list_any}
 use Rattle.fuse_words.specs.Replies.{status_message}
@@ -20,12 +20,12 @@ use Rattle.vol_mounted.specs.declared.refusal.MountedRefusal.{MountedRefusal}
 use Rattle.vol_mounted.specs.declared.refusal.MountedRefusal.TheVariants as mounted
 use Rattle.vol_mounted.specs.declared.server.MountedServer.{MountedServer}
 
--- what a function put into a reply, or why it put nothing (this project)
+-- the reply that a function put, or its refusal (this project)
 abbrev pub put_by : {X : Type 0} → Result X MountedRefusal → List ℕ → Result (List ℕ) MountedRefusal
 put_by (Ok done) reply = Ok reply
 put_by (Err refusal) reply = Err refusal
 
--- an operation was answered: its calls were made, and the reply is of the tree as it stands then; or it was refused, since its calls weren't made, or since the tree has no answer then or memory ran out for it (this project)
+-- an operation was answered: its calls were made, and the reply shows the tree after them; or it was refused: its calls weren't made, or that tree has no reply, or memory ran out for it (this project)
 abbrev pub IsAnswered : MountedServer → MountedServer → ℕ → Header → Operation → Result (List ℕ) MountedRefusal → Type 0
 IsAnswered old new now header operation (Ok reply) =
     Made old.volume (calls_of (sight_at old now) header operation) new.volume × (reply_of (sight_at new now) header operation ≡ Ok reply)
@@ -34,7 +34,7 @@ IsAnswered old new now header operation (Err refusal) =
     ⊎ (Made old.volume (calls_of (sight_at old now) header operation) new.volume
     × (refusal ≢ no_memory → reply_of (sight_at new now) header operation ≡ Err refusal))
 
--- whether a number is that of a file without a name that is still open (this project)
+-- true if a number is that of a file without a name that is still open (this project)
 abbrev pub is_orphan : MountedServer → ℕ → Bool
 is_orphan server node = list_any (λ (file : Orphan). file.node == node) server.orphans.files.items
 
@@ -43,26 +43,26 @@ abbrev pub IsServed : MountedServer → MountedServer → ℕ → Header → Ope
 IsServed old new now header operation outcome =
     MatchBool (is_orphan old header.node) (new.volume ≡ old.volume) (IsAnswered old new now header operation outcome)
 
--- the image was saved, or it wasn't changed since it was saved last; or it couldn't be saved (this project)
+-- the image was saved, or wasn't changed since it was last saved; or it couldn't be saved (this project)
 abbrev pub IsSaved : MountedServer → MountedServer → List (List ℕ) → Bool → Type 0
 IsSaved old new images true =
     ((old.is_changed ≡ false) × (new ≡ old) × (images ≡ []))
     ⊎ ((new ≡ record old { is_changed = false }) × (images ≡ old.volume.image ∷ []))
 IsSaved old new images false = (new ≡ old) × (images ≡ [])
 
--- whether an operation asks for the image to be saved (fuse_opcode)
+-- true if an operation requests saving the image (fuse_opcode)
 abbrev pub is_sync : Operation → Bool
 is_sync (operations.Fsync handle) = true
 is_sync (operations.FsyncDir handle) = true
 is_sync operation = false
 
--- the image is saved first, and then the operation is answered; if it can't be saved, that is the answer (errno.h: EIO)
+-- the image is saved first, and then the operation is answered; if saving fails, the operation is refused (errno.h: EIO)
 abbrev pub IsSynced : MountedServer → MountedServer → ℕ → Header → Operation → Result (List ℕ) MountedRefusal → List (List ℕ) → Type 0
 IsSynced old new now header operation outcome images =
     ((between : MountedServer) × IsSaved old between images true × IsServed between new now header operation outcome)
     ⊎ (IsSaved old new images false × (outcome ≡ Err mounted.Unsaved))
 
--- an operation is answered; FSYNC and FSYNCDIR save the image before, and no other saves any (this project)
+-- an operation is answered; FSYNC and FSYNCDIR save the image first, and no other saves one (this project)
 abbrev pub HasOutcome : MountedServer → MountedServer → ℕ → Header → Operation → Result (List ℕ) MountedRefusal → List (List ℕ) → Type 0
 HasOutcome old new now header operation outcome images =
     MatchBool (is_sync operation) (IsSynced old new now header operation outcome images)
@@ -73,7 +73,7 @@ abbrev pub message_of : ℕ → Result (List ℕ) MountedRefusal → List ℕ
 message_of unique (Ok reply) = reply
 message_of unique (Err refusal) = status_message unique (errno refusal)
 
--- the reply to a request that isn't one, if the kernel waits for one (errno.h: EIO)
+-- the reply to a malformed request, if the kernel waits for one (errno.h: EIO)
 abbrev pub malformed_reply : Header → Option (List ℕ)
 malformed_reply header =
     if wants_reply header.opcode then Some (status_message header.unique (errno (mounted.Request requests.Malformed))) else None
@@ -82,7 +82,7 @@ malformed_reply header =
 abbrev pub Stays : MountedServer → MountedServer → List (List ℕ) → Type 0
 Stays old new images = (new ≡ old) × (images ≡ [])
 
--- what a request brings about: the reply, if the kernel waits for one, and the images that are saved (this project)
+-- the effect of a request: the reply, if the kernel waits for one, and the images that are saved (this project)
 unfoldable pub Answers : MountedServer → MountedServer → ℕ → Result Request RequestFault → Option (List ℕ) → List (List ℕ) → Type 0
 Answers old new now (Ok request) reply images =
     MatchBool (wants_reply request.header.opcode)
@@ -104,13 +104,13 @@ pub record Turn : Type 0 where
   pub reply : Option (List ℕ)
   pub images : List (List ℕ)
 
--- what a turn brings about; afterwards the journal may be cut (this project)
+-- the effect of a turn; afterwards the journal may be cut (this project)
 pub record Turns (old new : MountedServer) (turn : Turn) : Type 0 where
   pub answered : MountedServer
   pub answers : Answers old answered turn.now (request_of turn.request) turn.reply turn.images
   pub cut : IsCutOrNot answered.volume new.volume
 
--- what some turns bring about, one after another (this project)
+-- the effect of some turns, one after another (this project)
 unfoldable pub Follow : MountedServer → List Turn → MountedServer → Type 0
 Follow old [] new = new ≡ old
 Follow old (turn ∷ turns) new = (between : MountedServer) × Turns old between turn × Follow between turns new

@@ -41,7 +41,7 @@ impl MountedServer {
         }
     }
 
-    /// Puts the reply to a request that is whole into `room`; returns false if the kernel waits for none.
+    /// Puts the reply to a complete request into `room`; returns false if the kernel waits for none.
     fn answer_request<H: Host>(
         &mut self,
         alloc: Global,
@@ -66,7 +66,7 @@ impl MountedServer {
         }
     }
 
-    /// Puts the reply to an operation into `room`, if it isn't refused. FSYNC and FSYNCDIR save the image first.
+    /// Puts the reply to an operation into `room`, unless it is refused. FSYNC and FSYNCDIR save the image first.
     fn answer_operation<H: Host>(
         &mut self,
         alloc: Global,
@@ -88,7 +88,7 @@ impl MountedServer {
         self.answer_saved(alloc, now, header, operation, room)
     }
 
-    /// Puts the reply to an operation into `room`, if it isn't refused. Nothing is saved.
+    /// Puts the reply to an operation into `room`, unless it is refused. Saves nothing.
     fn answer_saved(
         &mut self,
         alloc: Global,
@@ -105,7 +105,7 @@ impl MountedServer {
         self.operate(alloc, now, header, operation, room)
     }
 
-    /// Puts the reply to an operation into `room`, once its calls were made and what they say was kept in mind.
+    /// Makes the calls of an operation, records their effects, and puts the reply into `room`.
     fn operate(
         &mut self,
         alloc: Global,
@@ -122,7 +122,7 @@ impl MountedServer {
         }
     }
 
-    /// Puts the reply to an operation into `room`, as the tree stands now.
+    /// Puts the reply to an operation on the present tree into `room`.
     fn put_reply(
         &self,
         alloc: Global,
@@ -138,7 +138,7 @@ impl MountedServer {
             .put_reply(header, operation, room)
     }
 
-    /// Makes the calls of an operation, and keeps in mind what they say.
+    /// Makes the calls of an operation, and records their effects on the known nodes.
     fn change(
         &mut self,
         alloc: Global,
@@ -168,7 +168,7 @@ impl MountedServer {
     }
 }
 
-/// Puts the reply that a refusal is into `room`.
+/// Puts the error reply for a refusal into `room`.
 fn refuse(header: &Header, refusal: MountedRefusal, room: &mut Room)
     ensures { room.new.reply ≡ status_message header.now.unique (errno refusal) }
 {
@@ -187,7 +187,7 @@ fn refuse_malformed(header: &Header, room: &mut Room) -> bool
     header.wants_reply()
 }
 
-/// True if an operation asks for the image to be saved.
+/// True if an operation requests saving the image.
 fn is_sync(operation: &Operation<'_>) -> bool
     ensures { result ≡ is_sync operation.now }
 {

@@ -14,7 +14,7 @@ impl Scene<'_> {
     ghost use Rattle.vol_mounted.specs.Refusals.{Gives};
     ghost use Rattle.vol_mounted.specs.Scenes.{sight_of};
 
-    /// The calls of SETATTR of node `i`. What could refuse them is asked first.
+    /// Returns the calls of SETATTR of node `i`. All are checked first.
     pub(crate) fn set_attributes(
         &self,
         i: u16,
@@ -34,7 +34,7 @@ impl Scene<'_> {
         Ok(calls)
     }
 
-    /// The call that gives a file another size: it is cut, or gets a zero at its end.
+    /// Returns the call that changes a file's size: it is cut, or gets a zero at its end.
     fn size_call(
         &self,
         stat: &Stat,
@@ -66,7 +66,7 @@ impl Scene<'_> {
         }))
     }
 
-    /// The call that gives a node other permissions.
+    /// Returns the call that changes a node's permissions.
     fn mode_call(&self, path: &[u8], mode: Option<u32>) -> Result<Option<Call>, MountedRefusal>
         ensures { Gives (Ok (mode_call self.now.moment path.now mode)) result }
     {
@@ -81,7 +81,7 @@ impl Scene<'_> {
         }))
     }
 
-    /// The call that gives a node to a user and a group, if one is given.
+    /// Returns the call that changes a node's user and group, if one is given.
     fn owner_call(
         &self,
         stat: &Stat,

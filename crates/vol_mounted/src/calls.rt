@@ -22,7 +22,7 @@ impl Calls {
     ghost use Rattle.std.specs.Prelude.{◌≡◌, ◌∷◌, ◌++◌, [], IfOk, OnOk};
     ghost use Rattle.std.specs.Option.{option_to_list};
 
-    /// No calls. Takes no memory.
+    /// Returns no calls. Takes no memory.
     pub(crate) fn none(alloc: Global) -> Calls
         ensures { result ≡ [] }
     {
@@ -31,7 +31,7 @@ impl Calls {
         }
     }
 
-    /// One call.
+    /// Returns one call.
     pub(crate) fn one(alloc: Global, call: Call) -> Result<Calls, AllocError>
         ensures { IfOk result (λ calls. calls ≡ call ∷ []) }
     {
@@ -48,7 +48,7 @@ impl Calls {
         Ok(())
     }
 
-    /// Appends a call, if there is one.
+    /// Appends a call, if one is given.
     pub(crate) fn extend(&mut self, call: Option<Call>) -> Result<(), AllocError>
         ensures { OnOk result (self.new ≡ self.old ++ option_to_list call) }
     {
@@ -58,14 +58,14 @@ impl Calls {
         }
     }
 
-    /// The calls.
+    /// Returns the calls.
     pub(crate) fn as_slice(&self) -> &[Call]
         ensures { result.now ≡ self.now }
     {
         &self.calls
     }
 
-    /// The calls, given back.
+    /// Returns the calls as a vector.
     pub(crate) fn into_vec(self) -> Vec<Call>
         ensures { result.items ≡ self }
     {

@@ -1,22 +1,22 @@
-//! What is kept of an i-number.
+//! The record of an i-number.
 use vol_layout::Slot;
 use vol_layout::slot::NAME;
 
-/// What is kept of an i-number.
+/// The record of an i-number.
 #[derive(Clone, Copy, Debug, PartialEq, Eq)]
 pub struct KnownNode {
-    /// The directory where its node was last met.
+    /// The directory in which its node was last found.
     pub directory: u16,
-    /// The slot that it was met in; an empty one if it wasn't met.
+    /// The slot that it was found in; an empty one if it was never found.
     pub slot: Slot,
-    /// How often the i-number was given out, as far as the server knows: 1 at first.
+    /// The number of times that the i-number was allocated, as far as the server knows: 1 at first.
     pub birth: u32,
-    /// How many times its file is open.
+    /// The number of times that its file is open.
     pub opened: u32,
 }
 
 impl KnownNode {
-    /// What is kept of an i-number at first.
+    /// The initial record of an i-number.
     pub const UNMET: KnownNode = KnownNode {
         directory: 0,
         slot: Slot {

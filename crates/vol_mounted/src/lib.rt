@@ -1,5 +1,5 @@
-//! A volume served to a Linux kernel over the FUSE protocol, with changes: each request makes the calls that it asks for, and its reply
-//! is of the tree as it stands then.
+//! A volume served to a Linux kernel over the FUSE protocol, with changes: the server makes the calls of each request, and its reply
+//! shows the tree after them.
 #![tactic(auto)]
 
 mod answer;

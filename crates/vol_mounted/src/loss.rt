@@ -7,18 +7,18 @@ use vol_layout::Kind;
 use vol_nodes::read;
 use vol_serve::attributes::node_attributes;
 
-/// A file that is to lose a name.
+/// A file that will lose a name.
 #[derive(Debug, Drop)]
 pub(crate) struct Loss {
     /// Its i-number.
     pub(crate) i: u16,
-    /// What stays of it if it is its last name, and the file is open.
+    /// Its orphan, if the name is its last and the file is open.
     pub(crate) orphan: Option<Orphan>,
 }
 
 impl Scene<'_> {
-    /// The file that loses a name by an operation, if one does: that of UNLINK, or what a rename replaces. Takes memory for its bytes if
-    /// it is open.
+    /// Returns the file that loses a name by an operation, if any: that of UNLINK, or the one that a rename replaces. Takes memory for its
+    /// bytes if it is open.
     pub(crate) fn loss(
         &self,
         header: &Header,
@@ -50,7 +50,7 @@ impl Scene<'_> {
         }
     }
 
-    /// What stays of file `i` if it loses its last name while it is open.
+    /// Returns the orphan of file `i`, if it is open and loses its last name.
     fn orphan(&self, i: u16) -> Result<Option<Orphan>, AllocError> {
         let opened = match self.nodes.known(i) {
             Some(known) => known.opened,

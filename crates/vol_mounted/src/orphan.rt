@@ -8,13 +8,13 @@ const TYPE_BITS: u32 = 0o170000;
 /// A file that lost its last name while it was open. It isn't in the volume any more.
 #[derive(Debug, Drop)]
 pub struct Orphan {
-    /// The number by which the kernel knows it.
+    /// Its node number in the kernel.
     pub(crate) node: u64,
-    /// What it is; its link count is 0.
+    /// Its attributes; its link count is 0.
     pub(crate) attributes: Attributes,
     /// Its bytes.
     pub(crate) content: Vec<u8>,
-    /// How many times it is open.
+    /// The number of times that it is open.
     pub(crate) opened: u32,
 }
 
@@ -27,7 +27,7 @@ pub struct Orphans {
 impl Orphan {
     ghost use Rattle.std.specs.Prelude.{◌≡◌, ◌≤◌, ◌+◌, length, take, drop, OnOk, OnErr};
 
-    /// What it is, with its present size.
+    /// Returns its attributes, with its present size.
     pub(crate) fn attributes(&self) -> Attributes {
         let size = self.content.len() as u64;
         Attributes {
@@ -37,7 +37,7 @@ impl Orphan {
         }
     }
 
-    /// Its bytes from byte `offset` on, at most `size`.
+    /// Returns its bytes from byte `offset` on, at most `size`.
     pub(crate) fn read(&self, offset: u64, size: usize) -> &[u8]
         ensures { result.now ≡ take size (drop offset self.now.content.items) }
     {
@@ -48,7 +48,7 @@ impl Orphan {
         &content[start..end]
     }
 
-    /// Gives it another size: it is cut, or gets zeros at its end.
+    /// Changes its size: it is cut, or gets zeros at its end.
     pub(crate) fn resize(&mut self, size: u32) -> Result<(), AllocError> {
         self.content.resize(size as usize, 0)
     }
@@ -71,7 +71,7 @@ impl Orphan {
         Ok(())
     }
 
-    /// Sets its permissions, owner and group, as far as they are given.
+    /// Sets those of its permissions, owner and group that are given.
     pub(crate) fn set(&mut self, changes: &AttributeChanges) {
         if let Some(mode) = changes.mode {
             let kind = self.attributes.mode & TYPE_BITS;
@@ -90,7 +90,7 @@ impl Orphans {
     ghost use Rattle.std.specs.Prelude.{◌≡◌, ◌==◌};
     ghost use Rattle.std.specs.List.{list_any};
 
-    /// None.
+    /// Returns no files.
     pub(crate) fn new(alloc: Global) -> Orphans {
         Orphans {
             files: Vec::new(alloc),
@@ -104,28 +104,28 @@ impl Orphans {
         self.files.iter().any(|file| file.node == node)
     }
 
-    /// The place of the file with a number.
+    /// Returns the index of the file with a number.
     fn place(&self, node: u64) -> Option<usize> {
         self.files.iter().position(|file| file.node == node)
     }
 
-    /// The file with a number, to be changed.
+    /// Returns the file with a number, for changes.
     pub(crate) fn find_mut(&mut self, node: u64) -> Option<&mut Orphan> {
         let place = self.place(node)?;
         self.files.get_mut(place)
     }
 
-    /// Takes room for one file more.
+    /// Reserves room for one more file.
     pub(crate) fn reserve(&mut self) -> Result<(), AllocError> {
         self.files.reserve(1)
     }
 
-    /// Keeps a file, for which there is room.
+    /// Adds a file, for which room is reserved.
     pub(crate) fn keep(&mut self, file: Orphan) {
         let _ = self.files.push(file);
     }
 
-    /// A file is open once less; with the last it is gone.
+    /// Closes a file once; the last close frees it.
     pub(crate) fn close(&mut self, node: u64) {
         let Some(place) = self.place(node) else {
             return;

@@ -8,13 +8,13 @@ use vol_nodes::NodeFault;
 use vol_serve::errno::RequestRefusal;
 use vol_serve::memory::Room;
 
-/// Seconds for which the kernel may keep the attributes.
+/// The number of seconds for which the kernel may keep the attributes.
 const SECONDS: u64 = 3600;
 
 impl MountedServer {
     ghost use Rattle.std.specs.Prelude.{◌≡◌};
 
-    /// Puts the reply to an operation on a file without a name into `room`. The volume stays.
+    /// Puts the reply to an operation on a file without a name into `room`. The volume isn't changed.
     pub(crate) fn answer_orphan(
         &mut self,
         unique: u64,
@@ -74,7 +74,7 @@ impl MountedServer {
     }
 }
 
-/// Why an operation on a file without a name is refused.
+/// Returns the reason why an operation on a file without a name is refused.
 fn unserved(operation: &Operation<'_>) -> MountedRefusal {
     match operation {
         Operation::Link { .. } => MountedRefusal::from(NodeFault::NoEntry),

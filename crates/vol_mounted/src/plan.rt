@@ -25,7 +25,7 @@ impl Scene<'_> {
     ghost use Rattle.vol_mounted.specs.Refusals.{Gives};
     ghost use Rattle.vol_mounted.specs.Scenes.{sight_of};
 
-    /// The calls of MKNOD. Only regular files are made.
+    /// Returns the calls of MKNOD. Only regular files are made.
     pub(crate) fn make_file(
         &self,
         header: &Header,
@@ -50,7 +50,7 @@ impl Scene<'_> {
         Ok(self.make_for(owner, call, again)?)
     }
 
-    /// The calls of MKDIR.
+    /// Returns the calls of MKDIR.
     pub(crate) fn make_directory(
         &self,
         header: &Header,
@@ -72,7 +72,7 @@ impl Scene<'_> {
         Ok(self.make_for(owner, call, again)?)
     }
 
-    /// A call that makes a node with a path, and the one that gives it to its owner, if it isn't user 0.
+    /// Returns a call that makes a node with a path, and the one that gives it to its owner, unless that is user 0 of group 0.
     fn make_for(&self, owner: Cred, call: Call, path: Bytes) -> Result<Calls, AllocError>
         ensures { IfOk result (λ calls. calls ≡ call ∷ given_to owner self.now.moment path) }
     {
@@ -89,7 +89,7 @@ impl Scene<'_> {
         Ok(calls)
     }
 
-    /// The call of UNLINK.
+    /// Returns the call of UNLINK.
     pub(crate) fn unlink(&self, dir: u16, name: &[u8]) -> Result<Calls, MountedRefusal>
         ensures { Gives (unlink_calls (sight_of self.now) dir name.now) result }
     {
@@ -97,7 +97,7 @@ impl Scene<'_> {
         Ok(Calls::one(self.alloc, self.call_unlink(path))?)
     }
 
-    /// The call of RMDIR.
+    /// Returns the call of RMDIR.
     pub(crate) fn remove_directory(&self, dir: u16, name: &[u8]) -> Result<Calls, MountedRefusal>
         ensures { Gives (rmdir_calls (sight_of self.now) dir name.now) result }
     {
@@ -110,7 +110,7 @@ impl Scene<'_> {
         Ok(Calls::one(self.alloc, call)?)
     }
 
-    /// The call of LINK of node `i`.
+    /// Returns the call of LINK of node `i`.
     pub(crate) fn link(&self, i: u16, dir: u16, name: &[u8]) -> Result<Calls, MountedRefusal>
         ensures { Gives (link_calls (sight_of self.now) i dir name.now) result }
     {
@@ -119,7 +119,7 @@ impl Scene<'_> {
         Ok(Calls::one(self.alloc, self.call_link(source, target))?)
     }
 
-    /// The call of WRITE into node `i`.
+    /// Returns the call of WRITE into node `i`.
     pub(crate) fn write(&self, i: u16, offset: u64, content: &[u8]) -> Result<Calls, MountedRefusal>
         ensures { Gives (write_calls (sight_of self.now) i offset content.now) result }
     {
@@ -135,7 +135,7 @@ impl Scene<'_> {
         Ok(Calls::one(self.alloc, call)?)
     }
 
-    /// The call that removes a name.
+    /// Returns the call that removes a name.
     pub(crate) fn call_unlink(&self, path: Bytes) -> Call
         ensures { result ≡ calls.Unlink user self.now.moment path }
     {
@@ -146,7 +146,7 @@ impl Scene<'_> {
         }
     }
 
-    /// The call that gives what is no directory a further name.
+    /// Returns the call that gives a node other than a directory a further name.
     pub(crate) fn call_link(&self, source: Bytes, target: Bytes) -> Call
         ensures { result ≡ calls.Link user self.now.moment source target }
     {
@@ -159,7 +159,7 @@ impl Scene<'_> {
     }
 
     #[tactic(auto, using(crate::proofs::Asked::next_asked))]
-    /// Asks some calls, each as the volume stands: the first that would be refused is the refusal.
+    /// Checks some calls, each on the unchanged volume; returns the first refusal.
     pub(crate) fn ask(&self, tests: &[Call]) -> Result<(), MountedRefusal>
         ensures { MatchResult result
             (λ _. first_refused (state self.now.geometry.now self.now.volume.now.image) tests.now ≡ None)
@@ -173,7 +173,7 @@ impl Scene<'_> {
         Ok(())
     }
 
-    /// What a call would be refused for as the volume stands, but for memory.
+    /// Returns the refusal that a call would get on the unchanged volume, except for memory.
     fn refusal(&self, call: &Call) -> Option<Refusal>
         ensures { result ≡ verdict (state self.now.geometry.now self.now.volume.now.image) call.now }
     {
@@ -188,14 +188,14 @@ fn is_regular(mode: u32) -> bool
     matches!(mode / 0o10000 % 16, 0 | 8)
 }
 
-/// The permission bits of a mode.
+/// Returns the permission bits of a mode.
 pub(crate) fn permissions(mode: u32) -> u16
     ensures { result ≡ mode % 4096 }
 {
     (mode % 0o10000) as u16
 }
 
-/// A user and a group that the edition's i-nodes can hold. BadId if they can't.
+/// Returns a user and a group, or BadId if the edition's i-nodes can't hold them.
 pub(crate) fn cred_of(edition: Edition, uid: u32, gid: u32) -> Result<Cred, MountedRefusal>
     ensures { result ≡ cred_of edition uid gid }
 {
@@ -205,7 +205,7 @@ pub(crate) fn cred_of(edition: Edition, uid: u32, gid: u32) -> Result<Cred, Moun
     }
 }
 
-/// Whom a new node belongs to: user 0 if all nodes are shown as one user's, else the caller.
+/// Returns the owner of a new node: user 0 if all nodes are shown as one user's, else the caller.
 fn owner_of(edition: Edition, owner: Option<Owner>, header: &Header) -> Result<Cred, MountedRefusal>
     ensures { result ≡ owner_of edition owner header.now }
 {
@@ -215,7 +215,7 @@ fn owner_of(edition: Edition, owner: Option<Owner>, header: &Header) -> Result<C
     }
 }
 
-/// A number of 32 bits. TooBig if it has more.
+/// Returns a number of 32 bits, or TooBig if it has more.
 pub(crate) fn short_number(n: u64) -> Result<u32, MountedRefusal>
     ensures { result ≡ short_number n }
 {

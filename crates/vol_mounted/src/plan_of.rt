@@ -10,7 +10,7 @@ impl Scene<'_> {
     ghost use Rattle.vol_mounted.specs.Replies.{calls_of, renamed};
     ghost use Rattle.vol_mounted.specs.Scenes.{sight_of};
 
-    /// The calls that an operation makes; none if it changes nothing.
+    /// Returns the calls that an operation makes; none if it changes nothing.
     #[tactic(auto, unfolding(crate::specs::Replies::calls_of))]
     pub(crate) fn plan(
         &self,
@@ -74,7 +74,7 @@ impl Scene<'_> {
         }
     }
 
-    /// The calls of a rename of a name in one directory to a name in another, both by their numbers.
+    /// Returns the calls of a rename from one directory to another, both given by their node numbers.
     fn renamed(
         &self,
         header: &Header,

@@ -1,4 +1,4 @@
-//! Why a request is refused, and the number of the error that the kernel gets for it.
+//! Refusals of requests, and the error numbers that the kernel gets for them.
 ghost use Rattle.std.specs.Prelude.{◌≡◌, ◌<◌};
 ghost use Rattle.vol_mounted.specs.Errno.{call_errno, errno};
 
@@ -7,14 +7,14 @@ use vol_dir::Refusal;
 use vol_nodes::NodeFault;
 use vol_serve::errno::RequestRefusal;
 
-/// Why a request is refused.
+/// The reason why a request is refused.
 #[derive(Clone, Copy, Debug, PartialEq, Eq)]
 pub enum MountedRefusal {
-    /// For the reason that it has where a volume is served for reading alone.
+    /// The refusal that a volume served read-only gives too.
     Request(RequestRefusal),
     /// The volume refuses a call.
     Call(Refusal),
-    /// Only regular files and directories can be made. Where all nodes are shown as one user's, none can be given to another.
+    /// Only regular files and directories can be made. If all nodes are shown as one user's, none can be given to another.
     NotPermitted,
     /// A directory can't be renamed. The caller copies it.
     IsDirectory,
@@ -25,7 +25,7 @@ pub enum MountedRefusal {
 }
 
 impl MountedRefusal {
-    /// The refusal of a request about a node that isn't there any more.
+    /// The refusal of a request on a node that no longer exists.
     pub(crate) const STALE: MountedRefusal = MountedRefusal::Request(RequestRefusal::Node(
         NodeFault::Stale,
     ));
@@ -75,7 +75,7 @@ impl From<AllocError> for MountedRefusal {
     }
 }
 
-/// The number of a refused call's error, of Linux (errno.h).
+/// Returns the number of a refused call's error, of Linux (errno.h).
 fn call_errno(refusal: Refusal) -> u32
     ensures number { result ≡ call_errno refusal }
     ensures bound { result < 512 }
@@ -104,7 +104,7 @@ fn call_errno(refusal: Refusal) -> u32
     }
 }
 
-/// The number of the error, of Linux (errno.h).
+/// Returns the number of the error, of Linux (errno.h).
 pub fn errno(refusal: MountedRefusal) -> u32
     ensures number { result ≡ errno refusal }
     ensures bound { result < 512 }

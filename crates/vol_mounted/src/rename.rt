@@ -9,7 +9,7 @@ use vol_layout::Kind;
 use vol_nodes::{NodeFault, look_up};
 use vol_volume::Stat;
 
-/// What a rename moves, and where to.
+/// The arguments of a rename.
 #[derive(Clone, Copy, Debug)]
 pub(crate) struct Renaming<'a> {
     /// The directory of the old name.
@@ -20,7 +20,7 @@ pub(crate) struct Renaming<'a> {
     pub(crate) new_dir: u16,
     /// The new name.
     pub(crate) new_name: &'a [u8],
-    /// The flags, as of renameat2(2).
+    /// The flags of renameat2(2).
     pub(crate) flags: u32,
 }
 
@@ -32,8 +32,8 @@ impl Scene<'_> {
     ghost use Rattle.vol_mounted.specs.Refusals.{Gives};
     ghost use Rattle.vol_mounted.specs.Scenes.{sight_of};
 
-    /// The calls of RENAME and RENAME2. What could refuse them is asked first, so that after the first of them nothing but want of
-    /// memory stops the others.
+    /// Returns the calls of RENAME and RENAME2. They are checked first, so that after the first call only running out of memory can
+    /// stop the others.
     pub(crate) fn rename(&self, renaming: &Renaming<'_>) -> Result<Calls, MountedRefusal>
         ensures { Gives (rename_calls (sight_of self.now) renaming.now.flags renaming.now.dir renaming.now.name.now renaming.now.new_dir renaming.now.new_name.now) result }
     {
@@ -59,7 +59,7 @@ impl Scene<'_> {
         }
     }
 
-    /// The calls of a rename to a name that isn't there.
+    /// Returns the calls of a rename to a name that doesn't exist.
     fn move_to(&self, source: Bytes, target: Bytes) -> Result<Calls, MountedRefusal>
         ensures { Gives (move_calls (sight_of self.now) source target) result }
     {
@@ -70,7 +70,7 @@ impl Scene<'_> {
         Ok(calls)
     }
 
-    /// The calls of a rename to a name that leads to node `j`.
+    /// Returns the calls of a rename to a name that leads to node `j`.
     fn rename_over(
         &self,
         flags: u32,
@@ -91,7 +91,7 @@ impl Scene<'_> {
         self.replace(stat, &there, source, target)
     }
 
-    /// The calls of a rename to the name of another node.
+    /// Returns the calls of a rename to the name of another node.
     fn replace(
         &self,
         stat: &Stat,
@@ -112,7 +112,7 @@ impl Scene<'_> {
         Ok(self.three_calls(source, target)?)
     }
 
-    /// The calls that remove two names.
+    /// Returns the calls that remove two names.
     fn two_unlinks(&self, first: &Bytes, second: &Bytes) -> Result<Calls, AllocError>
         ensures { IfOk result (λ all. all ≡ calls.Unlink user self.now.moment first.now ∷ calls.Unlink user self.now.moment second.now ∷ []) }
     {
@@ -123,7 +123,7 @@ impl Scene<'_> {
         Ok(calls)
     }
 
-    /// The calls that give a node the name of another.
+    /// Returns the calls that give a node the name of another.
     fn three_calls(&self, source: Bytes, target: Bytes) -> Result<Calls, AllocError>
         ensures { IfOk result (λ all. all ≡ calls.Unlink user self.now.moment target ∷ calls.Link user self.now.moment source target ∷ calls.Unlink user self.now.moment source ∷ []) }
     {

@@ -1,4 +1,4 @@
-//! The replies to requests, once their calls were made.
+//! The replies to requests, after their calls.
 ghost use Rattle.std.specs.Prelude.{◌≡◌};
 ghost use Rattle.vol_layout.specs.declared.mode.Kind.{Kind};
 ghost use Rattle.vol_mounted.specs.Replies.{refusal_of, shown, init_reply, open_by, open_directory_by, count_of};
@@ -19,7 +19,7 @@ use vol_serve::memory::Room;
 use vol_serve::node_replies::{put_bytes, put_listing};
 use vol_serve::statistics::statistics;
 
-/// Seconds for which the kernel may keep names and attributes: an hour. Nobody else changes the volume.
+/// The number of seconds for which the kernel may keep names and attributes: an hour. Nobody else changes the volume.
 const SECONDS: u64 = 3600;
 
 impl Scene<'_> {
@@ -28,7 +28,7 @@ impl Scene<'_> {
     ghost use Rattle.vol_mounted.specs.Replies.{shown_at, entry_reply, attributes_reply, node_reply, reply_of};
     ghost use Rattle.vol_mounted.specs.Scenes.{sight_of};
 
-    /// The attributes of node `i` as they are shown.
+    /// Returns the attributes of node `i` as they are shown.
     fn attributes(&self, i: u16) -> Result<Attributes, MountedRefusal>
         ensures { result ≡ shown_at (sight_of self.now) i }
     {
@@ -68,7 +68,7 @@ impl Scene<'_> {
         Ok(())
     }
 
-    /// Puts the reply to an operation into `room`, once its calls were made. Takes memory for STATFS alone.
+    /// Puts the reply to an operation into `room`, after its calls. Takes memory only for STATFS.
     #[tactic(auto, unfolding(crate::specs::Replies::reply_of))]
     pub(crate) fn put_reply(
         &self,
@@ -160,7 +160,7 @@ impl Scene<'_> {
     }
 }
 
-/// Attributes as they are shown: if all nodes are shown as one user's, with his numbers.
+/// Returns attributes as they are shown: if all nodes are shown as one user's, with that user's numbers.
 fn shown(owner: Option<Owner>, attributes: Attributes) -> Attributes
     ensures { result ≡ shown owner attributes }
 {
@@ -200,7 +200,7 @@ fn put_open_directory(kind: Kind, unique: u64, room: &mut Room) -> Result<(), Mo
     }
 }
 
-/// Puts the reply to INIT into `room`. A kernel above version 7 reads our version alone, and asks again.
+/// Puts the reply to INIT into `room`. A kernel above version 7 reads only our version, and sends INIT again.
 fn put_init(
     unique: u64,
     major: u32,
@@ -226,7 +226,7 @@ fn put_init(
     Ok(())
 }
 
-/// Why an operation is refused that isn't served. A symbolic link can't be made.
+/// Returns the refusal of an operation that isn't served. A symbolic link can't be made.
 fn unserved(opcode: u32) -> MountedRefusal
     ensures { result ≡ refusal_of opcode }
 {
@@ -237,7 +237,7 @@ fn unserved(opcode: u32) -> MountedRefusal
     }
 }
 
-/// The number of some bytes, as a reply to WRITE says it.
+/// Returns the number of some bytes, as a reply to WRITE has it.
 pub(crate) fn count_of(bytes: &[u8]) -> u32
     ensures { result ≡ count_of bytes.now }
 {

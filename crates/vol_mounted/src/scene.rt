@@ -1,4 +1,4 @@
-//! The volume and what the kernel knows of it, at a moment.
+//! The volume and the nodes that the kernel knows, at a moment.
 ghost use Rattle.std.specs.Prelude.{◌≡◌, ◌∷◌, ◌++◌, IfOk};
 ghost use Rattle.vol_layout.specs.Geometry.{Fits, geometry_of};
 
@@ -15,18 +15,18 @@ use vol_nodes::{NodeFault, look_up, stat};
 use vol_serve::errno::RequestRefusal;
 use vol_volume::{Stat, Volume};
 
-/// The volume and what the kernel knows of it, at a moment: what calls are planned by, and what replies say.
+/// The volume and the nodes that the kernel knows, at a moment. Calls are planned and replies made from it.
 #[derive(Drop)]
 pub(crate) struct Scene<'a> {
-    /// Where memory is taken.
+    /// The allocator.
     pub(crate) alloc: Global,
-    /// The volume as it stands.
+    /// The present volume.
     pub(crate) volume: &'a Volume,
     /// Its geometry.
     pub(crate) geometry: &'a Geometry,
     /// The nodes that the kernel knows.
     pub(crate) nodes: &'a NodeTable,
-    /// The user that all nodes are shown as, if so.
+    /// The user that all nodes are shown as, if any.
     pub(crate) owner: Option<Owner>,
     /// The moment.
     pub(crate) moment: u32,
@@ -42,7 +42,7 @@ impl Scene<'_> {
     ghost use Rattle.vol_mounted.specs.Replies.{number_at};
     ghost use Rattle.vol_mounted.specs.Scenes.{sight_of};
 
-    /// The i-number of the node with a number. Stale if no node has it now.
+    /// Returns the i-number of the node with a number, or Stale if no node has it now.
     pub(crate) fn number(&self, node: u64) -> Result<u16, MountedRefusal>
         ensures { result ≡ number_at (sight_of self.now) node }
     {
@@ -52,7 +52,7 @@ impl Scene<'_> {
         }
     }
 
-    /// The path of node `i`. Stale if the names that were last met don't lead there any more.
+    /// Returns the path of node `i`, or Stale if the last known names no longer lead to it.
     pub(crate) fn path(&self, i: u16) -> Result<Bytes, MountedRefusal>
         ensures { Gives (path_at (sight_of self.now) i) result }
     {
@@ -71,7 +71,7 @@ impl Scene<'_> {
         }
     }
 
-    /// The path of a name in directory `dir`.
+    /// Returns the path of a name in directory `dir`.
     pub(crate) fn path_of_name(&self, dir: u16, name: &[u8]) -> Result<Bytes, MountedRefusal>
         ensures { Gives (name_at (sight_of self.now) dir name.now) result }
     {
@@ -84,14 +84,14 @@ impl Scene<'_> {
         Ok(with_name(self.path(dir)?, name)?)
     }
 
-    /// The node that a name leads to in a directory.
+    /// Returns the node that a name leads to in a directory.
     pub(crate) fn find(&self, dir: u16, name: &[u8]) -> Result<u16, MountedRefusal>
         ensures { result ≡ of_nodes (look_up (tree self.now.geometry.now self.now.volume.now.image) dir name.now) }
     {
         Ok(look_up(self.volume.image(), self.geometry, dir, name)?)
     }
 
-    /// What node `i` is. Stale if no node has this number.
+    /// Returns the Stat of node `i`, or Stale if no node has this number.
     pub(crate) fn stat(&self, i: u16) -> Result<Stat, MountedRefusal>
         ensures { result ≡ stat_at (sight_of self.now) i }
     {
@@ -102,7 +102,7 @@ impl Scene<'_> {
     }
 }
 
-/// A path with a name after it.
+/// Returns a path followed by a name.
 fn with_name(path: Bytes, name: &[u8]) -> Result<Bytes, AllocError>
     ensures { IfOk result (λ longer. longer ≡ path ++ 47 ∷ name.now) }
 {

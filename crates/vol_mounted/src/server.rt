@@ -14,7 +14,7 @@ use vol_import::making::make_all;
 use vol_layout::Geometry;
 use vol_volume::Volume;
 
-/// The journal is cut after so many bytes of requests.
+/// The number of bytes of requests after which the journal is cut.
 const MOST_WEIGHT: usize = 16 << 20;
 
 /// A mounted volume that is served.
@@ -26,11 +26,11 @@ pub struct MountedServer {
     pub(crate) nodes: NodeTable,
     /// The files without a name that are still open.
     pub(crate) orphans: Orphans,
-    /// The user that all nodes are shown as, if so.
+    /// The user that all nodes are shown as, if any.
     pub(crate) owner: Option<Owner>,
     /// True if a call was made since the volume was saved.
     pub(crate) is_changed: bool,
-    /// Bytes of the requests whose calls are in the journal, about.
+    /// The approximate number of bytes of the requests whose calls are in the journal.
     pub(crate) weight: usize,
 }
 
@@ -42,7 +42,7 @@ impl MountedServer {
     ghost use Rattle.vol_mounted.specs.Scenes.{sight_of};
     ghost use Rattle.vol_mounted.specs.Servers.{volume_in, owner_in, sight_at, IsStopped};
 
-    /// Serves a volume. If there is an owner, all nodes are shown as his, and new ones belong to user 0 of the volume. Takes two MiB.
+    /// Returns a server of a volume. With an owner, all nodes are shown as the owner's, and new ones belong to user 0. Takes two MiB.
     pub fn new(
         alloc: Global,
         volume: Volume,
@@ -61,21 +61,21 @@ impl MountedServer {
         })
     }
 
-    /// The volume as it stands.
+    /// Returns the present volume.
     pub fn volume(&self) -> &Volume
         ensures { result.now ≡ volume_in self.now }
     {
         &self.volume
     }
 
-    /// The volume, given back.
+    /// Returns the volume.
     pub fn into_volume(self) -> Volume
         ensures { result ≡ volume_in self }
     {
         self.volume
     }
 
-    /// What plans are made of at a moment.
+    /// Returns the scene at a moment.
     pub(crate) fn scene<'a>(&'a self, alloc: Global, geometry: &'a Geometry, now: u32) -> Scene<'a>
         requires fits { Fits geometry.now self.now.volume.image }
         requires sizes { geometry.now ≡ geometry_of self.now.volume.edition self.now.volume.image }
@@ -91,7 +91,7 @@ impl MountedServer {
         }
     }
 
-    /// Makes calls, each in turn, up to the first that is refused.
+    /// Makes calls in order, up to the first that is refused.
     pub(crate) fn make(&mut self, alloc: Global, calls: Calls) -> Result<(), MountedRefusal>
         ensures made { OnOk result (AreMade self.old.volume calls self.new.volume) }
         ensures stopped { IfErr result (IsStopped self.old.volume calls self.new.volume) }
@@ -122,7 +122,7 @@ impl MountedServer {
         true
     }
 
-    /// Cuts the journal after so many bytes of requests, of which `count` came now.
+    /// Counts `count` more bytes of requests, and cuts the journal after [`MOST_WEIGHT`].
     pub(crate) fn cut_if_heavy(&mut self, count: usize)
         ensures { IsCutOrNot self.old.volume self.new.volume }
     {
@@ -135,7 +135,7 @@ impl MountedServer {
     }
 }
 
-/// The geometry of a volume, which fits its image.
+/// Returns the geometry of a volume, which fits its image.
 #[tactic(auto, unfolding(vol_layout::specs::Geometry::geometry_read), using(vol_judge::proofs::Parts::sound_whole, vol_judge::proofs::Parts::sound_bounded))]
 pub(crate) fn geometry_in(volume: &Volume) -> Geometry
     ensures sizes { result ≡ geometry_of volume.now.edition volume.now.image }

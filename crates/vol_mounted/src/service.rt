@@ -11,7 +11,7 @@ use thiserror::Error;
 use vol_serve::memory::{MOST_REQUEST, Room};
 use vol_serve::{Replies, Requests, ServeFault};
 
-/// Why serving ended before the requests did, or without the image saved.
+/// The reason why serving ended before the requests did, or without the image saved.
 #[derive(Clone, Copy, Debug, PartialEq, Eq, Error)]
 pub enum MountedFault {
     /// Serving ended before the requests did.
@@ -22,7 +22,7 @@ pub enum MountedFault {
     Unsaved,
 }
 
-/// Room for a request and for its reply.
+/// The room for a request and for its reply.
 #[derive(Debug, Drop)]
 struct Memory {
     request: Vec<u8>,
@@ -30,7 +30,7 @@ struct Memory {
 }
 
 impl Memory {
-    /// Takes the room.
+    /// Allocates the room.
     fn new(alloc: Global) -> Result<Memory, AllocError> {
         let request = vec![in alloc; 0u8; MOST_REQUEST]?;
         let room = Room::new(alloc)?;
@@ -38,9 +38,9 @@ impl Memory {
     }
 }
 
-/// Serves a volume until there are no more requests, and saves it then, if it was changed since it was saved last. Takes 390 KiB at the
-/// start; a request that changes something takes memory for the journal, and for a file that loses its last name while it is open its
-/// bytes. Want of memory is answered ENOMEM, and ends nothing.
+/// Serves a volume until there are no more requests, and then saves it, if it was changed since it was last saved. Takes 390 KiB at the
+/// start; a request that changes something takes memory for the journal, and for the bytes of a file that loses its last name while it
+/// is open. If memory runs out, the reply is ENOMEM, and serving continues.
 pub fn serve<Q: Requests, P: Replies, H: Host>(
     alloc: Global,
     server: &mut MountedServer,
@@ -62,7 +62,7 @@ pub fn serve<Q: Requests, P: Replies, H: Host>(
     }
 }
 
-/// Answers requests until there are no more. NoMemory comes before the first.
+/// Answers requests until there are no more. NoMemory is returned only before the first.
 fn serve_requests<Q: Requests, P: Replies, H: Host>(
     alloc: Global,
     server: &mut MountedServer,
@@ -113,7 +113,7 @@ fn run<Q: Requests, P: Replies, H: Host>(
     Err(ServeFault::Requests)
 }
 
-/// Answers a request, and sends the reply, if it is to have one; returns false if it couldn't be sent.
+/// Answers a request, and sends the reply, if it needs one; returns false if it couldn't be sent.
 fn take_turn<P: Replies, H: Host>(
     alloc: Global,
     server: &mut MountedServer,

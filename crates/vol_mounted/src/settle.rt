@@ -1,4 +1,4 @@
-//! What the server keeps in mind after a request.
+//! Updates of the known nodes after a request.
 ghost use Rattle.vol_layout.specs.Geometry.{Fits};
 
 use crate::loss::Loss;
@@ -11,13 +11,13 @@ use vol_layout::slot::NAME;
 use vol_layout::{Geometry, Kind, Slot};
 use vol_nodes::{look_up, next_name, stat};
 
-/// Slots of a directory that are looked at, at most.
+/// The greatest number of slots that are searched in a directory.
 const SLOTS: u32 = 1 << 28;
 
 impl MountedServer {
     ghost use Rattle.std.specs.Prelude.{◌≡◌};
 
-    /// Keeps in mind what an operation, all of whose calls were made, says of the nodes that the kernel knows.
+    /// Records the effect of an operation on the nodes that the kernel knows, after all its calls were made.
     pub(crate) fn settle(&mut self, header: &Header, operation: &Operation<'_>)
         ensures volume { self.new.volume ≡ self.old.volume }
         ensures owner { self.new.owner ≡ self.old.owner }
@@ -47,7 +47,7 @@ impl MountedServer {
         }
     }
 
-    /// Keeps in mind by what name a node is met in a directory. If it is new, its number is, too.
+    /// Records the name of a node in a directory. A new node gets a new number.
     fn meet(&mut self, directory: u64, name: &[u8], is_new: bool)
         ensures volume { self.new.volume ≡ self.old.volume }
         ensures owner { self.new.owner ≡ self.old.owner }
@@ -69,7 +69,7 @@ impl MountedServer {
         self.nodes.meet(i, dir, name);
     }
 
-    /// A file is open once more.
+    /// Counts one more open of a file.
     fn open(&mut self, node: u64)
         ensures volume { self.new.volume ≡ self.old.volume }
         ensures owner { self.new.owner ≡ self.old.owner }
@@ -83,7 +83,7 @@ impl MountedServer {
         }
     }
 
-    /// A file is open once less.
+    /// Counts one close of a file.
     fn close(&mut self, node: u64)
         ensures volume { self.new.volume ≡ self.old.volume }
         ensures owner { self.new.owner ≡ self.old.owner }
@@ -93,8 +93,8 @@ impl MountedServer {
         }
     }
 
-    /// Keeps in mind what became of a file that was to lose a name: if it is gone, its bytes stay while it is open; if it has other
-    /// names, one of them is looked for.
+    /// Records that a file lost a name: if it was freed, its bytes are kept while it is open; if it has other names, one of them is
+    /// sought.
     pub(crate) fn settle_loss(&mut self, loss: Loss)
         ensures volume { self.new.volume ≡ self.old.volume }
         ensures owner { self.new.owner ≡ self.old.owner }
@@ -109,8 +109,7 @@ impl MountedServer {
     }
 }
 
-/// Looks for a name of node `i`, and for one of each directory on the way up that was never met, unless the name that it was last met by
-/// still leads to it.
+/// Finds a name of node `i`, then of its directory, and so on up, until the root or a node whose last known name still leads to it.
 fn meet_again(nodes: &mut NodeTable, image: &Image, geometry: &Geometry, i: u16)
     requires { Fits geometry.now image.now }
 {
@@ -131,7 +130,7 @@ fn meet_again(nodes: &mut NodeTable, image: &Image, geometry: &Geometry, i: u16)
     }
 }
 
-/// True if the name that node `i` was last met by leads to it.
+/// True if the last known name of node `i` leads to it.
 fn is_met(nodes: &NodeTable, image: &Image, geometry: &Geometry, i: u16) -> bool
     requires { Fits geometry.now image.now }
 {
@@ -143,7 +142,7 @@ fn is_met(nodes: &NodeTable, image: &Image, geometry: &Geometry, i: u16) -> bool
     }
 }
 
-/// The first slot of all directories that gives node `i` a name, and its directory; None if there is none.
+/// Returns the first slot of all directories that names node `i`, and its directory, or `None`.
 fn search(image: &Image, geometry: &Geometry, i: u16) -> Option<(u16, Slot)>
     requires { Fits geometry.now image.now }
 {
@@ -155,7 +154,7 @@ fn search(image: &Image, geometry: &Geometry, i: u16) -> Option<(u16, Slot)>
     None
 }
 
-/// The first slot of directory `dir` that gives node `i` a name; None if there is none.
+/// Returns the first slot of directory `dir` that names node `i`, or `None`.
 fn search_in(image: &Image, geometry: &Geometry, dir: u16, i: u16) -> Option<Slot>
     requires { Fits geometry.now image.now }
 {

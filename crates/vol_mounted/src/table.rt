@@ -8,10 +8,10 @@ use std::alloc::{AllocError, Global};
 use std::marker::Model;
 use vol_layout::{Edition, Slot};
 
-/// I-numbers that there can be.
+/// The number of possible i-numbers.
 const NODES: usize = 65_536;
 
-/// What is kept of each i-number. A contract sees it as the list of that.
+/// The records of all i-numbers. A contract sees it as their list.
 #[derive(Debug, Drop)]
 pub struct NodeTable {
     nodes: Vec<KnownNode>,
@@ -31,27 +31,27 @@ impl NodeTable {
     ghost use Rattle.vol_mounted.specs.Numbers.{node_number, i_number, with_known, met, born, opened, closed};
     ghost use Rattle.vol_mounted.specs.Paths.{climb};
 
-    /// A table in which no node was met.
+    /// Returns a table of unmet nodes.
     pub(crate) fn new(alloc: Global) -> Result<NodeTable, AllocError> {
         let nodes = vec![in alloc; KnownNode::UNMET; NODES]?;
         Ok(NodeTable { nodes })
     }
 
-    /// How many i-numbers it has.
+    /// Returns the number of i-numbers in it.
     fn count(&self) -> usize
         ensures { result ≡ length self.now }
     {
         self.nodes.as_slice().len()
     }
 
-    /// What is kept of i-number `i`.
+    /// Returns the record of i-number `i`.
     pub(crate) fn known(&self, i: u16) -> Option<KnownNode>
         ensures { result ≡ slice_get self.now i }
     {
         self.nodes.get(usize::from(i)).copied()
     }
 
-    /// The number by which the kernel knows the node with i-number `i`.
+    /// Returns the kernel's number of the node with i-number `i`.
     pub(crate) fn node_number(&self, edition: Edition, i: u16) -> u64
         ensures { result ≡ node_number edition self.now i }
     {
@@ -65,7 +65,7 @@ impl NodeTable {
         0x1_0000 * u64::from(birth) + u64::from(i)
     }
 
-    /// The i-number of the node with number `node`; None if no node has it now.
+    /// Returns the i-number of the node with number `node`, or `None` if no node has it now.
     pub(crate) fn i_number(&self, edition: Edition, node: u64) -> Option<u16>
         ensures exact { result ≡ i_number edition self.now node }
         ensures back { IfSome result (λ i. node_number edition self.now i ≡ node) }
@@ -81,7 +81,7 @@ impl NodeTable {
         }
     }
 
-    /// From now on i-number `i` is known by the name `name` in a directory.
+    /// Records the name of i-number `i` in a directory.
     pub(crate) fn meet(&mut self, i: u16, directory: u16, name: &[u8])
         requires { length name.now ≤ 14 }
         ensures { self.new ≡ met self.old i directory name.now }
@@ -92,7 +92,7 @@ impl NodeTable {
         }
     }
 
-    /// I-number `i` was given out anew: no number that the kernel has leads to its node, which isn't open.
+    /// Records that i-number `i` was allocated again: no number in the kernel leads to its new node, which isn't open.
     pub(crate) fn bear(&mut self, i: u16)
         ensures { self.new ≡ with_known self.old i born }
     {
@@ -102,7 +102,7 @@ impl NodeTable {
         }
     }
 
-    /// The file of i-number `i` was opened once more.
+    /// Counts one more open of the file of i-number `i`.
     pub(crate) fn open(&mut self, i: u16)
         ensures { self.new ≡ with_known self.old i opened }
     {
@@ -111,7 +111,7 @@ impl NodeTable {
         }
     }
 
-    /// The file of i-number `i` was closed once.
+    /// Counts one close of the file of i-number `i`.
     pub(crate) fn close(&mut self, i: u16)
         ensures { self.new ≡ with_known self.old i closed }
     {
@@ -120,8 +120,8 @@ impl NodeTable {
         }
     }
 
-    /// The path from the root to node `i`, by the names that were last met; None if they don't lead up to the root. The path is only
-    /// as good as the names: a walk has to test it.
+    /// Returns the path from the root to node `i`, by the last known names, or `None` if they don't lead up to the root. The names
+    /// may be old: a walk has to test the path.
     pub(crate) fn climb(
         &self,
         alloc: Global,
@@ -149,7 +149,7 @@ impl NodeTable {
     }
 }
 
-/// Puts a slash and a name in front of a path.
+/// Inserts a slash and a name at the beginning of a path.
 fn put_in_front(path: &mut Vec<u8>, name: &[u8]) -> Result<(), AllocError>
     ensures { OnOk result (path.new.items ≡ 47 ∷ (name.now ++ path.old.items)) }
 {

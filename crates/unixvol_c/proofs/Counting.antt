@@ -1,4 +1,4 @@
--- How the count of a journal's bytes goes on.
+-- Counting a journal's bytes.
 use Rattle.std.proofs.Common.{◌≡◌, ℕ, ◌+◌, ◌^◌, ◌<◌, ◌≤◌, ◌∷◌, ◌++◌, [], List, length, Option, None, Some, IfSome, IfNone, ap, sym, ◌∙◌, refl, arith}
 use Rattle.std.specs.List.{sum_by}
 use Rattle.std.proofs.lemmas.List.{length-append}
@@ -9,7 +9,7 @@ use Rattle.vol_volume.specs.declared.calls.Done.{Done}
 use Rattle.vol_volume.specs.declared.calls.Record.{Record}
 use Rattle.unixvol_c.specs.Opened.{CanCut, HasGrowth, IsCounted, call_bytes, journal_bytes}
 
--- a journal with a record more has its bytes more
+-- a journal with one more record has its bytes more
 more_bytes : (old new : Mounted) (call : Call) (done : Done) → Accepts old new call done
     → journal_bytes new.journal ≡ journal_bytes old.journal + call_bytes call
 more_bytes old new call done accepts =
@@ -26,7 +26,7 @@ could_cut old new call done accepts can =
     let first = accepts.first in
     omega arith
 
--- the count of a journal goes on with each accepted call
+-- the count of a journal continues with each accepted call
 pub growth_after : (old new : Mounted) (call : Call) (done : Done) (growth : ℕ) (grown : Option ℕ) → IsCounted old growth → Accepts old new call done
     → IfSome grown (λ sum. sum ≡ growth + call_bytes call) → IfNone grown (2 ^ 64 ≤ growth + call_bytes call) → HasGrowth new grown
 growth_after old new call done growth (Some sum) counted accepts some none =

@@ -4,7 +4,7 @@ use Rattle.vol_judge.specs.Sound.{Rule, rules, nth_fact, IsLeastBroken}
 use Rattle.vol_layout.specs.Geometry.{geometry_of}
 use Rattle.vol_layout.specs.declared.edition.Edition.{Edition}
 
--- nothing is asked past the end of some facts
+-- no facts follow the end of a list of facts
 nth_past : (facts : List (Type 0)) (n : ℕ) → length facts ≤ n → nth_fact facts n
 nth_past [] n past = tt
 nth_past (fact ∷ facts) zero past = absurd (omega arith)

@@ -18,14 +18,14 @@ abbrev pub RepliesIfOk : Query → Result Reply Refusal → Type 0
 RepliesIfOk query (Ok reply) = Replies query reply
 RepliesIfOk query (Err refusal) = Unit {0}
 
--- what a walk that is not refused leads to
+-- the node that a walk leads to, if it isn't refused
 by_walk : (query : Query) (refusal : Option Refusal) (walked : Result ℕ Refusal) (reply : ℕ → Reply) → ((i : ℕ) → Replies query (reply i))
     → RepliesIfOk query (refused_or refusal (reply_at walked reply))
 by_walk query (Some refusal) walked reply each = tt
 by_walk query None (Err refusal) reply each = tt
 by_walk query None (Ok i) reply each = each i
 
--- no more bytes are read than were asked for
+-- no more bytes are read than the query's length
 few_bytes : (bytes : List ℕ) (offset len : ℕ) → length (read_bytes bytes offset len) ≤ len
 few_bytes bytes offset len = omega (arith, length-take len (drop offset bytes))
 

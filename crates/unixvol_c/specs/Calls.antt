@@ -1,4 +1,4 @@
--- What the exports promise of the volume that a handle holds.
+-- The exports' effects on the volume that a handle holds.
 use Rattle.std.specs.Prelude.{◌≡◌, ◌≢◌, ◌≤◌, length, ℕ, ℤ, pos, nat_eq, if◌then◌else◌, Option, None, Some, Result, Err}
 use Rattle.vol_dir.specs.Refusals.{number_of}
 use Rattle.vol_dir.specs.declared.refusal.Refusal.{Refusal}
@@ -16,33 +16,33 @@ use Rattle.vol_volume.specs.declared.queries.Reply.{Reply}
 use Rattle.vol_volume.specs.declared.queries.Reply.TheVariants as replies
 use Rattle.unixvol_c.specs.Opened.{Opened, trimmed}
 
--- the edition that a number names: 6 or 7 (this project)
+-- the edition with a number, 6 or 7 (this project)
 abbrev pub edition_of : ℕ → Edition
 edition_of n = if nat_eq n 6 then V6 else V7
 
--- a number names no edition (this project)
+-- the number is no edition's (this project)
 abbrev pub IsNoEdition : ℕ → Type 0
 IsNoEdition n = (n ≢ 6) × (n ≢ 7)
 
--- a query of the volume held has this outcome (this project)
+-- a query on the volume held has this outcome (this project)
 abbrev pub IsAnswered : Option Opened → Query → Result Reply Refusal → Type 0
 IsAnswered None query outcome = ⊥
 IsAnswered (Some held) query outcome = Answers (reads_as held.volume.edition held.volume.image).tree query outcome
 
--- a reply is of its query's kind, and has no more bytes than are asked for (this project)
+-- a reply is of its query's kind, and has no more bytes than the query's length (this project)
 abbrev pub Replies : Query → Reply → Type 0
 Replies (queries.Stat cred path) (replies.Stat stat) = Unit {0}
 Replies (queries.Read cred path offset len) (replies.Bytes bytes) = length bytes ≤ len
 Replies (queries.List cred path) (replies.Names names) = Unit {0}
 Replies _ _ = ⊥
 
--- a query of the volume held is refused, and this is the number of the refusal (this project)
+-- a query on the volume held is refused, and this is the number of the refusal (this project)
 pub record RefusesQuery (held : Option Opened) (query : Query) (number : ℤ) : Type 0 where
   pub refusal : Refusal
   pub numbered : number ≡ pos (number_of refusal)
   pub answered : IsAnswered held query (Err refusal)
 
--- the volume held before accepted a call, and is held after it, its journal cut if it has grown past the image; what was asked stays (this project)
+-- the volume held before accepted a call, and is held after it, its journal cut if it has grown past the image; the kept answer stays (this project)
 pub record IsMade (old new : Opened) (call : Call) (done : Done) : Type 0 where
   pub made : Mounted
   pub accepted : Accepts old.volume made call done
@@ -60,12 +60,12 @@ abbrev pub Makes : Option Opened → Option Opened → Call → Done → Type 0
 Makes (Some old) (Some new) call done = IsMade old new call done
 Makes _ _ call done = ⊥
 
--- a call of the volume held is refused so (this project)
+-- a call on the volume held is refused so (this project)
 abbrev pub IsRefused : Option Opened → Call → Refusal → Type 0
 IsRefused None call refusal = ⊥
 IsRefused (Some held) call refusal = Refuses (reads_as held.volume.edition held.volume.image) call refusal
 
--- a call of the volume held is refused, and this is the number of the refusal (this project)
+-- a call on the volume held is refused, and this is the number of the refusal (this project)
 pub record RefusesCall (held : Option Opened) (call : Call) (number : ℤ) : Type 0 where
   pub refusal : Refusal
   pub numbered : number ≡ pos (number_of refusal)

@@ -1,4 +1,4 @@
--- What the numbers mean that exports return.
+-- The meanings of the numbers that exports return.
 use Rattle.std.specs.Prelude.{ℕ, nat_eq, nat_lt, if◌then◌else◌, codes, List}
 
 -- the name of a refusal by its number, and of 0 (this project)
@@ -50,6 +50,6 @@ own_text number =
     else if nat_eq number 305 then codes "no such report"
     else codes "unknown"
 
--- the text of what an export returns (this project)
+-- the text of a number that an export returned (this project)
 abbrev pub number_text : ℕ → List ℕ
 number_text number = if nat_lt number 200 then refusal_text number else if nat_lt number 300 then rule_text number else own_text number

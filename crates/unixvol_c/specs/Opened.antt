@@ -1,4 +1,4 @@
--- An open volume, as contracts see what a handle holds.
+-- An open volume, as contracts see the contents of a handle.
 use Rattle.std.specs.Prelude.{◌≡◌, ℕ, ◌+◌, ◌^◌, ◌<◌, ◌≤◌, ◌&&◌, nat_lt, if◌then◌else◌, List, [], length, Option, None, Some}
 use Rattle.std.specs.List.{sum_by}
 use Rattle.vol_volume.specs.Volume.{Mounted, after_cut}
@@ -6,16 +6,16 @@ use Rattle.vol_volume.specs.declared.calls.Call.{Call}
 use Rattle.vol_volume.specs.declared.calls.Call.TheVariants.{Create, Mkdir, Link, Unlink, Rmdir, Write, Truncate, Chmod, Chown, Times}
 use Rattle.vol_volume.specs.declared.calls.Record.{Record}
 
--- what an open handle holds: a volume, and the answer of unknown length that was asked for last (this project)
+-- the contents of an open handle: a volume, and the last answer of unknown length (this project)
 pub record Opened : Type 0 where
   pub volume : Mounted
   pub answer : List ℕ
 
--- a volume just opened: nothing was asked (this project)
+-- a volume just opened: there is no answer yet (this project)
 abbrev pub opened : Mounted → Opened
 opened volume = record { volume = volume; answer = [] }
 
--- how many bytes the record of a call is counted as: 128, those of its paths, and those that it writes (this project)
+-- the number of bytes that the record of a call counts: 128, those of its paths, and those that it writes (this project)
 abbrev pub call_bytes : Call → ℕ
 call_bytes (Create cred now path perm) = 128 + length path
 call_bytes (Mkdir cred now path perm) = 128 + length path
@@ -28,7 +28,7 @@ call_bytes (Chmod cred now path perm) = 128 + length path
 call_bytes (Chown cred now path uid gid) = 128 + length path
 call_bytes (Times cred now path atime mtime) = 128 + length path
 
--- how many bytes a journal is counted as (this project)
+-- the number of bytes that a journal counts (this project)
 abbrev pub journal_bytes : List Record → ℕ
 journal_bytes records = sum_by (λ (entry : Record). call_bytes entry.call) records
 
@@ -36,18 +36,18 @@ journal_bytes records = sum_by (λ (entry : Record). call_bytes entry.call) reco
 abbrev pub CanCut : Mounted → Type 0
 CanCut volume = volume.first + length volume.journal < 2 ^ 64
 
--- a volume whose journal is cut if it is counted as more bytes than the image has (this project)
+-- a volume after its journal was cut if it counts more bytes than the image has (this project)
 abbrev pub trimmed : Mounted → Mounted
 trimmed volume =
     if nat_lt (length volume.image) (journal_bytes volume.journal) && nat_lt (volume.first + length volume.journal) (2 ^ 64)
     then after_cut volume else volume
 
--- what an open volume keeps: its journal is counted, and as no more bytes than the image has (this project)
+-- the invariant of an open volume: its journal is counted, and counts no more bytes than the image has (this project)
 pub record IsCounted (volume : Mounted) (growth : ℕ) : Type 0 where
   pub counted : CanCut volume → growth ≡ journal_bytes volume.journal
   pub few : CanCut volume → growth ≤ length volume.image
 
--- a journal is counted as so many bytes, or as 2^64 and more (this project)
+-- a journal counts `growth` bytes, or 2^64 and more (this project)
 abbrev pub HasGrowth : Mounted → Option ℕ → Type 0
 HasGrowth volume (Some growth) = CanCut volume → growth ≡ journal_bytes volume.journal
 HasGrowth volume None = CanCut volume → 2 ^ 64 ≤ journal_bytes volume.journal

@@ -20,12 +20,12 @@ use Rattle.vol_archive.specs.declared.exporting.StartFault.TheVariants.{Unsound,
 use Rattle.vol_archive.specs.declared.found.Found.{Found}
 use Rattle.unixvol_c.specs.Opened.{Opened}
 
--- what was held before and what is held after are related so (this project)
+-- the contents before and after have this relation (this project)
 abbrev pub BothHeld : Option Opened → Option Opened → (Opened → Opened → Type 0) → Type 0
 BothHeld (Some old) (Some new) relation = relation old new
 BothHeld _ _ relation = ⊥
 
--- the checker that a letter names: i icheck, d dcheck, n ncheck (this project)
+-- the checker with a letter: i icheck, d dcheck, n ncheck (this project)
 abbrev pub checker_of : ℕ → Option Checker
 checker_of letter =
     if nat_eq letter 105 then Some Blocks else if nat_eq letter 100 then Some Entries else if nat_eq letter 110 then Some Names else None
@@ -36,38 +36,38 @@ pub record IsReportText (checker : Checker) (edition : Edition) (image text : Li
   pub report : IsReport checker edition image lines
   pub words : text ≡ report_text lines
 
--- the report that a letter names is the answer kept, and the volume stays (this project)
+-- the report with this letter is the kept answer, and the volume stays (this project)
 pub record KeepsReport (letter : ℕ) (old new : Opened) : Type 0 where
   pub checker : Checker
   pub named : checker_of letter ≡ Some checker
   pub report : IsReportText checker old.volume.edition old.volume.image new.answer
   pub volume : new.volume ≡ old.volume
 
--- how many of what was met are no members of an archive (this project)
+-- the number of entries found that aren't members of an archive (this project)
 abbrev pub left_out : List Found → ℕ
 left_out founds = count_by (λ (found : Found). not (is_kept found.role)) founds
 
--- bytes are the archive of what is met from a start on, and so many entries are left out (POSIX ustar)
+-- the bytes are the archive of the entries found from a start on, and `count` of them are left out (POSIX ustar)
 pub record IsArchive (start : Start) (image bytes : List ℕ) (count : ℕ) : Type 0 where
   pub founds : List Found
   pub walked : IsWalk start.geometry image start.inode founds
   pub members : bytes ≡ archive_bytes start.geometry image founds
   pub counted : count ≡ left_out founds
 
--- the archive of what is below a path is the answer kept, and the volume stays (this project)
+-- the archive of the contents of the directory at a path is the kept answer, and the volume stays (this project)
 pub record KeepsArchive (path : List ℕ) (count : ℕ) (old new : Opened) : Type 0 where
   pub start : Start
   pub begun : start_of old.volume.edition old.volume.image path ≡ Ok start
   pub archive : IsArchive start old.volume.image new.answer count
   pub volume : new.volume ≡ old.volume
 
--- the number of why there is nothing to export (this project)
+-- the number of the reason why there is nothing to export (this project)
 abbrev pub start_number : StartFault → ℕ
 start_number (Unsound Short) = 201
 start_number (Unsound Bounds) = 202
 start_number (Refused refusal) = number_of refusal
 
--- a text is what is found of each of the twelve rules (this project)
+-- a text has the findings for the twelve rules (this project)
 pub record Explains (edition : Edition) (image text : List ℕ) : Type 0 where
   pub is_sound : Bool
   pub report : IsFindings edition image text is_sound

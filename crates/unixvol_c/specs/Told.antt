@@ -1,4 +1,4 @@
--- What C is told of a node, a name and a volume.
+-- Nodes, names and volumes, as C sees them.
 use Rattle.std.specs.Prelude.{◌≡◌, ℕ, List, ◌++◌, length, map, take, drop, unwrap_or, is_some, Option, Ok}
 use Rattle.vol_dir.specs.Tree.{free_count, shapes}
 use Rattle.vol_layout.specs.Geometry.{geometry_of}
@@ -23,7 +23,7 @@ kind_number kinds.Regular = 1
 kind_number kinds.Directory = 2
 kind_number _ = 3
 
--- what a node says (stat, section 2 of the manual)
+-- the attributes of a node (stat, section 2 of the manual)
 pub record IsNode (stat : Stat) (node : Node) : Type 0 where
   pub size : node.size ≡ stat.size
   pub accessed : node.accessed ≡ stat.accessed
@@ -37,7 +37,7 @@ pub record IsNode (stat : Stat) (node : Node) : Type 0 where
   pub gid : node.gid ≡ stat.gid
   pub kind : node.kind ≡ kind_number stat.kind
 
--- the query for a node is answered, and the node says so (this project)
+-- the query for a node is answered, and the node has the reply's attributes (this project)
 pub record TellsNode (held : Option Opened) (query : Query) (node : Node) : Type 0 where
   pub stat : Stat
   pub answered : IsAnswered held query (Ok (replies.Stat stat))
@@ -47,7 +47,7 @@ pub record TellsNode (held : Option Opened) (query : Query) (node : Node) : Type
 abbrev pub entry_of : List ℕ × ℕ → Entry
 entry_of name = record { inode = name.1; name = padded_name (take 14 name.0) }
 
--- the query for names is answered: the buffer has as many as there is room for, its rest stays, and the count is of all (this project)
+-- the query for names is answered: the buffer has as many as it has room for, its rest stays, and the count is of all (this project)
 pub record TellsNames (held : Option Opened) (query : Query) (old new : List Entry) (count : ℕ) : Type 0 where
   pub names : List (List ℕ × ℕ)
   pub answered : IsAnswered held query (Ok (replies.Names names))
@@ -59,7 +59,7 @@ abbrev pub edition_number : Edition → ℕ
 edition_number V6 = 6
 edition_number V7 = 7
 
--- what is said of a volume (filsys.h)
+-- the sizes of a volume (filsys.h)
 pub record IsAbout (volume : Mounted) (about : About) : Type 0 where
   pub blocks : about.blocks ≡ (geometry_of volume.edition volume.image).zone_end
   pub data_start : about.data_start ≡ (geometry_of volume.edition volume.image).zone_start

@@ -1,4 +1,4 @@
-//! Answers of a length that isn't known before: they are kept in the handle, and copied out.
+//! Answers whose length isn't known in advance: they are kept in the handle, and copied out.
 ghost use Rattle.std.specs.Prelude.{◌≡◌, ◌≢◌, ◌↔◌, ◌⊎◌, ◌-◌, pos, None, Some, Ok, Err, IsSomeAnd, IfSome, IfOk, IsNone, length, min, take, drop};
 ghost use Rattle.vol_layout.specs.Geometry.{Fits};
 ghost use Rattle.vol_dir.specs.Entries.{IsDirectory};
@@ -19,10 +19,10 @@ use vol_check::{CheckSeat, Checker, Sweep};
 use vol_layout::{Edition, GeometryFault};
 use vol_reports::Report;
 
-/// Keeps the report of a checker on the volume: that of `icheck` for the letter `i`, of `dcheck` for `d`, of `ncheck`
-/// for `n`. It is the text that the program prints.
+/// Keeps a checker's report on the volume: that of `icheck` for the letter `i`, of `dcheck` for `d`, of `ncheck` for
+/// `n`. It is the text that the program prints.
 ///
-/// Costs and takes memory for what the checker does with one thread, and for the text.
+/// Takes the time and memory of the checker with one thread, and memory for the text.
 #[unsafe(no_mangle)]
 pub extern "C" fn unixvol_report(alloc: Global, handle: &mut Handle, letter: u8) -> i32
     ensures kept { result ≡ DONE → BothHeld handle.old.sealed.held handle.new.sealed.held (KeepsReport letter) }
@@ -39,10 +39,10 @@ pub extern "C" fn unixvol_report(alloc: Global, handle: &mut Handle, letter: u8)
     answer
 }
 
-/// Keeps a tar archive of all that is below a directory, and hands out how many entries are left out, since a header
-/// has no room for their paths. The empty path is the root's.
+/// Keeps a tar archive of everything below a directory, and sets `left_out` to the number of entries that are left
+/// out because a header has no room for their paths. The empty path is the root.
 ///
-/// Costs the walk over the tree, with memory for all paths, and for the archive.
+/// Costs the walk over the tree; takes memory for all paths and for the archive.
 #[unsafe(no_mangle)]
 pub extern "C" fn unixvol_export(
     alloc: Global,
@@ -64,7 +64,7 @@ pub extern "C" fn unixvol_export(
     answer
 }
 
-/// The number of bytes of the answer that is kept. Takes no memory.
+/// Sets `count` to the number of bytes of the kept answer. Takes no memory.
 #[unsafe(no_mangle)]
 pub extern "C" fn unixvol_answer_size(alloc: Global, handle: &mut Handle, count: &mut usize) -> i32
     ensures closed { handle.old.sealed.held ≡ None → (result ≡ CLOSED) × (count.new ≡ count.old) }
@@ -79,8 +79,8 @@ pub extern "C" fn unixvol_answer_size(alloc: Global, handle: &mut Handle, count:
     DONE
 }
 
-/// Copies bytes of the answer that is kept, from a place on: as many as the buffer has room for, fewer at the end.
-/// Takes no memory.
+/// Copies bytes of the kept answer from an offset on: as many as the buffer has room for, fewer at the end. Takes no
+/// memory.
 #[unsafe(no_mangle)]
 pub extern "C" fn unixvol_answer(
     alloc: Global,
@@ -104,7 +104,7 @@ pub extern "C" fn unixvol_answer(
     DONE
 }
 
-/// Copies bytes from a place on, as many as there are and as there is room for, and returns their number.
+/// Copies bytes from an offset on, as many as there are and fit, and returns their number.
 fn copy_from(bytes: &[u8], from: usize, into: &mut [u8]) -> usize
     ensures count { result ≡ min (length into.old) (length bytes.now - from) }
     ensures bytes { take result into.new ≡ take result (drop from bytes.now) }
@@ -135,7 +135,7 @@ fn keep_report(alloc: Global, held: &mut OpenVolume, letter: u8) -> i32
     DONE
 }
 
-/// Returns the checker that a letter names.
+/// Returns the checker with a letter.
 fn checker_of(letter: u8) -> Option<Checker>
     ensures { result ≡ checker_of letter }
 {
@@ -147,7 +147,7 @@ fn checker_of(letter: u8) -> Option<Checker>
     }
 }
 
-/// The text of a checker's report.
+/// Returns the text of a checker's report.
 fn report_text(
     alloc: Global,
     edition: Edition,
@@ -162,7 +162,7 @@ fn report_text(
     Ok(text)
 }
 
-/// A checker's report, by one seat of a sweep.
+/// Returns a checker's report, made by one seat of a sweep.
 fn report(
     alloc: Global,
     edition: Edition,
@@ -180,7 +180,7 @@ fn report(
     sweep.finish(alloc, seats)
 }
 
-/// Draws pieces and does them until none is left, or there is no memory.
+/// Runs steps of the sweep until none is left, or memory runs out.
 fn run(alloc: Global, sweep: &Sweep, image: &Image, seat: &mut CheckSeat)
     requires own { IsSeatIn sweep.now seat.old }
     requires layout { IsFor sweep.now image.now }
@@ -190,14 +190,14 @@ fn run(alloc: Global, sweep: &Sweep, image: &Image, seat: &mut CheckSeat)
     while let Ok(Some(_piece)) = sweep.step(alloc, image, seat) {}
 }
 
-/// An archive, and how many entries are left out of it.
+/// An archive, and the number of entries that are left out of it.
 #[derive(Drop)]
 struct Archive {
     bytes: Vec<u8>,
     left_out: usize,
 }
 
-/// Keeps the archive of all below a directory.
+/// Keeps the archive of everything below a directory.
 fn keep_archive(alloc: Global, held: &mut OpenVolume, path: &[u8], left_out: &mut usize) -> i32
     ensures kept { result ≡ DONE → KeepsArchive path.now left_out.new held.old held.new }
     ensures refused { result ≢ DONE → result ≢ NO_MEMORY → (fault : StartFault)
@@ -222,7 +222,7 @@ fn keep_archive(alloc: Global, held: &mut OpenVolume, path: &[u8], left_out: &mu
     DONE
 }
 
-/// The archive of all below a start.
+/// Returns the archive of everything below a start.
 fn archive_of(alloc: Global, image: &Image, start: &Start) -> Result<Archive, AllocError>
     requires fits { Fits start.now.geometry image.now }
     requires directory { IsDirectory start.now.geometry image.now start.now.inode }
@@ -242,7 +242,7 @@ fn archive_of(alloc: Global, image: &Image, start: &Start) -> Result<Archive, Al
     })
 }
 
-/// Returns the number of why there is nothing to export.
+/// Returns the number of the reason why there is nothing to export.
 fn start_number(fault: StartFault) -> i32
     ensures number { result ≡ pos (start_number fault) }
     ensures few { (result ≢ DONE) × (result ≢ CLOSED) }

@@ -11,7 +11,7 @@ use std::alloc::Global;
 use vol_dir::Cred;
 use vol_volume::{Bytes, Call, Done};
 
-/// Makes an empty regular file, and hands out its i-number.
+/// Makes an empty regular file, and sets `inode` to its i-number.
 ///
 /// Each call here takes memory for its bytes and for the journal, and costs what `Volume::call` does.
 #[unsafe(no_mangle)]
@@ -47,7 +47,7 @@ pub extern "C" fn unixvol_create(
     make_node(alloc, handle, call, inode)
 }
 
-/// Makes a directory that has `.` and `..` alone, and hands out its i-number.
+/// Makes a directory that contains only `.` and `..`, and sets `inode` to its i-number.
 #[unsafe(no_mangle)]
 pub extern "C" fn unixvol_mkdir(
     alloc: Global,
@@ -117,7 +117,7 @@ pub extern "C" fn unixvol_link(
     make(alloc, handle, call)
 }
 
-/// Removes a name of a node other than a directory, which is freed with its last name.
+/// Removes a name of a node other than a directory; the last name frees the node.
 #[unsafe(no_mangle)]
 pub extern "C" fn unixvol_unlink(
     alloc: Global,
@@ -144,7 +144,7 @@ pub extern "C" fn unixvol_unlink(
     make(alloc, handle, call)
 }
 
-/// Removes a directory that has `.` and `..` alone.
+/// Removes a directory that contains only `.` and `..`.
 #[unsafe(no_mangle)]
 pub extern "C" fn unixvol_rmdir(
     alloc: Global,
@@ -275,7 +275,7 @@ pub extern "C" fn unixvol_chmod(
     make(alloc, handle, call)
 }
 
-/// Gives a node to another user and group.
+/// Changes the user and group of a node.
 #[unsafe(no_mangle)]
 pub extern "C" fn unixvol_chown(
     alloc: Global,
@@ -310,7 +310,7 @@ pub extern "C" fn unixvol_chown(
     make(alloc, handle, call)
 }
 
-/// Gives a node other times, of its last reading and of the last change of what it holds.
+/// Sets the times of a node's last reading and of the last change of its contents.
 #[unsafe(no_mangle)]
 pub extern "C" fn unixvol_times(
     alloc: Global,
@@ -345,8 +345,8 @@ pub extern "C" fn unixvol_times(
     make(alloc, handle, call)
 }
 
-/// Cuts the journal: the image becomes what the next calls start from. The bytes of the records are freed; room for as
-/// many stays. Each call does so by itself once the journal is counted as more bytes than the image has. Takes no memory.
+/// Cuts the journal: the present image becomes its start. Frees the bytes of the records, and keeps the room for as
+/// many. Each call does so by itself once the journal is counted as more bytes than the image has. Takes no memory.
 #[unsafe(no_mangle)]
 pub extern "C" fn unixvol_cut(alloc: Global, handle: &mut Handle) -> i32
     ensures closed { handle.old.sealed.held ≡ None → (result ≡ CLOSED) × (handle.new.sealed.held ≡ None) }
@@ -363,7 +363,7 @@ pub extern "C" fn unixvol_cut(alloc: Global, handle: &mut Handle) -> i32
     if is_cut { DONE } else { TOO_MANY }
 }
 
-/// Makes a call that makes a node, of the volume that an open handle holds, and hands out the node's i-number.
+/// Makes a call that makes a node, on the volume of an open handle, and sets `inode` to the node's i-number.
 fn make_node(alloc: Global, handle: &mut Handle, call: Call, inode: &mut u16) -> i32
     requires open_handle { IsSome handle.old.sealed.held }
     requires node { MakesNode call }
@@ -382,7 +382,7 @@ fn make_node(alloc: Global, handle: &mut Handle, call: Call, inode: &mut u16) ->
     }
 }
 
-/// Makes a call of the volume that an open handle holds.
+/// Makes a call on the volume of an open handle.
 fn make(alloc: Global, handle: &mut Handle, call: Call) -> i32
     requires { IsSome handle.old.sealed.held }
     ensures made { result ≡ DONE → (done : Done) × Makes handle.old.sealed.held handle.new.sealed.held call done }
@@ -396,7 +396,7 @@ fn make(alloc: Global, handle: &mut Handle, call: Call) -> i32
     }
 }
 
-/// Makes a call of the volume that an open handle holds; the error is the number of the refusal.
+/// Makes a call on the volume of an open handle; the error is the number of the refusal.
 fn call_held(alloc: Global, handle: &mut Handle, call: Call) -> Result<Done, i32>
     requires { IsSome handle.old.sealed.held }
     ensures made { IfOk result (λ done. Makes handle.old.sealed.held handle.new.sealed.held call done) }

@@ -7,7 +7,7 @@ use crate::sealed::Sealed;
 use std::alloc::Global;
 use std::mem::replace;
 
-/// An open volume, or nothing if it is closed. In C it is a pointer and a `bool`, and both are zeros at first.
+/// An open volume, or nothing if it is closed. In C it is a pointer and a `bool`, both zero at first.
 #[repr(C)]
 pub struct Handle {
     pub sealed: Sealed,
@@ -16,7 +16,7 @@ pub struct Handle {
 }
 
 impl Handle {
-    /// A closed handle.
+    /// Returns a closed handle.
     pub fn closed(alloc: Global) -> Handle
         ensures { result.sealed.held ≡ None }
     {
@@ -26,7 +26,7 @@ impl Handle {
         }
     }
 
-    /// A handle to this volume.
+    /// Returns a handle to this volume.
     pub(crate) fn of(volume: Box<OpenVolume>) -> Handle
         ensures { result.sealed.held ≡ Some volume.value }
     {
@@ -65,7 +65,7 @@ impl Handle {
         replace(self, Handle::closed(alloc)).into_box()
     }
 
-    /// Holds this volume, and frees what was held before.
+    /// Holds this volume, and frees the one held before.
     pub(crate) fn put(&mut self, volume: Box<OpenVolume>)
         ensures { self.new.sealed.held ≡ Some volume.value }
     {

@@ -1,4 +1,4 @@
-//! Volumes for programs in C, Python and Rust: a handle, and the functions that are called of it.
+//! Volumes for programs in C, Python and Rust: a handle, and functions on it.
 #![tactic(auto)]
 
 mod answers;
@@ -35,7 +35,7 @@ pub const DONE: i32 = 0;
 /// An allocation was refused. Nothing was changed.
 pub const NO_MEMORY: i32 = 12;
 
-/// With the rule added, 1 to 12: the bytes are no sound volume.
+/// The bytes are not a sound volume; the number of the broken rule, 1 to 12, is added.
 pub const UNSOUND: i32 = 200;
 
 /// The user or group number is above the edition's highest.
@@ -47,14 +47,14 @@ pub const CLOSED: i32 = 300;
 /// The edition is neither 6 nor 7.
 pub const NO_EDITION: i32 = 301;
 
-/// The buffer hasn't the size that is wanted.
+/// The buffer doesn't have the required size.
 pub const NO_ROOM: i32 = 302;
 
-/// The sizes aren't those of a volume.
+/// No volume can have these sizes.
 pub const BOUNDS: i32 = 303;
 
 /// The journal can't be cut: its records' numbers would reach 2^64.
 pub const TOO_MANY: i32 = 304;
 
-/// The letter names no checker.
+/// No checker has this letter.
 pub const NO_REPORT: i32 = 305;

@@ -5,7 +5,7 @@ ghost use Rattle.std.specs.Box.Ownership.{box_owns};
 use std::alloc::Allocator;
 use std::marker::Model;
 
-/// The pointer of a box, and what it owns.
+/// The pointer of a box, with ownership of its contents.
 pub struct Loose<T, A: Allocator> {
     pub(crate) ptr: *mut T,
     pub(crate) alloc: A,
@@ -27,7 +27,7 @@ impl<T, A: Allocator> Loose<T, A> {
         Loose { ptr, alloc }
     }
 
-    /// Makes the box again.
+    /// Puts the box together again.
     pub fn into_box(self) -> Box<T, A>
         ensures { result.value ≡ self.value }
     {

@@ -1,12 +1,12 @@
-//! What the numbers mean that exports return.
+//! The meanings of the numbers that exports return.
 ghost use Rattle.std.specs.Prelude.{◌≡◌, ◌<◌, ◌≤◌, length, take, drop};
 ghost use Rattle.unixvol_c.specs.Numbers.{number_text, own_text, refusal_text, rule_text};
 
 use crate::queries::put_text;
 use crate::{DONE, NO_ROOM};
 
-/// Puts the text of a number that an export returned into a buffer, as `NoEntry` or `unsound, rule 7`, and hands out
-/// its length. If the buffer has no room for it, the length alone is handed out. Takes no memory.
+/// Puts the text of a number that an export returned into a buffer, such as `NoEntry` or `unsound, rule 7`, and sets
+/// `count` to its length. If the buffer is too short, sets only `count`. Takes no memory.
 #[unsafe(no_mangle)]
 pub extern "C" fn unixvol_name(number: u16, into: &mut [u8], count: &mut usize) -> i32
     ensures count { count.new ≡ length (number_text number) }
@@ -17,7 +17,7 @@ pub extern "C" fn unixvol_name(number: u16, into: &mut [u8], count: &mut usize) 
     put_text(number_text(number).as_bytes(), into, count)
 }
 
-/// The text of a number.
+/// Returns the text of a number.
 fn number_text(number: u16) -> &'static str
     ensures { result.now ≡ number_text number }
 {
@@ -30,7 +30,7 @@ fn number_text(number: u16) -> &'static str
     }
 }
 
-/// The name of a refusal, and the text of 0.
+/// Returns the name of a refusal, or the text of 0.
 fn refusal_text(number: u16) -> &'static str
     ensures { result.now ≡ refusal_text number }
 {
@@ -55,7 +55,7 @@ fn refusal_text(number: u16) -> &'static str
     }
 }
 
-/// The text of a broken rule.
+/// Returns the text of a broken rule.
 fn rule_text(number: u16) -> &'static str
     ensures { result.now ≡ rule_text number }
 {
@@ -76,7 +76,7 @@ fn rule_text(number: u16) -> &'static str
     }
 }
 
-/// The text of another number.
+/// Returns the text of another number.
 fn own_text(number: u16) -> &'static str
     ensures { result.now ≡ own_text number }
 {

@@ -1,4 +1,4 @@
-//! What a handle holds while it is open.
+//! The contents of an open handle.
 ghost use Rattle.std.specs.Prelude.{◌≡◌, ◌+◌, ◌^◌, ◌≤◌, [], true, false, IfOk, IfErr, IfSome, IfNone, OnErr, length};
 ghost use Rattle.vol_volume.specs.Journal.{Refuses};
 ghost use Rattle.vol_volume.specs.Volume.{after_cut, reads_as};
@@ -10,15 +10,15 @@ use std::marker::Model;
 use vol_dir::Refusal;
 use vol_volume::{Call, Done, Volume};
 
-/// How many bytes a record of the journal is counted as, beside those of its paths and those that it writes.
+/// The number of bytes that a record of the journal counts, besides those of its paths and those that it writes.
 const RECORD: usize = 128;
 
-/// An open volume, whose journal is cut as soon as it has grown past the image; and the answer of unknown length
-/// that was asked for last.
+/// An open volume, whose journal is cut as soon as it has grown past the image; and the last answer of unknown
+/// length.
 #[derive(Drop)]
 pub struct OpenVolume {
     volume: Volume,
-    /// How many bytes the journal is counted as.
+    /// The number of bytes that the journal counts.
     growth: usize,
     answer: Vec<u8>,
 }
@@ -34,7 +34,7 @@ impl Model for OpenVolume {
 }
 
 impl OpenVolume {
-    /// A volume that was just mounted. Takes no memory.
+    /// Wraps a volume that was just mounted. Takes no memory.
     pub(crate) fn new(alloc: Global, volume: Volume) -> OpenVolume
         requires { volume.journal ≡ [] }
         ensures { result ≡ opened volume }
@@ -46,7 +46,7 @@ impl OpenVolume {
         }
     }
 
-    /// The volume.
+    /// Returns the volume.
     pub(crate) fn volume(&self) -> &Volume
         ensures { result.now ≡ self.now.volume }
     {
@@ -69,14 +69,14 @@ impl OpenVolume {
         Ok(done)
     }
 
-    /// The answer that is kept.
+    /// Returns the kept answer.
     pub(crate) fn answer(&self) -> &[u8]
         ensures { result.now ≡ self.now.answer }
     {
         &self.answer
     }
 
-    /// Keeps an answer in place of the one before.
+    /// Keeps an answer, instead of the one before.
     pub(crate) fn keep(&mut self, answer: Vec<u8>)
         ensures { self.new ≡ record self.old { answer = answer.items } }
     {
@@ -96,8 +96,8 @@ impl OpenVolume {
     }
 }
 
-/// Cuts the journal of a volume if it is counted as more bytes than the image has, and returns how many it is then
-/// counted as. If the number of the next record would reach 2^64, nothing is cut.
+/// Cuts the journal of a volume if it counts more bytes than the image has, and returns the number of bytes that it
+/// then counts. If the number of the next record would reach 2^64, nothing is cut.
 fn trim(volume: &mut Volume, growth: Option<usize>) -> usize
     requires { HasGrowth volume.old growth }
     ensures trimmed { volume.new ≡ trimmed volume.old }
@@ -118,12 +118,12 @@ fn cut(volume: &mut Volume) -> bool
     ensures stays { 2 ^ 64 ≤ volume.old.first + length volume.old.journal → (result ≡ false) × (volume.new ≡ volume.old) }
 {
     let is_cut = volume.cut().is_ok();
-    // The first record's number, which is below 2^64, brings into the proof that the journal could be cut.
+    // Reading the first record's number, which is below 2^64, lets the proof show that the journal could be cut.
     let _ = volume.first();
     is_cut
 }
 
-/// How many bytes a journal is counted as with the record of a call more; None from 2^64 on.
+/// Returns the number of bytes that a journal counts with one more call, or `None` from 2^64 on.
 fn grown(growth: usize, call: &Call) -> Option<usize>
     ensures some { IfSome result (λ sum. sum ≡ growth + call_bytes call.now) }
     ensures none { IfNone result (2 ^ 64 ≤ growth + call_bytes call.now) }
@@ -135,7 +135,7 @@ fn grown(growth: usize, call: &Call) -> Option<usize>
         .checked_add(second)
 }
 
-/// How many bytes a call has: those of its path, and those that it writes or of its second path.
+/// Returns the number of bytes in a call: those of its path, and those that it writes or of its second path.
 fn lengths(call: &Call) -> (usize, usize)
     ensures { 128 + result.0 + result.1 ≡ call_bytes call.now }
 {

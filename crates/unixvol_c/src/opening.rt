@@ -15,9 +15,9 @@ use std::alloc::{AllocError, Global};
 use vol_layout::Edition;
 use vol_volume::{MkfsFault, MountFault, Volume, judge, mkfs};
 
-/// Opens a handle on a copy of these bytes, and frees what it held before.
+/// Opens a handle on a copy of these bytes, and frees the volume that it held before.
 ///
-/// Takes memory for the copy, for a second one that the journal starts from, and to judge the bytes.
+/// Takes memory for the copy, for a second one as the journal's start, and to judge the bytes.
 #[unsafe(no_mangle)]
 pub extern "C" fn unixvol_open(alloc: Global, handle: &mut Handle, edition: u8, bytes: &[u8]) -> i32
     ensures opened { result ≡ DONE → handle.new.sealed.held ≡ Some (opened (mounted (edition_of edition) bytes.now)) }
@@ -43,7 +43,7 @@ pub extern "C" fn unixvol_open(alloc: Global, handle: &mut Handle, edition: u8, 
     }
 }
 
-/// Makes a new volume of `blocks` blocks, of which `list_blocks` are the i-list, and opens a handle on it; what it
+/// Makes a new volume of `blocks` blocks, `list_blocks` of them for the i-list, and opens a handle on it; the volume
 /// held before is freed. The root belongs to `uid` and `gid`, and all times are `now`.
 ///
 /// Takes memory for two copies of its bytes, and to judge them.
@@ -85,7 +85,7 @@ pub extern "C" fn unixvol_mkfs(
     }
 }
 
-/// Closes a handle, which may be closed already, and frees what it held.
+/// Closes a handle, which may be closed already, and frees its volume.
 #[unsafe(no_mangle)]
 pub extern "C" fn unixvol_close(alloc: Global, handle: &mut Handle)
     ensures { handle.new.sealed.held ≡ None }
@@ -93,8 +93,8 @@ pub extern "C" fn unixvol_close(alloc: Global, handle: &mut Handle)
     drop(handle.take(alloc));
 }
 
-/// Judges bytes: 0 if they are a sound volume, else 200 and the least of the twelve rules that they break. Any bytes
-/// may be judged.
+/// Judges bytes, which may be any: returns 0 if they are a sound volume, else 200 plus the number of the first of the
+/// twelve rules that they break.
 ///
 /// Takes memory for a copy, and to judge it.
 #[unsafe(no_mangle)]
@@ -117,7 +117,7 @@ pub extern "C" fn unixvol_judge(alloc: Global, edition: u8, bytes: &[u8]) -> i32
     }
 }
 
-/// The number of bytes of the image. Takes no memory.
+/// Sets `count` to the number of bytes of the image. Takes no memory.
 #[unsafe(no_mangle)]
 pub extern "C" fn unixvol_size(alloc: Global, handle: &mut Handle, count: &mut usize) -> i32
     ensures closed { handle.old.sealed.held ≡ None → (result ≡ CLOSED) × (count.new ≡ count.old) }
@@ -132,7 +132,7 @@ pub extern "C" fn unixvol_size(alloc: Global, handle: &mut Handle, count: &mut u
     DONE
 }
 
-/// Copies the image into a buffer of just its size. Takes no memory.
+/// Copies the image into a buffer of exactly its size. Takes no memory.
 #[unsafe(no_mangle)]
 pub extern "C" fn unixvol_image(alloc: Global, handle: &mut Handle, into: &mut [u8]) -> i32
     ensures closed { result ≡ CLOSED ↔ handle.old.sealed.held ≡ None }
@@ -150,7 +150,7 @@ pub extern "C" fn unixvol_image(alloc: Global, handle: &mut Handle, into: &mut [
     answer
 }
 
-/// Copies the image of a volume into a buffer of just its size.
+/// Copies the image of a volume into a buffer of exactly its size.
 fn copy_image(volume: &Volume, into: &mut [u8]) -> i32
     ensures copied { length into.old ≡ length volume.now.image → (result ≡ DONE) × (into.new ≡ volume.now.image) }
     ensures room { length into.old ≢ length volume.now.image → (result ≡ NO_ROOM) × (into.new ≡ into.old) }
@@ -163,7 +163,7 @@ fn copy_image(volume: &Volume, into: &mut [u8]) -> i32
     DONE
 }
 
-/// Holds a volume that was just mounted, and frees what was held before.
+/// Holds a volume that was just mounted, and frees the one held before.
 fn hold(alloc: Global, handle: &mut Handle, volume: Volume) -> Result<(), AllocError>
     requires { volume.journal ≡ [] }
     ensures held { OnOk result (handle.new.sealed.held ≡ Some (opened volume)) }
@@ -181,7 +181,7 @@ pub(crate) fn unsound(rule: u8) -> i32
     UNSOUND + rule as i32
 }
 
-/// Returns the edition that a number names.
+/// Returns the edition with a number.
 pub(crate) fn edition_of(number: u8) -> Option<Edition>
     ensures some { IfSome result (λ edition. (edition ≡ edition_of number) × (IsNoEdition number → ⊥)) }
     ensures none { IsNone result → IsNoEdition number }

@@ -1,4 +1,4 @@
-//! Queries of a volume.
+//! Queries on a volume.
 ghost use Rattle.std.specs.Prelude.{◌≡◌, ◌≢◌, ◌↔◌, ◌<◌, ◌≤◌, ◌++◌, map, min, take, drop, length, None, IsSome, IfSome, IfOk, IfErr, Ok};
 ghost use Rattle.vol_volume.specs.declared.queries.Query.TheVariants as asked;
 ghost use Rattle.vol_volume.specs.declared.queries.Reply.TheVariants as replies;
@@ -12,7 +12,7 @@ use std::alloc::Global;
 use vol_dir::Cred;
 use vol_volume::{Bytes, Query, Reply};
 
-/// What a node is, as the user `uid` of the group `gid` sees it.
+/// Sets `node` to the attributes of a node, as the user `uid` of the group `gid` sees it.
 ///
 /// Takes memory for the path.
 #[unsafe(no_mangle)]
@@ -94,8 +94,8 @@ pub extern "C" fn unixvol_read(
     }
 }
 
-/// The names in a directory, in ascending order of their bytes, as many as the buffer has room for; and how many
-/// there are.
+/// Copies the names in a directory, in ascending order of their bytes, as many as the buffer has room for, and sets
+/// `count` to the number of all.
 ///
 /// Takes memory for the path and for the names.
 #[unsafe(no_mangle)]
@@ -131,7 +131,7 @@ pub extern "C" fn unixvol_list(
     }
 }
 
-/// The edition and the sizes of a volume. Takes no memory.
+/// Sets `about` to the edition and the sizes of a volume. Takes no memory.
 #[unsafe(no_mangle)]
 pub extern "C" fn unixvol_about(alloc: Global, handle: &mut Handle, about: &mut About) -> i32
     ensures closed { handle.old.sealed.held ≡ None → (result ≡ CLOSED) × (about.new ≡ about.old) }
@@ -146,7 +146,7 @@ pub extern "C" fn unixvol_about(alloc: Global, handle: &mut Handle, about: &mut 
     DONE
 }
 
-/// The reply to a query of the volume that an open handle holds; the error is the number of the refusal.
+/// Returns the reply to a query on the volume of an open handle; the error is the number of the refusal.
 fn ask(alloc: Global, handle: &mut Handle, query: &Query) -> Result<Reply, i32>
     requires { IsSome handle.old.sealed.held }
     ensures answered { IfOk result (λ reply. IsAnswered handle.old.sealed.held query.now (Ok reply)) }
@@ -166,7 +166,7 @@ fn ask(alloc: Global, handle: &mut Handle, query: &Query) -> Result<Reply, i32>
     }
 }
 
-/// Copies bytes to the front of a buffer, and returns their number.
+/// Copies bytes to the beginning of a buffer, and returns their number.
 pub(crate) fn put_bytes(bytes: &[u8], into: &mut [u8]) -> usize
     requires { length bytes.now ≤ length into.old }
     ensures count { result ≡ length bytes.now }
@@ -177,7 +177,7 @@ pub(crate) fn put_bytes(bytes: &[u8], into: &mut [u8]) -> usize
     bytes.len()
 }
 
-/// Puts a text into a buffer, and hands out its length; if the buffer has no room for it, the length alone.
+/// Puts a text into a buffer, and sets `count` to its length. If the buffer is too short, sets only `count`.
 pub(crate) fn put_text(text: &[u8], into: &mut [u8], count: &mut usize) -> i32
     ensures count { count.new ≡ length text.now }
     ensures whole { length text.now ≤ length into.old
@@ -192,7 +192,7 @@ pub(crate) fn put_text(text: &[u8], into: &mut [u8], count: &mut usize) -> i32
     DONE
 }
 
-/// Puts names into a buffer, as many as it has room for, and returns their number.
+/// Puts names into a buffer, as many as it has room for, and returns the number of all.
 fn put_names(names: &[(Bytes, u16)], into: &mut [Entry]) -> usize
     ensures count { result ≡ length names.now }
     ensures front { into.new ≡ map entry_of (take (length into.old) names.now) ++ drop (length names.now) into.old }

@@ -1,4 +1,4 @@
-//! Images that are no volumes: what is wrong with them, and the free list made anew.
+//! Damaged images: the rules that they break, and rebuilding the free list.
 ghost use Rattle.std.specs.Prelude.{◌≡◌, ◌≢◌, ◌↔◌, ◌⊎◌, ◌+◌, ◌<◌, ◌≤◌, pos, ℕ, List, false, IfOk, length, take, drop};
 ghost use Rattle.vol_judge.specs.Sound.{IsLeastBroken};
 ghost use Rattle.vol_check.specs.Salvaging.{IsSalvaged};
@@ -13,10 +13,10 @@ use std::alloc::Global;
 use vol_check::{SalvageFault, salvage};
 use vol_findings::make_report;
 
-/// Puts what is found of each of the twelve rules into a buffer, a line for each, and hands out how many bytes that
-/// is. The bytes may be any. If the buffer has no room for it, the number of its bytes alone is handed out.
+/// Puts the finding for each of the twelve rules into a buffer, one line each, and sets `count` to the number of
+/// bytes. The image may be any bytes. If the buffer is too short, sets only `count`.
 ///
-/// Costs and takes memory for a copy, for checking each rule, and for the text, which is about a thousand bytes.
+/// Costs checking each rule; takes memory for a copy, for that, and for the text, which is about a thousand bytes.
 #[unsafe(no_mangle)]
 pub extern "C" fn unixvol_explain(
     alloc: Global,
@@ -45,8 +45,9 @@ pub extern "C" fn unixvol_explain(
     put_text(report.text.as_bytes(), into, count)
 }
 
-/// Makes the free list of an image anew, in place, if it breaks no rule but those of the free list; the image is sound
-/// then, and its files and directories are as they were. Else 200 and the least other rule that it breaks.
+/// Rebuilds the free list of an image, in place, if the image breaks no rule except those of the free list. The image
+/// is then sound, and its files and directories are as they were. Otherwise returns 200 plus the number of the first
+/// other rule that it breaks.
 ///
 /// Takes memory for a copy, to judge it, and two bytes for each block.
 #[unsafe(no_mangle)]

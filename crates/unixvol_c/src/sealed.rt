@@ -1,4 +1,4 @@
-//! An open volume behind a pointer that tells C nothing.
+//! An open volume behind a pointer that is opaque to C.
 ghost use Rattle.std.specs.Prelude.{◌≡◌, None, Some, Option, is_some, true};
 ghost use Rattle.unixvol_c.specs.Held.{held_owns, held_coded};
 ghost use Rattle.unixvol_c.specs.contracts.open_volume.OpenVolume.{the_row};
@@ -22,7 +22,7 @@ impl Model for Sealed {
 }
 
 impl Sealed {
-    /// No volume.
+    /// Returns no volume.
     pub fn none(alloc: Global) -> Sealed
         ensures { result.held ≡ None }
     {
@@ -32,7 +32,7 @@ impl Sealed {
         }
     }
 
-    /// The volume of a box.
+    /// Returns the volume of a box.
     pub fn of_loose(loose: Loose<OpenVolume, Global>) -> Sealed
         ensures { result.held ≡ Some loose.value }
     {
@@ -43,7 +43,7 @@ impl Sealed {
         }
     }
 
-    /// The parts of the box again.
+    /// Returns the parts of the box.
     pub fn into_loose(self) -> Loose<OpenVolume, Global>
         requires { is_some self.held ≡ true }
         ensures { self.held ≡ Some result.value }

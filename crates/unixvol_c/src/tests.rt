@@ -1,15 +1,16 @@
-//! Each export once, where nothing refuses it.
+//! Each export once, with success.
 use crate::{
     About, DONE, Entry, Handle, Node, unixvol_about, unixvol_answer, unixvol_answer_size,
     unixvol_chmod, unixvol_chown, unixvol_close, unixvol_create, unixvol_cut, unixvol_explain,
     unixvol_export, unixvol_image, unixvol_judge, unixvol_link, unixvol_list, unixvol_mkdir,
     unixvol_mkfs, unixvol_name, unixvol_open, unixvol_read, unixvol_report, unixvol_rmdir,
-    unixvol_salvage, unixvol_size, unixvol_stat, unixvol_times, unixvol_truncate, unixvol_unlink, unixvol_write,
+    unixvol_salvage, unixvol_size, unixvol_stat, unixvol_times, unixvol_truncate, unixvol_unlink,
+    unixvol_write,
 };
 use std::alloc::Global;
 use std::process::Abort;
 
-/// Makes `/d/a` of 600 bytes with the second name `/b`, makes and removes `/e` and a name, and returns each answer.
+/// Makes `/d/a` of 600 bytes with the second name `/b`, makes and removes `/e` and a name, and returns each result.
 fn change(alloc: Global, handle: &mut Handle) -> [i32; 11] {
     let mut inode = 0;
     [
@@ -27,7 +28,7 @@ fn change(alloc: Global, handle: &mut Handle) -> [i32; 11] {
     ]
 }
 
-/// Asks for `/b`, for its bytes and for the names of the root.
+/// Queries `/b`, its bytes and the names of the root.
 fn ask(rt: &impl Abort, alloc: Global, handle: &mut Handle) {
     let mut node = NO_NODE;
     assert_eq!(rt; unixvol_stat(alloc, handle, 0, 0, b"/b", &mut node), DONE);
@@ -145,7 +146,7 @@ fn each_export_succeeds(rt: HostRuntime) {
     send(handle);
 }
 
-/// Takes what may go to another thread.
+/// Takes a value that may be sent to another thread.
 fn send<T: Send + Drop>(value: T) {
     drop(value);
 }

@@ -1,4 +1,4 @@
-//! What C is told of a node, a name and a volume.
+//! Nodes, names and volumes, as C sees them.
 
 use vol_layout::{Edition, Kind, Slot};
 use vol_volume::{Bytes, Stat, Volume};
@@ -13,21 +13,21 @@ pub struct Entry {
     pub name: [u8; 14],
 }
 
-/// What a node is. Times are in seconds since the beginning of 1970.
+/// The attributes of a node. Times are in seconds since the beginning of 1970.
 #[repr(C)]
 #[derive(Clone, Copy)]
 pub struct Node {
     /// The size in bytes.
     pub size: u32,
-    /// When it was last read, as far as the volume says.
+    /// The time of the last access, as recorded in the volume.
     pub accessed: u32,
-    /// When its bytes or entries last changed.
+    /// The time of the last change of its bytes or entries.
     pub modified: u32,
-    /// When its i-node last changed; 0 if the volume doesn't keep it.
+    /// The time of the last change of its i-node; 0 if the volume doesn't keep it.
     pub changed: u32,
     /// The i-number.
     pub inode: u16,
-    /// The permission bits, those under octal 7777.
+    /// The permission bits, the low 12 bits of the mode.
     pub permissions: u16,
     /// The link count.
     pub links: u16,
@@ -35,9 +35,9 @@ pub struct Node {
     pub uid: u16,
     /// The owner's group.
     pub gid: u16,
-    /// What it is: 1 a regular file, 2 a directory, 3 special.
+    /// Its kind: 1 a regular file, 2 a directory, 3 special.
     pub kind: u8,
-    /// True if the volume keeps when the i-node last changed, as in the seventh edition.
+    /// True if the volume keeps the time of the i-node's last change, as in the seventh edition.
     pub keeps_changed: bool,
 }
 
@@ -49,7 +49,7 @@ pub struct About {
     pub blocks: u32,
     /// The first block after the i-list.
     pub data_start: u32,
-    /// How many blocks are free.
+    /// The number of free blocks.
     pub free_blocks: u32,
     /// The last i-number.
     pub last_inode: u16,
@@ -60,7 +60,7 @@ pub struct About {
 impl Node {
     ghost use Rattle.unixvol_c.specs.Told.{IsNode};
 
-    /// What is told of a node.
+    /// Returns the attributes of a node.
     pub(crate) fn of(stat: Stat) -> Node
         ensures { IsNode stat result }
     {
@@ -88,7 +88,7 @@ impl Entry {
     ghost use Rattle.std.specs.Prelude.{◌≡◌};
     ghost use Rattle.unixvol_c.specs.Told.{entry_of};
 
-    /// A name with its i-number.
+    /// Returns a name with its i-number.
     pub(crate) fn of(name: &(Bytes, u16)) -> Entry
         ensures { result ≡ entry_of name.now }
     {
@@ -101,7 +101,7 @@ impl Entry {
 impl About {
     ghost use Rattle.unixvol_c.specs.Told.{IsAbout};
 
-    /// The sizes of a volume.
+    /// Returns the sizes of a volume.
     pub(crate) fn of(volume: &Volume) -> About
         ensures { IsAbout volume.now result }
     {

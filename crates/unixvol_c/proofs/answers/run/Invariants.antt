@@ -10,6 +10,6 @@ invariant-loop-piece l = record {
   knows : HasSwept l.sweep l.image l.seat;
 }
 
--- each piece is one draw more, and a seat draws at most as many numbers as there are pieces before it ends
+-- each piece is one more draw, and a seat draws at most as many numbers as there are pieces
 abbrev pub decreases-loop-piece : goal.decreases-loop-piece
 decreases-loop-piece l = (table_shape l.sweep.tally).pieces - length l.seat.seat.me.0.draws

@@ -1,4 +1,4 @@
--- What the query List is answered.
+-- The answer to the query List.
 use Rattle.std.proofs.Common.{◌≡◌, ◌≢◌, ℕ, List, Result, Ok, Err, IfOk, refl, ap, ◌∙◌}
 use Rattle.std.specs.Global.{Vec}
 use Rattle.std.specs.Prelude.{OnOk}
@@ -12,7 +12,7 @@ use Rattle.vol_volume.specs.declared.queries.Query.TheVariants as queries
 use Rattle.vol_volume.specs.declared.queries.Reply.{Reply}
 use Rattle.vol_listing.specs.Places.{names_in, names_under}
 
--- what is no want of memory is the answer
+-- a result other than out of memory is the answer
 answer_is : (tree : Tree) (query : Query) (result : Result Reply Refusal) → Answers tree query result → result ≢ Err refusals.NoMemory → result ≡ answer tree query
 answer_is tree query (Ok reply) answers other = answers
 answer_is tree query (Err refusals.NoMemory) answers other = absurd (other refl)
@@ -25,7 +25,7 @@ unfolding names_under
 names_asked tree path asked result answers is other =
     ap names_in (answer_is tree (queries.List user asked) result answers other) ∙ ap (λ bytes. names_in (answer tree (queries.List user bytes))) is
 
--- so are those of a result that comes only where memory didn't run out
+-- so are those of a result that isn't out of memory
 pub names_found : {E : Type 0} (tree : Tree) (path asked : List ℕ) (reply : Result Reply Refusal) (result : Result (Vec (List ℕ × ℕ)) E)
     → Answers tree (queries.List user asked) reply → asked ≡ path → IfOk result (λ names. names.items ≡ names_in reply)
     → OnOk result (reply ≢ Err refusals.NoMemory) → IfOk result (λ names. names.items ≡ names_under tree path)

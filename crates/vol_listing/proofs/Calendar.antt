@@ -1,9 +1,9 @@
--- Years and months that are passed.
+-- Passing years and months.
 use Rattle.std.proofs.Common.{◌≡◌, ℕ, zero, suc, ◌+◌, ◌-◌, ◌<◌, ◌≤◌, refl, ap, arith}
 use Rattle.std.proofs.lemmas.Bool.{lt-ltb, le-ltb}
 use Rattle.vol_listing.specs.Dates.{year_days, month_days, pass_years, pass_months}
 
--- where none may be passed, none is
+-- if none may be passed, none is
 pub years_none : (count year days : ℕ) → count ≡ 0 → pass_years count year days ≡ (year, days)
 unfolding pass_years
 years_none zero year days none = refl
@@ -24,7 +24,7 @@ years_on (suc n) year days some high =
     let less : n ≡ suc n - 1 = omega arith in
     rw (le-ltb days (year_days year) high) (ap (λ m. pass_years m (year + 1) (days - year_days year)) less)
 
--- where none may be passed, none is
+-- if none may be passed, none is
 pub months_none : (count year month days : ℕ) → count ≡ 0 → pass_months count year month days ≡ (month, days)
 unfolding pass_months
 months_none zero year month days none = refl

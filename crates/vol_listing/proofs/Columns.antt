@@ -1,4 +1,4 @@
--- Texts that are appended one behind another.
+-- Texts that are appended one after another.
 use Rattle.std.proofs.Common.{◌≡◌, ℕ, List, ◌++◌, ap, ◌∙◌}
 use Rattle.std.proofs.lemmas.List.{append_assoc}
 

@@ -8,14 +8,14 @@ use Rattle.jiff_core.proofs.CalendarLemmas.{day_count-next_year, days_in_year_bo
 use Rattle.vol_listing.specs.Dates.{year_days, month_days, pass_years, pass_months, date_of, moment_text, clock_text}
 use Rattle.vol_listing.specs.Laws.{IsDateAfter, DatesAreOfTheCalendar}
 
--- a year, and how many of its days come before a day, by that day's count
+-- a year, and the number of its days before a day, from that day's count
 record InYear (count : ℕ) (found : ℕ × ℕ) : Type 0 where
   counted : day_count (pos found.0) 1 1 + found.1 ≡ count
   within : found.1 < days_in_year (pos found.0)
   late : 1970 ≤ found.0
   soon : found.0 ≤ 1970 + 136
 
--- the year that is found is that of the day
+-- the year that is found is the day's
 in_year : (count year days : ℕ) → 1970 ≤ year → year + count ≡ 1970 + 136 → days < 365 * count + 365
     → InYear (day_count (pos year) 1 1 + days) (pass_years count year days)
 unfolding pass_years
@@ -31,14 +31,14 @@ in_year (suc n) year days late end low =
           rw (le-ltb days (year_days year) more) (rw same at (in_year n (year + 1) (days - year_days year) (omega arith) (omega arith) (omega arith)))
     ]
 
--- a month, and how many of its days come before a day, by how many of the year's do
+-- a month, and the number of its days before a day, from the number of the year's days before it
 record InMonth (year : ℕ) (count : ℕ) (found : ℕ × ℕ) : Type 0 where
   counted : days_of_months (pos year) (found.0 - 1) + found.1 ≡ count
   within : found.1 < days_in_month (pos year) found.0
   low : 1 ≤ found.0
   high : found.0 ≤ 12
 
--- the month that is found is that of the day
+-- the month that is found is the day's
 in_month : (count year month days : ℕ) → 1 ≤ month → month + count ≡ 12 → days_of_months (pos year) (month - 1) + days < days_in_year (pos year)
     → InMonth year (days_of_months (pos year) (month - 1) + days) (pass_months count year month days)
 unfolding pass_months
@@ -101,7 +101,7 @@ dated days most =
       only = λ y n e there same. same_date y n e (pos found.0) m d there exists (omega (arith, signed_arith, days_from_civil-day_count y n e, same, count));
     }
 
--- so is what is shown of a moment
+-- so is a time as it is shown
 pub shown : DatesAreOfTheCalendar
 unfolding moment_text clock_text
 shown seconds low =

@@ -1,4 +1,4 @@
--- Going into directories.
+-- Descending into directories.
 use Rattle.std.proofs.Common.{◌≡◌, List, [], ◌∷◌, ◌++◌, ap, sym, ◌∙◌, subst}
 use Rattle.std.specs.Prelude.{reverse}
 use Rattle.std.proofs.lemmas.List.{reverse-append, append-nil, append_assoc}
@@ -7,7 +7,7 @@ use Rattle.vol_listing.specs.Places.{below, Descends, AllBelow}
 use Rattle.vol_listing.specs.declared.places.Place.{Place}
 
 module _ (tree : Tree) where
-  -- what the directories in the first one come to is all
+  -- descending into the directories in the first one gives all
   pub descent_begins : (start : Place) (none places pending rest : List Place) → none ≡ [] → places ≡ []
       → reverse pending ≡ below tree start ++ reverse none → Descends tree (reverse pending) rest → AllBelow tree start (places ++ rest)
   descent_begins start none places pending rest empty nothing is onward =
@@ -15,19 +15,19 @@ module _ (tree : Tree) where
       subst (λ (ps : List Place). Descends tree (below tree start) (ps ++ rest)) (sym nothing)
       (subst (λ (ps : List Place). Descends tree ps rest) first onward)
 
-  -- what is pending after a step comes, behind the directory of that step, to what was pending before it
+  -- descending after a step gives the step's directory, followed by the rest
   pub descent_on : (place : Place) (pending left next rest : List Place) → pending ≡ left ++ place ∷ [] → reverse next ≡ below tree place ++ reverse left → Descends tree (reverse next) rest → Descends tree (reverse pending) (place ∷ rest)
   descent_on place pending left next rest popped on onward =
       subst (λ (ps : List Place). Descends tree ps (place ∷ rest)) (sym (ap reverse popped ∙ reverse-append left (place ∷ [])))
       (Descends.goes place (reverse left) rest (subst (λ (ps : List Place). Descends tree ps rest) on onward))
 
-  -- with one more directory behind those before
+  -- with one more directory after those before
   pub descent_more : (start place : Place) (places more rest : List Place) → more ≡ places ++ place ∷ [] → AllBelow tree start (places ++ place ∷ rest)
       → AllBelow tree start (more ++ rest)
   descent_more start place places more rest pushed all =
       subst (AllBelow tree start) (sym (ap (λ (ps : List Place). ps ++ rest) pushed ∙ append_assoc places (place ∷ []) rest)) all
 
-  -- where nothing is pending, that is all
+  -- if nothing is pending, the places so far are all
   pub descent_ends : (start : Place) (places pending : List Place) → pending ≡ []
       → ((rest : List Place) → Descends tree (reverse pending) rest → AllBelow tree start (places ++ rest)) → AllBelow tree start places
   descent_ends start places pending none onward =

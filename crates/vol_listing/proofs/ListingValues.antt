@@ -27,7 +27,7 @@ ascii_more : (b : ℕ) (bytes : List ℕ) → b < 128 → IsAscii bytes → (i :
 ascii_more b bytes low rest zero = low
 ascii_more b bytes low rest (suc i) = rest i
 
--- three octal digits behind a backslash
+-- three octal digits after a backslash
 digits_ascii : (b : ℕ) → b < 256 → IsAscii (92 ∷ (48 + b / 64) ∷ (48 + b / 8 % 8) ∷ (48 + b % 8) ∷ [])
 digits_ascii b byte =
     ascii_more 92 ((48 + b / 64) ∷ (48 + b / 8 % 8) ∷ (48 + b % 8) ∷ []) (omega arith)
@@ -53,7 +53,7 @@ pub escaped_utf8 : (bytes : List ℕ) → ((i : ℕ) → slice_index bytes i < 2
 unfolding escaped
 escaped_utf8 bytes bound = IsUtf8-from_ascii (flat_map escaped_byte bytes) (bytes_ascii bytes bound)
 
--- the members of a device stand behind the links, and before the time
+-- the members of a device come after the links, and before the time
 device_in_order : (sort : Sort) (gid inode kind links modified path permissions size uid : Data)
     → with_device sort (member (codes "gid") gid (member (codes "inode") inode (member (codes "kind") kind (member (codes "links") links
     (member (codes "modified") modified (member (codes "path") path (member (codes "permissions") permissions (member (codes "size") size (member (codes "uid") uid no_members)))))))))
@@ -64,7 +64,7 @@ device_in_order sorts.Directory gid inode kind links modified path permissions s
 device_in_order (sorts.Character device) gid inode kind links modified path permissions size uid = refl
 device_in_order (sorts.Block device) gid inode kind links modified path permissions size uid = refl
 
--- the members of a row stand in the order of their keys
+-- the members of a row are in the order of their keys
 row_in_order : (path : List ℕ) (row : Row) → object (with_device row.sort (with_file path row (with_numbers row no_members))) ≡ row_data path row
 unfolding row_data with_file with_numbers
 row_in_order path row = ap object (device_in_order row.sort _ _ _ _ _ _ _ _ _)
@@ -95,7 +95,7 @@ AreWhole ds = items_have_float (items_of ds) ≡ false
 whole_more : (d : Data) (ds : List Data) → has_float d ≡ false → AreWhole ds → AreWhole (d ∷ ds)
 whole_more d ds here rest = rw here rest
 
--- and of one list behind another
+-- and of one list after another
 whole_append : (ds es : List Data) → AreWhole ds → AreWhole es → AreWhole (ds ++ es)
 whole_append [] es whole rest = rest
 whole_append (d ∷ ds) es whole rest = both (has_float d) (items_have_float (items_of ds)) (items_have_float (items_of (ds ++ es))) whole (whole_append ds es)

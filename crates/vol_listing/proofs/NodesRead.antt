@@ -1,4 +1,4 @@
--- What the tree of an image says of an i-number.
+-- The node of an i-number, in the tree of an image.
 use Rattle.std.proofs.Common.{◌≡◌, ◌≢◌, ◌⊎◌, inl, inr, ℕ, ◌≤◌, ◌/◌, ◌%◌, ◌∙◌, ap, refl, sym, true, false, cond, List, None, slice_index, arith}
 use Rattle.std.specs.Option.{option_map, unwrap_or}
 use Rattle.std.proofs.lemmas.Bool.Decides.{nat_tests}
@@ -38,7 +38,7 @@ module _ (geometry : Geometry) (image : List ℕ) (i : ℕ) where
       let last : i ≤ geometry.last_inode = grind (arith, nat_tests) in
       ap (λ n. unwrap_or n no_node) (node_inside geometry image i first last ∙ node_of_kind kind is)
 
-  -- a row where there is no node
+  -- the row of a number without a node
   pub row_outside : is_number geometry i ≡ false → row_of i no_node ≡ row_of i (node_at (tree geometry image) i)
   row_outside number = ap (row_of i) (sym (node_outside number))
 
@@ -73,7 +73,7 @@ module _ (geometry : Geometry) (image : List ℕ) (i : ℕ) where
       ∙ (ap (λ bits. row_with i (inode_of geometry.edition image i) (special_sort (bits / 4096) device)) mode
       ∙ ap (row_of i) (sym (node_is kinds.Special number is))))
 
-  -- whether there is a directory
+  -- whether a node is a directory
   pub directory_outside : is_number geometry i ≡ false → is_directory (node_at (tree geometry image) i) ≡ false
   directory_outside number = ap is_directory (node_outside number)
 

@@ -1,43 +1,43 @@
--- Moments as dates and times of day.
+-- Times as dates and times of day.
 use Rattle.std.specs.Prelude.{ℕ, zero, suc, ◌+◌, ◌-◌, ◌/◌, ◌%◌, ◌==◌, ◌&&◌, ◌||◌, Bool, not, nat_lt, if◌then◌else◌, List, [], ◌∷◌, ◌++◌}
 use Rattle.vol_listing.specs.declared.dates.Date.{Date}
 
--- whether a year has a leap day (the Gregorian calendar)
+-- true if a year has a leap day (the Gregorian calendar)
 abbrev pub is_leap : ℕ → Bool
 is_leap year = (year % 4 == 0) && (not (year % 100 == 0) || (year % 400 == 0))
 
--- how many days a year has (the Gregorian calendar)
+-- the number of days in a year (the Gregorian calendar)
 abbrev pub year_days : ℕ → ℕ
 year_days year = if is_leap year then 366 else 365
 
--- whether a month has 30 days: April, June, September and November (the Gregorian calendar)
+-- true if a month has 30 days: April, June, September and November (the Gregorian calendar)
 abbrev pub is_short : ℕ → Bool
 is_short month = (month == 4) || (month == 6) || (month == 9) || (month == 11)
 
--- how many days a month of a year has (the Gregorian calendar)
+-- the number of days in a month of a year (the Gregorian calendar)
 abbrev pub month_days : ℕ → ℕ → ℕ
 month_days year month = if month == 2 then (if is_leap year then 29 else 28) else if is_short month then 30 else 31
 
--- the year of a day, and how many days of it come before that one, where so many days come after the beginning of a year: at most `count` years are passed (the Gregorian calendar)
+-- the year of the day that is `days` days after the beginning of `year`, and the number of days before it in its year: at most `count` years are passed (the Gregorian calendar)
 unfoldable pub pass_years : ℕ → ℕ → ℕ → ℕ × ℕ
 pass_years zero year days = (year, days)
 pass_years (suc count) year days = if nat_lt days (year_days year) then (year, days) else pass_years count (year + 1) (days - year_days year)
 
--- the month of a day, and how many days of it come before that one, where so many days come after the beginning of a month: at most `count` months are passed (the Gregorian calendar)
+-- the month of the day that is `days` days after the beginning of `month`, and the number of days before it in its month: at most `count` months are passed (the Gregorian calendar)
 unfoldable pub pass_months : ℕ → ℕ → ℕ → ℕ → ℕ × ℕ
 pass_months zero year month days = (month, days)
 pass_months (suc count) year month days =
     if nat_lt days (month_days year month) then (month, days) else pass_months count year (month + 1) (days - month_days year month)
 
--- the date of a day of a year before which so many others come (the Gregorian calendar)
+-- the date of the day of a year that has this many days before it (the Gregorian calendar)
 abbrev pub date_in : ℕ × ℕ → Date
 date_in found = let month = pass_months 11 found.0 1 found.1 in record { year = found.0; month = month.0; day = month.1 + 1 }
 
--- the date so many days after the beginning of 1970; moments of 32 bits end in 2106, 136 years later (the Gregorian calendar)
+-- the date `days` days after the beginning of 1970; 32-bit times end in 2106, 136 years later (the Gregorian calendar)
 unfoldable pub date_of : ℕ → Date
 date_of days = date_in (pass_years 136 1970 days)
 
--- a digit of a number, the last for weight 1 (this project)
+-- a digit of a number; weight 1 gives the last (this project)
 abbrev pub digit : ℕ → ℕ → ℕ
 digit weight n = 48 + n / weight % 10
 
@@ -55,6 +55,6 @@ clock_text second =
     ∷ digit 10 (second / 60 % 60) ∷ digit 1 (second / 60 % 60) ∷ 58
     ∷ digit 10 (second % 60) ∷ digit 1 (second % 60) ∷ []
 
--- a moment, in seconds since the beginning of 1970, as YYYY-MM-DD HH:MM:SS in universal time (ISO 8601)
+-- a time, in seconds since the beginning of 1970, as YYYY-MM-DD HH:MM:SS in universal time (ISO 8601)
 unfoldable pub moment_text : ℕ → List ℕ
 moment_text seconds = date_text (date_of (seconds / 86400)) ++ (32 ∷ clock_text (seconds % 86400))

@@ -1,4 +1,4 @@
--- How far a listing goes.
+-- The depth of a listing.
 use Rattle.std.specs.Prelude.{Bool, true, false}
 use Rattle.vol_dir.specs.Tree.{Node}
 use Rattle.vol_dir.specs.Walk.{is_directory}
@@ -8,30 +8,30 @@ use Rattle.vol_listing.specs.declared.options.Lines.{Lines}
 use Rattle.vol_listing.specs.declared.options.Lines.TheVariants as lines
 use Rattle.vol_listing.specs.declared.options.Listing.{Listing}
 
--- whether the directories below are listed too (ls -R)
+-- true if the directories below are listed too (ls -R)
 abbrev pub goes_below : Depth → Bool
 goes_below depths.Itself = false
 goes_below depths.Names = false
 goes_below depths.Below = true
 
--- whether what a node holds is listed, and not the node by itself: it is a directory, and not asked for by itself (ls, ls -d)
+-- true if the contents of a node are listed rather than the node itself: it is a directory, and `Itself` isn't asked for (ls, ls -d)
 abbrev pub opens : Depth → Node → Bool
 opens depths.Itself node = false
 opens depths.Names node = is_directory node
 opens depths.Below node = is_directory node
 
--- whether only the i-number is told of each name (ls -i)
+-- true if only i-numbers and names are listed (ls -i)
 abbrev pub is_plain : Lines → Bool
 is_plain lines.Plain = true
 is_plain lines.Long = false
 is_plain lines.Json = false
 
--- whether a listing is that of the names in a directory with their i-numbers, and no more, at some depth and of some lines (ls without an option)
+-- true if only the names in a directory with their i-numbers are listed, at this depth and in these lines (ls without an option)
 abbrev pub is_bare_at : Depth → Lines → Bool
 is_bare_at depths.Itself form = false
 is_bare_at depths.Names form = is_plain form
 is_bare_at depths.Below form = false
 
--- whether a listing is that of the names in a directory with their i-numbers, and no more (ls without an option)
+-- true if only the names in a directory with their i-numbers are listed (ls without an option)
 abbrev pub is_bare : Listing → Bool
 is_bare listing = is_bare_at listing.depth listing.lines

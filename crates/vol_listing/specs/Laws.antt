@@ -1,4 +1,4 @@
--- Statements of what a listing has.
+-- Statements on the contents of a listing.
 use Rattle.std.specs.Prelude.{◌≡◌, ℕ, ◌+◌, ◌*◌, ◌<◌, ◌^◌, List, [], ◌∷◌, ◌++◌, ℤ, pos, Ok}
 use Rattle.std.specs.List.{flat_map}
 use Rattle.jiff_core.specs.Calendar.{IsCivilDate, days_from_civil}
@@ -19,7 +19,7 @@ abbrev pub ListsNames : Type 0
 ListsNames = (style : Style) (tree : Tree) (path : List ℕ) (reply : Reply) → answer tree (queries.List user path) ≡ Ok reply
     → (i : ℕ) × (walk tree user path ≡ Ok i) × (names_text style tree path ≡ flat_map (line_of style tree) (names_at tree i))
 
--- this date, and no other, is so many days after 1 January 1970 (the Gregorian calendar, as jiff states it)
+-- this date, and no other, is `days` days after 1 January 1970 (the Gregorian calendar, as jiff defines it)
 pub record IsDateAfter (days : ℕ) (date : Date) : Type 0 where
   pub exists : IsCivilDate (pos date.year) date.month date.day
   pub number : days_from_civil (pos date.year) date.month date.day ≡ pos days
@@ -30,7 +30,7 @@ pub record IsDateAfter (days : ℕ) (date : Date) : Type 0 where
 abbrev pub pair : ℕ → List ℕ
 pair n = digit 10 n ∷ digit 1 n ∷ []
 
--- a moment reads as a date of the calendar and a time of day; days, hours, minutes and seconds come to the seconds since the beginning of 1970 (ISO 8601)
+-- a time reads as a date of the calendar and a time of day, which add up to the seconds since the beginning of 1970 (ISO 8601)
 pub record IsShown (seconds : ℕ) (text : List ℕ) : Type 0 where
   pub days : ℕ
   pub hour : ℕ
@@ -44,6 +44,6 @@ pub record IsShown (seconds : ℕ) (text : List ℕ) : Type 0 where
   pub sum : days * 86400 + hour * 3600 + minute * 60 + second ≡ seconds
   pub words : text ≡ date_text date ++ (32 ∷ (pair hour ++ (58 ∷ (pair minute ++ (58 ∷ pair second)))))
 
--- each moment is shown as that date of the calendar, and as that time of day (ls -l)
+-- each time is shown as its date of the calendar and its time of day (ls -l)
 abbrev pub DatesAreOfTheCalendar : Type 0
 DatesAreOfTheCalendar = (seconds : ℕ) → seconds < 2 ^ 32 → IsShown seconds (moment_text seconds)

@@ -1,4 +1,4 @@
--- What is listed of a volume, and how.
+-- The listing of a file or directory of a volume.
 use Rattle.std.specs.Prelude.{◌≡◌, ℕ, true, false, if◌then◌else◌, List, [], ◌∷◌}
 use Rattle.vol_dir.specs.Tree.{Tree}
 use Rattle.vol_dir.specs.Walk.{is_nil}
@@ -13,27 +13,27 @@ use Rattle.vol_listing.specs.declared.options.Listing.{Listing}
 use Rattle.vol_listing.specs.declared.options.Screen.{Screen}
 use Rattle.vol_listing.specs.declared.places.Place.{Place}
 
--- a listing in some form of what stands at a place, with the directories below it, where these are asked for (this project)
+-- a listing in some form of a file or directory, with the directories below it (this project)
 abbrev pub listing_text : Lines → Depth → Screen → Tree → Place → List Place → List ℕ
 listing_text lines.Plain depth screen tree place places = lines_text (record { is_long = false; screen = screen }) tree depth place places
 listing_text lines.Long depth screen tree place places = lines_text (record { is_long = true; screen = screen }) tree depth place places
 listing_text lines.Json depth screen tree place places = json_text tree depth place places
 
--- the path by which a listing begins: that of the root is a slash, where it has no bytes (this project)
+-- the path at the top of a listing: a slash for the root if the path is empty (this project)
 abbrev pub shown_path : List ℕ → List ℕ
 shown_path path = if is_nil path then 47 ∷ [] else path
 
--- where a listing begins that a path leads to (this project)
+-- the place at the top of a listing (this project)
 abbrev pub start_of : List ℕ → ℕ → Place
 start_of path i = record { path = shown_path path; inode = i }
 
--- these are the directories below one, where they are asked for; else there are none (ls -R)
+-- these are the directories below one, if they are to be listed; else there are none (ls -R)
 abbrev pub IsBelow : Depth → Tree → Place → List Place → Type 0
 IsBelow depths.Itself tree place places = places ≡ []
 IsBelow depths.Names tree place places = places ≡ []
 IsBelow depths.Below tree place places = AllBelow tree place places
 
--- this is a listing of what stands at a place (this project)
+-- this is a listing of a file or directory (this project)
 abbrev pub IsListingOf : Tree → Listing → Screen → Place → List ℕ → Type 0
 IsListingOf tree listing screen place text =
     (places : List Place) × IsBelow listing.depth tree place places × (text ≡ listing_text listing.lines listing.depth screen tree place places)

@@ -1,4 +1,4 @@
--- A listing as JSON.
+-- Listings as JSON.
 use Rattle.std.specs.Prelude.{ℕ, ◌/◌, ◌%◌, if◌then◌else◌, List, [], ◌∷◌, ◌++◌, codes, map}
 use Rattle.std.specs.List.{flat_map}
 use Rattle.serde_json.specs.Data.{Data, Members, string, array, object, member, no_members, put}
@@ -17,21 +17,21 @@ use Rattle.vol_listing.specs.declared.rows.Row.{Row}
 use Rattle.vol_listing.specs.declared.rows.Sort.{Sort}
 use Rattle.vol_listing.specs.declared.rows.Sort.TheVariants as sorts
 
--- the word for a sort (this project)
+-- the word for a kind of node (this project)
 abbrev pub sort_word : Sort → List ℕ
 sort_word sorts.Regular = codes "file"
 sort_word sorts.Directory = codes "directory"
 sort_word (sorts.Character device) = codes "character"
 sort_word (sorts.Block device) = codes "block"
 
--- with the device of a special file before others: the high and the low byte of its number (stat.h)
+-- the members of a special file's device, its number's high and low byte, put before others (stat.h)
 abbrev pub device_members : Sort → Members → Members
 device_members sorts.Regular others = others
 device_members sorts.Directory others = others
 device_members (sorts.Character device) others = member (codes "major") (count (device / 256)) (member (codes "minor") (count (device % 256)) others)
 device_members (sorts.Block device) others = member (codes "major") (count (device / 256)) (member (codes "minor") (count (device % 256)) others)
 
--- what a listing says of a node at a path, whose bytes are escaped as a terminal gets them (this project)
+-- the object of a row at a path, whose bytes are escaped as on a terminal (this project)
 unfoldable pub row_data : List ℕ → Row → Data
 row_data path row =
     object (member (codes "gid") (count row.gid)
@@ -45,15 +45,15 @@ row_data path row =
     (member (codes "size") (count row.size)
     (member (codes "uid") (count row.uid) no_members))))))))))
 
--- what it says of an entry of the directory at a path (this project)
+-- the object of an entry of the directory at a path (this project)
 abbrev pub entry_data : Tree → List ℕ → List ℕ × ℕ → Data
 entry_data tree path entry = row_data (joined path entry.0) (row_of entry.1 (node_at tree entry.1))
 
--- what it says of the entries of a directory, in ascending order of their names (ls -a)
+-- the objects of a directory's entries, in ascending order of their names (ls -a)
 unfoldable pub entries_data : Tree → Place → List Data
 entries_data tree place = map (entry_data tree place.path) (names_under tree place.path)
 
--- what it says of all: the entries of a directory, and of those below it that are asked for; of what isn't opened, itself (ls)
+-- the objects of a listing: those of a directory's entries and of the directories below it that are listed; anything else has one object (ls)
 abbrev pub all_data : Tree → Depth → Place → List Place → List Data
 all_data tree depth place places =
     if opens depth (node_at tree place.inode)
@@ -64,7 +64,7 @@ all_data tree depth place places =
 abbrev pub json_text : Tree → Depth → Place → List Place → List ℕ
 json_text tree depth place places = compact_text (array (items_of (all_data tree depth place places))) ++ codes "\n"
 
--- with what a row says in numbers that every node has (this project)
+-- members with the numbers that every node has (this project)
 unfoldable pub with_numbers : Row → Members → Members
 with_numbers row members =
     put (codes "uid") (count row.uid)
@@ -72,7 +72,7 @@ with_numbers row members =
     (put (codes "links") (count row.links)
     (put (codes "inode") (count row.number) members)))
 
--- with what a row says of the file, and its path (this project)
+-- members with the path and the file's kind, permissions, size and time of change (this project)
 unfoldable pub with_file : List ℕ → Row → Members → Members
 with_file path row members =
     put (codes "modified") (count row.modified)
@@ -81,7 +81,7 @@ with_file path row members =
     (put (codes "kind") (string (sort_word row.sort))
     (put (codes "path") (string (escaped path)) members))))
 
--- with the device of a special file (this project)
+-- members with the device of a special file (this project)
 abbrev pub with_device : Sort → Members → Members
 with_device sorts.Regular members = members
 with_device sorts.Directory members = members

@@ -1,4 +1,4 @@
--- The directories of a listing, and what stands in them.
+-- The directories of a listing, and their contents.
 use Rattle.std.specs.Prelude.{◌≡◌, ◌-◌, ◌&&◌, ◌==◌, ℕ, Bool, not, if◌then◌else◌, List, [], ◌∷◌, ◌++◌, length, slice_index, Result, Ok, Err}
 use Rattle.std.specs.List.{flat_map}
 use Rattle.vol_layout.specs.Geometry.{geometry_of, Fits}
@@ -16,24 +16,24 @@ use Rattle.vol_volume.specs.declared.queries.Reply.{Reply}
 use Rattle.vol_volume.specs.declared.queries.Reply.TheVariants as replies
 use Rattle.vol_listing.specs.declared.places.Place.{Place}
 
--- what is known of an image that is listed: it is sound, and its geometry is this one (this project)
+-- an image that can be listed: it is sound, and its geometry is this one (this project)
 pub record IsVolume (geometry : Geometry) (image : List ℕ) : Type 0 where
   pub sound : IsSound geometry.edition image
   pub sizes : geometry ≡ geometry_of geometry.edition image
   pub fits : Fits geometry image
 
--- the names of a reply; there are none where a query was refused, or another one was asked (this project)
+-- the names in a reply; none if the query was refused or wasn't a List (this project)
 abbrev pub names_in : Result Reply Refusal → Names
 names_in (Ok (replies.Names names)) = names
 names_in (Ok (replies.Bytes bytes)) = []
 names_in (Ok (replies.Stat stat)) = []
 names_in (Err refusal) = []
 
--- the names of the directory at a path, in ascending order, as user 0 is told; none where the path leads to no directory (ls -a)
+-- the names in the directory at a path, in ascending order, as user 0 sees them; none if the path leads to no directory (ls -a)
 unfoldable pub names_under : Tree → List ℕ → Names
 names_under tree path = names_in (answer tree (queries.List user path))
 
--- whether a path ends in a slash (this project)
+-- true if a path ends in a slash (this project)
 abbrev pub ends_in_slash : List ℕ → Bool
 ends_in_slash path = slice_index path (length path - 1) == 47
 
@@ -45,11 +45,11 @@ joined path name = if ends_in_slash path then path ++ name else path ++ 47 ∷ n
 abbrev pub place_of : List ℕ → List ℕ × ℕ → Place
 place_of path entry = record { path = joined path entry.0; inode = entry.1 }
 
--- whether an entry is a directory that a listing goes into: neither `.` nor `..` (ls -R)
+-- true if a listing descends into an entry: it is a directory, and neither `.` nor `..` (ls -R)
 abbrev pub is_below : Tree → List ℕ × ℕ → Bool
 is_below tree entry = not (is_dots entry.0) && is_directory (node_at tree entry.1)
 
--- the place of an entry of the directory at a path, where a listing goes into it (ls -R)
+-- the place of an entry of the directory at a path, if a listing descends into it (ls -R)
 abbrev pub directory_below : Tree → List ℕ → List ℕ × ℕ → List Place
 directory_below tree path entry = if is_below tree entry then place_of path entry ∷ [] else []
 
@@ -57,7 +57,7 @@ directory_below tree path entry = if is_below tree entry then place_of path entr
 unfoldable pub below : Tree → Place → List Place
 below tree place = flat_map (directory_below tree place.path) (names_under tree place.path)
 
--- going into the directories that are pending comes to all these: each in turn, and those in it before the next (ls -R)
+-- descending into the pending directories gives all these: each in turn, and those in it before the next (ls -R)
 pub data Descends (tree : Tree) : List Place → List Place → Type 0 where
   ends : Descends tree [] []
   goes : (place : Place) (pending all : List Place) → Descends tree (below tree place ++ pending) all → Descends tree (place ∷ pending) (place ∷ all)

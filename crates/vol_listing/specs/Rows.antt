@@ -1,4 +1,4 @@
--- What a listing says of a node.
+-- The rows of a listing.
 use Rattle.std.specs.Prelude.{ℕ, ◌/◌, ◌%◌, ◌==◌, if◌then◌else◌, slice_index}
 use Rattle.vol_layout.specs.Inode.{permissions_of}
 use Rattle.vol_layout.specs.declared.i_node.Inode.{Inode}
@@ -7,17 +7,17 @@ use Rattle.vol_listing.specs.declared.rows.Row.{Row}
 use Rattle.vol_listing.specs.declared.rows.Sort.{Sort}
 use Rattle.vol_listing.specs.declared.rows.Sort.TheVariants as sorts
 
--- whether the type of a special file, the highest four bits of its mode, is that of a block or of a character special file, for a device; of the multiplexor types of the seventh edition, 070000 counts as the former and 030000 as the latter (stat.h; the latter is this project's)
+-- the kind of a special file with this device, by its type, the highest four bits of its mode; of the seventh edition's multiplexor types, 070000 counts as a block and 030000 as a character special file (stat.h; the latter is this project's)
 abbrev pub special_sort : ℕ → ℕ → Sort
 special_sort type device = if type / 2 % 4 == 3 then sorts.Block device else sorts.Character device
 
--- what a node with some content is; a device is the low 16 bits of the first address (stat.h; ino.h)
+-- the kind of a node with some content; a device is the low 16 bits of the first address (stat.h; ino.h)
 abbrev pub sort_of : Content → Sort
 sort_of (Body bytes) = sorts.Regular
 sort_of (Directory names) = sorts.Directory
 sort_of (Device type addresses) = special_sort type (slice_index addresses 0 % 65536)
 
--- what a listing says of node i (ls -l)
+-- the row of node i (ls -l)
 abbrev pub row_of : ℕ → Node → Row
 row_of i node = record {
   number = i;
@@ -30,7 +30,7 @@ row_of i node = record {
   modified = node.modified;
 }
 
--- what a listing says of an i-node with this number, which is of some sort (ls -l)
+-- the row of an i-node with this number and kind (ls -l)
 abbrev pub row_with : ℕ → Inode → Sort → Row
 row_with i node sort = record {
   number = i;

@@ -1,4 +1,4 @@
-//! Moments as dates and times of day, in universal time.
+//! Times as dates and times of day, in universal time.
 ghost use Rattle.std.specs.Prelude.{◌≡◌, ◌+◌, ◌<◌, ◌≤◌, ◌++◌, OnOk};
 ghost use Rattle.vol_listing.specs.Dates.{is_leap, year_days, is_short, month_days, pass_years, pass_months, date_of, digit, date_text, clock_text, moment_text};
 
@@ -15,13 +15,13 @@ pub(crate) struct Date {
     pub(crate) day: u32,
 }
 
-/// The seconds of a day.
+/// The number of seconds in a day.
 const DAY: u32 = 86_400;
 
-/// How many years moments of 32 bits reach beyond 1970.
+/// The number of years from 1970 on that 32-bit times can reach.
 const YEARS: u32 = 136;
 
-/// Appends a moment, in seconds since the beginning of 1970, as `YYYY-MM-DD HH:MM:SS` in universal time.
+/// Appends a time, in seconds since the beginning of 1970, as `YYYY-MM-DD HH:MM:SS` in universal time.
 #[tactic(auto, unfolding(crate::specs::Dates::moment_text))]
 pub(crate) fn push_moment(text: &mut Vec<u8>, seconds: u32) -> Result<(), AllocError>
     ensures { OnOk result (text.new.items ≡ text.old.items ++ moment_text seconds) }
@@ -32,7 +32,7 @@ pub(crate) fn push_moment(text: &mut Vec<u8>, seconds: u32) -> Result<(), AllocE
     Ok(())
 }
 
-/// The date so many days after the beginning of 1970.
+/// Returns the date `days` days after the beginning of 1970.
 #[tactic(auto, unfolding(crate::specs::Dates::date_of))]
 fn date_of(days: u32) -> Date
     requires { days ≤ 49710 }
@@ -47,8 +47,8 @@ fn date_of(days: u32) -> Date
     }
 }
 
-/// The year of the day that comes so many days after the beginning of a year, and how many days of it come before that one. At most
-/// `count` years are passed.
+/// Returns the year of the day that is `days` days after the beginning of `year`, and the number of days before it in its year.
+/// Passes at most `count` years.
 #[tactic(auto, using(crate::proofs::Calendar::years_none, crate::proofs::Calendar::years_within, crate::proofs::Calendar::years_on))]
 fn pass_years(count: u32, year: u32, days: u32) -> (u32, u32)
     requires { count + year < 10000 }
@@ -65,8 +65,8 @@ fn pass_years(count: u32, year: u32, days: u32) -> (u32, u32)
     pass_years(count - 1, year + 1, days - length)
 }
 
-/// The month of the day that comes so many days after the beginning of a month, and how many days of it come before that one. At most
-/// `count` months are passed.
+/// Returns the month of the day that is `days` days after the beginning of `month`, and the number of days before it in its
+/// month. Passes at most `count` months.
 #[tactic(auto, using(crate::proofs::Calendar::months_none, crate::proofs::Calendar::months_within, crate::proofs::Calendar::months_on))]
 fn pass_months(count: u32, year: u32, month: u32, days: u32) -> (u32, u32)
     requires { count + month < 100 }
@@ -83,21 +83,21 @@ fn pass_months(count: u32, year: u32, month: u32, days: u32) -> (u32, u32)
     pass_months(count - 1, year, month + 1, days - length)
 }
 
-/// Whether a year has a leap day.
+/// True if a year has a leap day.
 fn is_leap(year: u32) -> bool
     ensures { result ≡ is_leap year }
 {
     year % 4 == 0 && (year % 100 != 0 || year % 400 == 0)
 }
 
-/// How many days a year has.
+/// Returns the number of days in a year.
 fn year_days(year: u32) -> u32
     ensures { result ≡ year_days year }
 {
     if is_leap(year) { 366 } else { 365 }
 }
 
-/// How many days a month of a year has.
+/// Returns the number of days in a month of a year.
 fn month_days(year: u32, month: u32) -> u32
     ensures { result ≡ month_days year month }
 {
@@ -109,7 +109,7 @@ fn month_days(year: u32, month: u32) -> u32
     }
 }
 
-/// A digit of a number, the last for weight 1.
+/// Returns a digit of a number; weight 1 gives the last.
 fn digit(weight: u32, number: u32) -> u8
     requires { 0 < weight }
     ensures { result ≡ digit weight number }
@@ -117,7 +117,7 @@ fn digit(weight: u32, number: u32) -> u8
     b'0' + (number / weight % 10) as u8
 }
 
-/// A date as `YYYY-MM-DD`.
+/// Returns a date as `YYYY-MM-DD`.
 #[tactic(auto, unfolding(crate::specs::Dates::date_text))]
 fn date_text(date: Date) -> [u8; 10]
     ensures { result ≡ date_text date }
@@ -136,7 +136,7 @@ fn date_text(date: Date) -> [u8; 10]
     ]
 }
 
-/// A second of a day as `HH:MM:SS`.
+/// Returns a second of a day as `HH:MM:SS`.
 #[tactic(auto, unfolding(crate::specs::Dates::clock_text))]
 fn clock_text(second: u32) -> [u8; 8]
     ensures { result ≡ clock_text second }

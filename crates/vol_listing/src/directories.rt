@@ -1,4 +1,4 @@
-//! The names of directories.
+//! The names in directories.
 ghost use Rattle.std.specs.Prelude.{◌≡◌, ◌≢◌, Err, IfOk, OnOk};
 ghost use Rattle.vol_dir.specs.Tree.{tree};
 ghost use Rattle.vol_dir.specs.Walk.{is_directory};
@@ -16,7 +16,7 @@ use vol_layout::i_list::kind;
 use vol_layout::{Geometry, Kind};
 use vol_volume::{Bytes, Query, Reply, ask_image};
 
-/// Whether node `i` is a directory.
+/// True if node `i` is a directory.
 #[tactic(auto, using(crate::proofs::NodesRead::directory_is, crate::proofs::NodesRead::directory_not, crate::proofs::NodesRead::directory_outside))]
 pub(crate) fn is_directory(image: &Image, geometry: &Geometry, i: u16) -> bool
     requires { Fits geometry.now image.now }
@@ -25,7 +25,7 @@ pub(crate) fn is_directory(image: &Image, geometry: &Geometry, i: u16) -> bool
     is_number(geometry, i) && kind(image, geometry, i) == Kind::Directory
 }
 
-/// True if a listing shows what node `i` holds, and not the node by itself.
+/// True if a listing shows the contents of node `i` rather than the node itself.
 pub(crate) fn opens(image: &Image, geometry: &Geometry, depth: Depth, i: u16) -> bool
     requires { Fits geometry.now image.now }
     ensures { result ≡ opens depth (node_at (tree geometry.now image.now) i) }
@@ -36,10 +36,10 @@ pub(crate) fn opens(image: &Image, geometry: &Geometry, depth: Depth, i: u16) ->
     }
 }
 
-/// The names that a directory is found to have by its path, with their i-numbers, in ascending order of their bytes; none where the path
-/// leads to no directory.
+/// Returns the names in the directory at a path, with their i-numbers, in ascending order of their bytes; none if the path leads
+/// to no directory.
 ///
-/// Costs the walk of the path, a look at each slot, and sorting the names.
+/// Costs walking the path, reading each slot, and sorting the names.
 pub(crate) fn names(
     alloc: Global,
     image: &Image,
@@ -58,7 +58,7 @@ pub(crate) fn names(
     names_in(alloc, answer)
 }
 
-/// The names of a reply; there are none where a query was refused, or another one was asked.
+/// Returns the names in a reply; none if the query was refused or wasn't a List.
 fn names_in(alloc: Global, answer: Result<Reply, Refusal>) -> Result<Vec<(Bytes, u16)>, AllocError>
     ensures names { IfOk result (λ names. names.items ≡ names_in answer) }
     ensures answered { OnOk result (answer ≢ Err Refusal.NoMemory) }

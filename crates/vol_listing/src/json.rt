@@ -8,7 +8,7 @@ ghost use Rattle.vol_listing.specs.Json.{count};
 use serde_json::{Map, Value, put};
 use std::alloc::{AllocError, Global};
 
-/// The text of a value in which no number is a float, and a newline.
+/// Returns the text of a value that has no floats, followed by a newline.
 pub fn line(alloc: Global, value: &Value) -> Result<String, AllocError>
     requires { has_float (view value.now) ≡ false }
     ensures { IfOk result (λ text. string_bytes text ≡ compact_text (view value.now) ++ codes "\n") }

@@ -1,4 +1,4 @@
-//! What a listing of a volume has, and how its lines look.
+//! Listings of a volume: their contents and their lines.
 #![tactic(auto)]
 
 mod dates;

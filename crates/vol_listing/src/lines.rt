@@ -19,17 +19,17 @@ use std::alloc::{AllocError, Global};
 use vol_layout::Geometry;
 use vol_volume::Bytes;
 
-/// How lines are written.
+/// The form of lines.
 #[derive(Clone, Copy)]
 pub(crate) struct Style {
-    /// Whether they say what the i-node does.
+    /// True for long lines, with the i-node's attributes.
     pub(crate) is_long: bool,
-    /// What shows them.
+    /// The destination of the output.
     pub(crate) screen: Screen,
 }
 
-/// The names of a directory, and, where the directories below it are asked for, theirs, each directory under its path and with an empty
-/// line between; of what isn't opened, its own line.
+/// Returns the lines of a directory's names; if its subdirectories are to be listed too, also theirs, each directory under its
+/// path and separated by an empty line. Anything else, or a directory by itself, has one line.
 pub(crate) fn lines_text(
     alloc: Global,
     image: &Image,
@@ -55,7 +55,7 @@ pub(crate) fn lines_text(
     Ok(text)
 }
 
-/// Appends directories, each under its path and behind an empty line.
+/// Appends directories, each under its path and after an empty line.
 fn push_others(
     alloc: Global,
     image: &Image,
@@ -73,7 +73,7 @@ fn push_others(
     Ok(())
 }
 
-/// Appends a directory under its path and behind an empty line.
+/// Appends a directory under its path and after an empty line.
 fn push_other(
     alloc: Global,
     image: &Image,
@@ -164,7 +164,7 @@ fn push_line(
     }
 }
 
-/// Appends the line of a name and its i-number, with no more.
+/// Appends the short line of a name: its i-number and the name.
 fn push_plain_line(
     screen: Screen,
     number: u16,
@@ -180,7 +180,7 @@ fn push_plain_line(
     Ok(())
 }
 
-/// Appends the line of a name and what its node says.
+/// Appends the long line of a name, with its node's attributes.
 #[tactic(auto, unfolding(crate::specs::LongLines::long_line))]
 fn push_long_line(
     screen: Screen,
@@ -196,7 +196,7 @@ fn push_long_line(
     Ok(())
 }
 
-/// Appends a name or a path as it is shown: to a terminal escaped, else as its bytes are.
+/// Appends a name or a path as it is shown: escaped on a terminal, else byte for byte.
 pub fn push_shown(screen: Screen, name: &[u8], text: &mut Vec<u8>) -> Result<(), AllocError>
     ensures { OnOk result (text.new.items ≡ text.old.items ++ shown screen name.now) }
 {

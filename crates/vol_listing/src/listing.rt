@@ -1,4 +1,4 @@
-//! The listing of what is at a place of a volume.
+//! Listing a file or directory of a volume.
 ghost use Rattle.std.specs.Prelude.{◌≡◌, IfOk};
 ghost use Rattle.vol_dir.specs.Tree.{tree};
 ghost use Rattle.vol_listing.specs.Listing.{shown_path, start_of, IsBelow, IsListingOf};
@@ -13,12 +13,13 @@ use std::alloc::{AllocError, Global};
 use vol_layout::Geometry;
 use vol_volume::Bytes;
 
-/// The listing of what a path leads to, which is the i-number `inode`: the names in a directory, in ascending order of their bytes, each on
-/// a line with its i-number, and where asked for with what its i-node says; then, where asked for, those of each directory below. What is
-/// no directory has a line of its own, and so has a directory that is asked for by itself. Or the same as JSON, with names escaped, as a terminal gets them.
+/// Returns the listing of `inode`, to which `path` leads: the names in a directory, in ascending order of their bytes, each on a
+/// line with its i-number and, if `listing` says so, its i-node's attributes; then, if `listing` says so, the names of each
+/// directory below. A file has one line, and so has a directory that is listed by itself. Or the same as JSON, with names escaped
+/// as on a terminal.
 ///
-/// Costs a look at each i-node that is told of, and for each directory the walk of its path and sorting its names. Takes memory for that
-/// and for the text.
+/// Costs reading each i-node whose attributes are shown, and for each directory walking its path and sorting its names. Takes
+/// memory for these and for the text.
 pub fn list(
     alloc: Global,
     image: &Image,
@@ -36,7 +37,7 @@ pub fn list(
     list_place(alloc, image, geometry, &start, listing, screen)
 }
 
-/// The path by which a listing begins.
+/// Returns the path at the top of a listing.
 fn shown_path(alloc: Global, path: &[u8]) -> Result<Vec<u8>, AllocError>
     ensures { IfOk result (λ shown. shown.items ≡ shown_path path.now) }
 {
@@ -47,7 +48,7 @@ fn shown_path(alloc: Global, path: &[u8]) -> Result<Vec<u8>, AllocError>
     }
 }
 
-/// The listing of what stands at a place.
+/// Returns the listing of a file or directory.
 fn list_place(
     alloc: Global,
     image: &Image,
@@ -73,7 +74,7 @@ fn list_place(
     lines_text(alloc, image, geometry, style, depth, start, &places)
 }
 
-/// The directories below one, where they are asked for.
+/// Returns the directories below one, if they are to be listed.
 fn places_below(
     alloc: Global,
     image: &Image,

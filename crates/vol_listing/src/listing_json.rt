@@ -1,4 +1,4 @@
-//! A listing as JSON.
+//! Listings as JSON.
 ghost use Rattle.std.specs.Prelude.{◌≡◌, ◌++◌, IfOk, OnOk, map, string_bytes};
 ghost use Rattle.std.specs.List.{flat_map};
 ghost use Rattle.serde_json.specs.View.{members_view, view};
@@ -20,8 +20,8 @@ use std::alloc::{AllocError, Global};
 use vol_layout::Geometry;
 use vol_volume::Bytes;
 
-/// One array on one line: an object for each entry of a directory, and of those below it that are given; of what isn't opened, one
-/// for itself.
+/// Returns one array on one line: an object for each entry of a directory and of the given directories below it. A file, or a
+/// directory by itself, has one object.
 pub(crate) fn json_text(
     alloc: Global,
     image: &Image,
@@ -37,7 +37,7 @@ pub(crate) fn json_text(
     line(alloc, &Value::Array(values))
 }
 
-/// The objects of that array.
+/// Returns the objects of that array.
 fn all_values(
     alloc: Global,
     image: &Image,
@@ -114,7 +114,7 @@ fn push_names(
     Ok(())
 }
 
-/// The object of an entry of the directory at a path.
+/// Returns the object of an entry of the directory at a path.
 fn entry_value(
     alloc: Global,
     image: &Image,
@@ -131,7 +131,7 @@ fn entry_value(
     Ok(value)
 }
 
-/// The object of what is said of a node at a path.
+/// Returns the object of a row at a path.
 fn row_value(alloc: Global, path: &[u8], row: Row) -> Result<Value, AllocError>
     ensures { IfOk result (λ value. view value ≡ row_data path.now row) }
 {
@@ -142,7 +142,7 @@ fn row_value(alloc: Global, path: &[u8], row: Row) -> Result<Value, AllocError>
     Ok(Value::Object(object))
 }
 
-/// Puts what a row says in numbers that every node has.
+/// Puts the numbers that every node has.
 #[tactic(auto, unfolding(crate::specs::ListingJson::with_numbers))]
 fn put_numbers(alloc: Global, row: Row, object: &mut Map<String, Value>) -> Result<(), AllocError>
     ensures { OnOk result (members_view object.new.entries ≡ with_numbers row (members_view object.old.entries)) }
@@ -153,7 +153,7 @@ fn put_numbers(alloc: Global, row: Row, object: &mut Map<String, Value>) -> Resu
     put_count(alloc, object, "uid", u64::from(row.uid))
 }
 
-/// Puts what a row says of the file, and its path.
+/// Puts the path and the file's kind, permissions, size and time of change.
 #[tactic(auto, unfolding(crate::specs::ListingJson::with_file))]
 fn put_file(
     alloc: Global,
@@ -185,7 +185,7 @@ fn put_device(alloc: Global, sort: Sort, object: &mut Map<String, Value>) -> Res
     }
 }
 
-/// The word for a sort.
+/// Returns the word for a kind of node.
 fn sort_word(sort: Sort) -> &'static str
     ensures { result.now ≡ sort_word sort }
 {
@@ -197,7 +197,7 @@ fn sort_word(sort: Sort) -> &'static str
     }
 }
 
-/// Bytes, escaped, as text.
+/// Returns bytes as escaped text.
 fn escaped_text(alloc: Global, bytes: &[u8]) -> Result<String, AllocError>
     ensures { IfOk result (λ text. string_bytes text ≡ escaped bytes.now) }
 {

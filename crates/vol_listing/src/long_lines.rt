@@ -1,4 +1,4 @@
-//! The columns of long lines of a listing.
+//! The columns of a long line.
 ghost use Rattle.std.specs.Prelude.{◌≡◌, ◌++◌, ◌<◌, OnOk};
 ghost use Rattle.vol_dir.specs.Access.{has_bit};
 ghost use Rattle.vol_listing.specs.Digits.{digit_at, padded_number};
@@ -8,7 +8,7 @@ use crate::dates::push_moment;
 use crate::rows::{Row, Sort};
 use std::alloc::AllocError;
 
-/// Appends the columns of a long line, each with a space behind it.
+/// Appends the columns of a long line, each followed by a space.
 #[tactic(auto, unfolding(crate::specs::LongLines::long_columns))]
 pub(crate) fn push_columns(text: &mut Vec<u8>, row: Row) -> Result<(), AllocError>
     ensures { OnOk result (text.new.items ≡ text.old.items ++ long_columns row) }
@@ -20,7 +20,7 @@ pub(crate) fn push_columns(text: &mut Vec<u8>, row: Row) -> Result<(), AllocErro
     Ok(())
 }
 
-/// Appends the i-number of a node, its sort and permissions, its link count, its owner and its group.
+/// Appends the i-number of a node, its kind and permissions, its link count, its owner and its group.
 #[tactic(auto, unfolding(crate::specs::LongLines::owner_columns))]
 fn push_owner_columns(text: &mut Vec<u8>, row: Row) -> Result<(), AllocError>
     ensures { OnOk result (text.new.items ≡ text.old.items ++ owner_columns row) }
@@ -33,7 +33,7 @@ fn push_owner_columns(text: &mut Vec<u8>, row: Row) -> Result<(), AllocError>
     Ok(())
 }
 
-/// Appends a column of a line, and the space behind it.
+/// Appends a column of a line, followed by a space.
 fn push_column(text: &mut Vec<u8>, column: &[u8]) -> Result<(), AllocError>
     ensures { OnOk result (text.new.items ≡ text.old.items ++ spaced column.now) }
 {
@@ -42,7 +42,7 @@ fn push_column(text: &mut Vec<u8>, column: &[u8]) -> Result<(), AllocError>
     Ok(())
 }
 
-/// The sort of a node and its permissions, in ten letters.
+/// Returns the kind of a node and its permissions, in ten letters.
 #[tactic(auto, unfolding(crate::specs::LongLines::mode_text))]
 fn mode_text(sort: Sort, permissions: u16) -> [u8; 10]
     ensures { result ≡ mode_text sort permissions }
@@ -61,7 +61,7 @@ fn mode_text(sort: Sort, permissions: u16) -> [u8; 10]
     ]
 }
 
-/// The letter of a sort.
+/// Returns the letter of a kind of node.
 fn letter_of(sort: Sort) -> u8
     ensures { result ≡ letter_of sort }
 {
@@ -73,7 +73,7 @@ fn letter_of(sort: Sort) -> u8
     }
 }
 
-/// Whether permissions have a bit, which is given by its value.
+/// True if permissions have a bit, which is given by its value.
 fn has_bit(permissions: u16, value: u16) -> bool
     requires { 0 < value }
     ensures { result ≡ has_bit permissions value }
@@ -81,7 +81,7 @@ fn has_bit(permissions: u16, value: u16) -> bool
     permissions / value % 2 == 1
 }
 
-/// The letter of a permission, where it is given; else a dash.
+/// Returns the letter of a permission if it is granted, else a dash.
 fn flag(permissions: u16, value: u16, letter: u8) -> u8
     requires { 0 < value }
     ensures { result ≡ flag permissions value letter }
@@ -93,8 +93,8 @@ fn flag(permissions: u16, value: u16, letter: u8) -> u8
     }
 }
 
-/// The letter of the permission to execute, where it is given, beside a special bit: of both, where both are given, and of the special
-/// bit alone, where that is.
+/// Returns the letter for the permission to execute and a special bit: `x` or a dash without the special bit, `both` if both are
+/// set, `alone` if only the special bit is.
 fn special_flag(permissions: u16, value: u16, special: u16, both: u8, alone: u8) -> u8
     requires value { 0 < value }
     requires special { 0 < special }
@@ -110,7 +110,7 @@ fn special_flag(permissions: u16, value: u16, special: u16, both: u8, alone: u8)
     }
 }
 
-/// The size of a node, or the numbers of its device, in ten places.
+/// Returns the size of a node, or its device's numbers, in ten columns.
 fn size_text(sort: Sort, size: u32) -> [u8; 10]
     ensures { result ≡ size_text sort size }
 {
@@ -120,7 +120,7 @@ fn size_text(sort: Sort, size: u32) -> [u8; 10]
     }
 }
 
-/// The major and the minor number of a device, right-aligned in ten places.
+/// Returns the major and the minor number of a device, right-aligned in ten columns.
 #[tactic(auto, unfolding(crate::specs::LongLines::device_text))]
 fn device_text(device: u16) -> [u8; 10]
     ensures { result ≡ device_text device }
@@ -140,7 +140,7 @@ fn device_text(device: u16) -> [u8; 10]
     ]
 }
 
-/// A number, right-aligned in ten places.
+/// Returns a number, right-aligned in ten columns.
 #[tactic(auto, unfolding(crate::specs::LongLines::wide_number))]
 fn wide_number(number: u32) -> [u8; 10]
     ensures { result ≡ wide_number number }
@@ -159,7 +159,7 @@ fn wide_number(number: u32) -> [u8; 10]
     ]
 }
 
-/// A number, right-aligned in five places.
+/// Returns a number, right-aligned in five columns.
 pub(crate) fn padded(number: u16) -> [u8; 5]
     ensures { result ≡ padded_number number }
 {
@@ -173,7 +173,7 @@ pub(crate) fn padded(number: u16) -> [u8; 5]
     ]
 }
 
-/// The digit of a number at a weight, or a space before the first digit.
+/// Returns the digit of a number at a weight, or a space before the first digit.
 fn digit_at(weight: u32, number: u32) -> u8
     requires { 0 < weight }
     ensures { result ≡ digit_at weight number }

@@ -1,18 +1,18 @@
-//! What is listed, and how it is shown.
+//! Options of a listing.
 ghost use Rattle.std.specs.Prelude.{◌≡◌};
 ghost use Rattle.vol_listing.specs.Depths.{goes_below, is_bare, is_plain};
 
-/// What is listed, and how.
+/// The options of a listing.
 #[derive(Clone, Copy, Debug, PartialEq, Eq)]
 pub struct Listing {
-    /// What is told of each name.
+    /// The form of the lines.
     pub lines: Lines,
-    /// How far it goes into a directory.
+    /// Its depth.
     pub depth: Depth,
 }
 
 impl Listing {
-    /// True for the names in a directory with their i-numbers, and no more: only a directory has such a listing.
+    /// True if only the names in a directory with their i-numbers are listed. Only a directory has such a listing.
     pub fn is_bare(self) -> bool
         ensures { result ≡ is_bare self }
     {
@@ -23,14 +23,14 @@ impl Listing {
     }
 }
 
-/// How far a listing goes into a directory. What is no directory is listed by itself at every depth.
+/// The depth of a listing. A file is listed by itself at every depth.
 #[derive(Clone, Copy, Debug, PartialEq, Eq)]
 pub enum Depth {
-    /// Not at all: the directory is listed by itself.
+    /// The directory is listed by itself.
     Itself,
-    /// To the names in it.
+    /// The names in the directory are listed.
     Names,
-    /// To all directories below, and the names in each.
+    /// The names in the directory and in all directories below are listed.
     Below,
 }
 
@@ -46,19 +46,19 @@ impl Depth {
     }
 }
 
-/// What is told of each name that is listed.
+/// The form of the lines of a listing.
 #[derive(Clone, Copy, Debug, PartialEq, Eq)]
 pub enum Lines {
-    /// Its i-number, on a line.
+    /// The i-number and the name, on a line.
     Plain,
-    /// What its i-node says, on a line.
+    /// The i-node's attributes and the name, on a line.
     Long,
-    /// What its i-node says, as an object of one JSON array.
+    /// The i-node's attributes and the path, as an object of one JSON array.
     Json,
 }
 
 impl Lines {
-    /// True if only the i-number is told.
+    /// True if only i-numbers and names are listed.
     fn is_plain(self) -> bool
         ensures { result ≡ is_plain self }
     {
@@ -69,10 +69,10 @@ impl Lines {
     }
 }
 
-/// What shows the output.
+/// The destination of the output.
 #[derive(Clone, Copy, Debug, PartialEq, Eq)]
 pub enum Screen {
-    /// A terminal with so many columns, which is to show colours or not.
+    /// A terminal with this many columns, and whether to use colours.
     Terminal { columns: u16, colours: bool },
     /// A file, a pipe or a device.
     Stream,

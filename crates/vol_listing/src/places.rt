@@ -12,7 +12,7 @@ use vol_dir::is_dots;
 use vol_layout::Geometry;
 use vol_volume::Bytes;
 
-/// A file or a directory, by its path and its i-number.
+/// A file or a directory, with its path and its i-number.
 #[derive(Drop)]
 pub(crate) struct Place {
     /// The path.
@@ -21,9 +21,9 @@ pub(crate) struct Place {
     pub(crate) inode: u16,
 }
 
-/// All directories below one, each before those in it, in ascending order of their names.
+/// Returns all directories below one, each before those in it, in ascending order of their names.
 ///
-/// Costs as much as sorting the names of each, and memory for all paths.
+/// Costs sorting the names of each directory, and memory for all paths.
 pub(crate) fn all_below(
     alloc: Global,
     image: &Image,
@@ -43,7 +43,7 @@ pub(crate) fn all_below(
     Ok(places)
 }
 
-/// Puts the directories in a directory on top of those that are pending, the first of them last.
+/// Pushes the directories in a directory on the stack of pending ones, the first of them on top.
 fn push_below(
     alloc: Global,
     image: &Image,
@@ -61,7 +61,7 @@ fn push_below(
     Ok(())
 }
 
-/// The directories in a directory, in ascending order of their names.
+/// Returns the directories in a directory, in ascending order of their names.
 #[tactic(auto, unfolding(crate::specs::Places::below))]
 fn below(
     alloc: Global,
@@ -77,7 +77,7 @@ fn below(
     directories_among(alloc, image, geometry, path, &names)
 }
 
-/// The directories among entries of the directory at a path, but for `.` and `..`.
+/// Returns the directories among entries of the directory at a path, except `.` and `..`.
 fn directories_among(
     alloc: Global,
     image: &Image,
@@ -96,8 +96,7 @@ fn directories_among(
     Ok(places)
 }
 
-/// Appends the place of an entry of the directory at a path, where a listing goes into it: where it is a directory, and neither `.` nor
-/// `..`.
+/// Appends the place of an entry of the directory at a path if it is a directory and neither `.` nor `..`.
 fn push_directory(
     alloc: Global,
     image: &Image,
@@ -116,7 +115,7 @@ fn push_directory(
     Ok(())
 }
 
-/// The place of an entry of the directory at a path.
+/// Returns the place of an entry of the directory at a path.
 fn place_of(alloc: Global, path: &[u8], name: &[u8], inode: u16) -> Result<Place, AllocError>
     ensures { IfOk result (λ place. place ≡ place_of path.now (name.now, inode)) }
 {
@@ -126,7 +125,7 @@ fn place_of(alloc: Global, path: &[u8], name: &[u8], inode: u16) -> Result<Place
     })
 }
 
-/// The path of a name in the directory at a path, with a slash between.
+/// Returns the path of a name in the directory at a path, with a slash between.
 pub(crate) fn joined(alloc: Global, path: &[u8], name: &[u8]) -> Result<Vec<u8>, AllocError>
     ensures { IfOk result (λ bytes. bytes.items ≡ joined path.now name.now) }
 {
@@ -138,7 +137,7 @@ pub(crate) fn joined(alloc: Global, path: &[u8], name: &[u8]) -> Result<Vec<u8>,
     Ok(bytes)
 }
 
-/// Whether a path ends in a slash.
+/// True if a path ends in a slash.
 fn ends_in_slash(path: &[u8]) -> bool
     ensures { result ≡ ends_in_slash path.now }
 {

@@ -1,4 +1,4 @@
-//! What a listing says of a node.
+//! The rows of a listing.
 ghost use Rattle.std.specs.Prelude.{◌≡◌, ◌/◌, ◌%◌, slice_index};
 ghost use Rattle.vol_layout.specs.Geometry.{Fits};
 ghost use Rattle.vol_dir.specs.Tree.{tree, is_number};
@@ -9,14 +9,14 @@ use pdp_words::Image;
 use vol_layout::i_list::kind;
 use vol_layout::{Geometry, Inode, Kind, inode};
 
-/// What a listing says of a node.
+/// A row of a listing: the attributes of a node.
 #[derive(Clone, Copy)]
 pub(crate) struct Row {
     /// The i-number.
     pub(crate) number: u16,
-    /// What it is.
+    /// The kind of node.
     pub(crate) sort: Sort,
-    /// The permission bits, those under octal 7777.
+    /// The permission bits, the low 12 bits of the mode.
     pub(crate) permissions: u16,
     /// The link count.
     pub(crate) links: u16,
@@ -26,24 +26,24 @@ pub(crate) struct Row {
     pub(crate) gid: u16,
     /// The size, in bytes.
     pub(crate) size: u32,
-    /// When the file was last written, in seconds since the beginning of 1970.
+    /// The time of the last write to the file, in seconds since the beginning of 1970.
     pub(crate) modified: u32,
 }
 
-/// What a node is.
+/// The kind of a node.
 #[derive(Clone, Copy)]
 pub(crate) enum Sort {
     /// A regular file.
     Regular,
     /// A directory.
     Directory,
-    /// A character special file, for a device.
+    /// A character special file, with its device number.
     Character(u16),
-    /// A block special file, for a device.
+    /// A block special file, with its device number.
     Block(u16),
 }
 
-/// What a listing says of node `i`. Of a number that has no node it says that of an empty file without links.
+/// Returns the row of node `i`. If no node has this number, returns the row of an empty file without links.
 pub(crate) fn row_at(image: &Image, geometry: &Geometry, i: u16) -> Row
     requires { Fits geometry.now image.now }
     ensures { result ≡ row_of i (node_at (tree geometry.now image.now) i) }
@@ -60,14 +60,14 @@ pub(crate) fn row_at(image: &Image, geometry: &Geometry, i: u16) -> Row
     }
 }
 
-/// Whether an i-number is one of the volume.
+/// True if an i-number is one of the volume's.
 pub(crate) fn is_number(geometry: &Geometry, i: u16) -> bool
     ensures { result ≡ is_number geometry.now i }
 {
     i >= 1 && i <= geometry.last_inode
 }
 
-/// What is said of a number that has no node.
+/// Returns the row of a number that has no node.
 fn no_row(number: u16) -> Row
     ensures { result ≡ row_of number no_node }
 {
@@ -83,7 +83,7 @@ fn no_row(number: u16) -> Row
     }
 }
 
-/// What is said of an i-node of some sort.
+/// Returns the row of an i-node of some kind.
 fn row_with(number: u16, node: &Inode, sort: Sort) -> Row
     ensures { result ≡ row_with number node.now sort }
 {
@@ -99,7 +99,7 @@ fn row_with(number: u16, node: &Inode, sort: Sort) -> Row
     }
 }
 
-/// The sort of a special file.
+/// Returns the kind of a special file.
 fn special_sort(node: &Inode) -> Sort
     ensures { result ≡ special_sort (node.now.mode.bits / 4096) (slice_index node.now.addresses 0 % 65536) }
 {

@@ -5,7 +5,7 @@ use Rattle.vol_listing.specs.Places.{Descends, AllBelow}
 use Rattle.vol_listing.specs.declared.places.Place.{Place}
 use Rattle.vol_listing.proofs.places.all_below.Given as goal
 
--- whatever those that are pending come to, with those before it is all
+-- the places so far, followed by whatever the pending ones give, are all
 abbrev pub invariant-places : goal.invariant-places
 invariant-places l =
     (rest : List Place) → Descends (tree l.geometry l.image) (reverse l.pending.items) rest

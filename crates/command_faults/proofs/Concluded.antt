@@ -1,4 +1,4 @@
--- What a command comes to, by its outcome.
+-- The result of a command, from its outcome.
 use Rattle.std.proofs.Common.{◌≡◌, ◌∙◌, ◌⊎◌, ℕ, List, [], Option, Some, None, Result, Ok, Err, IfOk, IfErr, IsSome, true≢false, inl, inr, ◌≤◌, refl, sym, subst, arith}
 use Rattle.std.specs.Global.{Vec}
 use Rattle.command_faults.specs.Faults.{Concludes, fault_status, refusal_status}
@@ -46,7 +46,7 @@ fault_few (faults.BadLine script number line) = (omega arith, omega arith)
 fault_few (faults.Worded rule lines) = (omega arith, omega arith)
 fault_few faults.Output = (omega arith, omega arith)
 
--- the answer to an outcome is the bytes that it has, or the status and the line of its fault
+-- the result of an outcome is the bytes that it has, or the status and the line of its fault
 pub concluded : (makes : List ℕ → Type 0) (is_reason : Fault → Type 0) (errors : ErrorStream) (outcome : Result (Vec ℕ) Fault) (answer : Answer)
     → IfOk outcome (λ bytes. makes bytes.items) → IfErr outcome is_reason
     → IfOk outcome (λ bytes. (answer.image ≡ Some bytes) × (answer.status ≡ 0) × (answer.fault ≡ None))

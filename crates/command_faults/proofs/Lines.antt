@@ -1,4 +1,4 @@
--- What a line leaves on the stream that it goes to.
+-- The effect of a line on its stream.
 use Rattle.std.proofs.Common.{◌≡◌, ℕ, Bool, true≢false, true, List, [], length, Option, Result, Ok, Err, IfErr, OnErr, OnOk, sym, subst, ◌∙◌, arith}
 use Rattle.std.proofs.KnownBytes.{Appends-nil}
 use Rattle.std.proofs.lemmas.List.{take_all}

@@ -1,4 +1,4 @@
--- What the commands that change a volume make, and why they don't.
+-- The results and the faults of commands that change a volume.
 use Rattle.std.specs.Prelude.{◌≡◌, ◌⊎◌, ℕ, List, [], ◌∷◌, map}
 use Rattle.vol_layout.specs.Geometry.{geometry_of}
 use Rattle.vol_dir.specs.Tree.{State}
@@ -19,13 +19,13 @@ use Rattle.vol_volume.specs.declared.calls.Record.{Record}
 use Rattle.command_faults.specs.declared.answer.Answer.{Answer}
 use Rattle.command_faults.specs.declared.fault.Fault.{Fault}
 
--- the bytes are those that recorded calls leave of an image, each performed on what the one before it left (this project)
+-- the bytes are what recorded calls make of an image, each performed on the result of the one before (this project)
 abbrev pub AreLeft : Geometry → List ℕ → List Record → List ℕ → Type 0
 AreLeft geometry image [] bytes = bytes ≡ image
 AreLeft geometry image (entry ∷ entries) bytes =
     (between : List ℕ) × Performs geometry image between entry.call entry.done × AreLeft geometry between entries bytes
 
--- the bytes are a sound image of what calls, performed in turn, leave of a sound image; no byte changes but those that calls change (this project)
+-- the bytes are a sound image that calls, performed in turn, make of a sound image; only bytes that calls change differ (this project)
 pub record Makes (edition : Edition) (image : List ℕ) (calls : List Call) (bytes : List ℕ) : Type 0 where
   pub mounted : IsSound edition image
   pub journal : List Record
@@ -36,16 +36,16 @@ pub record Makes (edition : Edition) (image : List ℕ) (calls : List Call) (byt
   pub around : StaysAround (geometry_of edition image) image bytes
   pub left : AreLeft (geometry_of edition image) image journal bytes
 
--- of calls, made one after another, the first that isn't accepted meets this refusal (this project)
+-- the first of some calls, made one after another, that isn't accepted meets this refusal (this project)
 abbrev pub AreRefused : State → List Call → Refusal → Type 0
 AreRefused state [] refusal = ⊥
 AreRefused state (call ∷ calls) refusal = Refuses state call refusal
     ⊎ ((done : Done) × MayFollow state (record { call = call; done = done }) × AreRefused (step state call done) calls refusal)
 
--- a reason not to make calls: want of memory, the least rule that the image breaks, or a refusal of one of them (this project)
+-- a reason not to make calls: out of memory, the first rule that the image breaks, or the refusal of one of them (this project)
 abbrev pub IsReason : Edition → List ℕ → List Call → Fault → Type 0
 IsReason edition image calls fault = IsCause edition image (AreRefused (reads_as edition image) calls) fault
 
--- what a command that makes calls comes to: bytes to be saved, status 0 and no line, or the status and the line of a reason (this project)
+-- the result of a command that makes calls: bytes to save, with status 0 and no line, or the status and the line of a reason (this project)
 abbrev pub ChangesVolume : Edition → List ℕ → List Call → (List ℕ → Type 0) → Answer → Type 0
 ChangesVolume edition image calls said answer = Concludes (Makes edition image calls) (IsReason edition image calls) said answer

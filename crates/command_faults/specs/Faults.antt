@@ -1,4 +1,4 @@
--- Why a command fails: its status and its line; and what a command that makes bytes comes to.
+-- The faults of commands, with their statuses and lines; and the result of a command that makes bytes.
 use Rattle.std.specs.Prelude.{◌≡◌, ◌↔◌, ℕ, ◌+◌, ◌/◌, ◌%◌, ◌++◌, ◌&&◌, true, nat_lt, if◌then◌else◌, List, [], ◌∷◌, Option, None, Some, IsNone, IsSome, IfSome, codes}
 use Rattle.vol_judge.specs.Sound.{IsSound, IsLeastBroken}
 use Rattle.vol_dir.specs.declared.refusal.Refusal.{Refusal}
@@ -15,7 +15,7 @@ abbrev pub refusal_status : Refusal → ℕ
 refusal_status refusals.NoMemory = 4
 refusal_status _ = 1
 
--- the status that the program ends with at a fault: 1 for a refusal, 2 for a script, 3 for the output, 4 for memory (this project)
+-- the exit status for a fault: 1 for a refusal, 2 for a script, 3 for the output, 4 for memory (this project)
 abbrev pub fault_status : Fault → ℕ
 fault_status (faults.Unsound rule) = 1
 fault_status (faults.Refused refusal) = refusal_status refusal
@@ -48,12 +48,12 @@ line_of_refusal refusals.BadId = codes "unixvol: 104 BadId\n"
 abbrev pub short_decimal : ℕ → List ℕ
 short_decimal n = if nat_lt n 10 then (48 + n) ∷ [] else (48 + n / 10) ∷ (48 + n % 10) ∷ []
 
--- the line of a rule that an image breaks, one of the twelve (this project)
+-- the line of a broken rule; a number outside 1 to 12 is left out (this project)
 abbrev pub line_of_rule : ℕ → List ℕ
 line_of_rule rule =
     if nat_lt 0 rule && nat_lt rule 13 then codes "unixvol: unsound, rule " ++ short_decimal rule ++ codes "\n" else codes "unixvol: unsound\n"
 
--- the line on standard error of a fault, or several (this project)
+-- the line on standard error of a fault, or the lines (this project)
 abbrev pub fault_line : Fault → List ℕ
 fault_line (faults.Unsound rule) = line_of_rule rule
 fault_line (faults.Refused refusal) = line_of_refusal refusal
@@ -69,23 +69,23 @@ abbrev pub line_after : Option Fault → List ℕ
 line_after None = []
 line_after (Some fault) = fault_line fault
 
--- the fault of a command that wants memory (this project)
+-- the fault of a command that runs out of memory (this project)
 abbrev pub no_memory : Fault
 no_memory = faults.Refused refusals.NoMemory
 
--- the fault of a command whose volume isn't mounted for this reason (this project)
+-- the fault of a command whose volume can't be mounted for this reason (this project)
 abbrev pub unmounted : MountFault → Fault
 unmounted (mounts.Unsound rule) = faults.Unsound rule
 unmounted mounts.NoMemory = no_memory
 
--- a reason not to do what was asked: want of memory, the least rule that the image breaks, or a refusal of which this holds, of a sound image (this project)
+-- a reason for a command to fail: out of memory, the first rule that the image breaks, or, for a sound image, a refusal that satisfies `refused` (this project)
 abbrev pub IsCause : Edition → List ℕ → (Refusal → Type 0) → Fault → Type 0
 IsCause edition image refused (faults.Unsound rule) = IsLeastBroken true edition image rule
 IsCause edition image refused (faults.Refused refusals.NoMemory) = Unit {0}
 IsCause edition image refused (faults.Refused refusal) = IsSound edition image × refused refusal
 IsCause edition image refused _ = ⊥
 
--- what a command that makes bytes comes to: bytes of which this holds are to be saved, with status 0 and no line; or there are the status and the line of a reason (this project)
+-- the result of a command that makes bytes: bytes to save that satisfy `makes`, with status 0 and no line; or the status and the line of a reason (this project)
 pub record Concludes (makes : List ℕ → Type 0) (is_reason : Fault → Type 0) (said : List ℕ → Type 0) (answer : Answer) : Type 0 where
   pub saved : answer.status ≡ 0 ↔ IsSome answer.image
   pub made : IfSome answer.image (λ bytes. makes bytes.items × said [])

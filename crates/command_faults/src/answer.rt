@@ -1,4 +1,4 @@
-//! What the commands come to: the status, what is to be saved, and the fault that was met.
+//! The result of a command: its status, the bytes to save, and its fault.
 ghost use Rattle.std.specs.Prelude.{◌≡◌, IfOk, IfErr, OnOk, Some, None};
 ghost use Rattle.command_faults.specs.Faults.{fault_status};
 ghost use Rattle.command_faults.specs.Streams.{Hears, heard};
@@ -7,21 +7,21 @@ use crate::fault::Fault;
 use crate::status::DONE;
 use pdp_words::{Sink, write_all};
 
-/// What a command that makes, changes or shows a volume comes to.
+/// The result of a command that makes, changes or shows a volume.
 #[derive(Drop)]
 pub struct Answer {
-    /// The status that the program ends with, if the image is saved.
+    /// The exit status, if the image can be saved.
     pub status: u8,
-    /// The bytes that are to be saved, if any are.
+    /// The bytes to save, if any.
     pub image: Option<Vec<u8>>,
     /// Why the command failed, if it did.
     pub fault: Option<Fault>,
 }
 
-/// How a command ends that saves nothing.
+/// The result of a command that saves nothing.
 #[derive(Drop)]
 pub struct Ending {
-    /// The status that the program ends with.
+    /// The exit status.
     pub status: u8,
     /// Why the command failed, if it did.
     pub fault: Option<Fault>,
@@ -38,7 +38,7 @@ impl From<Fault> for Ending {
     }
 }
 
-/// The answer of a command that made bytes to be saved, or met a fault.
+/// Returns the result of a command that made bytes to save, or failed.
 pub fn conclude(outcome: Result<Vec<u8>, Fault>) -> Answer
     ensures made { IfOk outcome (λ bytes. (result.image ≡ Some bytes) × (result.status ≡ 0) × (result.fault ≡ None)) }
     ensures fault { IfErr outcome (λ fault. (result.image ≡ None) × (result.status ≡ fault_status fault) × (result.fault ≡ Some fault)) }
@@ -53,7 +53,7 @@ pub fn conclude(outcome: Result<Vec<u8>, Fault>) -> Answer
     }
 }
 
-/// The answer of a command that printed what was asked for, or met a fault.
+/// Returns the result of a command that printed its output, or failed.
 pub fn report(outcome: Result<(), Fault>) -> Answer
     ensures unsaved { result.image ≡ None }
     ensures shown { OnOk outcome ((result.status ≡ 0) × (result.fault ≡ None)) }
@@ -73,7 +73,7 @@ pub fn report(outcome: Result<(), Fault>) -> Answer
     }
 }
 
-/// Writes the line of a fault, if there is one. If it can't be written, the status tells.
+/// Writes the line of a fault, if there is one. If it can't be written, only the status reports the fault.
 #[tactic(auto, using(crate::proofs::Lines::gets_nothing))]
 pub fn tell<E: Sink>(fault: &Option<Fault>, errors: &mut E)
     ensures { Hears (heard E.contents E.failed errors.old errors.new) fault.now }

@@ -1,4 +1,4 @@
-//! Why a command fails: its status and its line.
+//! The faults of commands, with their statuses and lines.
 ghost use Rattle.std.specs.Prelude.{◌≡◌};
 ghost use Rattle.command_faults.specs.Faults.{fault_status, fault_line, line_of_rule, line_of_refusal, no_memory, refusal_status, unmounted};
 
@@ -7,32 +7,32 @@ use std::alloc::AllocError;
 use vol_dir::Refusal;
 use vol_volume::MountFault;
 
-/// The line of standard output that can't be written.
+/// The line for standard output that can't be written.
 pub const CANNOT_WRITE: &str = "unixvol: cannot write -\n";
 
-/// Why a command did not do what it was asked for.
+/// Why a command failed.
 #[derive(Debug, Drop)]
 pub enum Fault {
-    /// The image isn't sound. The least of the twelve rules that it breaks.
+    /// The image isn't sound. The number is the first of the twelve rules that it breaks.
     Unsound(u8),
-    /// A call or a query was refused, or an allocation.
+    /// A call or a query was refused, or memory ran out.
     Refused(Refusal),
     /// A call or a query was refused, and the line names its path.
     RefusedAt {
         refusal: Refusal,
         line: Vec<u8>,
     },
-    /// No volume of the edition has the sizes.
+    /// No volume of the edition can have these sizes.
     Bounds,
-    /// The volume has a special file, and the command makes none.
+    /// The volume has a special file, which the command can't make.
     HasDevice,
-    /// A line of a script can't be read. The numbers of the script and of its line count from 1.
+    /// A line of a script can't be read. The script and its lines are numbered from 1.
     BadLine {
         script: u64,
         number: u64,
         line: Vec<u8>,
     },
-    /// Lines say in words what is wrong. If the last of them names a broken rule, `rule` is that.
+    /// The lines describe the fault in words. If the last one names a broken rule, `rule` is its number.
     Worded {
         rule: Option<u8>,
         lines: Vec<u8>,
@@ -42,7 +42,7 @@ pub enum Fault {
 }
 
 impl Fault {
-    /// The status that the program ends with: 1 for a refusal, 2 for a script, 3 for the output, 4 for memory.
+    /// Returns the exit status: 1 for a refusal, 2 for a script, 3 for the output, 4 for memory.
     pub fn status(&self) -> u8
         ensures { result ≡ fault_status self.now }
     {
@@ -54,7 +54,7 @@ impl Fault {
         }
     }
 
-    /// The line on standard error, with its newline, or several.
+    /// Returns the line or lines for standard error, with their newlines.
     pub fn line(&self) -> &[u8]
         ensures { result.now ≡ fault_line self.now }
     {
@@ -90,7 +90,7 @@ impl From<MountFault> for Fault {
     }
 }
 
-/// The status of a refusal.
+/// Returns the status of a refusal.
 fn status_of(refusal: Refusal) -> u8
     ensures { result ≡ refusal_status refusal }
 {
@@ -100,7 +100,7 @@ fn status_of(refusal: Refusal) -> u8
     }
 }
 
-/// The line of a rule that an image breaks. There are twelve; no other number is named.
+/// Returns the line of a broken rule. A number outside 1 to 12 is left out.
 pub fn unsound_line(rule: u8) -> &'static str
     ensures { result.now ≡ line_of_rule rule }
 {
@@ -121,7 +121,7 @@ pub fn unsound_line(rule: u8) -> &'static str
     }
 }
 
-/// The line of a refusal.
+/// Returns the line of a refusal.
 pub fn refusal_line(refusal: Refusal) -> &'static str
     ensures { result.now ≡ line_of_refusal refusal }
 {

@@ -1,4 +1,4 @@
-//! What a command comes to: its answer, why it fails, its status, and its line on standard error.
+//! The results of commands, and their faults with exit statuses and lines on standard error.
 #![tactic(auto)]
 
 pub mod answer;

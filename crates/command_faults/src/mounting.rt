@@ -1,4 +1,4 @@
-//! Mounting the volume in some bytes.
+//! Mounting an image.
 ghost use Rattle.std.specs.Prelude.{◌≡◌, IfOk, IfErr, OnOk, List};
 ghost use Rattle.vol_judge.specs.Sound.{IsSound};
 ghost use Rattle.vol_volume.specs.Volume.{mounted};
@@ -10,7 +10,7 @@ use std::alloc::Global;
 use vol_layout::Edition;
 use vol_volume::Volume;
 
-/// Mounts the volume in some bytes.
+/// Mounts the volume in an image.
 pub fn mount(alloc: Global, edition: Edition, image: Vec<u8>) -> Result<Volume, Fault>
     ensures mounted { IfOk result (λ volume. volume ≡ mounted edition image.items) }
     ensures sound { OnOk result (IsSound edition image.items) }

@@ -1,4 +1,4 @@
--- What a checker's command comes to, by whether there is a report.
+-- The result of a checker's command, with a report or without.
 use Rattle.std.proofs.Common.{ℕ, List, Result, Ok, Err, IfOk, OnErr, inl, inr}
 use Rattle.vol_check.specs.Reporting.{IsReport}
 use Rattle.vol_check.specs.declared.checker.Checker.{Checker}

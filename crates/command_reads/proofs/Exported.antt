@@ -1,4 +1,4 @@
--- What an export comes to, by what was written of it.
+-- The result of an export, from what was written.
 use Rattle.std.proofs.Common.{◌≡◌, ◌⊎◌, ℕ, Bool, true, List, Option, Result, Ok, Err, inl, inr, refl, ap, subst, ◌∙◌}
 use Rattle.std.proofs.KnownBytes.{Keeps-refl}
 use Rattle.std.specs.Prelude.{IsErrAnd}
@@ -13,7 +13,7 @@ use Rattle.vol_layout.specs.declared.edition.Edition.{Edition}
 use Rattle.command_reads.specs.Export.{ExportsBelow, IsUnwritten, WritesBelow, unwritten}
 use Rattle.command_reads.specs.declared.remarks.Remarks.{Remarks}
 
--- a fault of writing is want of memory, or standard output failed
+-- a fault of writing is out of memory, or standard output failed
 pub unwritten_cause : (fault : WriteFault) (after : Bool) → (fault ≡ writes.Output → after ≡ true)
     → (unwritten fault ≡ no_memory) ⊎ ((unwritten fault ≡ faults.Output) × (after ≡ true))
 unwritten_cause writes.NoMemory after cause = inl refl
@@ -25,7 +25,7 @@ pub unbegun_memory : (edition : Edition) (image : List ℕ) (start : Start) (kno
 unbegun_memory edition image start known failed (Ok lines) is = absurd is
 unbegun_memory edition image start known failed (Err fault) is = IsUnwritten.unbegun is (Keeps-refl known) refl
 
--- a fault before the archive began or in the midst of it, which was told
+-- a fault before the archive began or in the middle of it, which was reported
 pub told_below : (edition : Edition) (image : List ℕ) (start : Start) (streams : Streams) (fault : Fault) (status : ℕ)
     → IsUnwritten edition image start streams.old streams.new streams.had_failed streams.failed fault → status ≡ fault_status fault
     → streams.said (fault_line fault) → ExportsBelow edition image start streams status

@@ -1,4 +1,4 @@
--- What reading several files comes to, by its outcome.
+-- The result of reading several files, by its outcome.
 use Rattle.std.proofs.Common.{◌≡◌, ◌⊎◌, ◌<◌, ◌+◌, ◌++◌, ℕ, List, [], ◌∷◌, length, map, take, drop, get_or, None, Some, Ok, Err, IfErr, Option, Result, IsSome, true, true≢false, inl, inr, refl, sym, ap, subst, ◌∙◌, arith}
 use Rattle.std.specs.Borrow.{Bor}
 use Rattle.std.specs.Global.{Vec}
@@ -27,18 +27,18 @@ use Rattle.command_reads.specs.declared.get.FilesRead.{FilesRead}
 use Rattle.command_reads.specs.declared.get.GetFault.{GetFault}
 use Rattle.command_reads.specs.declared.get.GetFault.TheVariants.{Volume, File}
 
--- no reason has a status 0
+-- no reason has status 0
 fails : (fault : GetFault) → get_status fault ≡ 0 → ⊥
 fails (Volume fault) is = let few = fault_few fault in omega (arith, few.0, is)
 fails (File refusal path) is = refusal_fails refusal is
 
--- a fault that is told is a reason, if the one is that was met
+-- a fault that is reported is a reason, if the original one is
 told_reason : (edition : Edition) (image : List ℕ) (paths : List (List ℕ)) (fault told : GetFault) → IsReason edition image paths fault
     → (told ≡ fault) ⊎ (told ≡ Volume no_memory) → IsReason edition image paths told
 told_reason edition image paths fault told reason (inl is) = subst (IsReason edition image paths) (sym is) reason
 told_reason edition image paths fault told reason (inr is) = subst (IsReason edition image paths) (sym is) tt
 
--- the answer where files aren't read
+-- the result if files can't be read
 pub not_read : (edition : Edition) (image : List ℕ) (paths : List (List ℕ)) (errors : ErrorStream) (why : GetFault) (fault : Fault) (answer : FilesRead)
     → IsReason edition image paths why → answer.files ≡ None → answer.status ≡ fault_status fault
     → TellsFault why (λ line. fault_line fault ≡ line) (fault_status fault) → says errors (fault_line fault) → GetsFiles edition image paths (says errors) answer
@@ -60,7 +60,7 @@ bytes_by (Some refusal) walked bytes reply e = absurd (cc)
 bytes_by None (Err refusal) bytes reply e = absurd (cc)
 bytes_by None (Ok i) bytes reply e = let same : replies.Bytes (bytes i) ≡ reply = cc in subst IsBytes same tt
 
--- the question for the bytes of a file is answered with bytes
+-- a query for the bytes of a file is answered with bytes
 pub answer_bytes : (tree : Tree) (path : List ℕ) (query : Query) (reply : Reply) → query ≡ queries.Read user path 0 4294967295
     → answer tree query ≡ Ok reply → IsBytes reply
 unfolding reply_of
@@ -68,7 +68,7 @@ answer_bytes tree path query reply is e =
     bytes_by (query_refusal tree (queries.Read user path 0 4294967295)) (walk tree user path)
     (λ i. read_bytes (body_of (node_at tree i).content) 0 4294967295) reply (subst (λ (q : Query). answer tree q ≡ Ok reply) is e)
 
--- the first path whose file isn't read, behind those whose files are
+-- the first path whose file can't be read, after those whose files are read
 pub obstacle : (tree : Tree) (paths : List (Bor (List ℕ))) (k : ℕ) (d : Bor (List ℕ)) (files : List FileRead) (fault : GetFault) → k < length paths
     → AreRead tree (map (λ path. path.now) (take k paths)) files
     → (fault ≡ Volume no_memory)

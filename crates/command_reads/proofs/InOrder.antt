@@ -1,4 +1,4 @@
--- The members of a report stand in the order of their keys.
+-- The members of a report are in the order of their keys.
 use Rattle.std.proofs.Common.{◌≡◌, ◌∙◌, ap, refl}
 use Rattle.serde_json.specs.Data.{Members, object, no_members}
 use Rattle.vol_inspect.specs.declared.inode_report.InodeReport.{InodeReport}

@@ -1,4 +1,4 @@
--- What printing a text comes to.
+-- The result of printing a text.
 use Rattle.std.proofs.Common.{◌≡◌, ℕ, true, List, [], Option, Result, Ok, Err, IfOk, IfErr, inl, inr, refl, subst}
 use Rattle.std.specs.Prelude.{String}
 use Rattle.std.specs.Global.{Vec}
@@ -13,7 +13,7 @@ use Rattle.command_faults.specs.declared.fault.Fault.{Fault}
 use Rattle.command_faults.specs.declared.fault.Fault.TheVariants as faults
 use Rattle.command_reads.specs.Printing.{IsTold, Prints, PrintsWith, PrintsOne}
 
--- all bytes of a text went out
+-- all bytes of a text were written
 pub printed : (wanted : ℕ) (streams : Streams) (text bytes : List ℕ) → bytes ≡ text → Appends streams.old streams.new bytes
     → streams.failed ≡ streams.had_failed → streams.said [] → PrintsWith wanted streams text wanted
 printed wanted streams text bytes is whole working said = inl (record {
@@ -23,7 +23,7 @@ printed wanted streams text bytes is whole working said = inl (record {
   said = said;
 })
 
--- the front of a text went out, and standard output failed
+-- a prefix of a text was written, and standard output failed
 pub broken : (wanted : ℕ) (streams : Streams) (text bytes : List ℕ) (count status : ℕ) → bytes ≡ text → AppendsFront streams.old streams.new bytes count
     → streams.failed ≡ true → status ≡ 3 → streams.said (fault_line faults.Output) → PrintsWith wanted streams text status
 broken wanted streams text bytes count status is front fails state said = inr (record {
@@ -33,7 +33,7 @@ broken wanted streams text bytes count status is front fails state said = inr (r
   said = said;
 })
 
--- what was found is printed, or told
+-- the text is printed, or its fault reported
 pub one_of : (IsText : List ℕ → Type 0) (IsFault : Fault → Type 0) (streams : Streams) (status : ℕ) (text : Result (String Global) Fault)
     → IfOk text (λ t. IsText (string_bytes t)) → IfErr text IsFault → IfOk text (λ t. Prints streams (string_bytes t) status)
     → IfErr text (λ fault. IsTold streams fault status) → PrintsOne IsText IsFault streams status

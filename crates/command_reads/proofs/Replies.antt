@@ -28,7 +28,7 @@ use Rattle.vol_volume.specs.declared.queries.Query.TheVariants as queries
 use Rattle.vol_volume.specs.declared.queries.Reply.{Reply}
 use Rattle.vol_volume.specs.declared.queries.Reply.TheVariants as replies
 
--- what is answered was not refused
+-- a reply means that the query wasn't refused
 pub accepted : (refusal : Option Refusal) (answer : Result Reply Refusal) (reply : Reply) → refused_or refusal answer ≡ Ok reply → answer ≡ Ok reply
 accepted None answer reply e = e
 accepted (Some refusal) answer reply e = absurd (cc)
@@ -39,18 +39,18 @@ pub found : (walked : Result ℕ Refusal) (reply_of_node : ℕ → Reply) (reply
 found (Ok i) reply_of_node reply e = (i, refl, cc)
 found (Err refusal) reply_of_node reply e = absurd (cc)
 
--- no edition has files of more bytes than one query asks for
+-- no file of an edition has more bytes than one query reads
 greatest_short : (edition : Edition) → (constants edition).greatest ≤ 4294967295
 greatest_short V6 = omega arith
 greatest_short V7 = omega arith
 
--- no body has more bytes than one query asks for
+-- no body has more bytes than one query reads
 body_short : (geometry : Geometry) (image : List ℕ) (i : ℕ) → length (body geometry image i) ≤ 4294967295
 body_short geometry image i =
     let len : length (body geometry image i) ≡ body_size geometry image i = length-body geometry image i in
     omega (arith, greatest_short geometry.edition)
 
--- what an i-node of some kind holds has no more bytes than one query asks for
+-- an i-node of some kind holds no more bytes than one query reads
 content_short : (geometry : Geometry) (image : List ℕ) (i : ℕ) (node : Inode) (kind : Kind)
     → length (body_of (unwrap_or (option_map (node_with node) (content_of geometry image i kind)) no_node).content) ≤ 4294967295
 content_short geometry image i node kinds.Free = omega arith
@@ -59,13 +59,13 @@ content_short geometry image i node kinds.Regular = body_short geometry image i
 content_short geometry image i node kinds.Directory = omega arith
 content_short geometry image i node kinds.Special = omega arith
 
--- what stands at an i-number, which may be none of the volume's, has no more bytes than one query asks for
+-- an i-number, which may be outside the volume, has no more bytes than one query reads
 number_short : (is_one : Bool) (found : Option Node) → length (body_of (unwrap_or found no_node).content) ≤ 4294967295
     → length (body_of (unwrap_or (if is_one then found else None) no_node).content) ≤ 4294967295
 number_short true some short = short
 number_short false some short = omega arith
 
--- what a node of a tree holds has no more bytes than one query asks for
+-- a node of a tree holds no more bytes than one query reads
 node_short : (geometry : Geometry) (image : List ℕ) (i : ℕ) → length (body_of (node_at (tree geometry image) i).content) ≤ 4294967295
 unfolding tree node_of
 node_short geometry image i =

@@ -1,4 +1,4 @@
--- Why something isn't shown.
+-- The reasons why something isn't shown.
 use Rattle.std.proofs.Common.{◌≡◌, ℕ, List, Result, Ok, Err, refl, sym, subst}
 use Rattle.std.specs.Prelude.{String, IfErr, IsErrAnd, IsOk}
 use Rattle.std.specs.declared.alloc.Global.{Global}
@@ -15,14 +15,14 @@ use Rattle.command_faults.specs.declared.fault.Fault.{Fault}
 use Rattle.command_reads.specs.Inode.{IsInodeFault}
 use Rattle.command_reads.specs.SuperBlock.{IsSuperFault}
 
--- memory may run out where an i-node could be shown
+-- memory may run out even if an i-node could be shown
 pub inode_memory : (edition : Edition) (image : List ℕ) (number : ℕ) (report : InodeReport) (text : Result (String Global) Fault)
     → InspectsInode edition image number (Ok report) → IsErrAnd text (λ fault. fault ≡ no_memory) → IfErr text (IsInodeFault edition image number)
 inode_memory edition image number report (Ok t) found is = tt
 inode_memory edition image number report (Err fault) found is =
     (inspects.NoMemory, subst (λ (r : Result Geometry InspectFault). IsOk r) (sym found.1) refl, is)
 
--- memory may run out where the super-block could be shown
+-- memory may run out even if the super-block could be shown
 pub super_memory : (edition : Edition) (image : List ℕ) (report : SuperReport) (text : Result (String Global) Fault)
     → InspectsSuper edition image (Ok report) → IsErrAnd text (λ fault. fault ≡ no_memory) → IfErr text (IsSuperFault edition image)
 super_memory edition image report (Ok t) found is = tt

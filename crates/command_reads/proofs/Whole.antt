@@ -22,23 +22,23 @@ extents_whole : (es : List Extent) → items_have_float (items_of (map extent_da
 extents_whole [] = refl
 extents_whole (e ∷ es) = extents_whole es
 
--- not one that may not be there
+-- nor one that may be missing
 optional_whole : (n : Option ℕ) → has_float (count_or_null n) ≡ false
 optional_whole None = refl
 optional_whole (Some n) = refl
 
--- none of the fault that ended a walk
+-- nor one of the fault that ended a walk
 fault_whole : (fault : Option (FreeFault × ℕ)) → has_float (fault_data fault) ≡ false
 fault_whole None = refl
 fault_whole (Some fault) = refl
 
--- none of an i-node
+-- nor one of an i-node
 pub inode_whole : (report : InodeReport) → has_float (inode_data report) ≡ false
 unfolding inode_data
 inode_whole report =
     rw (counts_whole (take (address_count report.edition) report.node.addresses), optional_whole report.node.changed, extents_whole report.extents.items) refl
 
--- none of the super-block
+-- nor one of the super-block
 pub super_whole : (report : SuperReport) → has_float (super_data report) ≡ false
 unfolding super_data
 super_whole report = rw (fault_whole report.fault, counts_whole report.free.items, counts_whole report.cache.items) refl

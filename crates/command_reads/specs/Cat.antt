@@ -1,4 +1,4 @@
--- What `cat` answers and writes.
+-- The output and the faults of `cat`.
 use Rattle.std.specs.Prelude.{◌≡◌, ℕ, ◌==◌, ◌||◌, nat_lt, if◌then◌else◌, List, Option, Result, Ok, Err, codes}
 use Rattle.std.specs.Io.KnownBytes.{Appends, Keeps}
 use Rattle.pdp_words.specs.Devices.{IsReadWhole, AppendsFront}
@@ -17,7 +17,7 @@ use Rattle.command_faults.specs.Faults.{line_of_refusal, line_of_rule}
 use Rattle.command_reads.specs.declared.cat.CatFault.{CatFault}
 use Rattle.command_reads.specs.declared.cat.CatFault.TheVariants as faults
 
--- the status that the program ends with at a fault of `cat`: 1 for a refusal, 3 for a file, 4 for memory (this project)
+-- the exit status for a fault of `cat`: 1 for a refusal, 3 for a file, 4 for memory (this project)
 abbrev pub cat_status : CatFault → ℕ
 cat_status faults.Device = 3
 cat_status (faults.Writer written) = 3
@@ -31,7 +31,7 @@ abbrev pub broken_rule : GeometryFault → ℕ
 broken_rule Short = 1
 broken_rule Bounds = 2
 
--- the line on standard error of a fault of `cat`, but that the program names the file that it can't read (this project)
+-- the line on standard error of a fault of `cat`; the program names a file that it can't read (this project)
 abbrev pub cat_line : CatFault → List ℕ
 cat_line faults.Device = codes "unixvol: cannot read the image\n"
 cat_line (faults.Writer written) = codes "unixvol: cannot write -\n"
@@ -40,7 +40,7 @@ cat_line (faults.Unsound fault) = line_of_rule (broken_rule fault)
 cat_line faults.NoEntry = line_of_refusal refusals.NoEntry
 cat_line faults.NotRegular = line_of_refusal refusals.NotRegular
 
--- a fault that an image which was read gives rise to (this project)
+-- a fault that has its cause in the image (this project)
 abbrev pub IsOfImage : CatFault → Type 0
 IsOfImage faults.Device = ⊥
 IsOfImage faults.NoMemory = ⊥
@@ -49,7 +49,7 @@ IsOfImage (faults.Unsound fault) = Unit {0}
 IsOfImage faults.NoEntry = Unit {0}
 IsOfImage faults.NotRegular = Unit {0}
 
--- an outcome that is no fault of the writer (this project)
+-- an outcome other than a fault of the writer (this project)
 abbrev pub IsNoWriters : Result (Unit {0}) CatFault → Type 0
 IsNoWriters (Err (faults.Writer written)) = ⊥
 IsNoWriters _ = Unit {0}
@@ -62,29 +62,29 @@ printable geometry kinds.Free = Err faults.NoEntry
 printable geometry kinds.Special = Err faults.NotRegular
 printable geometry kinds.Odd = Err faults.NotRegular
 
--- the geometry of an image in which i-node i, which may be none of the volume's, can be printed, or the first refusal that applies (this project)
+-- the geometry of an image in which i-node i, which may be outside the volume, can be printed, or the first refusal that applies (this project)
 abbrev pub file_in : Geometry → List ℕ → ℕ → Result Geometry CatFault
 file_in geometry image i =
     if (i == 0) || nat_lt geometry.last_inode i then Err faults.NoEntry
     else printable geometry (kind_of geometry.edition (mode_of geometry image i))
 
--- the geometry that was read of an image, where i-node i can be printed, or the first refusal that applies: of the image, or of the i-node (this project)
+-- the geometry read from an image in which i-node i can be printed, or the first refusal that applies: of the image, or of the i-node (this project)
 abbrev pub file_by : Result Geometry GeometryFault → List ℕ → ℕ → Result Geometry CatFault
 file_by (Ok geometry) image i = file_in geometry image i
 file_by (Err fault) image i = Err (faults.Unsound fault)
 
--- the geometry of an image whose file i `cat` prints, or its first refusal: rule 1, rule 2, no such i-node, no regular file or directory (this project)
+-- the geometry of an image whose file i `cat` prints, or its first refusal: rule 1, rule 2, no such i-node, not a regular file or directory (this project)
 unfoldable pub file_of : Edition → List ℕ → ℕ → Result Geometry CatFault
 file_of edition image i = file_by (geometry_read edition image) image i
 
--- what `cat` writes and answers for an image: file i's body, or as many of its bytes as a writer's fault counts, or a refusal and nothing (this project)
+-- the output and the result of `cat` for an image: file i's body, or as many of its bytes as a writer's fault counts, or a refusal and nothing (this project)
 abbrev pub PrintsFile : Option (List ℕ) → Option (List ℕ) → List ℕ → ℕ → Result Geometry CatFault → Result (Unit {0}) CatFault → Type 0
 PrintsFile old new image i (Err fault) result = (result ≡ Err fault) × Keeps old new
 PrintsFile old new image i (Ok geometry) (Ok done) = Appends old new (body geometry image i)
 PrintsFile old new image i (Ok geometry) (Err (faults.Writer written)) = AppendsFront old new (body geometry image i) written
 PrintsFile old new image i (Ok geometry) (Err _) = ⊥
 
--- what `cat` does with its reader and its writer: an image that was read whole is shown, and else nothing is written (this project)
+-- the effect of `cat` on its reader and its writer: an image that was read whole is shown, and otherwise nothing is written (this project)
 abbrev pub Cats : Option (List ℕ) → Option (List ℕ) → Option (List ℕ) → Option (List ℕ) → Edition → ℕ → Result (Unit {0}) CatFault → Type 0
 Cats had left old new edition i (Err faults.Device) = Keeps old new
 Cats had left old new edition i (Err faults.NoMemory) = Keeps old new

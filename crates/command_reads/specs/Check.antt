@@ -1,4 +1,4 @@
--- What is told of the rules of soundness.
+-- The check of the rules of soundness.
 use Rattle.std.specs.Prelude.{◌⊎◌, ℕ, Bool, true, false, List}
 use Rattle.vol_findings.specs.Reports.{IsReport}
 use Rattle.vol_layout.specs.declared.edition.Edition.{Edition}
@@ -6,18 +6,18 @@ use Rattle.command_faults.specs.Faults.{no_memory}
 use Rattle.command_faults.specs.Streams.{Streams}
 use Rattle.command_reads.specs.Printing.{IsTold, PrintsWith}
 
--- the status of a check: 0 where all twelve rules hold, else 1 (this project)
+-- the status of a check: 0 if all twelve rules hold, else 1 (this project)
 abbrev pub verdict_status : Bool → ℕ
 verdict_status true = 0
 verdict_status false = 1
 
--- the report on an image is printed, with the status of whether it is sound (this project)
+-- the report on an image is printed, with the status for its soundness (this project)
 pub record PrintsReport (edition : Edition) (image : List ℕ) (streams : Streams) (status : ℕ) : Type 0 where
   pub text : List ℕ
   pub sound : Bool
   pub report : IsReport edition image text sound
   pub prints : PrintsWith (verdict_status sound) streams text status
 
--- the report on an image is printed, or want of memory is told (this project)
+-- the report on an image is printed, or out of memory is reported (this project)
 abbrev pub Checks : Edition → List ℕ → Streams → ℕ → Type 0
 Checks edition image streams status = PrintsReport edition image streams status ⊎ IsTold streams no_memory status

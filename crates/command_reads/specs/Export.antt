@@ -1,4 +1,4 @@
--- What an export comes to.
+-- The result of an export.
 use Rattle.std.specs.Prelude.{◌≡◌, ◌⊎◌, ℕ, ◌==◌, Bool, true, if◌then◌else◌, List, length, Option, Result, Ok, Err, MatchResult}
 use Rattle.std.specs.Io.KnownBytes.{Appends, Keeps}
 use Rattle.pdp_words.specs.Devices.{AppendsFront}
@@ -23,17 +23,17 @@ use Rattle.vol_archive.specs.declared.exporting.StartFault.TheVariants as starts
 use Rattle.vol_archive.specs.declared.writing.WriteFault.{WriteFault}
 use Rattle.vol_archive.specs.declared.writing.WriteFault.TheVariants as writes
 
--- the fault of an export that has nowhere to begin for this reason (this project)
+-- the fault of an export that can't start for this reason (this project)
 abbrev pub unstarted : StartFault → Fault
 unstarted (starts.Unsound fault) = unmeasured fault
 unstarted (starts.Refused refusal) = faults.Refused refusal
 
--- the fault of an export that doesn't end for this reason (this project)
+-- the fault of an export that stopped for this reason (this project)
 abbrev pub unwritten : WriteFault → Fault
 unwritten writes.NoMemory = no_memory
 unwritten writes.Output = faults.Output
 
--- the archive of what was met went out whole, and all is told that is to be told; the status is 1 where that is anything (this project)
+-- the whole archive of the entries found was written, and all remarks are reported; the status is 1 if there are any (this project)
 pub record IsWhole (edition : Edition) (image : List ℕ) (start : Start) (founds : List Found) (streams : Streams) (code : ℕ) : Type 0 where
   pub bytes : Appends streams.old streams.new (archive_bytes start.geometry image founds)
   pub working : streams.failed ≡ streams.had_failed
@@ -42,13 +42,13 @@ pub record IsWhole (edition : Edition) (image : List ℕ) (start : Start) (found
   pub said : streams.said lines
   pub status : code ≡ (if length lines == 0 then 0 else 1)
 
--- memory ran out in the midst of some bytes, which is told (this project)
+-- memory ran out after some of the bytes, which is reported (this project)
 pub record IsCutShort (streams : Streams) (bytes : List ℕ) (code : ℕ) : Type 0 where
   pub status : code ≡ 4
   pub front : (count : ℕ) × AppendsFront streams.old streams.new bytes count
   pub said : streams.said (fault_line no_memory)
 
--- the archive of what is below the directory goes out, whole or a front of it; or memory runs out before it begins (this project)
+-- the archive of a directory's contents was written, whole or a prefix of it; or memory ran out before it began (this project)
 pub data ExportsBelow (edition : Edition) (image : List ℕ) (start : Start) (streams : Streams) (status : ℕ) : Type 0 where
   whole : (founds : List Found) → IsWalk start.geometry image start.inode founds → IsWhole edition image start founds streams status
       → ExportsBelow edition image start streams status
@@ -58,7 +58,7 @@ pub data ExportsBelow (edition : Edition) (image : List ℕ) (start : Start) (st
       → ExportsBelow edition image start streams status
   unbegun : IsTold streams no_memory status → ExportsBelow edition image start streams status
 
--- the archive of what was met went out, and these lines tell all of it (this project)
+-- the archive of the entries found was written, and these lines are all remarks on it (this project)
 pub record IsWritten (edition : Edition) (image : List ℕ) (start : Start) (old new : Option (List ℕ)) (before after : Bool) (lines : List ℕ) : Type 0 where
   pub founds : List Found
   pub walk : IsWalk start.geometry image start.inode founds
@@ -66,29 +66,29 @@ pub record IsWritten (edition : Edition) (image : List ℕ) (start : Start) (old
   pub working : after ≡ before
   pub told : TellsAll edition image start.geometry founds lines
 
--- a fault came before the archive began, or in the midst of it (this project)
+-- a fault before the archive began, or in the middle of it (this project)
 pub data IsUnwritten (edition : Edition) (image : List ℕ) (start : Start) (old new : Option (List ℕ)) (before after : Bool) (fault : Fault) : Type 0 where
   unbegun : fault ≡ no_memory → Keeps old new → after ≡ before → IsUnwritten edition image start old new before after fault
   midway : (founds : List Found) → IsWalk start.geometry image start.inode founds
       → (count : ℕ) × AppendsFront old new (archive_bytes start.geometry image founds) count
       → (fault ≡ no_memory) ⊎ ((fault ≡ faults.Output) × (after ≡ true)) → IsUnwritten edition image start old new before after fault
 
--- what is written of what is below a directory (this project)
+-- the archive that is written of a directory's contents (this project)
 abbrev pub WritesBelow : Edition → List ℕ → Start → Option (List ℕ) → Option (List ℕ) → Bool → Bool → Result Remarks Fault → Type 0
 WritesBelow edition image start old new before after result =
     MatchResult result (λ remarks. IsWritten edition image start old new before after remarks.lines.items)
     (λ fault. IsUnwritten edition image start old new before after fault)
 
--- an export to a file or a pipe; a terminal gets no archive, as if it couldn't be written (this project)
+-- an export to a file or a pipe; a terminal gets no archive, and counts as output that can't be written (this project)
 abbrev pub ExportsTo : Edition → List ℕ → Start → Streams → ℕ → Screen → Type 0
 ExportsTo edition image start streams status screens.Stream = ExportsBelow edition image start streams status
 ExportsTo edition image start streams status (screens.Terminal columns colours) = IsTold streams faults.Output status
 
--- an export from where it begins, or it is told why there is nothing to export (this project)
+-- an export from its start, or the reason why there is nothing to export is reported (this project)
 abbrev pub ExportsFrom : Edition → List ℕ → Screen → Streams → ℕ → Result Start StartFault → Type 0
 ExportsFrom edition image screen streams status (Ok start) = ExportsTo edition image start streams status screen
 ExportsFrom edition image screen streams status (Err fault) = IsTold streams (unstarted fault) status
 
--- what is below the directory to which a path leads is exported, or it is told why it isn't (this project)
+-- the contents of the directory at a path are exported, or the reason why not is reported (this project)
 abbrev pub Exports : Edition → List ℕ → List ℕ → Screen → Streams → ℕ → Type 0
 Exports edition image path screen streams status = ExportsFrom edition image screen streams status (start_of edition image path)

@@ -1,4 +1,4 @@
--- Why a command that looks at an image doesn't show it.
+-- The faults of commands that show parts of an image.
 use Rattle.vol_layout.specs.declared.geometry.GeometryFault.{GeometryFault}
 use Rattle.vol_dir.specs.declared.refusal.Refusal.TheVariants as refusals
 use Rattle.vol_inspect.specs.declared.fault.InspectFault.{InspectFault}

@@ -1,4 +1,4 @@
--- What is shown of an i-node.
+-- The report on an i-node.
 use Rattle.std.specs.Prelude.{ℕ, ◌-◌, List, ◌++◌, map, take, codes, ◌≡◌, Ok, Err}
 use Rattle.serde_json.specs.Data.{Data, string, array, object, member, no_members, Members, put}
 use Rattle.serde_json.specs.View.{items_of}
@@ -39,7 +39,7 @@ inode_data report =
 abbrev pub inode_json : InodeReport → List ℕ
 inode_json report = compact_text (inode_data report) ++ codes "\n"
 
--- with the number of an i-node, and what its mode says (this project)
+-- members with the number of an i-node, its mode, kind and permissions (this project)
 unfoldable pub with_mode : InodeReport → Members → Members
 with_mode report members =
     put (codes "permissions") (count (permissions_of report.node.mode.bits))
@@ -47,7 +47,7 @@ with_mode report members =
     (put (codes "kind") (string (kind_name (kind_of report.edition report.node.mode.bits)))
     (put (codes "i-node") (count report.number) members)))
 
--- with how many entries name an i-node, its owner, and its size (this project)
+-- members with the link count of an i-node, its owner and group, and its size (this project)
 unfoldable pub with_owner : InodeReport → Members → Members
 with_owner report members =
     put (codes "size") (count report.node.size)
@@ -55,14 +55,14 @@ with_owner report members =
     (put (codes "uid") (count report.node.uid)
     (put (codes "nlink") (count report.node.links) members)))
 
--- with the times of an i-node (this project)
+-- members with the times of an i-node (this project)
 unfoldable pub with_times : InodeReport → Members → Members
 with_times report members =
     put (codes "ctime") (count_or_null report.node.changed)
     (put (codes "mtime") (count report.node.modified)
     (put (codes "atime") (count report.node.accessed) members))
 
--- with the addresses of an i-node, and its extents (this project)
+-- members with the addresses of an i-node, and its extents (this project)
 unfoldable pub with_places : InodeReport → Members → Members
 with_places report members =
     put (codes "extents") (array (items_of (map extent_data report.extents.items)))
@@ -78,11 +78,11 @@ abbrev pub IsInodeText : Edition → List ℕ → ℕ → Form → List ℕ → 
 IsInodeText edition image number form text =
     (report : InodeReport) × InspectsInode edition image number (Ok report) × (text ≡ inode_in report form)
 
--- why an i-node of an image isn't shown (this project)
+-- the reason why an i-node of an image isn't shown (this project)
 abbrev pub IsInodeFault : Edition → List ℕ → ℕ → Fault → Type 0
 IsInodeFault edition image number fault = (why : InspectFault) × InspectsInode edition image number (Err why) × (fault ≡ uninspected why)
 
--- an i-node is shown, or it is told why it isn't (this project)
+-- an i-node is shown, or the reason why not is reported (this project)
 abbrev pub ShowsInode : Edition → List ℕ → ℕ → Form → Streams → ℕ → Type 0
 ShowsInode edition image number form streams status =
     PrintsOne (IsInodeText edition image number form) (IsInodeFault edition image number) streams status

@@ -1,4 +1,4 @@
--- What a look at an image comes to.
+-- The result of a command that shows part of an image.
 use Rattle.std.specs.Prelude.{ℕ, List}
 use Rattle.vol_layout.specs.declared.edition.Edition.{Edition}
 use Rattle.command_faults.specs.Streams.{Streams}
@@ -12,7 +12,7 @@ use Rattle.command_reads.specs.declared.looks.Look.{Look}
 use Rattle.command_reads.specs.declared.looks.Look.TheVariants as looks
 use Rattle.vol_listing.specs.declared.options.Screen.{Screen}
 
--- what is asked for is shown (this project)
+-- the part that the command names is shown (this project)
 abbrev pub Looks : Edition → List ℕ → Screen → Streams → ℕ → Look → Type 0
 Looks edition image screen streams status (looks.Export path) = Exports edition image path.now screen streams status
 Looks edition image screen streams status (looks.Inode number form) = ShowsInode edition image number form streams status

@@ -1,4 +1,4 @@
--- What the command that lists names prints.
+-- The output of the command that lists names.
 use Rattle.std.specs.Prelude.{◌≡◌, ℕ, Bool, true, false, List, Ok}
 use Rattle.vol_judge.specs.Sound.{IsSound}
 use Rattle.vol_volume.specs.Volume.{reads_as}
@@ -18,21 +18,21 @@ use Rattle.command_faults.specs.Streams.{Streams}
 use Rattle.command_reads.specs.Queries.{answer_of, IsObstacle}
 use Rattle.command_reads.specs.Printing.{PrintsOne}
 
--- a path leads to this i-number in the tree that an image reads as, as user 0 asks (stat)
+-- a path leads to this i-number in the tree of an image, for user 0 (stat)
 abbrev pub IsFound : Edition → List ℕ → List ℕ → ℕ → Type 0
 IsFound edition image path i =
     (stat : Stat) × (answer_of edition image (queries.Stat user path) ≡ Ok (replies.Stat stat)) × (i ≡ stat.number)
 
--- the question whose refusal a listing tells, by whether it is bare: such a listing is of a directory (ls, stat)
+-- the query whose refusal a listing reports: List for a bare one, which needs a directory, else Stat (ls, stat)
 abbrev pub question_by : Bool → List ℕ → Query
 question_by true path = queries.List user path
 question_by false path = queries.Stat user path
 
--- the question whose refusal a listing tells (ls, stat)
+-- the query whose refusal a listing reports (ls, stat)
 abbrev pub question_of : Listing → List ℕ → Query
 question_of listing path = question_by (is_bare listing) path
 
--- the image is sound, and this is a listing of what a path leads to in the tree that it reads as, which is a directory where the listing is bare (this project)
+-- the image is sound, and this is a listing of the file or directory at a path of its tree, a directory if the listing is bare (this project)
 pub record IsListing (edition : Edition) (image path : List ℕ) (listing : Listing) (screen : Screen) (text : List ℕ) : Type 0 where
   pub sound : IsSound edition image
   pub inode : ℕ
@@ -40,7 +40,7 @@ pub record IsListing (edition : Edition) (image path : List ℕ) (listing : List
   pub opened : is_bare listing ≡ true → is_directory (node_at (reads_as edition image).tree inode) ≡ true
   pub listed : IsListingOf (reads_as edition image).tree listing screen (start_of path inode) text
 
--- what a path leads to is listed, or it is told why it isn't: want of memory, the least rule that the image breaks, that the path leads nowhere, or, of a bare listing, that it leads to no directory (this project)
+-- the file or directory at a path is listed, or the reason why not is reported: out of memory, the first rule that the image breaks, a path that leads nowhere, or, for a bare listing, to no directory (this project)
 abbrev pub Lists : Edition → List ℕ → List ℕ → Listing → Screen → Streams → ℕ → Type 0
 Lists edition image path listing screen streams status =
     PrintsOne (IsListing edition image path listing screen) (IsObstacle edition image (question_of listing path)) streams status

@@ -1,4 +1,4 @@
--- What a command that looks at an image comes to.
+-- The result of a command that shows part of an image.
 use Rattle.std.specs.Prelude.{◌≡◌, ◌⊎◌, ℕ, true, List, []}
 use Rattle.std.specs.Io.KnownBytes.{Appends, Keeps}
 use Rattle.pdp_words.specs.Devices.{AppendsFront}
@@ -7,14 +7,14 @@ use Rattle.command_faults.specs.Streams.{Streams}
 use Rattle.command_faults.specs.declared.fault.Fault.{Fault}
 use Rattle.command_faults.specs.declared.fault.Fault.TheVariants as faults
 
--- nothing is printed, and a fault is told, with its status (this project)
+-- nothing is printed, and a fault is reported, with its status (this project)
 pub record IsTold (streams : Streams) (fault : Fault) (code : ℕ) : Type 0 where
   pub status : code ≡ fault_status fault
   pub kept : Keeps streams.old streams.new
   pub working : streams.failed ≡ streams.had_failed
   pub said : streams.said (fault_line fault)
 
--- standard output failed, which is told, and has the front of some bytes (this project)
+-- standard output failed, which is reported, and it has a prefix of some bytes (this project)
 pub record IsBrokenOff (streams : Streams) (bytes : List ℕ) (code : ℕ) : Type 0 where
   pub status : code ≡ 3
   pub front : (count : ℕ) × AppendsFront streams.old streams.new bytes count
@@ -32,15 +32,15 @@ pub record IsPrintedWith (wanted : ℕ) (streams : Streams) (text : List ℕ) (c
 abbrev pub IsPrinted : Streams → List ℕ → ℕ → Type 0
 IsPrinted streams text code = IsPrintedWith 0 streams text code
 
--- a text is printed, with a status, or standard output has the front of it (this project)
+-- a text is printed, with a status, or standard output has a prefix of it (this project)
 abbrev pub PrintsWith : ℕ → Streams → List ℕ → ℕ → Type 0
 PrintsWith wanted streams text status = IsPrintedWith wanted streams text status ⊎ IsBrokenOff streams text status
 
--- a text is printed, or standard output has the front of it (this project)
+-- a text is printed, or standard output has a prefix of it (this project)
 abbrev pub Prints : Streams → List ℕ → ℕ → Type 0
 Prints streams text status = PrintsWith 0 streams text status
 
--- a text of some is printed, or a fault of some is told (this project)
+-- one of some texts is printed, or one of some faults is reported (this project)
 abbrev pub PrintsOne : (List ℕ → Type 0) → (Fault → Type 0) → Streams → ℕ → Type 0
 PrintsOne IsText IsFault streams status =
     ((text : List ℕ) × IsText text × Prints streams text status) ⊎ ((fault : Fault) × IsFault fault × IsTold streams fault status)

@@ -1,4 +1,4 @@
--- What is shown of the super-block.
+-- The command that shows the super-block.
 use Rattle.std.specs.Prelude.{ℕ, ◌-◌, List, ◌++◌, codes, Option, None, Some, slice_index, ◌≡◌, Ok, Err}
 use Rattle.serde_json.specs.Data.{Data, null, string, object, member, no_members, Members, put}
 use Rattle.serde_json.specs.Written.{compact_text}
@@ -23,7 +23,7 @@ abbrev pub fault_data : Option (FreeFault × ℕ) → Data
 fault_data None = null
 fault_data (Some fault) = object (member (codes "fault") (string (fault_word fault.0)) (member (codes "number") (count fault.1) no_members))
 
--- the super-block: its fields by their names in filsys.h, and what is counted (this project)
+-- the super-block: its fields by their names in filsys.h, and the counts (this project)
 unfoldable pub super_data : SuperReport → Data
 super_data report =
     object (member (codes "data blocks") (count (report.geometry.zone_end - report.geometry.zone_start))
@@ -47,7 +47,7 @@ super_data report =
 abbrev pub super_json : SuperReport → List ℕ
 super_json report = compact_text (super_data report) ++ codes "\n"
 
--- with the sizes of a volume, and its time (this project)
+-- members with the sizes of a volume, and its time (this project)
 unfoldable pub with_sizes : SuperReport → Members → Members
 with_sizes report members =
     put (codes "time") (count report.time)
@@ -56,7 +56,7 @@ with_sizes report members =
     (put (codes "fsize") (count report.block_count)
     (put (codes "isize") (count report.list_size) members))))
 
--- with the flags of a super-block (this project)
+-- members with the flags of a super-block (this project)
 unfoldable pub with_flags : SuperReport → Members → Members
 with_flags report members =
     put (codes "ronly") (count (slice_index report.flags 3))
@@ -64,7 +64,7 @@ with_flags report members =
     (put (codes "ilock") (count (slice_index report.flags 1))
     (put (codes "flock") (count (slice_index report.flags 0)) members)))
 
--- with what the free list has (this project)
+-- members with the free list (this project)
 unfoldable pub with_free : SuperReport → Members → Members
 with_free report members =
     put (codes "fault") (fault_data report.fault)
@@ -72,7 +72,7 @@ with_free report members =
     (put (codes "free") (counts report.free.items)
     (put (codes "nfree") (count report.free_count) members)))
 
--- with what the cache of i-numbers has, and how many i-nodes are free (this project)
+-- members with the i-number cache and the number of free i-nodes (this project)
 unfoldable pub with_cache : SuperReport → Members → Members
 with_cache report members =
     put (codes "free i-nodes") (count report.free_inodes)
@@ -88,10 +88,10 @@ super_in report forms.Json = super_json report
 abbrev pub IsSuperText : Edition → List ℕ → Form → List ℕ → Type 0
 IsSuperText edition image form text = (report : SuperReport) × InspectsSuper edition image (Ok report) × (text ≡ super_in report form)
 
--- why the super-block of an image isn't shown (this project)
+-- the reason why the super-block of an image isn't shown (this project)
 abbrev pub IsSuperFault : Edition → List ℕ → Fault → Type 0
 IsSuperFault edition image fault = (why : InspectFault) × InspectsSuper edition image (Err why) × (fault ≡ uninspected why)
 
--- the super-block is shown, or it is told why it isn't (this project)
+-- the super-block is shown, or the reason why not is reported (this project)
 abbrev pub ShowsSuper : Edition → List ℕ → Form → Streams → ℕ → Type 0
 ShowsSuper edition image form streams status = PrintsOne (IsSuperText edition image form) (IsSuperFault edition image) streams status

@@ -19,7 +19,7 @@ use vol_layout::{Edition, Geometry, GeometryFault, Kind};
 /// Why `cat` didn't print a file.
 #[derive(Clone, Copy, Debug, PartialEq, Eq)]
 pub enum CatFault {
-    /// The image could not be read.
+    /// The image can't be read.
     Device,
     /// Memory ran out while the image was loaded.
     NoMemory,
@@ -27,14 +27,14 @@ pub enum CatFault {
     Unsound(GeometryFault),
     /// The i-number is 0, past the last, or that of a free i-node.
     NoEntry,
-    /// The i-node is a special file, or its mode is none of the edition's.
+    /// The i-node is a special file, or its mode isn't one of the edition's.
     NotRegular,
-    /// The output failed after so many bytes.
+    /// The output failed after this many bytes.
     Writer(u64),
 }
 
 impl CatFault {
-    /// The status that the program ends with: 1 for a refusal, 3 for a file, 4 for memory.
+    /// Returns the exit status: 1 for a refusal, 3 for a file, 4 for memory.
     pub fn status(self) -> u8
         ensures { result ≡ cat_status self }
     {
@@ -45,8 +45,8 @@ impl CatFault {
         }
     }
 
-    /// The line on standard error, with its newline. Where the image can't be read, the program names its file
-    /// in place of `the image`.
+    /// Returns the line for standard error, with its newline. If the image can't be read, the program names its file instead
+    /// of `the image`.
     pub fn line(self) -> &'static str
         ensures { result.now ≡ cat_line self }
     {
@@ -61,7 +61,7 @@ impl CatFault {
         }
     }
 
-    /// The fault of a command that it is; `None` of an image that can't be read.
+    /// Returns the command's fault, or `None` if the image can't be read.
     pub fn as_fault(self) -> Option<Fault>
         ensures { MatchOption result (self ≡ CatFault.Device) (λ fault. fault_line fault ≡ cat_line self) }
     {
@@ -77,14 +77,14 @@ impl CatFault {
     }
 }
 
-/// Bytes of the buffer through which a body goes out.
+/// The size in bytes of the buffer for a file's body.
 const BUFFER: usize = 64 * 1024;
 
-/// Prints the body of i-node `ino` of the image that `reader` gives to `writer`. A fault of the writer
-/// counts the bytes that it took; every other fault writes nothing.
+/// Prints the body of i-node `ino` from the image in `reader` to `writer`. A fault of the writer counts the bytes that it
+/// took; with any other fault nothing is written.
 ///
-/// Only loading the image takes memory: the body goes out through a buffer of 64 KiB. Costs the bytes
-/// of the image read, and those of the body written.
+/// Only loading the image takes memory: the body is copied through a buffer of 64 KiB. Costs the bytes of the image read,
+/// and those of the body written.
 pub fn cat<R: Source, W: Sink>(
     alloc: Global,
     edition: Edition,
@@ -109,7 +109,7 @@ pub fn cat<R: Source, W: Sink>(
 
 /// Prints the body of i-node `ino` of an image to `writer`, as [`cat`] does.
 ///
-/// Takes no memory: the body goes out through a buffer of 64 KiB. Costs the bytes written.
+/// Takes no memory: the body is copied through a buffer of 64 KiB. Costs the bytes written.
 pub fn print_file<W: Sink>(
     edition: Edition,
     ino: u16,
@@ -125,7 +125,7 @@ pub fn print_file<W: Sink>(
     show(image, &geometry, ino, writer)
 }
 
-/// The geometry of an image in which file `ino` can be printed.
+/// Returns the geometry of an image if file `ino` can be printed from it.
 #[tactic(auto, unfolding(crate::specs::Cat::file_of))]
 fn open(edition: Edition, image: &Image, ino: u16) -> Result<Geometry, CatFault>
     ensures exact { result ≡ file_of edition image.now ino }

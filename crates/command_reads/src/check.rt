@@ -1,4 +1,4 @@
-//! The command that tells which rules of soundness an image keeps.
+//! The command that checks an image against the rules of soundness.
 ghost use Rattle.std.specs.Prelude.{◌≡◌, IfErr, IfOk, OnErr, string_bytes};
 ghost use Rattle.command_faults.specs.Streams.{ErrorStream, Hears, streams};
 ghost use Rattle.vol_findings.specs.Reports.{IsReport};
@@ -12,11 +12,11 @@ use std::alloc::Global;
 use vol_findings::make_report;
 use vol_layout::Edition;
 
-/// Prints of each rule of soundness whether an image keeps it, what breaks it first, or that it isn't asked. The status is 0
-/// where all twelve hold, else 1; 3 where `output` failed, 4 where memory ran out. The image may be any bytes. Nothing goes out
-/// before all is known.
+/// Prints for each rule of soundness whether an image keeps it, what breaks it first, or that it can't be checked. The
+/// status is 0 if all twelve hold, else 1; 3 if `output` failed, 4 if memory ran out. The image may be any bytes. Nothing is
+/// printed before all is known.
 ///
-/// Costs and takes memory for what [`make_report`] does.
+/// Takes the time and memory of [`make_report`].
 pub(crate) fn check<O: Sink>(
     alloc: Global,
     edition: Edition,
@@ -36,7 +36,7 @@ pub(crate) fn check<O: Sink>(
     }
 }
 
-/// The status of a check: 0 where all rules hold.
+/// Returns the status of a check: 0 if all rules hold, else 1.
 fn verdict_status(is_sound: bool) -> u8
     ensures { result ≡ verdict_status is_sound }
 {

@@ -1,4 +1,4 @@
-//! The checkers: what they find in the volume in some bytes, whether it is sound or not, printed line by line.
+//! The checkers `icheck`, `dcheck` and `ncheck`, which print their findings on any image line by line.
 ghost use Rattle.std.specs.Prelude.{◌≡◌, ◌⊎◌, ◌≤◌, ◌++◌, ℕ, true, IfErr, IfOk, OnErr, OnOk};
 ghost use Rattle.std.specs.List.{flat_map};
 ghost use Rattle.std.specs.Io.KnownBytes.{Appends, Keeps};
@@ -20,8 +20,8 @@ use vol_layout::Edition;
 use vol_listing::{Screen, push_shown};
 use vol_reports::{Line, Report};
 
-/// Prints what a checker finds, by so many threads, as [`perform`] does, writes the line of its fault to `errors`, and
-/// answers the status.
+/// Runs a checker with `workers` threads as [`perform`] does, writes the line of a fault to `errors`, and returns the
+/// status.
 pub fn check<R: Threads + Wait + Sync, O: Sink, E: Sink>(
     rt: &R,
     alloc: Global,
@@ -42,10 +42,10 @@ pub fn check<R: Threads + Wait + Sync, O: Sink, E: Sink>(
     ending.status
 }
 
-/// Prints what a checker finds, by so many threads; to a terminal with the paths of a name report escaped. The status is 0, or 1 where
-/// the report tells of faults, 3 where `output` failed, 4 where memory ran out. Nothing goes out before all is known.
+/// Prints a checker's findings, found by `workers` threads; on a terminal the paths of a name report are escaped. The status
+/// is 0, or 1 if the report has faults, 3 if `output` failed, 4 if memory ran out. Nothing is printed before all is known.
 ///
-/// Takes memory for what the checker takes, and for the text.
+/// Takes memory for the checker and for the text.
 pub fn perform<R: Threads + Wait + Sync, O: Sink>(
     rt: &R,
     alloc: Global,
@@ -66,7 +66,7 @@ pub fn perform<R: Threads + Wait + Sync, O: Sink>(
     show(alloc, report, screen, output)
 }
 
-/// What a checker finds in an image.
+/// Returns a checker's report on an image.
 fn find<R: Threads + Wait + Sync>(
     rt: &R,
     alloc: Global,
@@ -86,7 +86,7 @@ fn find<R: Threads + Wait + Sync>(
     }
 }
 
-/// Prints a report, if there was the memory for it.
+/// Prints a report, unless memory ran out.
 fn show<O: Sink>(
     alloc: Global,
     report: Result<Report, AllocError>,
@@ -129,7 +129,7 @@ fn print<O: Sink>(
     write_all(output, &text).map_err(|_| Fault::Output)
 }
 
-/// Appends the text of a report as it is shown: to a terminal with its paths escaped, else as their bytes are.
+/// Appends the text of a report as it is shown: with paths escaped on a terminal, else byte for byte.
 fn push_report(
     alloc: Global,
     screen: Screen,
@@ -180,7 +180,7 @@ fn push_line(
     }
 }
 
-/// The status after a report that was printed.
+/// Returns the status after a report was printed.
 fn status_of(report: &Report) -> u8
     ensures { result ≡ report_status report.now }
 {

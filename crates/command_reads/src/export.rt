@@ -1,4 +1,4 @@
-//! The command that writes all that is below a directory as an archive.
+//! The command that writes everything below a directory as an archive.
 ghost use Rattle.std.specs.Prelude.{◌≡◌, ◌==◌, if◌then◌else◌, length};
 ghost use Rattle.vol_layout.specs.Geometry.{Fits};
 ghost use Rattle.vol_dir.specs.Entries.{IsDirectory};
@@ -17,13 +17,14 @@ use vol_dir::Refusal;
 use vol_layout::Edition;
 use vol_listing::Screen;
 
-/// Writes the archive of all that is below the directory to which a path leads in an image in which rules 1 and 2 hold, which may be
-/// any bytes otherwise. The status is 0 of a sound image whose entries all went in; 1 where the image isn't sound, an entry
-/// is left out or the path leads to no directory; 3 where `output` failed, 4 where memory ran out. The fault has a line for
-/// each entry that is left out, with all bytes escaped that a terminal can't show, and for what is wrong with the image. A terminal gets no archive.
+/// Writes an archive of everything below the directory at a path. The image must keep rules 1 and 2, and may be any bytes
+/// otherwise. The status is 0 for a sound image whose entries are all in the archive; 1 if the image isn't sound, an entry
+/// is left out or the path leads to no directory; 3 if `output` failed, 4 if memory ran out. The fault has a line for each
+/// entry that is left out, with unprintable bytes escaped, and for what is wrong with the image. An archive is never written
+/// to a terminal.
 ///
-/// Costs the walk, what [`vol_judge::judge`] costs, and the bytes that are written. All memory but that of one header at a time is
-/// taken before the first byte goes out.
+/// Costs the walk, [`vol_judge::judge`], and the bytes that are written. All memory except that of one header at a time is
+/// taken before the first byte is written.
 pub(crate) fn export<O: Sink>(
     alloc: Global,
     edition: Edition,
@@ -42,7 +43,7 @@ pub(crate) fn export<O: Sink>(
     }
 }
 
-/// Writes the archive of all that is below a directory, unless it were to a terminal.
+/// Writes the archive of everything below a directory, unless the output is a terminal.
 #[tactic(auto, using(crate::proofs::Printed::kept_same))]
 fn export_to<O: Sink>(
     alloc: Global,
@@ -63,7 +64,7 @@ fn export_to<O: Sink>(
     }
 }
 
-/// Writes the archive of all that is below a directory, and tells what there is to tell of it.
+/// Writes the archive of everything below a directory, and returns its remarks as a fault.
 fn export_below<O: Sink>(
     alloc: Global,
     edition: Edition,
@@ -82,7 +83,7 @@ fn export_below<O: Sink>(
     }
 }
 
-/// Writes the archive of all that is below a directory, and answers what is told of it.
+/// Writes the archive of everything below a directory, and returns the remarks on it.
 fn write_below<O: Sink>(
     alloc: Global,
     edition: Edition,
@@ -103,7 +104,7 @@ fn write_below<O: Sink>(
     }
 }
 
-/// How an export ends of which there is something to tell, or nothing.
+/// Returns the result of an export with some remarks or none.
 fn ending_with(remarks: Remarks) -> Ending
     ensures status { result.status ≡ (if length remarks.lines.items == 0 then 0 else 1) }
     ensures line { line_after result.fault ≡ remarks.lines.items }
@@ -121,7 +122,7 @@ fn ending_with(remarks: Remarks) -> Ending
     }
 }
 
-/// The fault of an export that has nowhere to begin for this reason.
+/// Returns the fault of an export that can't start for this reason.
 fn unstarted(fault: StartFault) -> Fault
     ensures { result ≡ unstarted fault }
 {
@@ -131,7 +132,7 @@ fn unstarted(fault: StartFault) -> Fault
     }
 }
 
-/// The fault of an export that doesn't end for this reason.
+/// Returns the fault of an export that stopped for this reason.
 fn unwritten(fault: WriteFault) -> Fault
     ensures { result ≡ unwritten fault }
 {

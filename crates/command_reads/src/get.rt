@@ -1,4 +1,4 @@
-//! `get`: prints a file of a volume; `get -o`: reads several files of it.
+//! `get` prints a file of a volume; `get -o` reads several files.
 ghost use Rattle.std.specs.Prelude.{◌≡◌, ◌⊎◌, IfErr, IfOk, map};
 ghost use Rattle.vol_judge.specs.Sound.{IsSound};
 ghost use Rattle.vol_dir.specs.Access.{user};
@@ -22,12 +22,12 @@ use vol_dir::{Cred, Refusal};
 use vol_layout::Edition;
 use vol_volume::{Bytes, Query, Reply, Volume, ask};
 
-/// Why several files aren't read.
+/// Why several files weren't read.
 #[derive(Debug, Drop)]
 pub enum GetFault<'a> {
     /// The image isn't sound, or an allocation was refused.
     Volume(Fault),
-    /// The file at a path isn't read, for a refusal.
+    /// The file at a path was refused.
     File(Refusal, &'a str),
 }
 
@@ -42,24 +42,24 @@ impl<'a> From<AllocError> for GetFault<'a> {
 /// A file of a volume that was read.
 #[derive(Debug, Drop)]
 pub struct FileRead<'a> {
-    /// Its path, as it was asked for.
+    /// Its path, as it was given.
     pub path: &'a str,
     /// Its bytes.
     pub bytes: Vec<u8>,
 }
 
-/// What reading several files comes to.
+/// The result of reading several files.
 #[derive(Drop)]
 pub struct FilesRead<'a> {
-    /// The status that the program ends with, if the files are saved.
+    /// The exit status, if the files can be saved.
     pub status: u8,
     /// The files, if all were read.
     pub files: Option<Vec<FileRead<'a>>>,
-    /// Why not, if they weren't.
+    /// The fault, if they weren't read.
     pub fault: Option<Fault>,
 }
 
-/// Prints a file as [`show_file`] does, writes the line of its fault to `errors`, and returns the status.
+/// Prints a file as [`show_file`] does, writes the line of a fault to `errors`, and returns the status.
 pub fn get<O: Sink, E: Sink>(
     alloc: Global,
     edition: Edition,
@@ -75,10 +75,10 @@ pub fn get<O: Sink, E: Sink>(
     ending.status
 }
 
-/// `get`: prints the bytes of a regular file. The status is 0, or 1 if the image is unsound or the query is refused, 3 if `output`
-/// failed, 4 if memory ran out. Nothing goes out before all is known.
+/// Prints the bytes of a regular file, for `get`. The status is 0, or 1 if the image is unsound or the query is refused, 3
+/// if `output` failed, 4 if memory ran out. Nothing is printed before all is known.
 ///
-/// Takes memory for what [`vol_volume::ask`] takes.
+/// Takes the memory of [`vol_volume::ask`].
 pub fn show_file<O: Sink>(
     alloc: Global,
     edition: Edition,
@@ -98,7 +98,7 @@ pub fn show_file<O: Sink>(
     }
 }
 
-/// Asks for the bytes of a regular file, and prints them.
+/// Reads the bytes of a regular file, and prints them.
 fn read<O: Sink>(
     alloc: Global,
     edition: Edition,
@@ -113,7 +113,7 @@ fn read<O: Sink>(
     show(alloc, edition, image, query, output)
 }
 
-/// Asks a query, and prints the reply.
+/// Runs a query, and prints the reply.
 fn show<O: Sink>(
     alloc: Global,
     edition: Edition,
@@ -129,7 +129,7 @@ fn show<O: Sink>(
     write_all(output, &text(alloc, reply)).map_err(|_| Fault::Output)
 }
 
-/// What is printed of a reply: its bytes.
+/// Returns the printed text of a reply: its bytes.
 fn text(alloc: Global, reply: Reply) -> Vec<u8>
     ensures { result.items ≡ text_of reply }
 {
@@ -139,7 +139,7 @@ fn text(alloc: Global, reply: Reply) -> Vec<u8>
     }
 }
 
-/// The query for all bytes of the file at a path.
+/// Returns the query for all bytes of the file at a path.
 fn all_of(alloc: Global, path: &str) -> Result<Query, AllocError>
     ensures { IfOk result (λ query. query ≡ questions.Read user path.now 0 4294967295) }
 {
@@ -151,7 +151,7 @@ fn all_of(alloc: Global, path: &str) -> Result<Query, AllocError>
     })
 }
 
-/// Reads files as [`get_files`] does, and writes the line of its fault to `errors`.
+/// Reads files as [`get_files`] does, and writes the line of a fault to `errors`.
 pub fn get_all<'a, E: Sink>(
     alloc: Global,
     edition: Edition,
@@ -166,8 +166,8 @@ pub fn get_all<'a, E: Sink>(
     read
 }
 
-/// `get -o`: the regular files at some paths, in their order, all or none. If there are none, the fault is the rule that the
-/// image breaks, or the refusal of the first path whose file isn't read.
+/// Reads the regular files at some paths, in order, all or none, for `get -o`. If they aren't read, the fault is the rule
+/// that the image breaks, or the refusal of the first path that fails.
 ///
 /// Takes memory to mount the image and for the bytes, and walks each path once.
 pub fn get_files<'a>(
@@ -196,7 +196,7 @@ pub fn get_files<'a>(
     }
 }
 
-/// Reads the files at some paths of the volume in some bytes.
+/// Reads the files at some paths of the volume in an image.
 fn read_all<'a>(
     alloc: Global,
     edition: Edition,
@@ -213,7 +213,7 @@ fn read_all<'a>(
     }
 }
 
-/// Reads the files at some paths of a volume, in turn, up to the first that isn't read.
+/// Reads the files at some paths of a volume, in order, up to the first that fails.
 fn read_files<'a>(
     alloc: Global,
     volume: &Volume,
@@ -232,7 +232,7 @@ fn read_files<'a>(
     Ok(files)
 }
 
-/// The bytes of the file at a path.
+/// Returns the bytes of the file at a path.
 fn read_body<'a>(alloc: Global, volume: &Volume, path: &'a str) -> Result<Vec<u8>, GetFault<'a>>
     ensures read { IfOk result (λ body. body_answer (reads_as volume.now.edition volume.now.image).tree path.entry.now ≡ Ok (replies.Bytes body.items)) }
     ensures fault { IfErr result (λ fault. (fault ≡ faults.Volume no_memory)
@@ -248,7 +248,7 @@ fn read_body<'a>(alloc: Global, volume: &Volume, path: &'a str) -> Result<Vec<u8
     }
 }
 
-/// The fault of a command that doesn't read files for this reason; memory that ran out, if there is none for its line.
+/// Returns the fault of a command that can't read files for this reason, or out of memory if there is none for its line.
 fn fault_of(alloc: Global, why: GetFault<'_>) -> Fault
     ensures { TellsFault why.entry (λ line. fault_line result ≡ line) (fault_status result) }
 {

@@ -17,11 +17,11 @@ use vol_inspect::{InodeReport, inspect_inode, kind_name};
 use vol_layout::Edition;
 use vol_listing::json::{line, put_count};
 
-/// Shows an i-node of an image in which rules 1 and 2 hold, which may be any bytes otherwise. The status is 0; 1 where the
-/// image breaks one of these rules or has no i-node of this number; 3 where `output` failed, 4 where memory ran out. Nothing goes
-/// out before all is known.
+/// Shows an i-node of an image. The image must keep rules 1 and 2, and may be any bytes otherwise. The status is 0; 1 if the
+/// image breaks one of these rules or has no i-node of this number; 3 if `output` failed, 4 if memory ran out. Nothing is
+/// printed before all is known.
 ///
-/// Takes memory for what [`inspect_inode`] takes, and for the text.
+/// Takes the memory of [`inspect_inode`], and for the text.
 pub(crate) fn show_inode<O: Sink>(
     alloc: Global,
     edition: Edition,
@@ -38,7 +38,7 @@ pub(crate) fn show_inode<O: Sink>(
     finish(text, output)
 }
 
-/// The text of an i-node.
+/// Returns the text of an i-node.
 fn inode_text(
     alloc: Global,
     edition: Edition,
@@ -55,7 +55,7 @@ fn inode_text(
     }
 }
 
-/// The report on an i-node in some form.
+/// Returns the report on an i-node in some form.
 fn inode_in(alloc: Global, report: &InodeReport, form: Form) -> Result<String, AllocError>
     ensures { IfOk result (λ text. string_bytes text ≡ inode_in report.now form) }
 {
@@ -69,7 +69,7 @@ fn inode_in(alloc: Global, report: &InodeReport, form: Form) -> Result<String, A
     }
 }
 
-/// An i-node as JSON, on one line.
+/// Returns an i-node as JSON, on one line.
 fn inode_json(alloc: Global, report: &InodeReport) -> Result<String, AllocError>
     ensures { IfOk result (λ text. string_bytes text ≡ inode_json report.now) }
 {
@@ -77,7 +77,7 @@ fn inode_json(alloc: Global, report: &InodeReport) -> Result<String, AllocError>
     line(alloc, &value)
 }
 
-/// An i-node.
+/// Returns an i-node as a JSON value.
 fn inode_value(alloc: Global, report: &InodeReport) -> Result<Value, AllocError>
     ensures { IfOk result (λ value. view value ≡ inode_data report.now) }
 {
@@ -89,7 +89,7 @@ fn inode_value(alloc: Global, report: &InodeReport) -> Result<Value, AllocError>
     Ok(Value::Object(object))
 }
 
-/// Puts the number of an i-node, and what its mode says.
+/// Puts the number of an i-node, its mode, kind and permissions.
 #[tactic(auto, unfolding(crate::specs::Inode::with_mode))]
 fn put_mode(
     alloc: Global,
@@ -106,7 +106,7 @@ fn put_mode(
     put_count(alloc, object, "permissions", u64::from(mode.permissions()))
 }
 
-/// Puts how many entries name an i-node, its owner, and its size.
+/// Puts the link count of an i-node, its owner and group, and its size.
 #[tactic(auto, unfolding(crate::specs::Inode::with_owner))]
 fn put_owner(
     alloc: Global,
@@ -150,7 +150,7 @@ fn put_places(
     put(object, alloc, "extents", extents)
 }
 
-/// A number that may not be there.
+/// Returns a number, or null if there is none.
 fn optional(number: Option<u32>) -> Value
     ensures { view result ≡ count_or_null number }
 {

@@ -9,11 +9,11 @@ use serde_json::{Value, json};
 use std::alloc::{AllocError, Global};
 use vol_inspect::Extent;
 
-/// What has a value in JSON.
+/// A type that has a value in JSON.
 pub(crate) trait Shown {
     ghost shown: { Self → Data };
 
-    /// The value.
+    /// Returns the value.
     fn value(&self, alloc: Global) -> Result<Value, AllocError>
         ensures { IfOk result (λ value. view value ≡ shown self.now) };
 }
@@ -48,7 +48,7 @@ impl Shown for Extent {
     }
 }
 
-/// A list of values.
+/// Returns a list of values.
 pub(crate) fn list<T: Shown>(alloc: Global, items: &[T]) -> Result<Value, AllocError>
     ensures { IfOk result (λ value. view value ≡ array (items_of (map T.shown items.now))) }
 {

@@ -1,4 +1,4 @@
-//! Commands that print: what each prints, its status, and its fault.
+//! Commands that print: their output, status and faults.
 #![tactic(auto)]
 
 pub mod cat;

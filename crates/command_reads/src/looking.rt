@@ -1,4 +1,4 @@
-//! Shows what the command line asks for of an image.
+//! Shows the part of an image that the command line names.
 ghost use Rattle.command_faults.specs.Streams.{heard, ErrorStream, Hears, streams};
 ghost use Rattle.command_reads.specs.Looking.{Looks};
 
@@ -16,7 +16,7 @@ use std::alloc::Global;
 use vol_layout::Edition;
 use vol_listing::Screen;
 
-/// Shows what is asked for of an image as [`perform`] does, writes why it isn't shown to `errors`, and answers the status.
+/// Shows part of an image as [`perform`] does, writes the line of a fault to `errors`, and returns the status.
 pub fn look<O: Sink, E: Sink>(
     alloc: Global,
     edition: Edition,
@@ -33,9 +33,9 @@ pub fn look<O: Sink, E: Sink>(
     ending.status
 }
 
-/// Shows what is asked for of an image, which may be any bytes, on `output`. The status is 0; 1 where the image isn't
-/// sound enough for it, or what is asked for isn't there; 3 where `output` failed, 4 where memory ran out.
-/// Costs what the command does that is asked for, and takes no right to wait.
+/// Shows part of an image, which may be any bytes, on `output`. The status is 0; 1 if the image isn't sound enough for the
+/// command, or the named part doesn't exist; 3 if `output` failed, 4 if memory ran out. Costs what the command costs, and
+/// takes no right to wait.
 pub fn perform<O: Sink>(
     alloc: Global,
     edition: Edition,

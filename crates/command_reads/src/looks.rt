@@ -1,25 +1,25 @@
-//! What is looked at, and how it is shown.
+//! The parts of an image that commands show.
 
 use vol_listing::Listing;
 
-/// What a command shows of an image.
+/// The part of an image that a command shows.
 #[derive(Clone, Copy, Debug, PartialEq, Eq)]
 pub enum Look<'a> {
-    /// Write all that is below a directory as an archive.
+    /// Everything below a directory, as an archive.
     Export { path: &'a str },
-    /// Show an i-node.
+    /// An i-node.
     Inode { number: u16, form: Form },
-    /// Show the super-block.
+    /// The super-block.
     Super { form: Form },
-    /// Draw what each block is used for.
+    /// The use of each block.
     Map { picture: Picture },
-    /// Tell which rules of soundness hold.
+    /// The rules of soundness that hold.
     Check,
-    /// List the names in a directory, or a file.
+    /// The names in a directory, or a file.
     List { path: &'a str, listing: Listing },
 }
 
-/// How a report is written.
+/// The form of a report.
 #[derive(Clone, Copy, Debug, PartialEq, Eq)]
 pub enum Form {
     /// Lines of text.
@@ -28,7 +28,7 @@ pub enum Form {
     Json,
 }
 
-/// How the uses of blocks are drawn.
+/// The form of a block map.
 #[derive(Clone, Copy, Debug, PartialEq, Eq)]
 pub enum Picture {
     /// Rows of letters.

@@ -23,13 +23,14 @@ use vol_layout::{Edition, Geometry, Kind};
 use vol_listing::{Listing, Screen};
 use vol_volume::{Bytes, Query, Reply, Stat, ask_image};
 
-/// Lists what stands at a path of a sound image: the names in a directory, in ascending order of their bytes, each on a line with its
-/// i-number, and where asked for with what its i-node says; then, where asked for, those of each directory below. What is no directory
-/// has a line of its own, unless the listing is bare. Or the same as JSON, with names escaped, as a terminal gets them. The status is 0; 1 where the image
-/// isn't sound, or the path leads nowhere, or to no directory where the listing is bare; 3 where `output` failed, 4 where memory ran out. Nothing goes out before all is known.
+/// Lists the file or directory at a path of a sound image: the names in a directory, in ascending order of their bytes, each
+/// on a line with its i-number and, if `listing` says so, its i-node's attributes; then, if `listing` says so, the names of
+/// each directory below. A file has one line, unless the listing is bare. Or the same as JSON, with names escaped as on a
+/// terminal. The status is 0; 1 if the image isn't sound, the path leads nowhere, or a bare listing's path leads to no
+/// directory; 3 if `output` failed, 4 if memory ran out. Nothing is printed before all is known.
 ///
-/// Costs what [`examine`] costs, a look at each i-node that is told of, and for each directory the walk of its path and sorting its
-/// names. Takes memory for that and for the text.
+/// Costs [`examine`], reading each i-node whose attributes are shown, and for each directory walking its path and sorting
+/// its names. Takes memory for these and for the text.
 pub(crate) fn list<O: Sink>(
     alloc: Global,
     edition: Edition,
@@ -47,7 +48,7 @@ pub(crate) fn list<O: Sink>(
     finish_bytes(text, output)
 }
 
-/// The listing of what stands at a path of an image.
+/// Returns the listing of the file or directory at a path of an image.
 fn list_image(
     alloc: Global,
     edition: Edition,
@@ -68,7 +69,7 @@ fn list_image(
     }
 }
 
-/// The listing of what stands at a path of a sound image.
+/// Returns the listing of the file or directory at a path of a sound image.
 fn list_sound(
     alloc: Global,
     edition: Edition,
@@ -89,7 +90,7 @@ fn list_sound(
     Ok(vol_listing::list(alloc, image, geometry, path, inode, listing, screen)?)
 }
 
-/// The i-number of what stands at a path of a sound image: of a directory, if the listing is bare.
+/// Returns the i-number of the file or directory at a path of a sound image; it must be a directory if the listing is bare.
 fn find(
     alloc: Global,
     edition: Edition,
@@ -117,7 +118,7 @@ fn find(
     }
 }
 
-/// The i-number of a node that is listed. A bare listing is refused of what is no directory.
+/// Returns the i-number of a node to list, or `NotDirectory` if the listing is bare and the node is no directory.
 fn number_of(stat: Stat, listing: Listing) -> Result<u16, Fault>
     ensures number { IfOk result (λ i. i ≡ stat.number) }
     ensures opened { OnOk result (is_bare listing ≡ true → stat.kind ≡ kinds.Directory) }

@@ -1,4 +1,4 @@
-//! The command that draws what each block is used for.
+//! The command that draws the use of each block.
 ghost use Rattle.std.specs.Prelude.{◌≡◌, ◌+◌, ◌*◌, ◌<◌, ◌≤◌, ◌^◌, ◌++◌, IfErr, IfOk, OnOk, string_bytes, length};
 ghost use Rattle.vol_layout.specs.Geometry.{Fits};
 ghost use Rattle.command_faults.specs.Streams.{ErrorStream, Hears, streams};
@@ -14,21 +14,21 @@ use vol_inspect::{block_uses, cells, draw, svg};
 use vol_layout::{Edition, Geometry};
 use vol_listing::Screen;
 
-/// How many rows of letters there are at most.
+/// The greatest number of rows of letters.
 const ROWS: usize = 32;
 
-/// How many letters stand in a row where no terminal says it.
+/// The number of letters in a row if no terminal gives its width.
 const WIDTH: usize = 64;
 
-/// How many squares stand in a row, and how many rows of them there are at most.
+/// The number of squares in a row, and the greatest number of rows of squares.
 const SQUARES: usize = 128;
 
-/// Draws what each block is used for of an image in which rules 1 and 2 hold, which may be any bytes otherwise. The
-/// status is 0; 1 where the image breaks one of these rules, 3 where `output` failed, 4 where memory ran out. Nothing goes out before
-/// all is known. Rows are as wide as the terminal, which alone has colours, if it is to show them; there are at most 32, or 128 of 128 squares, so that a
-/// cell stands for several blocks of a large volume.
+/// Draws the use of each block of an image. The image must keep rules 1 and 2, and may be any bytes otherwise. The status is
+/// 0; 1 if the image breaks one of these rules, 3 if `output` failed, 4 if memory ran out. Nothing is printed before all is
+/// known. Rows are as wide as the terminal; colours are used only on a terminal that wants them. There are at most 32 rows
+/// of letters, or 128 rows of 128 squares, so that a cell represents several blocks of a large volume.
 ///
-/// Costs and takes memory for what [`block_uses`] does, and for the text.
+/// Takes the time and memory of [`block_uses`], and memory for the text.
 pub(crate) fn draw_map<O: Sink>(
     alloc: Global,
     edition: Edition,
@@ -45,7 +45,7 @@ pub(crate) fn draw_map<O: Sink>(
     finish(text, output)
 }
 
-/// The picture of the volume in an image.
+/// Returns the block map of an image.
 fn map_text(
     alloc: Global,
     edition: Edition,
@@ -62,7 +62,7 @@ fn map_text(
     }
 }
 
-/// The picture of a volume with a geometry.
+/// Returns the block map of an image with a geometry.
 fn picture_of(
     alloc: Global,
     image: &Image,
@@ -79,7 +79,7 @@ fn picture_of(
     }
 }
 
-/// The picture of a volume as rows of letters.
+/// Returns the block map as rows of letters.
 fn letters(
     alloc: Global,
     image: &Image,
@@ -102,7 +102,7 @@ fn letters(
     Ok(text)
 }
 
-/// The picture of a volume as squares.
+/// Returns the block map as squares.
 fn squares(alloc: Global, image: &Image, geometry: &Geometry) -> Result<String, AllocError>
     requires { Fits geometry.now image.now }
     ensures { IfOk result (λ text. string_bytes text ≡ map_text geometry.now image.now Screen.Stream Picture.Svg) }
@@ -113,7 +113,7 @@ fn squares(alloc: Global, image: &Image, geometry: &Geometry) -> Result<String, 
     svg(alloc, &cells, SQUARES)
 }
 
-/// How many cells stand in a row.
+/// Returns the number of cells in a row.
 fn width_on(screen: Screen) -> usize
     ensures value { result ≡ width_on screen }
     ensures some { 1 ≤ result }
@@ -125,7 +125,7 @@ fn width_on(screen: Screen) -> usize
     }
 }
 
-/// Whether cells have colours.
+/// True if cells have colours.
 fn is_coloured(screen: Screen) -> bool
     ensures { result ≡ is_coloured screen }
 {
@@ -135,7 +135,7 @@ fn is_coloured(screen: Screen) -> bool
     }
 }
 
-/// The least number of blocks for each cell with which so many blocks have no more cells than there is room for.
+/// Returns the least number of blocks per cell with which `blocks` blocks fit in `room` cells.
 fn blocks_for(room: usize, blocks: u32) -> usize
     requires some { 1 ≤ room }
     requires few { room < 2 ^ 32 }

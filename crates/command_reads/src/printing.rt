@@ -1,4 +1,4 @@
-//! How a text is printed, or why there is none.
+//! Prints a text, or reports why there is none.
 ghost use Rattle.std.specs.Prelude.{◌≡◌, ◌⊎◌, ℕ, true, IfErr, IfOk, OnErr, OnOk, string_bytes};
 ghost use Rattle.std.specs.Io.KnownBytes.{Appends, Keeps};
 ghost use Rattle.pdp_words.specs.Devices.{AppendsFront};
@@ -9,7 +9,7 @@ use command_faults::status::DONE;
 use command_faults::{Ending, Fault};
 use pdp_words::{Sink, write_all};
 
-/// Prints a text, if there is one.
+/// Prints a text, or returns its fault.
 #[tactic(auto, using(crate::proofs::Printed::kept_same))]
 pub(crate) fn finish<O: Sink>(text: Result<String, Fault>, output: &mut O) -> Ending
     ensures printed { (errors : ErrorStream) → Hears errors result.fault
@@ -23,7 +23,7 @@ pub(crate) fn finish<O: Sink>(text: Result<String, Fault>, output: &mut O) -> En
     }
 }
 
-/// Prints a text of any bytes, if there is one.
+/// Prints a text of any bytes, or returns its fault.
 #[tactic(auto, using(crate::proofs::Printed::kept_same))]
 pub(crate) fn finish_bytes<O: Sink>(text: Result<Vec<u8>, Fault>, output: &mut O) -> Ending
     ensures printed { (errors : ErrorStream) → Hears errors result.fault
@@ -37,7 +37,7 @@ pub(crate) fn finish_bytes<O: Sink>(text: Result<Vec<u8>, Fault>, output: &mut O
     }
 }
 
-/// Prints a text, to end with a status.
+/// Prints a text, and returns a status for it.
 pub(crate) fn print_with<O: Sink>(text: &[u8], status: u8, output: &mut O) -> Ending
     ensures { (errors : ErrorStream) → Hears errors result.fault
         → PrintsWith status (streams O.contents O.failed output.old output.new errors) text.now result.status }

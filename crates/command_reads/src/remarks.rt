@@ -1,4 +1,4 @@
-//! What is told of an export.
+//! The remarks on an export.
 ghost use Rattle.std.specs.Prelude.{◌≡◌, ◌++◌, IfOk, OnOk};
 ghost use Rattle.vol_layout.specs.Geometry.{Fits};
 ghost use Rattle.vol_archive.specs.declared.found.Role.{Role};
@@ -13,19 +13,19 @@ use vol_inspect::shared_blocks;
 use vol_judge::judge;
 use vol_layout::{Edition, Geometry};
 
-/// What is told of an export.
+/// The remarks on an export.
 #[derive(Drop)]
 pub(crate) struct Remarks {
-    /// The least rule that the image breaks, if it breaks one.
+    /// The first rule that the image breaks, if any.
     pub(crate) rule: Option<u8>,
-    /// The lines, of which the last names the rule.
+    /// The lines, the last of which names the rule.
     pub(crate) lines: Vec<u8>,
 }
 
-/// All that is told of an export from an image, of what was met: a line for each entry that is left out; and where the image isn't
-/// sound, one for each block that two places of files name, and one for the least rule that it breaks.
+/// Returns all remarks on an export: a line for each entry that is left out; and, if the image isn't sound, one for each
+/// block that two places of files name, and one for the first rule that it breaks.
 ///
-/// Costs what [`judge`] does, and of an image that isn't sound what [`shared_blocks`] does.
+/// Costs [`judge`], and for an image that isn't sound also [`shared_blocks`].
 pub(crate) fn tell_all(
     alloc: Global,
     edition: Edition,
@@ -43,7 +43,8 @@ pub(crate) fn tell_all(
     Ok(Remarks { rule, lines })
 }
 
-/// Appends the lines of the least rule that an image breaks, if it breaks one: first those of blocks that two places of files name.
+/// Appends the lines of the first rule that an image breaks, if any; before it those of blocks that two places of files
+/// name.
 fn push_rule(
     alloc: Global,
     image: &Image,
@@ -63,7 +64,7 @@ fn push_rule(
     Ok(())
 }
 
-/// Appends the lines of what is left out.
+/// Appends the lines of entries that are left out.
 fn push_left(lines: &mut Vec<u8>, founds: &[Found]) -> Result<(), AllocError>
     ensures { OnOk result (lines.new.items ≡ lines.old.items ++ left_lines founds.now) }
 {
@@ -73,7 +74,7 @@ fn push_left(lines: &mut Vec<u8>, founds: &[Found]) -> Result<(), AllocError>
     Ok(())
 }
 
-/// Appends the line of what has this path and role, if it is left out.
+/// Appends the line of an entry with this path and role, if it is left out.
 fn push_role(lines: &mut Vec<u8>, path: &[u8], role: Role) -> Result<(), AllocError>
     ensures { OnOk result (lines.new.items ≡ lines.old.items ++ role_line path.now role) }
 {
@@ -88,7 +89,7 @@ fn push_role(lines: &mut Vec<u8>, path: &[u8], role: Role) -> Result<(), AllocEr
     Ok(())
 }
 
-/// Why an entry is left out, in plain words.
+/// Returns the reason for leaving out an entry, in plain words.
 fn reason_text(reason: Reason) -> &'static [u8]
     ensures { result.now ≡ reason_text reason }
 {

@@ -17,9 +17,10 @@ use vol_inspect::{SuperReport, inspect_super};
 use vol_layout::Edition;
 use vol_listing::json::{line, put_count};
 
-/// Shows the super-block of an image in which rules 1 and 2 hold, which may be any bytes otherwise, as [`show_inode`](crate::inode::show_inode) does.
+/// Shows the super-block of an image in which rules 1 and 2 hold, as [`show_inode`](crate::inode::show_inode) shows an
+/// i-node.
 ///
-/// Takes memory for what [`inspect_super`] takes, and for the text.
+/// Takes the memory of [`inspect_super`], and for the text.
 pub(crate) fn show_super<O: Sink>(
     alloc: Global,
     edition: Edition,
@@ -35,7 +36,7 @@ pub(crate) fn show_super<O: Sink>(
     finish(text, output)
 }
 
-/// The text of the super-block.
+/// Returns the text of the super-block.
 fn super_text(alloc: Global, edition: Edition, image: &Image, form: Form) -> Result<String, Fault>
     ensures text { IfOk result (λ text. IsSuperText edition image.now form (string_bytes text)) }
     ensures fault { IfErr result (λ fault. IsSuperFault edition image.now fault) }
@@ -46,7 +47,7 @@ fn super_text(alloc: Global, edition: Edition, image: &Image, form: Form) -> Res
     }
 }
 
-/// The report on the super-block in some form.
+/// Returns the report on the super-block in some form.
 fn super_in(alloc: Global, report: &SuperReport, form: Form) -> Result<String, AllocError>
     requires { report.now.geometry.zone_start ≤ report.now.geometry.zone_end }
     ensures { IfOk result (λ text. string_bytes text ≡ super_in report.now form) }
@@ -61,7 +62,7 @@ fn super_in(alloc: Global, report: &SuperReport, form: Form) -> Result<String, A
     }
 }
 
-/// The super-block as JSON, on one line.
+/// Returns the super-block as JSON, on one line.
 fn super_json(alloc: Global, report: &SuperReport) -> Result<String, AllocError>
     requires { report.now.geometry.zone_start ≤ report.now.geometry.zone_end }
     ensures { IfOk result (λ text. string_bytes text ≡ super_json report.now) }
@@ -70,7 +71,7 @@ fn super_json(alloc: Global, report: &SuperReport) -> Result<String, AllocError>
     line(alloc, &value)
 }
 
-/// The super-block.
+/// Returns the super-block as a JSON value.
 fn super_value(alloc: Global, report: &SuperReport) -> Result<Value, AllocError>
     requires { report.now.geometry.zone_start ≤ report.now.geometry.zone_end }
     ensures { IfOk result (λ value. view value ≡ super_data report.now) }
@@ -121,7 +122,7 @@ fn put_flags(
     put_count(alloc, object, "ronly", u64::from(report.flags[3]))
 }
 
-/// Puts what the free list has; the place of a number in the array is its index.
+/// Puts the free list; the numbers in the array are in the super-block's order.
 #[tactic(auto, unfolding(crate::specs::SuperBlock::with_free))]
 fn put_free(
     alloc: Global,
@@ -138,7 +139,7 @@ fn put_free(
     put(object, alloc, "fault", fault)
 }
 
-/// Puts what the cache of i-numbers has, and how many i-nodes are free.
+/// Puts the i-number cache and the number of free i-nodes.
 #[tactic(auto, unfolding(crate::specs::SuperBlock::with_cache))]
 fn put_cache(
     alloc: Global,
@@ -153,7 +154,7 @@ fn put_cache(
     put_count(alloc, object, "free i-nodes", u64::from(report.free_inodes))
 }
 
-/// The fault that ended the walk over the free list.
+/// Returns the fault that ended the walk over the free list.
 fn fault_value(alloc: Global, fault: Option<(FreeFault, u32)>) -> Result<Value, AllocError>
     ensures { IfOk result (λ value. view value ≡ fault_data fault) }
 {

@@ -1,4 +1,4 @@
--- Calls that a volume accepts, each in turn, are made as the commands say it.
+-- Calls that a volume accepts, one after another, are made as the commands' definitions say.
 use Rattle.std.proofs.Common.{◌≡◌, ℕ, List, [], ◌∷◌, Option, None, Some, IfSome, inl, inr, refl, sym, ap, subst, ◌∙◌}
 use Rattle.std.specs.Global.{Vec}
 use Rattle.vol_dir.specs.Tree.{State}
@@ -23,7 +23,7 @@ use Rattle.command_faults.specs.declared.answer.Answer.{Answer}
 use Rattle.command_faults.specs.declared.fault.Fault.{Fault}
 use Rattle.command_faults.specs.declared.fault.Fault.TheVariants as faults
 
--- what no call leaves
+-- bytes that no call leaves
 stays : (geometry : Geometry) (image : List ℕ) → StaysAround geometry image image
 stays geometry image =
     record { len = refl; before = λ k h. refl; flags = λ k from to. refl; rest = λ k from to. refl; behind = λ k from. refl }
@@ -64,7 +64,7 @@ one_made old mid new call calls done sound accepts rest =
       left = (mid.image, accepts.performed, subst (λ (geometry : Geometry). AreLeft geometry mid.image rest.journal new) kept rest.left);
     }
 
--- what accepted calls leave of a sound volume, they make
+-- the bytes that accepted calls leave of a sound volume are made by them
 pub all_made : (old new : Mounted) (calls : List Call) → IsSound old.edition old.image → AreMade old calls new
     → Makes old.edition old.image calls new.image
 unfolding AreMade
@@ -78,7 +78,7 @@ all_made old new (call ∷ calls) sound made =
     one_made old mid new.image call calls made.1 sound accepts
     (subst (λ (edition : Edition). Makes edition mid.image calls new.image) same (all_made mid new calls whole made.3))
 
--- the state that an accepted call leads to
+-- the state after an accepted call
 state_after : (old mid : Mounted) (call : Call) (done : Done) → Accepts old mid call done
     → reads_as mid.edition mid.image ≡ step (reads_as old.edition old.image) call done
 state_after old mid call done accepts =
@@ -107,7 +107,7 @@ pub stopped_reason : (old new : Mounted) (calls : List Call) (refusal : Refusal)
 stopped_reason old new calls refusal call sound stopped =
     refused_reason old.edition old.image calls refusal sound (are_refused old new calls refusal call stopped)
 
--- what holds of all bytes that a command makes holds of those that are to be saved
+-- a fact of all bytes that a command makes is one of those to save
 pub saved_leaves : (makes leaves : List ℕ → Type 0) (is_reason : Fault → Type 0) (said : List ℕ → Type 0) (answer : Answer)
     → ((bytes : List ℕ) → makes bytes → leaves bytes) → Concludes makes is_reason said answer → IfSome answer.image (λ saved. leaves saved.items)
 saved_leaves makes leaves is_reason said answer all does = by answer.image does.made

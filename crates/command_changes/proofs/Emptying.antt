@@ -1,4 +1,4 @@
--- A file is missing exactly where the call that makes it empty is refused so.
+-- A file is missing exactly if the call that empties it is refused so.
 use Rattle.std.proofs.Common.{◌≡◌, ◌≢◌, ◌⊎◌, inl, inr, ap, ℕ, Bool, true, false, not, nat_lt, if◌then◌else◌, List, [], ◌∷◌, Option, Some, None, Result, Ok, Err, IfErr, OnOk, refl, sym, subst}
 use Rattle.vol_change.specs.Nodes.{node_at}
 use Rattle.vol_dir.specs.Access.{grants, may_write, user}
@@ -20,11 +20,11 @@ use Rattle.vol_volume.specs.declared.queries.Reply.{Reply}
 use Rattle.command_faults.specs.declared.fault.Fault.{Fault}
 use Rattle.command_faults.specs.declared.fault.Fault.TheVariants as faults
 
--- a refusal, or else that of a walk, or else of the node that it leads to
+-- a refusal, or else that of a walk, or else one of the node that it leads to
 abbrev refused_by : Bool → Bool → Result ℕ Refusal → (ℕ → Option Refusal) → Option Refusal
 refused_by bad zero walked others = if bad then Some refusals.BadId else if zero then Some refusals.Invalid else of_node walked others
 
--- where a path is missing, a file is made
+-- if a path is missing, a file is made
 missing_by : (bad zero : Bool) (walked : Result ℕ Refusal) (others : ℕ → Option Refusal) (reply : ℕ → Reply) (now : ℕ) (path : List ℕ)
     → ((i : ℕ) → others i ≢ Some refusals.NoEntry) → refused_by bad zero walked others ≡ Some refusals.NoEntry
     → emptying_by (refused_or (refused_by bad zero walked (λ i. None)) (reply_at walked reply)) now path ≡ calls.Create user now path 0o644
@@ -35,7 +35,7 @@ missing_by false false (Err refusal) others reply now path there is =
     let same : refusal ≡ refusals.NoEntry = cc in
     subst (λ r. emptying_by (Err r) now path ≡ calls.Create user now path 0o644) (sym same) refl
 
--- a walk is refused because a name is missing, or a file is made empty
+-- a walk is refused because a name is missing, or a file is emptied
 missing_or : (refusal : Refusal) (now : ℕ) (path : List ℕ)
     → (refusal ≡ refusals.NoEntry) ⊎ (emptying_by (Err refusal) now path ≡ calls.Truncate user now path 0)
 missing_or refusals.NotOwner now path = inr refl
@@ -57,7 +57,7 @@ missing_or refusals.BadId now path = inr refl
 walked_by : (refusal : Refusal) (now : ℕ) (path : List ℕ) → refusal ≢ refusals.NoEntry → emptying_by (Err refusal) now path ≡ calls.Truncate user now path 0
 walked_by refusal now path other = elim (missing_or refusal now path) [ inl is ↦ absurd (other is) | inr is ↦ is ]
 
--- the first call of `put` makes a file or makes one empty
+-- the first call of `put` makes a file or empties one
 pub emptying_is : (found : Result Reply Refusal) (now : ℕ) (path : List ℕ)
     → (emptying_by found now path ≡ calls.Create user now path 0o644) ⊎ (emptying_by found now path ≡ calls.Truncate user now path 0)
 emptying_is (Ok reply) now path = inr refl
@@ -66,7 +66,7 @@ emptying_is (Err refusal) now path = elim (missing_or refusal now path) [
   | inr is ↦ inr is
 ]
 
--- where a path isn't missing, a file is made empty
+-- if a path isn't missing, a file is emptied
 there_by : (bad zero : Bool) (walked : Result ℕ Refusal) (others : ℕ → Option Refusal) (reply : ℕ → Reply) (now : ℕ) (path : List ℕ)
     → refused_by bad zero walked others ≢ Some refusals.NoEntry
     → emptying_by (refused_or (refused_by bad zero walked (λ i. None)) (reply_at walked reply)) now path ≡ calls.Truncate user now path 0
@@ -75,7 +75,7 @@ there_by false true walked others reply now path other = refl
 there_by false false (Ok i) others reply now path other = refl
 there_by false false (Err refusal) others reply now path other = walked_by refusal now path (λ is. other (rw is refl))
 
--- the tests of a file whose bytes go don't tell of a missing name
+-- the tests of a file to empty never report a missing name
 tests_told : (directory device closed short : Bool)
     → first_of ((directory, refusals.IsDirectory) ∷ (device, refusals.NotRegular) ∷ (closed, refusals.Access) ∷ (short, refusals.Invalid) ∷ []) ≢ Some refusals.NoEntry
 tests_told true device closed short is = absurd (cc)
@@ -84,7 +84,7 @@ tests_told false false true short is = absurd (cc)
 tests_told false false false true is = absurd (cc)
 tests_told false false false false is = absurd (cc)
 
--- where the call that makes a file empty is refused since it is missing, `put` makes it
+-- if the call that empties a file is refused since it is missing, `put` makes it
 missing : (state : State) (now : ℕ) (path : List ℕ) → Refuses state (calls.Truncate user now path 0) refusals.NoEntry
     → emptying_by (answer state.tree (queries.Stat user path)) now path ≡ calls.Create user now path 0o644
 unfolding verdict query_refusal reply_of
@@ -92,18 +92,18 @@ missing state now path refuses =
     missing_by _ _ (walk state.tree user path) _ _ now path
     (λ i. tests_told (is_directory (node_at state.tree i)) (is_device (node_at state.tree i).content) (not (grants may_write user (node_at state.tree i))) (nat_lt (node_at state.tree i).size 0)) refuses
 
--- where that call is not refused so, `put` makes the file empty
+-- if that call isn't refused so, `put` empties the file
 there : (state : State) (now : ℕ) (path : List ℕ) → verdict state (calls.Truncate user now path 0) ≢ Some refusals.NoEntry
     → emptying_by (answer state.tree (queries.Stat user path)) now path ≡ calls.Truncate user now path 0
 unfolding verdict query_refusal reply_of
 there state now path other = there_by _ _ (walk state.tree user path) _ _ now path other
 
--- where that call is accepted, `put` makes it
+-- if that call is accepted, `put` makes it
 accepted : (state : State) (now : ℕ) (path : List ℕ) → verdict state (calls.Truncate user now path 0) ≡ None
     → emptying_by (answer state.tree (queries.Stat user path)) now path ≡ calls.Truncate user now path 0
 accepted state now path is = there state now path (λ told. absurd (cc))
 
--- another refusal isn't that a name is missing
+-- another refusal doesn't mean that a name is missing
 told_other : (state : State) (call : Call) (refusal : Refusal) → Refuses state call refusal → refusal ≢ refusals.NoEntry → verdict state call ≢ Some refusals.NoEntry
 told_other state call refusals.NotOwner refuses other told = absurd (cc)
 told_other state call refusals.NoEntry refuses other told = absurd (other refl)
@@ -121,22 +121,22 @@ told_other state call refusals.NotRegular refuses other told = absurd (cc)
 told_other state call refusals.NoInode refuses other told = absurd (cc)
 told_other state call refusals.BadId refuses other told = absurd (cc)
 
--- where that call is refused for another reason, `put` makes it
+-- if that call is refused for another reason, `put` makes it
 refused : (state : State) (now : ℕ) (path : List ℕ) (refusal : Refusal) → Refuses state (calls.Truncate user now path 0) refusal → refusal ≢ refusals.NoEntry
     → emptying_by (answer state.tree (queries.Stat user path)) now path ≡ calls.Truncate user now path 0
 refused state now path refusal refuses other = there state now path (told_other state (calls.Truncate user now path 0) refusal refuses other)
 
--- the first call of `put`, of the volume as it is read
+-- the first call of `put`, on the volume as it is read
 abbrev first_call : Mounted → ℕ → List ℕ → Call
 first_call old now path = emptying_by (answer (reads_as old.edition old.image).tree (queries.Stat user path)) now path
 
--- a volume accepted the call that makes a file empty, and so the first call of `put`
+-- a volume accepted the call that empties a file, and so the first call of `put`
 pub emptied : (old new : Mounted) (now : ℕ) (path : List ℕ) (done : Done) → Accepts old new (calls.Truncate user now path 0) done
     → Accepts old new (first_call old now path) done
 emptied old new now path done accepts =
     subst (λ call. Accepts old new call done) (sym (accepted (reads_as old.edition old.image) now path accepts.accepted)) accepts
 
--- it refused that call for another reason than that the file is missing, and so the first call of `put`
+-- it refused that call for another reason than a missing file, and so the first call of `put`
 pub not_emptied : (old : Mounted) (now : ℕ) (path : List ℕ) (refusal : Refusal) → refusal ≢ refusals.NoEntry
     → Refuses (reads_as old.edition old.image) (calls.Truncate user now path 0) refusal → Refuses (reads_as old.edition old.image) (first_call old now path) refusal
 not_emptied old now path refusal other refuses =
@@ -167,7 +167,7 @@ not_made (Err fault) old mid now path given same path_is refuses told = (
       (subst (λ text. Refuses (reads_as mid.edition mid.image) (calls.Create user now text 0o644) told.0) path_is told.2)),
 )
 
--- the call that came back has the path that it was made with
+-- the call that was handed back has the path that it was made with
 pub path_kept : (call : Call) (cred other : Cred) (now moment : ℕ) (given path : List ℕ) (left size : ℕ)
     → call ≡ calls.Truncate cred now given left → call ≡ calls.Truncate other moment path size → given ≡ path
 path_kept call cred other now moment given path left size is back = cc

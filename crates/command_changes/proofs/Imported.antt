@@ -1,4 +1,4 @@
--- What the import of an archive comes to, by what making its members came to.
+-- The result of importing an archive, from that of making its members.
 use Rattle.std.proofs.Common.{◌≡◌, ◌⊎◌, ℕ, List, [], None, Some, Ok, Err, IfOk, IfErr, IfSome, Result, IsSome, Option, is_some, false, true≢false, inl, inr, refl, sym, subst, ◌∙◌, arith}
 use Rattle.std.specs.Global.{Vec}
 use Rattle.vol_import.specs.MadeMembers.{HasArchive}
@@ -20,7 +20,7 @@ use Rattle.command_faults.specs.declared.fault.Fault.{Fault}
 use Rattle.command_changes.specs.Import.{ImportsArchive, TellsFault}
 use Rattle.command_changes.specs.ImportLines.{archive_status, import_status}
 
--- no archive that can't be read has the status 0
+-- no archive that can't be read has status 0
 archive_fails : (fault : ArchiveFault) → archive_status fault ≡ 0 → ⊥
 archive_fails (archives.Truncated at) is = omega (arith, is)
 archive_fails (archives.LoneZeroBlock at) is = omega (arith, is)
@@ -37,18 +37,18 @@ fails (faults.Member path cause) is = omega (arith, is)
 fails (faults.Refused refusal call) is = refusal_fails refusal is
 fails faults.NoMemory is = omega (arith, is)
 
--- want of memory is always a reason
+-- out of memory is always a reason
 no_memory : (edition : Edition) (image : List ℕ) (wanted : Result (List Call) ImportFault) → IsReason edition image wanted faults.NoMemory
 unfolding IsReason
 no_memory edition image wanted = tt
 
--- a fault that is told is a reason, if the one is that was met
+-- a fault that is reported is a reason, if the original one is
 told_reason : (edition : Edition) (image : List ℕ) (wanted : Result (List Call) ImportFault) (fault told : ImportFault)
     → IsReason edition image wanted fault → (told ≡ fault) ⊎ (told ≡ faults.NoMemory) → IsReason edition image wanted told
 told_reason edition image wanted fault told reason (inl is) = subst (IsReason edition image wanted) (sym is) reason
 told_reason edition image wanted fault told reason (inr is) = subst (IsReason edition image wanted) (sym is) (no_memory edition image wanted)
 
--- the answer where an archive isn't imported
+-- the result if an archive can't be imported
 not_imported : (edition : Edition) (image : List ℕ) (wanted : Result (List Call) ImportFault) (errors : ErrorStream) (fault : ImportFault) (answer : Answer)
     → IsReason edition image wanted fault → answer.image ≡ None → TellsFault fault (λ line. line_after answer.fault ≡ line) answer.status
     → Hears errors answer.fault → ImportsArchive edition image wanted (says errors) answer
@@ -58,7 +58,7 @@ not_imported edition image wanted errors fault answer reason none tells hears = 
   refused = λ _. (tells.0, told_reason edition image wanted fault tells.0 reason tells.1, tells.2, subst (says errors) tells.3 hears);
 }
 
--- the answer to an outcome is the bytes, or the status and the line of a reason
+-- the result of an outcome is the bytes, or the status and the line of a reason
 pub concluded : (edition : Edition) (image : List ℕ) (wanted : Result (List Call) ImportFault) (errors : ErrorStream) (outcome : Result (Vec ℕ) ImportFault)
     (answer : Answer) → IfOk outcome (λ bytes. Imports edition image wanted bytes.items) → IfErr outcome (IsReason edition image wanted)
     → IfOk outcome (λ bytes. (answer.image ≡ Some bytes) × (answer.status ≡ 0) × (answer.fault ≡ None))
@@ -72,7 +72,7 @@ concluded edition image wanted errors (Ok bytes) answer made reason done told he
 concluded edition image wanted errors (Err fault) answer made reason done told hears =
     not_imported edition image wanted errors fault answer reason told.0 told.1 hears
 
--- what is saved has the members of the archive
+-- the tree to save has the members of the archive
 pub archive_saved : (edition : Edition) (image archive path : List ℕ) (now : ℕ) (said : List ℕ → Type 0) (answer : Answer)
     → ImportsArchive edition image (calls_to_make (reads_as edition image).tree archive path now) said answer
     → IfSome answer.image (λ saved. HasArchive (reads_as edition image).tree (reads_as edition saved.items).tree path now (members archive))

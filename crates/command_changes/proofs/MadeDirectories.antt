@@ -1,4 +1,4 @@
--- What `mkdir -p` leaves at its path.
+-- The directory that `mkdir -p` makes at its path.
 use Rattle.std.proofs.Common.{◌≡◌, sym, ap, subst, refl, ◌∙◌, ℕ, zero, suc, ◌+◌, ◌<◌, ◌≤◌, ◌==◌, ◌&&◌, ◌||◌, if◌then◌else◌, Bool, true, false, not, List, [], ◌∷◌, ◌++◌, map, take, length, None, Some, Ok, Err, arith, add-one}
 use Rattle.std.specs.Prelude.{Result, slice_index}
 use Rattle.std.specs.List.{flat_map, list_any, range_with_len}
@@ -40,12 +40,12 @@ use Rattle.vol_volume.specs.declared.queries.Query.TheVariants as queries
 use Rattle.vol_volume.specs.declared.queries.Reply.{Reply}
 use Rattle.vol_volume.specs.declared.queries.Reply.TheVariants as replies
 
--- two paths are the same to a question: they have the same components, and both have a zero byte or none
+-- two paths are the same to a query: they have the same components, and both have a zero byte or none
 record IsSame (path other : List ℕ) : Type 0 where
   pub names : components path ≡ components other
   pub zeros : has_zero path ≡ has_zero other
 
--- what is answered by the components of a path, and whether it has a zero byte
+-- the answer to a query, by the components of a path and whether it has a zero byte
 abbrev answer_by : Tree → Bool → List (List ℕ) → Result Reply Refusal
 answer_by tree has names =
     refused_or (if is_bad_id tree.geometry.edition 0 0 then Some refusals.BadId else if has || false then Some refusals.Invalid
@@ -72,7 +72,7 @@ made_directory state now path done accepted answered =
     let plain = (passes_first state.tree path _ accepted).no_zero in
     leads_directory (step state (mkdir_call now path) done).tree path _ plain made.1.leads refl
 
--- what is found to be a directory is one
+-- a node that is found to be a directory is one
 found_directory : (tree : Tree) (path : List ℕ) → found_by (answer tree (queries.Stat user path)) ≡ founds.Directory → HasDirectory tree path
 found_directory tree path = by (answer tree (queries.Stat user path)) refl
   where
@@ -100,7 +100,7 @@ last_record (first ∷ before) call (entry ∷ journal) is =
     let rest = last_record before call journal (cc) in
     (entry ∷ rest.0, rest.1, ap (λ records. entry ∷ records) rest.2, rest.3)
 
--- calls of which the last is a Mkdir leave a directory at its path, and at each that is the same to a question
+-- calls that end with a Mkdir leave a directory at its path, and at each path that is the same to a query
 left_by : (state : State) (now : ℕ) (before : List Call) (made path : List ℕ) (journal : List Record)
     → map (λ (entry : Record). entry.call) journal ≡ before ++ mkdir_call now made ∷ [] → IsLegal state journal → IsSame made path
     → HasDirectory (after state journal).tree path
@@ -116,13 +116,13 @@ left_by state now before made path journal asked legal same =
     subst (λ (s : State). HasDirectory s.tree path) (sym whole)
     (record { stat = there.stat; found = sym (same_answer (step mid parts.1.call done).tree made path same) ∙ there.found; kind = there.kind })
 
--- only slashes stand behind the first n bytes of a path, if any
+-- only slashes follow the first n bytes of a path, if anything does
 record OnlySlashes (path : List ℕ) (n : ℕ) : Type 0 where
   pub within : n ≤ length path
   pub same : IsSame (take n path) path
   pub stop : (n == length path || slice_index path n == 47) ≡ true
 
--- one byte less, where it is a slash
+-- one byte less, if it is a slash
 less : (path : List ℕ) (k : ℕ) → OnlySlashes path (k + 1) → slice_index path k ≡ 47 → OnlySlashes path k
 less path k only slash =
     let low : k < length path = let within = only.within in omega arith in
@@ -162,7 +162,7 @@ bare_found tree is =
     by kinds.Special e = cc
     by kinds.Odd e = cc
 
--- the last names of two paths that are the same to a question
+-- the last names of two paths that are the same to a query
 dots_same : (path other : List ℕ) → IsSame path other → is_dots (last_name other) ≡ false → is_dots (last_name path) ≡ false
 unfolding last_name
 dots_same path other same plain = ap (λ names. is_dots (last_of [] names)) same.names ∙ plain
@@ -182,12 +182,12 @@ one_more f front k =
 calls_split : (f : ℕ → List Call) (k : ℕ) → flat_map f (range_with_len 0 (suc k)) ≡ flat_map f (range_with_len 0 k) ++ f k
 calls_split f k = let next : suc k ≡ k + 1 = omega arith in ap (λ n. flat_map f (range_with_len 0 n)) next ∙ sym (one_more f [] k)
 
--- the call for a front of a path that ends at a name, by whether its last byte is a slash, what follows is a slash or nothing, and the name is `.` or `..`
+-- the call for a prefix of a path that ends at a name, by whether its last byte is a slash, a slash or nothing follows, and the name is `.` or `..`
 abbrev call_by : Tree → ℕ → List ℕ → Bool → Bool → Bool → List Call
 call_by tree now front slash stop dots =
     if not (not slash && stop) || dots then [] else unless_found now front (found_by (answer tree (queries.Stat user front)))
 
--- where a path leads to nothing, the last call for its names is for the path itself
+-- if a path leads nowhere, the last call for its names is for the path itself
 ends_with : (tree : Tree) (now : ℕ) (path : List ℕ) → is_dots (last_name path) ≡ false → found_by (answer tree (queries.Stat user path)) ≡ founds.Nothing
     → (n : ℕ) → OnlySlashes path n → EndsWith tree now path n
 ends_with tree now path plain none zero only = absurd (bare_found tree (ap found_by (same_answer tree [] path only.same) ∙ none))
@@ -219,7 +219,7 @@ ends_with tree now path plain none (suc k) only =
         ∙ ap (unless_found now front) (ap found_by (same_answer tree front path only.same) ∙ none))) in
         (flat_map calls (range_with_len 0 k), front, calls_split calls k ∙ ap (λ more. flat_map calls (range_with_len 0 k) ++ more) made, only.same)
 
--- behind the whole path stands nothing
+-- nothing follows the whole path
 all_bytes : (path : List ℕ) → OnlySlashes path (length path)
 all_bytes path =
     let same = take_all (length path) path (omega arith) in

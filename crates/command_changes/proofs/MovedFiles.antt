@@ -1,4 +1,4 @@
--- What `mv` leaves at the new path of a file: what its old path led to.
+-- `mv` leaves at the new path of a file what its old path led to.
 use Rattle.std.proofs.Common.{◌≡◌, ◌≢◌, ◌∙◌, sym, ap, subst, refl, ℕ, ◌+◌, ◌-◌, Bool, true, false, cond, nat_le, List, [], ◌∷◌, ◌++◌, Option, None, Some, Result, Ok, Err, inl, inr, arith}
 use Rattle.std.specs.List.{list_any}
 use Rattle.std.specs.Option.{ok_or, option_map, unwrap_or}
@@ -35,7 +35,7 @@ use Rattle.vol_removal.proofs.FreedNumbers.{is_map, searched_is, walk_joined}
 use Rattle.vol_removal.proofs.GoneTrees.{unlinked, without, root_stays}
 use Rattle.command_changes.specs.Mv.{LeadsOn}
 
--- a walk from what is no directory ends there
+-- a walk ends at a node that is no directory
 stuck : (tree : Tree) (i e : ℕ) (words : List (List ℕ)) → is_directory (node_at tree i) ≡ false → walk_from tree user i words ≡ Ok e → i ≡ e
 stuck tree i e [] plain is = cc
 stuck tree i e (word ∷ words) plain is = by (find_in tree user i word) refl is
@@ -44,11 +44,11 @@ stuck tree i e (word ∷ words) plain is = by (find_in tree user i word) refl is
     by (Ok y) led is = let none : Err refusals.NotDirectory ≡ Ok y = no_names (tree.nodes i) None plain word y led in absurd (cc)
     by (Err refusal) led is = absurd (cc)
 
--- nodes keep their names but for one of directory d
+-- nodes keep their names except for one of directory d
 abbrev KeepsNamesBut : (ℕ → Option Node) → (ℕ → Option Node) → ℕ → List ℕ → Type 0
 KeepsNamesBut old new d name = (x : ℕ) (word : List ℕ) (j : ℕ) → (x ≡ d → word ≡ name → ⊥) → found (old x) word ≡ Ok j → found (new x) word ≡ Ok j
 
--- where that one led to what is no directory, a walk to another node leads there still
+-- if that one led to no directory, a walk to another node still leads there
 walk_beside : (old new : Tree) (d i : ℕ) (name : List ℕ) → KeepsNamesBut old.nodes new.nodes d name → find_in old user d name ≡ Ok i
     → is_directory (node_at old i) ≡ false → (words : List (List ℕ)) (x e : ℕ) → i ≢ e → walk_from old user x words ≡ Ok e
     → walk_from new user x words ≡ Ok e
@@ -80,7 +80,7 @@ walk_split tree front name x i is = by (walk_from tree user x front) refl (sym (
     by (Ok d) led is = (d, led, last (find_in tree user d name) is)
     by (Err refusal) led is = absurd (cc)
 
--- what is found by a name is what the map has for it
+-- the node found by a name is the one that the map has for it
 found_name : (node : Option Node) (name : List ℕ) (i : ℕ) → found node name ≡ Ok i
     → get (unwrap_or (map_of (unwrap_or node no_node).content) []) name ≡ Some i
 found_name None name i is = absurd (cc)
@@ -95,13 +95,13 @@ found_name (Some node) name i is = by node.content is
     by (Directory names) is = got (get names name) is
     by (Device type addresses) is = absurd (cc)
 
--- what is no directory is another node than one that is searched
+-- a node that is no directory differs from one that is searched
 apart : (nodes : ℕ → Option Node) (d i : ℕ) (names : Names) → searched (nodes d) ≡ Ok names → is_map (nodes i) ≡ false → d ≢ i
 apart nodes d i names held plain same =
     let both : true ≡ false = sym (searched_is (nodes d) names held) ∙ (ap (λ x. is_map (nodes x)) same ∙ plain) in
     absurd (cc)
 
--- the nodes where node i has a further name, in directory d
+-- the nodes after node i got a further name, in directory d
 record HasLink (old new : ℕ → Option Node) (now d i : ℕ) (name : List ℕ) : Type 0 where
   pub kept : KeepsNames old new
   pub named : found (new d) name ≡ Ok i
@@ -128,7 +128,7 @@ has_link nodes now size d i name names held fresh plain other =
       plain = ap is_map stands ∙ linked_plain now (nodes i) plain;
     }
 
--- the nodes where node i has lost a name in directory d, and is gone with the last
+-- the nodes after node i lost a name in directory d, and is freed with the last
 record LosesLink (old new : ℕ → Option Node) (now d i : ℕ) (name : List ℕ) : Type 0 where
   pub kept : KeepsNamesBut old new d name
   pub last : Bool
@@ -186,7 +186,7 @@ node_moved now true _ new is some = absurd (some is)
 node_moved now false None new is some = absurd (some is)
 node_moved now false (Some node) new is some = (node, refl, is)
 
--- a Stat tells of it but for the time
+-- its Stat is the same except for the time
 told : (now i : ℕ) (node : Node) → stat_of i (renamed now node) ≡ record (stat_of i node) { changed = option_map (λ _. now) node.changed }
 told now i node =
     let links : node.links + 1 - 1 ≡ node.links = omega arith in
@@ -197,7 +197,7 @@ told now i node =
     twice None = refl
     twice (Some time) = refl
 
--- where the paths of an accepted Link lead
+-- the nodes that the paths of an accepted Link lead to
 record IsLinked (state : State) (from to : List ℕ) : Type 0 where
   pub plain : list_any has_zero (to ∷ []) ≡ false
   pub i : ℕ
@@ -232,7 +232,7 @@ is_linked state now from to accepted =
     passed false true others is = absurd (cc)
     passed false false others is = (refl, is)
 
--- the entry of the old path, in the tree before and in that with the further name; it isn't the further one
+-- the entry of the old path, in the tree before and in the one with the further name; it isn't the further one
 record IsEntry (old mid : Tree) (d e i : ℕ) (name last : List ℕ) : Type 0 where
   pub number : number_of_name mid e last ≡ i
   pub led : find_in mid user e last ≡ Ok i
@@ -257,7 +257,7 @@ is_entry old mid from d e i name last same keeps walked reached fresh =
           absurd (cc);
     }
 
--- what a Read is answered, by the node that its path leads to
+-- the answer to a Read, by the node that its path leads to
 abbrev read_of : ℕ → ℕ → Node → Result Reply Refusal
 read_of offset len node =
     refused_or (first_of ((is_directory node, refusals.IsDirectory) ∷ (is_device node.content, refusals.NotRegular) ∷ (false, refusals.Access) ∷ []))
@@ -305,7 +305,7 @@ leads_on old mid new now d e i from to name last same_mid same_new plain_from pl
     (loses.stands ∙ ap (λ n. cond loses.last None (unlinked now n)) has.stands) (there i led) in
     leads_to_node old new now i from to moved.0 plain_from plain_to walked moved.1 led moved.2
 
--- what a state becomes by a Link
+-- the state after a Link
 abbrev with_link : State → ℕ → ℕ → ℕ → List ℕ → State
 with_link state now i d name = at_time now (after_link state now i d name)
 
@@ -346,7 +346,7 @@ unlink_moved state now from to done linked accepted =
     refl (root_stays first_off now i) first.no_zero linked.plain linked.walked other reached has entry
     (loses_link mid now parent.0 i parent.1 has.plain away))
 
--- so it is after both calls
+-- the same after both calls
 pub link_moved : (state : State) (now : ℕ) (from to : List ℕ) (done next : Done) → verdict state (Link user now from to) ≡ None
     → verdict (step state (Link user now from to) done) (Unlink user now from) ≡ None
     → ((j : ℕ) → walk (step (step state (Link user now from to) done) (Unlink user now from) next).tree user to ≡ Ok j

@@ -1,4 +1,4 @@
--- What `mv` leaves at the path that a file had, and at its new one.
+-- `mv` removes a file's old path and makes its new one.
 use Rattle.std.proofs.Common.{◌≡◌, ◌∙◌, sym, ap, subst, ℕ, List, [], ◌∷◌, map, None}
 use Rattle.vol_layout.specs.Geometry.{geometry_of}
 use Rattle.vol_dir.specs.Access.{user}
@@ -18,7 +18,7 @@ use Rattle.vol_volume.specs.declared.calls.Call.{Call}
 use Rattle.vol_volume.specs.declared.calls.Call.TheVariants as calls
 use Rattle.vol_volume.specs.declared.calls.Record.{Record}
 
--- the second of its calls takes the path away, and the first made the new one
+-- the second of its calls removes the path, and the first made the new one
 moved_by : (edition : Edition) (image bytes from to : List ℕ) (now : ℕ) (journal : List Record)
     → map (λ (entry : Record). entry.call) journal ≡ move_calls (reads_as edition image).tree now from to → IsLegal (reads_as edition image) journal
     → AreLeft (geometry_of edition image) image journal bytes → HasMoved (reads_as edition image).tree now from to (after (reads_as edition image) journal).tree

@@ -1,4 +1,4 @@
--- What `put` leaves at its path.
+-- `put` leaves its bytes at its path.
 use Rattle.std.proofs.Common.{◌≡◌, ◌≢◌, ◌⊎◌, inl, inr, sym, ap, subst, ◌∙◌, ℕ, false, List, [], ◌∷◌, map, None, Ok}
 use Rattle.std.specs.List.{list_any}
 use Rattle.vol_layout.specs.Geometry.{geometry_of}
@@ -31,7 +31,7 @@ use Rattle.vol_volume.specs.declared.queries.Query.TheVariants as queries
 abbrev pub IsThere : List ℕ → Tree → Type 0
 IsThere path tree = (i : ℕ) → walk tree user path ≡ Ok i → tree.nodes i ≢ None
 
--- in a sound image it does
+-- in a sound image each does
 pub there_in : (geometry : Geometry) (image path : List ℕ) (made : State) → Rules1To12 geometry image → state geometry image ≡ made → IsThere path made.tree
 there_in geometry image path made ready makes =
     let whole = ready_whole geometry image ready in
@@ -54,7 +54,7 @@ plain_path : (state : State) (now : ℕ) (path bytes : List ℕ) → verdict sta
 unfolding verdict
 plain_path state now path bytes accepted = (passes_first state.tree path _ accepted).no_zero
 
--- the second leaves the bytes
+-- the second writes the bytes
 written_by : (state : State) (now : ℕ) (path bytes : List ℕ) (call : Call) (done : Done) → call ≡ calls.Write user now path 0 bytes → verdict state call ≡ None
     → Holds state.tree path [] → HasFile (step state call done).tree path bytes
 written_by state now path bytes call done is accepted empty =

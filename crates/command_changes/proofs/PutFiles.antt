@@ -1,4 +1,4 @@
--- Files are put into a directory by calls: what these come to, and how they are settled, one file after another.
+-- Putting files into a directory by calls: their result, and their choice, file by file.
 use Rattle.std.proofs.Common.{◌≡◌, ◌∙◌, ℕ, List, [], ◌∷◌, ◌++◌, Ok, Err, sym, ap, subst}
 use Rattle.std.specs.Prelude.{Result, reverse}
 use Rattle.std.proofs.lemmas.List.{reverse-append}
@@ -16,7 +16,7 @@ use Rattle.vol_import.specs.declared.planning.PlanFault.{PlanFault}
 use Rattle.command_changes.specs.Put.{onto, put_onto}
 use Rattle.command_changes.specs.declared.put.NewFile.{NewFile}
 
--- where there are no calls for a mounted volume, a sound image isn't changed for the reason of that
+-- if there are no calls for a mounted volume, a sound image isn't changed, for the same reason
 pub no_calls : (edition : Edition) (image : List ℕ) (wanted : Tree → Result (List Call) PlanFault) (old : Mounted) (why : PlanFault) (fault : ImportFault)
     → IsSound edition image → old ≡ mounted edition image → Tells (wanted (reads_as old.edition old.image).tree) why → fault ≡ unplanned why
     → IsReason edition image (told (wanted (reads_as edition image).tree)) fault
@@ -30,7 +30,7 @@ wanted_here : (edition : Edition) (image : List ℕ) (wanted : Tree → Result (
     → wanted (reads_as old.edition old.image).tree ≡ Ok calls → told (wanted (reads_as edition image).tree) ≡ Ok calls
 wanted_here edition image wanted old calls is e = ap told (subst (λ (v : Mounted). wanted (reads_as v.edition v.image).tree ≡ Ok calls) is e)
 
--- where a call is refused, the image isn't changed for that reason
+-- if a call is refused, the image isn't changed for that reason
 pub not_put : (edition : Edition) (image : List ℕ) (wanted : Tree → Result (List Call) PlanFault) (old new : Mounted) (calls : List Call) (fault : ImportFault)
     → IsSound edition image → old ≡ mounted edition image → wanted (reads_as old.edition old.image).tree ≡ Ok calls → IsStop old calls new fault
     → IsReason edition image (told (wanted (reads_as edition image).tree)) fault
@@ -47,7 +47,7 @@ all_put edition image bytes wanted old new calls sound is e made consistent left
     subst (λ (w : Result (List Call) ImportFault). Imports edition image w bytes) (sym (wanted_here edition image wanted old calls is e))
     (imported edition image bytes calls new sound (subst (λ (v : Mounted). AreMade v calls new) is made) consistent left)
 
--- the calls of files that are left in reverse, where the last of them is taken
+-- the calls for the files that are left, in reverse, when the last of them is taken
 taken : (tree : Tree) (now : ℕ) (directory : List ℕ) (calls : List Call) (left rest : List NewFile) (file : NewFile) → left ≡ rest ++ file ∷ []
     → put_onto tree now directory calls (reverse left)
     ≡ and_next (onto tree now directory calls file) (λ calls. put_onto tree now directory calls (reverse rest))
@@ -62,14 +62,14 @@ pub on_file : (tree : Tree) (now : ℕ) (directory : List ℕ) (calls next : Lis
 on_file tree now directory calls next left rest file all on is done =
     sym (rw done at (taken tree now directory calls left rest file is)) ∙ on
 
--- a file that can't be put ends it
+-- a file that can't be put ends the list
 pub on_fault : (tree : Tree) (now : ℕ) (directory : List ℕ) (calls : List Call) (left rest : List NewFile) (file : NewFile)
     (all : Result (List Call) PlanFault) (fault : PlanFault) → put_onto tree now directory calls (reverse left) ≡ all → left ≡ rest ++ file ∷ []
     → onto tree now directory calls file ≡ Err fault → all ≡ Err fault
 on_fault tree now directory calls left rest file all fault on is done =
     sym on ∙ (rw done at (taken tree now directory calls left rest file is))
 
--- where no file is left, the calls so far are all
+-- if no file is left, the calls so far are all
 pub on_end : (tree : Tree) (now : ℕ) (directory : List ℕ) (calls : List Call) (left : List NewFile) (all : Result (List Call) PlanFault)
     → put_onto tree now directory calls (reverse left) ≡ all → left ≡ [] → all ≡ Ok calls
 unfolding put_onto

@@ -1,4 +1,4 @@
--- Why nothing is taken away.
+-- The reasons why nothing is removed.
 use Rattle.std.proofs.Common.{◌≡◌, ℕ, List}
 use Rattle.vol_layout.specs.declared.edition.Edition.{Edition}
 use Rattle.vol_removal.specs.Removing.{IsReason}

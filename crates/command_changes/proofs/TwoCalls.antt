@@ -19,14 +19,14 @@ use Rattle.vol_dir.specs.declared.refusal.Refusal.TheVariants as refusals
 use Rattle.command_faults.specs.declared.fault.Fault.{Fault}
 use Rattle.command_faults.specs.declared.fault.Fault.TheVariants as faults
 
--- what two calls leave, the one after the other, stays
+-- bytes that each of two calls keeps stay
 around_both : (edition : Edition) (one two three : List ℕ) → StaysAround (geometry_of edition one) one two
     → StaysAround (geometry_of edition two) two three → StaysAround (geometry_of edition one) one three
 around_both edition one two three first second =
     around_then (geometry_of edition one) one two three first
     (subst (λ g. StaysAround g two three) (geometry_kept (geometry_of edition one) one two first) second)
 
--- a call that may be made of a state may be made of the same one
+-- a call that may be made in a state may be made in an equal one
 follows_at : (at to : State) (call : Call) (done : Done) → at ≡ to → verdict at call ≡ None → MayAnswer at call done
     → MayFollow to (record { call = call; done = done })
 follows_at at to call done same accepted answered = record {
@@ -85,7 +85,7 @@ refused_reason edition image calls refusals.NotRegular sound refused = (sound, r
 refused_reason edition image calls refusals.NoInode sound refused = (sound, refused)
 refused_reason edition image calls refusals.BadId sound refused = (sound, refused)
 
--- after an accepted call, what makes another is made of both
+-- after an accepted call, the bytes that another makes are made by both
 pub made_then : (result : Result (Unit {0}) Fault) (old mid new : Mounted) (first second asked wanted : Call) → first ≡ asked → second ≡ wanted
     → IsSound old.edition old.image → (done : Done) × Accepts old mid first done → OnOk result ((last : Done) × Accepts mid new second last)
     → OnOk result (Makes old.edition old.image (asked ∷ wanted ∷ []) new.image)

@@ -1,4 +1,4 @@
--- What the changes of a volume come to.
+-- The results of changes of a volume.
 use Rattle.std.specs.Prelude.{◌≡◌, ℕ, false, List, [], ◌∷◌, IfSome}
 use Rattle.std.specs.Io.KnownBytes.{Keeps}
 use Rattle.vol_dir.specs.Access.{user}
@@ -30,7 +30,7 @@ abbrev pub Calls : Edition → List ℕ → Streams → Answer → List Call →
 Calls edition image streams answer calls =
     ChangesVolume edition image calls streams.said answer × Keeps streams.old streams.new × (streams.failed ≡ streams.had_failed)
 
--- calls are made, and standard output is as it was; of the tree that is to be saved this holds (this project)
+-- calls are made, and standard output is as it was; the tree to save satisfies `leaves` (this project)
 abbrev pub CallsLeave : Edition → List ℕ → Streams → Answer → List Call → (Tree → Type 0) → Type 0
 CallsLeave edition image streams answer calls leaves =
     ChangesVolume edition image calls streams.said answer
@@ -38,12 +38,12 @@ CallsLeave edition image streams answer calls leaves =
     × (streams.failed ≡ streams.had_failed)
     × IfSome answer.image (λ saved. leaves (reads_as edition saved.items).tree)
 
--- the free list is made anew, and standard output is as it was (this project)
+-- the free list is rebuilt, and standard output is as it was (this project)
 abbrev pub Salvages : Edition → List ℕ → Streams → Answer → Type 0
 Salvages edition image streams answer =
     SalvagesVolume edition image streams.said answer × Keeps streams.old streams.new × (streams.failed ≡ streams.had_failed)
 
--- an archive is imported below a path, and standard output is as it was; the tree that is to be saved has its members, and keeps what the image's had (this project)
+-- an archive is imported below a path, and standard output is as it was; the tree to save has its members, and keeps all that the image's had (this project)
 abbrev pub ImportsBelow : Edition → List ℕ → List ℕ → Streams → Answer → List ℕ → ℕ → Type 0
 ImportsBelow edition image archive streams answer path now =
     ImportsArchive edition image (calls_to_make (reads_as edition image).tree archive path now) streams.said answer
@@ -51,12 +51,12 @@ ImportsBelow edition image archive streams answer path now =
     × (streams.failed ≡ streams.had_failed)
     × IfSome answer.image (λ saved. HasArchive (reads_as edition image).tree (reads_as edition saved.items).tree path now (members archive))
 
--- what a path leads to is taken away, with all that is below it, and standard output is as it was (this project)
+-- the file or directory at a path is removed, with all that is below it, and standard output is as it was (this project)
 abbrev pub RemovesBelow : Edition → List ℕ → Streams → Answer → List ℕ → ℕ → Type 0
 RemovesBelow edition image streams answer path now =
     RemovesTree edition image path now streams.said answer × Keeps streams.old streams.new × (streams.failed ≡ streams.had_failed)
 
--- what a change comes to, by the bytes that it is given: the calls that it stands for, all or none, or a new free list. Then the members of the archive are below PATH of `import`, PATH of `put` leads to a file of these bytes, that of `mkdir` to a directory, that of `mkdir -p` too unless its last name is `.` or `..`; FROM of `mv` to nothing, and its new path to what FROM led to (this project)
+-- the result of a change, given some bytes: its calls are made, all or none, or the free list is rebuilt. Afterwards the members of the archive are below PATH of `import`, PATH of `put` leads to a file of these bytes, that of `mkdir` to a directory, and so does that of `mkdir -p` unless its last name is `.` or `..`; FROM of `mv` leads nowhere, and its new path to what FROM led to (this project)
 abbrev pub Changes : Edition → List ℕ → List ℕ → Streams → Answer → Change → Type 0
 Changes edition image given streams answer (changes.Put path file now) =
     CallsLeave edition image streams answer (put_calls (reads_as edition image).tree now path.now given) (λ tree. HasFile tree path.now given)

@@ -1,4 +1,4 @@
--- What the import of an archive comes to.
+-- The result of importing an archive.
 use Rattle.std.specs.Prelude.{◌≡◌, ◌⊎◌, ◌↔◌, ℕ, List, [], IsSome, IsNone, IfSome, Result}
 use Rattle.vol_import.specs.Making.{Imports, IsReason}
 use Rattle.vol_layout.specs.declared.edition.Edition.{Edition}
@@ -8,12 +8,12 @@ use Rattle.vol_import.specs.declared.making.ImportFault.TheVariants as faults
 use Rattle.command_faults.specs.declared.answer.Answer.{Answer}
 use Rattle.command_changes.specs.ImportLines.{import_status, import_line}
 
--- a fault is told, with its status; or memory runs out, and that is told in its place (this project)
+-- a fault is reported, with its status; or memory runs out, and that is reported instead (this project)
 abbrev pub TellsFault : ImportFault → (List ℕ → Type 0) → ℕ → Type 0
 TellsFault fault said status =
     (told : ImportFault) × ((told ≡ fault) ⊎ (told ≡ faults.NoMemory)) × (status ≡ import_status told) × said (import_line told)
 
--- what the import of an archive comes to, by the calls that were to be made: bytes to be saved, status 0 and no line, or the status and the line of a reason (this project)
+-- the result of importing an archive, given the calls to make: bytes to save, status 0 and no line, or the status and the line of a reason (this project)
 pub record ImportsArchive (edition : Edition) (image : List ℕ) (wanted : Result (List Call) ImportFault) (said : List ℕ → Type 0) (answer : Answer) : Type 0 where
   pub saved : answer.status ≡ 0 ↔ IsSome answer.image
   pub made : IfSome answer.image (λ bytes. Imports edition image wanted bytes.items × said [])

@@ -1,4 +1,4 @@
--- What is told of an archive that isn't imported.
+-- Messages for archives that can't be imported.
 use Rattle.std.specs.Prelude.{ℕ, ◌++◌, List, codes, decimal}
 use Rattle.escaped_text.specs.Escaping.{escaped}
 use Rattle.ustar.specs.declared.reading.HeaderFault.{HeaderFault}
@@ -16,17 +16,17 @@ use Rattle.vol_import.specs.declared.making.ImportFault.TheVariants as faults
 use Rattle.command_faults.specs.Faults.{line_of_refusal, line_of_rule, refusal_status}
 use Rattle.command_faults.specs.PathLines.{path_line}
 
--- what is wrong with a block that is no header (POSIX, ustar interchange format)
+-- the reason why a block isn't a header (POSIX, ustar interchange format)
 abbrev pub header_text : HeaderFault → List ℕ
 header_text headers.Magic = codes "no header of tar"
 header_text headers.Checksum = codes "a header with a wrong checksum"
 header_text headers.Number = codes "a header with a field that is no number"
 
--- the line of what is wrong at a byte of an archive (this project)
+-- the message for a byte of an archive (this project)
 abbrev pub line_at : ℕ → List ℕ → List ℕ
 line_at at text = (codes "unixvol: archive, byte " ++ (decimal at ++ codes ": ")) ++ text ++ codes "\n"
 
--- the line of an archive that can't be read (this project)
+-- the message for an archive that can't be read (this project)
 abbrev pub archive_line : ArchiveFault → List ℕ
 archive_line (archives.Truncated at) = line_at at (codes "cut off")
 archive_line (archives.LoneZeroBlock at) = line_at at (codes "a lone block of zeros")
@@ -35,11 +35,11 @@ archive_line (archives.Records at) = line_at at (codes "records of pax that can'
 archive_line (archives.Unsupported at) = line_at at (codes "records of pax that can't be followed")
 archive_line archives.NoMemory = line_of_refusal refusals.NoMemory
 
--- the line of a member of an archive with what is wrong with it (this project)
+-- the message for a member of an archive, with a text (this project)
 abbrev pub worded_line : List ℕ → List ℕ → List ℕ
 worded_line path text = codes "unixvol: " ++ escaped path ++ codes ": " ++ text ++ codes "\n"
 
--- the line of a member of an archive that no calls make: why, in plain words, or that of a call which finds no i-node (this project)
+-- the message for a member of an archive that can't be made: the reason, in plain words, or that of a call which finds no i-node (this project)
 abbrev pub member_line : List ℕ → MemberFault → List ℕ
 member_line path members.Kind = worded_line path (codes "neither a file, a directory nor a hard link")
 member_line path members.LongPath = worded_line path (codes "a path above 4096 bytes")
@@ -52,7 +52,7 @@ member_line path members.Owner = worded_line path (codes "an owner or a group ab
 member_line path members.NoInode = path_line refusals.NoInode path
 member_line path members.Number = worded_line path (header_text headers.Number)
 
--- the path of what a call makes or changes (this project)
+-- the path that a call makes or changes (this project)
 abbrev pub path_of : Call → List ℕ
 path_of (calls.Create cred now path perm) = path
 path_of (calls.Mkdir cred now path perm) = path
@@ -65,11 +65,11 @@ path_of (calls.Chmod cred now path perm) = path
 path_of (calls.Chown cred now path uid gid) = path
 path_of (calls.Times cred now path atime mtime) = path
 
--- the line of a refused call: that of the refusal, with the call's path (this project)
+-- the message for a refused call: that of the refusal, with the call's path (this project)
 abbrev pub call_line : Refusal → Call → List ℕ
 call_line refusal call = path_line refusal (path_of call)
 
--- the status that the program ends with where an archive can't be read: 1, or 4 for memory (this project)
+-- the exit status if an archive can't be read: 1, or 4 for memory (this project)
 abbrev pub archive_status : ArchiveFault → ℕ
 archive_status (archives.Truncated at) = 1
 archive_status (archives.LoneZeroBlock at) = 1
@@ -78,7 +78,7 @@ archive_status (archives.Records at) = 1
 archive_status (archives.Unsupported at) = 1
 archive_status archives.NoMemory = 4
 
--- the status that the program ends with where an archive isn't imported: 1, or 4 for memory (this project)
+-- the exit status if an archive can't be imported: 1, or 4 for memory (this project)
 abbrev pub import_status : ImportFault → ℕ
 import_status (faults.Unsound rule) = 1
 import_status (faults.Archive fault) = archive_status fault
@@ -86,7 +86,7 @@ import_status (faults.Member path cause) = 1
 import_status (faults.Refused refusal call) = refusal_status refusal
 import_status faults.NoMemory = 4
 
--- the line on standard error where an archive isn't imported (this project)
+-- the line on standard error if an archive can't be imported (this project)
 abbrev pub import_line : ImportFault → List ℕ
 import_line (faults.Unsound rule) = line_of_rule rule
 import_line (faults.Archive fault) = archive_line fault

@@ -15,7 +15,7 @@ use Rattle.vol_import.specs.declared.planning.PlanFault.{PlanFault}
 use Rattle.vol_import.specs.declared.planning.PlanFault.TheVariants as plans
 use Rattle.command_changes.specs.declared.put.NewFile.{NewFile}
 
--- the call that makes a file empty: a create with permissions 0644 where a question for it answers that it is missing, else a truncate (this project)
+-- the call that empties a file: a create with permissions 0644 if Stat finds no entry, else a truncate (this project)
 abbrev pub emptying_by : Result Reply Refusal → ℕ → List ℕ → Call
 emptying_by (Err refusals.NoEntry) now path = calls.Create user now path 0o644
 emptying_by _ now path = calls.Truncate user now path 0
@@ -25,21 +25,21 @@ abbrev pub put_calls : Tree → ℕ → List ℕ → List ℕ → List Call
 put_calls tree now path bytes =
     emptying_by (answer tree (queries.Stat user path)) now path ∷ calls.Write user now path 0 bytes ∷ []
 
--- the calls of a file that is put into a directory: those of `put` at its name in it (cp)
+-- the calls for a file that is put into a directory: those of `put` at its name there (cp)
 abbrev pub file_calls : Tree → ℕ → List ℕ → NewFile → List Call
 file_calls tree now directory file = put_calls tree now (below directory file.name.now) file.bytes.items
 
--- some calls, and then those of a file; none where its name is above 14 bytes (manual section 5, dir)
+-- some calls followed by those for a file, unless its name is above 14 bytes (manual section 5, dir)
 abbrev pub onto : Tree → ℕ → List ℕ → List Call → NewFile → Result (List Call) PlanFault
 onto tree now directory calls file =
     if nat_lt 14 (length file.name.now) then Err (plans.Member file.name.now members.LongName) else Ok (calls ++ file_calls tree now directory file)
 
--- some calls, and then those of files, each file's in turn (this project)
+-- some calls followed by those for files, file by file (this project)
 unfoldable pub put_onto : Tree → ℕ → List ℕ → List Call → List NewFile → Result (List Call) PlanFault
 put_onto tree now directory calls [] = Ok calls
 put_onto tree now directory calls (file ∷ files) =
     and_next (onto tree now directory calls file) (λ calls. put_onto tree now directory calls files)
 
--- the calls that put files into a directory, settled on the tree as it stands; or the first name that is too long (cp)
+-- the calls that put files into a directory, decided on the unchanged tree; or the first name that is too long (cp)
 abbrev pub calls_to_put : Tree → ℕ → List ℕ → List NewFile → Result (List Call) PlanFault
 calls_to_put tree now directory files = put_onto tree now directory [] files

@@ -1,4 +1,4 @@
--- What taking away what a path leads to comes to.
+-- The result of removing a file or directory.
 use Rattle.std.specs.Prelude.{◌≡◌, ℕ, List}
 use Rattle.vol_removal.specs.Removing.{Removes, IsReason}
 use Rattle.vol_layout.specs.declared.edition.Edition.{Edition}
@@ -9,19 +9,19 @@ use Rattle.command_faults.specs.declared.answer.Answer.{Answer}
 use Rattle.command_faults.specs.declared.fault.Fault.{Fault}
 use Rattle.command_faults.specs.declared.fault.Fault.TheVariants as faults
 
--- the fault of a command where nothing is taken away for this reason (this project)
+-- the fault of a command that can't remove anything for this reason (this project)
 abbrev pub fault_of : RemovalFault → Fault
 fault_of (removals.Unsound rule) = faults.Unsound rule
 fault_of (removals.Missing refusal) = faults.Refused refusal
 fault_of (removals.Refused refusal call) = faults.Refused refusal
 fault_of removals.NoMemory = no_memory
 
--- the fault of a command that takes away what a path leads to, by a reason not to do so (this project)
+-- the fault of a command that removes a file or directory, by a reason not to (this project)
 pub record IsCause (edition : Edition) (image path : List ℕ) (now : ℕ) (fault : Fault) : Type 0 where
   pub why : RemovalFault
   pub is : fault ≡ fault_of why
   pub reason : IsReason edition image path now why
 
--- what the command comes to: bytes to be saved, status 0 and no line, or the status and the line of a reason (rm)
+-- the result of the command: bytes to save, status 0 and no line, or the status and the line of a reason (rm)
 abbrev pub RemovesTree : Edition → List ℕ → List ℕ → ℕ → (List ℕ → Type 0) → Answer → Type 0
 RemovesTree edition image path now said answer = Concludes (Removes edition image path now) (IsCause edition image path now) said answer

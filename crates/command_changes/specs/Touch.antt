@@ -10,12 +10,12 @@ use Rattle.command_changes.specs.Finding.{found_by}
 use Rattle.command_changes.specs.declared.finding.Found.{Found}
 use Rattle.command_changes.specs.declared.finding.Found.TheVariants.{Directory, File, Nothing}
 
--- the call for a path that leads to this: a file or a directory gets the moment as both of its times, and what is missing is made, an empty file with permissions 0644 (touch)
+-- the call for a path that leads to this: a file or directory gets the moment as both its times; if the path leads nowhere, an empty file is made, with permissions 0644 (touch)
 abbrev pub touch_found : ℕ → List ℕ → Found → Call
 touch_found now path Nothing = calls.Create user now path 0o644
 touch_found now path Directory = calls.Times user now path now now
 touch_found now path File = calls.Times user now path now now
 
--- the call of `touch`, settled on the tree as it stands (touch)
+-- the call of `touch`, decided on the unchanged tree (touch)
 abbrev pub touch_call : Tree → ℕ → List ℕ → Call
 touch_call tree now path = touch_found now path (found_by (answer tree (queries.Stat user path)))

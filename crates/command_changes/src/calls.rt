@@ -1,4 +1,4 @@
-//! Making calls on a volume: one, or several, all or nothing.
+//! Makes one call on a volume, or several, all or nothing.
 ghost use Rattle.std.specs.Prelude.{◌≡◌, ◌++◌, ◌∷◌, [], IfErr, IfOk, OnOk};
 ghost use Rattle.vol_dir.specs.declared.refusal.Refusal.{Refusal};
 ghost use Rattle.vol_judge.specs.Sound.{IsSound};
@@ -16,9 +16,9 @@ use vol_import::make_all;
 use vol_layout::Edition;
 use vol_volume::{Call, Volume};
 
-/// Makes one call on the volume in some bytes, if there was memory for its words.
+/// Makes one call on the volume in an image; fails if memory for its words ran out.
 ///
-/// Takes memory for what [`Volume::mount`] and [`Volume::call`] take.
+/// Takes the memory of [`Volume::mount`] and [`Volume::call`].
 pub(crate) fn make(
     alloc: Global,
     edition: Edition,
@@ -31,7 +31,7 @@ pub(crate) fn make(
     conclude(change(alloc, edition, image, call))
 }
 
-/// Makes one call on the volume in some bytes, where the memory for its words was there.
+/// Makes one call on the volume in an image; fails if memory for its words ran out.
 fn change(
     alloc: Global,
     edition: Edition,
@@ -59,7 +59,7 @@ pub(crate) fn make_call(alloc: Global, volume: &mut Volume, call: Call) -> Resul
     Ok(())
 }
 
-/// Makes calls on a sound volume, each in turn, up to the first that is refused.
+/// Makes calls on a sound volume, one after another, up to the first that is refused.
 pub(crate) fn make_calls(alloc: Global, volume: &mut Volume, calls: Vec<Call>) -> Result<(), Fault>
     requires sound { IsSound volume.old.edition volume.old.image }
     ensures made { OnOk result (Makes volume.old.edition volume.old.image calls.items volume.new.image) }

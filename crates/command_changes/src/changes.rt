@@ -1,7 +1,7 @@
-//! What is done to a volume.
+//! The changes of a volume.
 
-/// What is done to a volume: all of it, or nothing. Paths lead on from the root, with `/` between their names; `now` is the moment of
-/// the calls, in seconds since the beginning of 1970.
+/// A change of a volume, made whole or not at all. Paths start at the root and have `/` between their names; `now` is the
+/// time of the calls, in seconds since the beginning of 1970.
 #[derive(Clone, Copy, Debug, PartialEq, Eq)]
 pub enum Change<'a> {
     /// Put the bytes of the file `file`, which is outside the volume, into the file `path` of the volume.
@@ -10,7 +10,7 @@ pub enum Change<'a> {
         file: &'a str,
         now: u32,
     },
-    /// Make the members of an archive below a path.
+    /// Add the members of an archive below a path.
     Import {
         path: &'a str,
         now: u32,
@@ -20,7 +20,7 @@ pub enum Change<'a> {
         path: &'a str,
         now: u32,
     },
-    /// Remove what a path leads to, and of a directory all that is below it.
+    /// Remove the file or directory at a path, with all that is below it.
     RmAll {
         path: &'a str,
         now: u32,
@@ -35,7 +35,7 @@ pub enum Change<'a> {
         path: &'a str,
         now: u32,
     },
-    /// Make a directory, and those on the way to it.
+    /// Make a directory, and the missing ones on the way to it.
     MkdirAll {
         path: &'a str,
         now: u32,
@@ -52,7 +52,7 @@ pub enum Change<'a> {
         to: &'a str,
         now: u32,
     },
-    /// Give a file or directory other permissions, of which the bits under octal 7777 count.
+    /// Give a file or directory other permissions, the low 12 bits of `perm`.
     Chmod {
         path: &'a str,
         perm: u16,
@@ -70,6 +70,6 @@ pub enum Change<'a> {
         path: &'a str,
         now: u32,
     },
-    /// Make the free list anew, where it alone is wrong.
+    /// Rebuild the free list if nothing else is wrong.
     Salvage,
 }

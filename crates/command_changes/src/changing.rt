@@ -1,4 +1,4 @@
-//! Changes a volume as the command line asks.
+//! Makes the change that the command line requests.
 ghost use Rattle.std.specs.Prelude.{Bool, List, Option, ℕ};
 ghost use Rattle.command_faults.specs.Streams.{heard, still, streams, ErrorStream, Hears};
 ghost use Rattle.command_changes.specs.Changes.{Changes};
@@ -23,7 +23,7 @@ use std::alloc::Global;
 use vol_dir::Cred;
 use vol_layout::Edition;
 
-/// Makes a change as [`perform`] does, and writes the line of its fault to `errors`. Nothing goes to `_output`.
+/// Makes a change as [`perform`] does, and writes the line of a fault to `errors`. Writes nothing to `_output`.
 pub fn do_change<O: Sink, E: Sink>(
     alloc: Global,
     edition: Edition,
@@ -40,11 +40,11 @@ pub fn do_change<O: Sink, E: Sink>(
     answer
 }
 
-/// Makes a change of the volume in some bytes, by calls as user 0; `given` has the bytes of the file that is put, or of the archive that
-/// is imported. The answer has the bytes to be saved and status 0 if all calls were made; else no bytes, and status 1, or 4 if
-/// memory ran out.
+/// Makes a change of the volume in an image, with calls as user 0; `given` has the bytes of the file to put, or of the
+/// archive to import. The answer has the bytes to save and status 0 if all calls were made; otherwise no bytes, and status
+/// 1, or 4 if memory ran out.
 ///
-/// Takes memory to mount the image and for the calls, and costs what they do. It takes no right to wait.
+/// Takes memory to mount the image and for the calls, and costs what they do. Takes no right to wait.
 pub fn perform(
     alloc: Global,
     edition: Edition,

@@ -1,4 +1,4 @@
-//! `chmod`: changes the permissions of a file or directory.
+//! `chmod` changes the permissions of a file or directory.
 ghost use Rattle.std.specs.Prelude.{◌≡◌, IfOk};
 ghost use Rattle.vol_dir.specs.Access.{user};
 ghost use Rattle.vol_volume.specs.declared.calls.Call.TheVariants as asked;
@@ -7,7 +7,7 @@ use std::alloc::{AllocError, Global};
 use vol_dir::Cred;
 use vol_volume::{Bytes, Call};
 
-/// The call of `chmod`.
+/// Returns the call of `chmod`.
 pub(crate) fn chmod_call(alloc: Global, path: &str, perm: u16, now: u32) -> Result<Call, AllocError>
     ensures { IfOk result (λ call. call ≡ asked.Chmod user now path.now perm) }
 {

@@ -1,4 +1,4 @@
-//! `chown`: changes the owner of a file or directory.
+//! `chown` changes the owner of a file or directory.
 ghost use Rattle.std.specs.Prelude.{◌≡◌, IfOk};
 ghost use Rattle.vol_dir.specs.Access.{user};
 ghost use Rattle.vol_volume.specs.declared.calls.Call.TheVariants as asked;
@@ -7,7 +7,7 @@ use std::alloc::{AllocError, Global};
 use vol_dir::Cred;
 use vol_volume::{Bytes, Call};
 
-/// The call of `chown`.
+/// Returns the call of `chown`.
 pub(crate) fn chown_call(
     alloc: Global,
     path: &str,

@@ -1,4 +1,4 @@
-//! What paths lead to, their last names, and names in directories.
+//! The kinds of nodes that paths lead to, the last names of paths, and names in directories.
 ghost use Rattle.std.specs.Prelude.{◌≡◌, IfOk};
 ghost use Rattle.vol_volume.specs.Answer.{answer};
 ghost use Rattle.vol_volume.specs.Volume.{reads_as};
@@ -12,18 +12,18 @@ use vol_dir::{Cred, split_component};
 use vol_layout::Kind;
 use vol_volume::{Bytes, Query, Reply, Volume};
 
-/// What a path leads to.
+/// The kind of node that a path leads to, if any.
 #[derive(Clone, Copy, Debug, PartialEq, Eq)]
 pub enum Found {
     /// A directory.
     Directory,
-    /// A file, which may be a special one.
+    /// A file, perhaps a special one.
     File,
-    /// Nothing.
+    /// No node.
     Nothing,
 }
 
-/// What a path of a volume leads to. Costs a walk.
+/// Returns the kind of node that a path of a volume leads to. Costs a walk.
 pub(crate) fn find(alloc: Global, volume: &Volume, path: &[u8]) -> Result<Found, AllocError>
     ensures { IfOk result (λ found. found ≡ found_by (answer (reads_as volume.now.edition volume.now.image).tree (questions.Stat user path.now))) }
 {
@@ -38,7 +38,7 @@ pub(crate) fn find(alloc: Global, volume: &Volume, path: &[u8]) -> Result<Found,
     }
 }
 
-/// What a node of some kind is.
+/// Returns directory or file, by the kind of a node.
 fn found_kind(kind: Kind) -> Found
     ensures { result ≡ found_kind kind }
 {
@@ -48,7 +48,7 @@ fn found_kind(kind: Kind) -> Found
     }
 }
 
-/// The last name of a path, cut to 14 bytes; none of a path without names.
+/// Returns the last name of a path, cut to 14 bytes; empty for a path without names.
 #[tactic(auto, unfolding(crate::specs::Finding::last_name))]
 pub(crate) fn last_name(path: &[u8]) -> &[u8]
     ensures { result.now ≡ last_name path.now }
@@ -62,7 +62,7 @@ pub(crate) fn last_name(path: &[u8]) -> &[u8]
     last
 }
 
-/// The path of a name in a directory.
+/// Returns the path of a name in a directory.
 pub(crate) fn name_in(alloc: Global, directory: &[u8], name: &[u8]) -> Result<Bytes, AllocError>
     ensures { IfOk result (λ path. path ≡ below directory.now name.now) }
 {

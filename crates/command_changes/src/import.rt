@@ -1,4 +1,4 @@
-//! `import`: makes the members of an archive.
+//! `import` adds the members of an archive.
 ghost use Rattle.std.specs.Prelude.{◌≡◌, IfErr, IfOk, None, Some};
 ghost use Rattle.vol_volume.specs.Volume.{reads_as};
 ghost use Rattle.vol_import.specs.Making.{calls_to_make};
@@ -14,11 +14,11 @@ use std::alloc::Global;
 use vol_import::{ImportFault, import};
 use vol_layout::Edition;
 
-/// Makes the members of an archive below a path of a volume, all or none. Nothing is to be saved where the image isn't sound, the
-/// archive can't be read, a member can't be made, or a call is refused: the fault tells the first of these that comes, with the rule,
-/// the byte of the archive, or the path, whose bytes are escaped that a terminal can't show.
+/// Adds the members of an archive below a path of a volume, all or none. Nothing is saved if the image isn't sound, the
+/// archive can't be read, a member can't be made, or a call is refused. The fault reports the first of these, with the rule,
+/// the byte of the archive, or the path, with unprintable bytes escaped.
 ///
-/// Takes memory as [`vol_import::import`] does, and for the line.
+/// Takes the memory of [`vol_import::import`], and for the line.
 pub(crate) fn import_archive(
     alloc: Global,
     edition: Edition,
@@ -34,7 +34,7 @@ pub(crate) fn import_archive(
     conclude(alloc, outcome)
 }
 
-/// The answer where all members were made, whose bytes are to be saved, or where there was a fault.
+/// Returns the result of an import: the bytes to save if all members were made, or the fault.
 pub(crate) fn conclude(alloc: Global, outcome: Result<Vec<u8>, ImportFault>) -> Answer
     ensures made { IfOk outcome (λ bytes. (result.image ≡ Some bytes) × (result.status ≡ 0) × (result.fault ≡ None)) }
     ensures fault { IfErr outcome (λ fault. (result.image ≡ None)

@@ -1,4 +1,4 @@
-//! What is told of an archive that isn't imported.
+//! Messages for archives that can't be imported.
 ghost use Rattle.std.specs.Prelude.{◌≡◌, IfOk};
 ghost use Rattle.command_faults.specs.Faults.{fault_line, fault_status};
 ghost use Rattle.command_changes.specs.Import.{TellsFault};
@@ -13,7 +13,8 @@ use vol_dir::Refusal;
 use vol_import::{ArchiveFault, ImportFault, MemberFault};
 use vol_volume::{Bytes, Call};
 
-/// The fault of a command that doesn't import an archive for this reason; memory that ran out, if there is none for its line.
+/// Returns the fault of a command that can't import an archive for this reason, or out of memory if there is none for its
+/// line.
 pub(crate) fn fault_of(alloc: Global, why: &ImportFault) -> Fault
     ensures { TellsFault why.now (λ line. fault_line result ≡ line) (fault_status result) }
 {
@@ -23,7 +24,7 @@ pub(crate) fn fault_of(alloc: Global, why: &ImportFault) -> Fault
     }
 }
 
-/// The fault of a command that doesn't import an archive for this reason.
+/// Returns the fault of a command that can't import an archive for this reason.
 fn worded(alloc: Global, why: &ImportFault) -> Result<Fault, AllocError>
     ensures status { IfOk result (λ fault. fault_status fault ≡ import_status why.now) }
     ensures line { IfOk result (λ fault. fault_line fault ≡ import_line why.now) }
@@ -41,7 +42,7 @@ fn worded(alloc: Global, why: &ImportFault) -> Result<Fault, AllocError>
     }
 }
 
-/// The fault of an archive that can't be read.
+/// Returns the fault for an archive that can't be read.
 fn unread(alloc: Global, fault: ArchiveFault) -> Result<Fault, AllocError>
     ensures status { IfOk result (λ unread. fault_status unread ≡ archive_status fault) }
     ensures line { IfOk result (λ unread. fault_line unread ≡ archive_line fault) }
@@ -59,7 +60,7 @@ fn unread(alloc: Global, fault: ArchiveFault) -> Result<Fault, AllocError>
     Ok(Fault::Worded { rule: None, lines })
 }
 
-/// What is wrong with a block that is no header.
+/// Returns the reason why a block isn't a header.
 fn header_text(fault: HeaderFault) -> &'static [u8]
     ensures { result.now ≡ header_text fault }
 {
@@ -70,7 +71,7 @@ fn header_text(fault: HeaderFault) -> &'static [u8]
     }
 }
 
-/// The line of what is wrong at a byte of an archive.
+/// Returns the message for a byte of an archive.
 fn line_at(alloc: Global, at: usize, text: &[u8]) -> Result<Vec<u8>, AllocError>
     ensures { IfOk result (λ line. line.items ≡ line_at at text.now) }
 {
@@ -81,7 +82,7 @@ fn line_at(alloc: Global, at: usize, text: &[u8]) -> Result<Vec<u8>, AllocError>
     Ok(line)
 }
 
-/// The fault of a member that no calls make.
+/// Returns the fault for a member that can't be made.
 fn unmade(alloc: Global, path: &[u8], cause: MemberFault) -> Result<Fault, AllocError>
     ensures status { IfOk result (λ fault. fault_status fault ≡ 1) }
     ensures line { IfOk result (λ fault. fault_line fault ≡ member_line path.now cause) }
@@ -108,7 +109,7 @@ fn unmade(alloc: Global, path: &[u8], cause: MemberFault) -> Result<Fault, Alloc
     }
 }
 
-/// The fault of a member with what is wrong with it.
+/// Returns the fault for a member, with a text.
 fn in_words(alloc: Global, path: &[u8], text: &[u8]) -> Result<Fault, AllocError>
     ensures status { IfOk result (λ fault. fault_status fault ≡ 1) }
     ensures line { IfOk result (λ fault. fault_line fault ≡ worded_line path.now text.now) }
@@ -117,7 +118,7 @@ fn in_words(alloc: Global, path: &[u8], text: &[u8]) -> Result<Fault, AllocError
     Ok(Fault::Worded { rule: None, lines })
 }
 
-/// The line of a member with what is wrong with it.
+/// Returns the message for a member, with a text.
 fn worded_line(alloc: Global, path: &[u8], text: &[u8]) -> Result<Vec<u8>, AllocError>
     ensures { IfOk result (λ line. line.items ≡ worded_line path.now text.now) }
 {
@@ -129,7 +130,7 @@ fn worded_line(alloc: Global, path: &[u8], text: &[u8]) -> Result<Vec<u8>, Alloc
     Ok(line)
 }
 
-/// The path of what a call makes or changes.
+/// Returns the path that a call makes or changes.
 fn path_of(call: &Call) -> &Bytes
     ensures { result.now ≡ path_of call.now }
 {

@@ -1,4 +1,4 @@
-//! Commands that save: what each makes of a volume, its status, its fault, and the bytes that are to be saved.
+//! Commands that save a volume: its changes, the exit status, the fault, and the bytes to save.
 #![tactic(auto)]
 
 mod calls;

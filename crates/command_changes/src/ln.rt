@@ -1,4 +1,4 @@
-//! `ln`: gives a file a further name.
+//! `ln` gives a file a further name.
 ghost use Rattle.std.specs.Prelude.{◌≡◌, IfOk};
 ghost use Rattle.vol_dir.specs.Access.{user};
 ghost use Rattle.vol_volume.specs.declared.calls.Call.TheVariants as asked;
@@ -7,7 +7,7 @@ use std::alloc::{AllocError, Global};
 use vol_dir::Cred;
 use vol_volume::{Bytes, Call};
 
-/// The call of `ln`.
+/// Returns the call of `ln`.
 pub(crate) fn link_call(alloc: Global, from: &str, to: &str, now: u32) -> Result<Call, AllocError>
     ensures { IfOk result (λ call. call ≡ asked.Link user now from.now to.now) }
 {

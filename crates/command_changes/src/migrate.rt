@@ -1,5 +1,4 @@
-//! `migrate`: makes a volume of the seventh edition out of the one of the sixth in some bytes, and answers the bytes
-//! that are to be saved.
+//! `migrate` turns the volume in an image of the sixth edition into one of the seventh, and returns the bytes to save.
 ghost use Rattle.std.specs.Prelude.{◌≡◌, IfOk, IfErr};
 ghost use Rattle.std.specs.Io.KnownBytes.{Keeps};
 ghost use Rattle.command_faults.specs.Streams.{heard, says, ErrorStream, Hears};
@@ -14,18 +13,18 @@ use vol_layout::Edition;
 use vol_migrate::{MigrateFault, migrate};
 use vol_volume::Volume;
 
-/// What the volume is to be that `migrate` makes.
+/// The sizes and the time of the volume that `migrate` makes.
 #[derive(Clone, Copy, Debug, PartialEq, Eq)]
 pub struct Migration {
-    /// How many blocks of 512 bytes it has.
+    /// The number of its blocks, of 512 bytes.
     pub blocks: u32,
-    /// How many of them its i-list has.
+    /// The number of blocks in its i-list.
     pub list_blocks: u16,
     /// The time of its super-block and of its i-nodes' last change, in seconds since the beginning of 1970.
     pub now: u32,
 }
 
-/// Migrates a volume as [`migrate_image`] does, and writes the line of its fault to `errors`. Nothing goes to `_output`.
+/// Migrates a volume as [`migrate_image`] does, and writes the line of a fault to `errors`. Writes nothing to `_output`.
 pub fn migrate_command<O: Sink, E: Sink>(
     alloc: Global,
     image: Vec<u8>,
@@ -42,18 +41,18 @@ pub fn migrate_command<O: Sink, E: Sink>(
     answer
 }
 
-/// `migrate`: makes a volume of the seventh edition that has the files of one of the sixth. There is one to be saved
-/// exactly if the status is 0. Else there is a fault: the least rule that the image breaks, or what
-/// [`migrate`] refuses of a sound one, with status 1; or memory that ran out, with status 4.
+/// Makes a volume of the seventh edition with the files of one of the sixth, for `migrate`. There is a volume to save
+/// exactly if the status is 0. Otherwise there is a fault: the first rule that the image breaks, or the refusal of
+/// [`migrate`] for a sound one, with status 1; or out of memory, with status 4.
 ///
-/// Takes memory for what [`Volume::mount`] and [`migrate`] take.
+/// Takes the memory of [`Volume::mount`] and [`migrate`].
 pub fn migrate_image(alloc: Global, image: Vec<u8>, migration: Migration) -> Answer
     ensures { (errors : ErrorStream) → Hears errors result.fault → MigratesVolume image.items migration (says errors) result }
 {
     conclude(migrated(alloc, image, migration))
 }
 
-/// The bytes of a migrated volume.
+/// Returns the bytes of a migrated volume.
 fn migrated(alloc: Global, image: Vec<u8>, migration: Migration) -> Result<Vec<u8>, Fault>
     ensures migrated { IfOk result (λ bytes. Migrates image.items migration bytes.items) }
     ensures fault { IfErr result (IsObstacle image.items migration) }
@@ -69,7 +68,7 @@ fn migrated(alloc: Global, image: Vec<u8>, migration: Migration) -> Result<Vec<u
     }
 }
 
-/// The fault of `migrate` that makes no volume for this reason.
+/// Returns the fault of a `migrate` that can't make a volume for this reason.
 fn unmigrated(fault: MigrateFault) -> Fault
     ensures { result ≡ unmigrated fault }
 {

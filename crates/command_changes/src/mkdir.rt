@@ -1,4 +1,4 @@
-//! `mkdir`: makes a directory; `mkdir -p`: makes it, and those on the way to it.
+//! `mkdir` makes a directory; `mkdir -p` also makes the missing ones on the way to it.
 ghost use Rattle.std.specs.Prelude.{◌≡◌, ◌<◌, ◌++◌, ◌∷◌, [], IfOk, IfErr, OnOk, length};
 ghost use Rattle.vol_volume.specs.Volume.{reads_as};
 ghost use Rattle.command_faults.specs.Changing.{Makes, IsReason, ChangesVolume};
@@ -15,10 +15,10 @@ use vol_dir::{Cred, is_dots};
 use vol_layout::Edition;
 use vol_volume::{Bytes, Call, Volume};
 
-/// Permissions of a new directory.
+/// The permissions of a new directory.
 const PERMISSIONS: u16 = 0o755;
 
-/// The call of `mkdir`.
+/// Returns the call of `mkdir`.
 pub(crate) fn mkdir_call(alloc: Global, path: &[u8], now: u32) -> Result<Call, AllocError>
     ensures { IfOk result (λ call. call ≡ mkdir_call now path.now) }
 {
@@ -30,8 +30,9 @@ pub(crate) fn mkdir_call(alloc: Global, path: &[u8], now: u32) -> Result<Call, A
     })
 }
 
-/// `mkdir -p`: makes a directory with permissions 0755, and each on the way to it that is missing. Where it is there, no call is
-/// made, and the same bytes are to be saved. A file in its place is refused as Exists, and one on the way to it as NotDirectory.
+/// Makes a directory with permissions 0755, and each missing one on the way to it, for `mkdir -p`. If the directory exists,
+/// no call is made, and the same bytes are saved. A file at the path is refused as `Exists`, and one on the way to it as
+/// `NotDirectory`.
 ///
 /// Takes memory for a copy of the path for each of its names, and walks the path up to each.
 pub(crate) fn mkdir_all(
@@ -64,7 +65,7 @@ fn make_directories(
     Ok(volume.unmount())
 }
 
-/// The calls of `mkdir -p`.
+/// Returns the calls of `mkdir -p`.
 fn mkdir_all_calls(
     alloc: Global,
     volume: &Volume,
@@ -82,7 +83,7 @@ fn mkdir_all_calls(
     Ok(calls)
 }
 
-/// Appends the calls that make the missing directories of a path, each name's in turn.
+/// Appends the calls that make the missing directories of a path, in the order of its names.
 fn push_missing(
     alloc: Global,
     volume: &Volume,
@@ -98,8 +99,8 @@ fn push_missing(
     Ok(())
 }
 
-/// Appends the call that makes the directory whose name ends at a byte of a path: none where no name ends there, where it is `.` or
-/// `..`, which every directory has, or where the path up to it leads to something.
+/// Appends the call that makes the directory whose name ends at byte `k` of a path. Appends none if no name ends there, if
+/// the name is `.` or `..`, which every directory has, or if the path up to it exists.
 fn push_at(
     alloc: Global,
     volume: &Volume,
@@ -121,7 +122,7 @@ fn push_at(
     }
 }
 
-/// Whether a name ends at a byte of a path: it is no slash, and the next, if there is one, is.
+/// True if a name ends at byte `k` of a path: it isn't a slash, and the next byte, if any, is one.
 fn ends_name(path: &[u8], k: usize) -> bool
     requires { k < length path.now }
     ensures { result ≡ ends_name path.now k }

@@ -1,4 +1,4 @@
-//! `mkfs`: makes a new volume, and answers it, to be saved.
+//! `mkfs` makes a new volume, and returns it to be saved.
 ghost use Rattle.std.specs.Prelude.{◌≡◌, ◌≢◌, ◌↔◌, ◌⊎◌, false, true, IsSome, IfSome, None};
 ghost use Rattle.std.specs.Io.KnownBytes.{Keeps};
 ghost use Rattle.vol_mkfs.specs.Blank.{blank_of};
@@ -16,18 +16,18 @@ use std::alloc::Global;
 use vol_dir::Refusal;
 use vol_mkfs::{BlankVolume, MkfsFault, NewVolume};
 
-/// What `mkfs` comes to.
+/// The result of `mkfs`.
 #[derive(Drop)]
 pub struct Made {
-    /// The status that the program ends with, if the volume is saved.
+    /// The exit status, if the volume can be saved.
     pub status: u8,
-    /// The volume that is to be saved, if one is.
+    /// The volume to save, if it was made.
     pub volume: Option<BlankVolume>,
-    /// Why none is, if so.
+    /// The fault, if it wasn't.
     pub fault: Option<Fault>,
 }
 
-/// Makes a volume as [`make_volume`] does, and writes the line of its fault to `errors`. Nothing goes to `_output`.
+/// Makes a volume as [`make_volume`] does, and writes the line of a fault to `errors`. Writes nothing to `_output`.
 pub fn mkfs_command<O: Sink, E: Sink>(
     alloc: Global,
     volume: NewVolume,
@@ -49,10 +49,10 @@ pub fn mkfs_command<O: Sink, E: Sink>(
     made
 }
 
-/// Makes a volume. There is one to be saved exactly if the status is 0. Else there is a fault: the sizes aren't a volume's or
-/// the root's numbers are too high, with status 1, or memory ran out, with status 4.
+/// Makes a volume. There is one to save exactly if the status is 0. Otherwise there is a fault: the sizes can't be a
+/// volume's or the root's user or group is too high, with status 1, or memory ran out, with status 4.
 ///
-/// Takes memory for four blocks: the volume's bytes are made as they are saved.
+/// Takes memory for four blocks: the volume's bytes are made while they are saved.
 pub fn make_volume(alloc: Global, volume: NewVolume) -> Made
     ensures made { IfSome result.volume (λ blank. blank ≡ blank_of volume) }
     ensures done { result.status ≡ 0 ↔ IsSome result.volume }
@@ -71,7 +71,7 @@ pub fn make_volume(alloc: Global, volume: NewVolume) -> Made
     }
 }
 
-/// What `mkfs` comes to where no volume is made.
+/// Returns the result of a `mkfs` that made no volume.
 fn refuse(fault: MkfsFault) -> Made
     ensures unsaved { result.volume ≡ None }
     ensures status { result.status ≡ fault_status (unmade fault) }
@@ -85,7 +85,7 @@ fn refuse(fault: MkfsFault) -> Made
     }
 }
 
-/// The fault of `mkfs` that makes no volume for this reason.
+/// Returns the fault of a `mkfs` that can't make a volume for this reason.
 fn unmade(fault: MkfsFault) -> Fault
     ensures { result ≡ unmade fault }
 {

@@ -1,4 +1,4 @@
-//! `mv`: gives a file another name.
+//! `mv` gives a file another name.
 ghost use Rattle.std.specs.Prelude.{◌≡◌, IfOk, IfErr};
 ghost use Rattle.vol_volume.specs.Answer.{answer};
 ghost use Rattle.vol_volume.specs.Volume.{reads_as};
@@ -19,9 +19,9 @@ use vol_dir::Cred;
 use vol_layout::Edition;
 use vol_volume::{Bytes, Call, Volume};
 
-/// `mv`: gives a file a further name, and takes away the one that it had. Where `to` is a directory, the new name is the last of
-/// `from` in it. A directory isn't moved, which is refused as IsDirectory; and a name that is there, also one of the same file, is
-/// refused as Exists.
+/// Gives a file a further name, and removes the one that it had, for `mv`. If `to` is a directory, the new name is the last
+/// of `from` in it. A directory isn't moved, but refused as `IsDirectory`; a name that exists, even one of the same file, is
+/// refused as `Exists`.
 pub(crate) fn mv(
     alloc: Global,
     edition: Edition,
@@ -54,7 +54,7 @@ fn move_file(
     Ok(volume.unmount())
 }
 
-/// The calls of `mv`.
+/// Returns the calls of `mv`.
 fn move_calls(
     alloc: Global,
     volume: &Volume,
@@ -81,7 +81,7 @@ fn move_calls(
     Ok(calls)
 }
 
-/// The path of the new name of a file.
+/// Returns the path of a file's new name.
 fn target_of(alloc: Global, volume: &Volume, from: &[u8], to: &[u8]) -> Result<Bytes, AllocError>
     ensures { IfOk result (λ target. target ≡ target_of (found_by (answer (reads_as volume.now.edition volume.now.image).tree (questions.Stat user to.now))) from.now to.now) }
 {

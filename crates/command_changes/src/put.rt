@@ -1,4 +1,4 @@
-//! `put`: puts a file into a volume; `put -t`: puts several files into a directory.
+//! `put` puts a file into a volume; `put -t` puts several files into a directory.
 ghost use Rattle.std.specs.Prelude.{◌≡◌, ◌≢◌, ◌++◌, [], IfOk, IfErr, MatchBool, OnOk, Ok};
 ghost use Rattle.std.specs.Io.KnownBytes.{Keeps};
 ghost use Rattle.vol_dir.specs.Access.{user};
@@ -30,10 +30,10 @@ use vol_layout::Edition;
 use vol_layout::slot::NAME;
 use vol_volume::{Bytes, Call, Query, Volume};
 
-/// Permissions of a new file.
+/// The permissions of a new file.
 pub(crate) const FILE_PERMISSIONS: u16 = 0o644;
 
-/// A file that is put into a directory of a volume.
+/// A file to put into a directory of a volume.
 #[derive(Debug, Drop)]
 pub struct NewFile<'a> {
     /// Its name there, at most 14 bytes.
@@ -42,11 +42,11 @@ pub struct NewFile<'a> {
     pub bytes: Vec<u8>,
 }
 
-/// `put`: makes a file empty, or makes an empty one, and writes bytes into it: all that `file` has. Nothing is
-/// to be saved unless both calls are accepted.
+/// Empties a file, or makes an empty one, and writes the bytes of `file` into it, for `put`. Nothing is saved unless both
+/// calls are accepted.
 ///
-/// Takes memory for what [`Volume::mount`] takes, and for two copies of the path, which the journal keeps; the
-/// file's bytes are in memory once. Walks the path once a call, and if it is missing once more before them.
+/// Takes the memory of [`Volume::mount`], and for two copies of the path, which the journal keeps; the file's bytes are in
+/// memory once. Walks the path once per call, and once more first if the file is missing.
 pub(crate) fn put(
     alloc: Global,
     edition: Edition,
@@ -106,7 +106,7 @@ fn fill(
     make_call(alloc, volume, write)
 }
 
-/// Makes a file empty, or makes an empty one where it is missing, which the refusal of the first call tells.
+/// Empties a file, or makes an empty one if the refusal of the first call says that it is missing.
 fn empty(alloc: Global, volume: &mut Volume, path: Bytes, now: u32) -> Result<(), Fault>
     ensures accepted { OnOk result ((done : Done) × Accepts volume.old volume.new
         (emptying_by (answer (reads_as volume.old.edition volume.old.image).tree (questions.Stat user path)) now path) done) }
@@ -128,7 +128,7 @@ fn empty(alloc: Global, volume: &mut Volume, path: Bytes, now: u32) -> Result<()
     if !is_missing(refusal) {
         return Err(Fault::Refused(refusal));
     }
-    // The call came back with its path.
+    // The call was handed back with its path.
     let Call::Truncate { path, .. } = call else {
         unreachable!();
     };
@@ -141,7 +141,7 @@ fn empty(alloc: Global, volume: &mut Volume, path: Bytes, now: u32) -> Result<()
     make_call(alloc, volume, create)
 }
 
-/// Whether a refusal tells that a directory on the way hasn't the name.
+/// True if a refusal means that a name is missing.
 fn is_missing(refusal: Refusal) -> bool
     ensures { MatchBool result (refusal ≡ Refusal.NoEntry) (refusal ≢ Refusal.NoEntry) }
 {
@@ -151,7 +151,7 @@ fn is_missing(refusal: Refusal) -> bool
     }
 }
 
-/// Puts files as [`put_files`] does, and writes the line of its fault to `errors`. Nothing goes to `_output`.
+/// Puts files as [`put_files`] does, and writes the line of a fault to `errors`. Writes nothing to `_output`.
 pub fn put_all<O: Sink, E: Sink>(
     alloc: Global,
     edition: Edition,
@@ -172,12 +172,13 @@ pub fn put_all<O: Sink, E: Sink>(
     answer
 }
 
-/// `put -t`: puts files into a directory, each as `put` does: one that is missing is made with permissions 0644, one that is
-/// there is made empty, and then the bytes are written. All are put, or nothing is to be saved, and the fault is the rule
-/// that the image breaks, the first name above 14 bytes, or the refusal of a call with its path. Of two files of one name the
-/// second is refused as Exists where the name is new, and else has the last word.
+/// Puts files into a directory, each as `put` does: a missing file is made with permissions 0644, an existing one is
+/// emptied, and then the bytes are written. All are put, or nothing is saved, and the fault is the rule that the image
+/// breaks, the first name above 14 bytes, or the refusal of a call with its path. If two files have the same name, the
+/// second is refused as `Exists` when the name is new, and otherwise replaces the first. For `put -t`.
 ///
-/// The bytes of the files go into the calls. Takes memory to mount the image and for two paths a file, and walks the path of each.
+/// Moves the files' bytes into the calls. Takes memory to mount the image and for two paths per file, and walks the path of
+/// each.
 pub fn put_files(
     alloc: Global,
     edition: Edition,
@@ -214,7 +215,7 @@ fn put_into(
     Ok(volume.unmount())
 }
 
-/// The calls of `put -t`.
+/// Returns the calls of `put -t`.
 fn calls_to_put(
     alloc: Global,
     volume: &Volume,
@@ -234,7 +235,7 @@ fn calls_to_put(
     Ok(calls)
 }
 
-/// Appends the calls that put a file, whose name has to have room in a directory.
+/// Appends the calls that put a file, unless its name is too long for a directory.
 fn push_file(
     alloc: Global,
     volume: &Volume,
@@ -278,7 +279,7 @@ fn push_calls(
     push(calls, write)
 }
 
-/// The call that makes a file empty, or makes an empty one where it is missing. Costs a walk.
+/// Returns the call that empties a file, or makes an empty one if it is missing. Costs a walk.
 fn emptying_call(alloc: Global, volume: &Volume, path: &[u8], now: u32) -> Result<Call, AllocError>
     ensures { IfOk result (λ call. call ≡ emptying_by (answer (reads_as volume.now.edition volume.now.image).tree (questions.Stat user path.now)) now path.now) }
 {

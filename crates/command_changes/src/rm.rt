@@ -1,4 +1,4 @@
-//! `rm`: removes a name; `rm -r`: removes what a path leads to, with all that is below it.
+//! `rm` removes a name; `rm -r` removes a file or directory with all that is below it.
 ghost use Rattle.std.specs.Prelude.{◌≡◌, IfOk, IfErr};
 ghost use Rattle.vol_dir.specs.Access.{user};
 ghost use Rattle.vol_volume.specs.declared.calls.Call.TheVariants as asked;
@@ -14,7 +14,7 @@ use vol_layout::Edition;
 use vol_removal::{RemovalFault, remove_all};
 use vol_volume::{Bytes, Call};
 
-/// The call of `rm`.
+/// Returns the call of `rm`.
 pub(crate) fn unlink_call(alloc: Global, path: &str, now: u32) -> Result<Call, AllocError>
     ensures { IfOk result (λ call. call ≡ asked.Unlink user now path.now) }
 {
@@ -25,11 +25,11 @@ pub(crate) fn unlink_call(alloc: Global, path: &str, now: u32) -> Result<Call, A
     })
 }
 
-/// `rm -r`: takes away what a path leads to, and of a directory all that is below it. All of it goes, or nothing is to be saved:
-/// where the image isn't sound, the path leads to nothing, or a call is refused. The last call is, for the root or for a path whose
-/// last name is `.` (Invalid) or `..` (NoEntry, since what leads there is gone by then).
+/// Removes the file or directory at a path, with all that is below it, for `rm -r`. All of it is removed, or nothing is
+/// saved: if the image isn't sound, the path leads nowhere, or a call is refused. The last call is refused for the root and
+/// for a path whose last name is `.` (`Invalid`) or `..` (`NoEntry`, since the directory before it is already removed).
 ///
-/// Takes memory as [`vol_removal::remove_all`] does, and costs what that costs.
+/// Takes the memory and time of [`vol_removal::remove_all`].
 pub(crate) fn rm_all(
     alloc: Global,
     edition: Edition,
@@ -43,7 +43,7 @@ pub(crate) fn rm_all(
     conclude(remove(alloc, edition, image, path, now))
 }
 
-/// Takes away what a path leads to, with all that is below it.
+/// Removes the file or directory at a path, with all that is below it.
 fn remove(
     alloc: Global,
     edition: Edition,
@@ -60,7 +60,7 @@ fn remove(
     }
 }
 
-/// The fault of a command where nothing is taken away for this reason.
+/// Returns the fault of a command that can't remove anything for this reason.
 fn fault_of(fault: RemovalFault) -> Fault
     ensures { result ≡ fault_of fault }
 {

@@ -1,4 +1,4 @@
-//! `rmdir`: removes an empty directory.
+//! `rmdir` removes an empty directory.
 ghost use Rattle.std.specs.Prelude.{◌≡◌, IfOk};
 ghost use Rattle.vol_dir.specs.Access.{user};
 ghost use Rattle.vol_volume.specs.declared.calls.Call.TheVariants as asked;
@@ -7,7 +7,7 @@ use std::alloc::{AllocError, Global};
 use vol_dir::Cred;
 use vol_volume::{Bytes, Call};
 
-/// The call of `rmdir`.
+/// Returns the call of `rmdir`.
 pub(crate) fn rmdir_call(alloc: Global, path: &str, now: u32) -> Result<Call, AllocError>
     ensures { IfOk result (λ call. call ≡ asked.Rmdir user now path.now) }
 {

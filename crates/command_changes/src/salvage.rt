@@ -1,4 +1,4 @@
-//! `salvage`: makes the free list of the volume in some bytes anew, and answers the bytes that are to be saved.
+//! `salvage` rebuilds the free list of the volume in an image, and returns the bytes to save.
 ghost use Rattle.std.specs.Prelude.{◌≡◌, IfOk, IfErr};
 ghost use Rattle.vol_check.specs.Salvaging.{IsSalvaged};
 ghost use Rattle.command_faults.specs.Streams.{says, ErrorStream, Hears};
@@ -11,17 +11,17 @@ use vol_check::SalvageFault;
 use vol_dir::Refusal;
 use vol_layout::Edition;
 
-/// `salvage`: makes the free list anew, of the data blocks that no file has, where the volume breaks no rule but
-/// those of the free list. A volume that breaks another one isn't to be saved.
+/// Rebuilds the free list from the data blocks that no file has, if the volume breaks no rule except those of the free list,
+/// for `salvage`. A volume that breaks another rule isn't saved.
 ///
-/// Takes memory for what [`vol_check::salvage`] takes.
+/// Takes the memory of [`vol_check::salvage`].
 pub(crate) fn salvage(alloc: Global, edition: Edition, image: Vec<u8>) -> Answer
     ensures { (errors : ErrorStream) → Hears errors result.fault → SalvagesVolume edition image.items (says errors) result }
 {
     conclude(salvaged(alloc, edition, image))
 }
 
-/// The bytes of a volume with its new free list.
+/// Returns the bytes of a volume with its new free list.
 fn salvaged(alloc: Global, edition: Edition, image: Vec<u8>) -> Result<Vec<u8>, Fault>
     ensures salvaged { IfOk result (λ bytes. IsSalvaged edition image.items bytes.items) }
     ensures fault { IfErr result (IsUnsalvaged edition image.items) }
@@ -29,7 +29,7 @@ fn salvaged(alloc: Global, edition: Edition, image: Vec<u8>) -> Result<Vec<u8>, 
     vol_check::salvage(alloc, edition, image).map_err(|(fault, _)| unsalvaged(fault))
 }
 
-/// The fault of a command that can't salvage a volume for this reason.
+/// Returns the fault of a command that can't salvage a volume for this reason.
 fn unsalvaged(fault: SalvageFault) -> Fault
     ensures { result ≡ unsalvaged fault }
 {

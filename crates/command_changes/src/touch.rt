@@ -1,4 +1,4 @@
-//! `touch`: gives a file or directory the time of the call, or makes an empty file.
+//! `touch` sets the times of a file or directory to that of the call, or makes an empty file.
 ghost use Rattle.std.specs.Prelude.{◌≡◌, ◌∷◌, [], IfOk, IfErr};
 ghost use Rattle.vol_volume.specs.Volume.{reads_as};
 ghost use Rattle.command_faults.specs.Changing.{Makes, IsReason, ChangesVolume};
@@ -16,10 +16,10 @@ use vol_dir::Cred;
 use vol_layout::Edition;
 use vol_volume::{Bytes, Call, Volume};
 
-/// `touch`: gives a file or directory `now` as the time of its last reading and of its last change. Where the path
-/// leads to nothing, an empty file is made there, with permissions 0644.
+/// Sets the times of the last reading and the last change of a file or directory to `now`. If the path leads nowhere,
+/// makes an empty file there, with permissions 0644.
 ///
-/// Takes memory for what [`Volume::mount`] takes, and for two copies of the path. Walks the path twice.
+/// Takes the memory of [`Volume::mount`], and for two copies of the path. Walks the path twice.
 pub(crate) fn touch(alloc: Global, edition: Edition, image: Vec<u8>, path: &str, now: u32) -> Answer
     ensures { (errors : ErrorStream) → Hears errors result.fault
         → ChangesVolume edition image.items (touch_call (reads_as edition image.items).tree now path.now ∷ []) (says errors) result }
@@ -44,7 +44,7 @@ fn touch_node(
     Ok(volume.unmount())
 }
 
-/// The call of `touch`.
+/// Returns the call of `touch`.
 fn touch_call(alloc: Global, volume: &Volume, path: &[u8], now: u32) -> Result<Call, AllocError>
     ensures { IfOk result (λ call. call ≡ touch_call (reads_as volume.now.edition volume.now.image).tree now path.now) }
 {

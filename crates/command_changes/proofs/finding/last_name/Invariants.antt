@@ -3,7 +3,7 @@ use Rattle.vol_dir.specs.Walk.{components}
 use Rattle.command_changes.specs.Finding.{last_of, last_name}
 use Rattle.command_changes.proofs.finding.last_name.Given as goal
 
--- the last name of what is left, or the one before it, is that of the path
+-- the last name of the rest, or the one before it, is that of the path
 abbrev pub invariant-loop-name : goal.invariant-loop-name
 invariant-loop-name l = last_of l.last (components l.rest) ≡ last_name l.path
 

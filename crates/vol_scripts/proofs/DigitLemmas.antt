@@ -7,25 +7,25 @@ use Rattle.std.specs.List.{list_all}
 use Rattle.std.specs.Str.Parse.{digits_value_after}
 use Rattle.vol_scripts.specs.Numbers.{number_in}
 
--- the number that digits write after those of a number
+-- the value of a number with more digits
 abbrev pub number_after : ℕ → ℕ → ℕ → List ℕ → Option ℕ
 number_after radix most number digits =
     if list_all (λ c. ltb (digit_value c) radix) digits && leb (digits_value_after radix number digits) most then Some (digits_value_after radix number digits) else None
 
--- a word that isn't empty writes what its digits write after none
+-- a word that isn't empty has the value of its digits
 pub starts : (radix most : ℕ) (word : List ℕ) → 0 < length word → number_in radix most word ≡ number_after radix most 0 word
 starts radix most word some = rw (lt-ltb 0 (length word) some) refl
 
--- an empty word writes no number
+-- an empty word has no value
 pub empty_is_none : (radix most : ℕ) (word : List ℕ) → length word ≡ 0 → number_in radix most word ≡ None
 empty_is_none radix most word none = rw none refl
 
--- one digit more
+-- one more digit
 pub goes_on : (radix most number c : ℕ) (digits : List ℕ) → digit_value c < radix
     → number_after radix most number (c ∷ digits) ≡ number_after radix most (number * radix + digit_value c) digits
 goes_on radix most number c digits is = rw (lt-ltb (digit_value c) radix is) refl
 
--- a byte that is no digit
+-- a byte that isn't a digit
 pub no_digit : (radix most number c : ℕ) (digits : List ℕ) → radix ≤ digit_value c → number_after radix most number (c ∷ digits) ≡ None
 no_digit radix most number c digits isnt = rw (le-ltb (digit_value c) radix isnt) refl
 
@@ -45,13 +45,13 @@ too_great radix most number digits least above =
     (λ b. (if b && leb (digits_value_after radix number digits) most then Some (digits_value_after radix number digits) else None) ≡ None)
     [ true ↦ rw (lt-leb (digits_value_after radix number digits) most more) refl | false ↦ refl ]
 
--- no digit more
+-- no more digits
 pub ends : (radix most number : ℕ) → number ≤ most → number_after radix most number [] ≡ Some number
 ends radix most number below = rw (le-leb number most below) refl
 
 module _ (radix most number : ℕ) (word : List ℕ) (at : ℕ) (within : at < length word)
     (so_far : number_in radix most word ≡ number_after radix most number (drop at word)) (digit : ℕ) (read : digit ≡ digit_value (get_or word at 0)) where
-  -- the digit at a place follows those before it
+  -- the digit at an index follows those before it
   pub reads_digit : digit < radix → number_in radix most word ≡ number_after radix most (number * radix + digit) (drop (at + 1) word)
   reads_digit is =
       so_far ∙ ap (number_after radix most number) (drop-cons word at 0 within)
@@ -59,14 +59,14 @@ module _ (radix most number : ℕ) (word : List ℕ) (at : ℕ) (within : at < l
       ∙ ap (λ n. number_after radix most (number * radix + n) (drop (suc at) word)) (sym read)
       ∙ ap (λ n. number_after radix most (number * radix + digit) (drop n word)) (sym (add-one at))
 
-  -- a byte that is no digit ends all
+  -- a byte that isn't a digit ends the word
   pub reads_no_digit : (digit < radix → ⊥) → number_in radix most word ≡ None
   reads_no_digit isnt =
       let least : radix ≤ digit = omega (arith, isnt) in
       so_far ∙ ap (number_after radix most number) (drop-cons word at 0 within)
       ∙ no_digit radix most number (get_or word at 0) (drop (suc at) word) (subst (λ n. radix ≤ n) read least)
 
-  -- a digit that makes the number too great ends all
+  -- a digit that makes the number too great ends the word
   pub reads_too_much : 1 ≤ radix → digit < radix → (number * radix + digit ≤ most → ⊥) → number_in radix most word ≡ None
   reads_too_much least is above =
       let greater : most < number * radix + digit = omega (arith, above) in

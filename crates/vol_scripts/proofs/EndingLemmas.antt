@@ -1,10 +1,10 @@
--- How a play ends.
+-- The end of a play.
 use Rattle.std.proofs.Common.{◌≡◌, ◌⊎◌, ℕ, List, [], Option, Some, None, Result, Ok, Err, IfOk, IfErr, inl, inr, sym, subst}
 use Rattle.command_faults.specs.Streams.{ErrorStream, Hears, says}
 use Rattle.command_faults.specs.Faults.{fault_line, fault_status}
 use Rattle.command_faults.specs.declared.fault.Fault.{Fault}
 
--- what was printed has its status, and a fault its status and its line
+-- a printed report has its status, and a fault its status and its line
 pub ends : (printed : Result ℕ Fault → Type 0) (errors : ErrorStream) (outcome : Result ℕ Fault) (status : ℕ) (fault : Option Fault) → printed outcome
     → IfOk outcome (λ s. (status ≡ s) × (fault ≡ None)) → IfErr outcome (λ why. (status ≡ fault_status why) × (fault ≡ Some why)) → Hears errors fault
     → (printed (Ok status) × says errors []) ⊎ ((why : Fault) × printed (Err why) × (status ≡ fault_status why) × says errors (fault_line why))

@@ -7,7 +7,7 @@ use Rattle.std.specs.Borrow.{Bor}
 use Rattle.std.specs.List.{slice_split, onto_first, position, position_or_len}
 use Rattle.vol_scripts.specs.Pieces.{pieces_left}
 
--- where no separator stands, all is one piece
+-- bytes without a separator are one piece
 whole : (p : ℕ → Bool) (xs : List ℕ) → length xs ≤ position_or_len p xs → slice_split p xs ≡ xs ∷ []
 whole p [] none = refl
 whole p (x ∷ xs) none = elim (p x) as
@@ -16,7 +16,7 @@ whole p (x ∷ xs) none = elim (p x) as
       | false ↦ λ none. let rest : slice_split p xs ≡ xs ∷ [] = whole p xs (omega arith) in rw rest refl
     ] none
 
--- a place that was found is below the length
+-- an index that was found is below the length
 found_at : (a n at : ℕ) → cond (ltb a n) (Some a) None ≡ Some at → (a < n) × (a ≡ at)
 found_at a n at found = go (ltb a n) refl found
   where
@@ -24,7 +24,7 @@ found_at a n at found = go (ltb a n) refl found
     go true is found = (ltb-true a n is, cc)
     go false is found = absurd (cc)
 
--- where no place was found, it is the length
+-- if no index was found, it is the length
 found_none : (a n : ℕ) → cond (ltb a n) (Some a) None ≡ None → n ≤ a
 found_none a n found = go (ltb a n) refl found
   where
@@ -32,7 +32,7 @@ found_none a n found = go (ltb a n) refl found
     go true is found = absurd (cc)
     go false is found = ltb-false a n is
 
--- where the first separator stands, a piece ends
+-- a piece ends at the first separator
 pub piece_at : (p : ℕ → Bool) (xs : List ℕ) (at : ℕ) → position p xs ≡ Some at
     → slice_split p xs ≡ take at xs ∷ slice_split p (take (length xs - (at + 1)) (drop (at + 1) xs))
 piece_at p xs at found =
@@ -42,18 +42,18 @@ piece_at p xs at found =
     ∙ ap (λ n. take n xs ∷ slice_split p (drop (n + 1) xs)) place.1
     ∙ ap (λ rest. take at xs ∷ slice_split p rest) (sym all)
 
--- where no separator stands, all is one piece
+-- bytes without a separator are one piece
 pub piece_alone : (p : ℕ → Bool) (xs : List ℕ) → position p xs ≡ None → slice_split p xs ≡ xs ∷ []
 piece_alone p xs none = whole p xs (found_none (position_or_len p xs) (length xs) none)
 
--- bytes that are there have a piece
+-- if bytes remain, there is a piece
 pub some_piece : (separator : ℕ) (rest : Option (Bor (List ℕ))) → pieces_left separator rest ≡ [] → is_none rest ≡ true
 some_piece separator None is = refl
 some_piece separator (Some rest) is =
     let count = length-slice_split (λ b. b == separator) rest.now in
     absurd (omega (arith, count, ap length is))
 
--- no bytes have no piece
+-- if none remain, there is no piece
 pub no_piece : (separator : ℕ) (rest : Option (Bor (List ℕ))) → is_none rest ≡ true → pieces_left separator rest ≡ []
 no_piece separator None is = refl
 no_piece separator (Some rest) is = absurd (cc)

@@ -5,22 +5,22 @@ use Rattle.std.specs.Prelude.{Vec}
 use Rattle.vol_scripts.specs.Reading.{asked_from, before, before_scripts, script_after, scripts_from, views_after}
 use Rattle.vol_scripts.specs.declared.steps.Script.{Script}
 
--- what was asked before, and what follows, unless a line can't be read
+-- the steps read before, and those that follow, unless a line can't be read
 abbrev pub after : {T : Type 0} → List T → Result (List T) ℕ → Result (List T) ℕ
 after front (Ok others) = Ok (front ++ others)
 after front (Err number) = Err number
 
 module _ {T : Type 0} (written : List ℕ → Option T) where
-  -- where nothing was read before
+  -- if nothing was read before
   pub after_nothing : (read : Result (List T) ℕ) → read ≡ after [] read
   after_nothing (Ok others) = refl
   after_nothing (Err number) = refl
 
-  -- nothing stands after the last newline
+  -- nothing follows the last newline
   pub ends_well : (front : List T) (number : ℕ) (rest : List ℕ) → length rest ≡ 0 → after front (asked_from written number (rest ∷ [])) ≡ Ok front
   ends_well front number rest none = rw (none, append-nil) refl
 
-  -- something stands after the last newline
+  -- something follows the last newline
   pub ends_badly : (front : List T) (number : ℕ) (rest : List ℕ) → (length rest == 0) ≡ false → after front (asked_from written number (rest ∷ [])) ≡ Err number
   ends_badly front number rest some = rw some refl
 
@@ -34,7 +34,7 @@ module _ {T : Type 0} (written : List ℕ → Option T) where
   stops front number line [] more none = absurd (more refl)
   stops front number line (next ∷ lines) more none = rw none refl
 
-  -- what a line asks for, and what the lines after it come to
+  -- the step of a line, and the result for the lines after it
   before_after : (front : List T) (asked : T) (number : ℕ) (others : Result (List T) ℕ)
       → after front (before (Some asked) number others) ≡ after (front ++ asked ∷ []) others
   before_after front asked number (Ok others) = ap Ok (sym (append_assoc front (asked ∷ []) others))
@@ -48,7 +48,7 @@ module _ {T : Type 0} (written : List ℕ → Option T) where
       ap (λ s. after front (before s number (asked_from written (number + 1) (next ∷ lines)))) read
       ∙ before_after front asked number (asked_from written (number + 1) (next ∷ lines))
 
-  -- a line more was read
+  -- one more line was read
   pub pushed : (first : ℕ) (front now : List T) (asked : T) (lines : List (List ℕ)) → now ≡ front ++ asked ∷ []
       → after (front ++ asked ∷ []) (asked_from written (length front + first + 1) lines) ≡ after now (asked_from written (length now + first) lines)
   pushed first front now asked lines is =
@@ -60,12 +60,12 @@ abbrev pub after_scripts : List Script → Result (List Script) (ℕ × ℕ) →
 after_scripts front (Ok others) = Ok (front ++ others)
 after_scripts front (Err fault) = Err fault
 
--- where no script was read before
+-- if no script was read before
 pub after_no_scripts : (read : Result (List Script) (ℕ × ℕ)) → read ≡ after_scripts [] read
 after_no_scripts (Ok others) = refl
 after_no_scripts (Err fault) = refl
 
--- a script, and what the scripts after it come to
+-- a script, and the result for the scripts after it
 before_after_scripts : (front : List Script) (script : Script) (number : ℕ) (others : Result (List Script) (ℕ × ℕ))
     → after_scripts front (before_scripts (Ok script) number others) ≡ after_scripts (front ++ script ∷ []) others
 before_after_scripts front script number (Ok others) = ap Ok (sym (append_assoc front (script ∷ []) others))

@@ -1,4 +1,4 @@
--- The texts of permissions and of what a node is.
+-- The texts of permissions and of a node's attributes.
 use Rattle.std.proofs.Common.{◌≡◌, ℕ, ◌+◌, ◌/◌, ◌%◌, ◌++◌, List, [], ◌∷◌, codes, refl, arith, append_assoc}
 use Rattle.std.proofs.lemmas.Fmt.{decimal_digit}
 use Rattle.std.specs.Fmt.{decimal}
@@ -20,12 +20,12 @@ pub node_pieces : (stat : Stat) (kind permissions : List ℕ) → kind ≡ kind_
     → decimal stat.number ++ (codes " " ++ (kind ++ (codes " " ++ permissions))) ≡ node_text stat
 node_pieces stat kind permissions k p = rw (k, p) (simp append_assoc)
 
--- what a node is, piece by piece
+-- a node's attributes, piece by piece
 pub stat_pieces : (stat : Stat) (node : List ℕ) → node ≡ node_text stat
     → codes "stat " ++ (node ++ (codes " " ++ (decimal stat.links ++ (codes " " ++ (decimal stat.uid ++ (codes " " ++ (decimal stat.gid ++ (codes " "
     ++ decimal stat.size)))))))) ≡ stat_text stat
 stat_pieces stat node n = rw n (simp append_assoc)
 
--- the line of a line that can't be read, piece by piece
+-- the message for a line that can't be read, piece by piece
 pub unread_pieces : (script line : ℕ) → codes "unixvol: script " ++ (decimal script ++ (codes " line " ++ (decimal line ++ codes "\n"))) ≡ unread_text script line
 unread_pieces script line = simp append_assoc

@@ -35,26 +35,26 @@ abbrev pub all_commands : List Command
 all_commands = commands.Create ∷ commands.Mkdir ∷ commands.Link ∷ commands.Unlink ∷ commands.Rmdir ∷ commands.Write
     ∷ commands.Truncate ∷ commands.Chmod ∷ commands.Chown ∷ commands.Times ∷ commands.Stat ∷ commands.Read ∷ commands.List ∷ commands.Cut ∷ []
 
--- the command of a word (this project)
+-- the command with a word (this project)
 abbrev pub command_named : List ℕ → Option Command
 command_named word = find (λ command. bytes_eq (command_word command) word) all_commands
 
--- what follows where there is something (Option::and_then)
+-- the next value, if there is one (Option::and_then)
 infixl 10 ◌>>=◌
 abbrev pub ◌>>=◌ : {A B : Type 0} → Option A → (A → Option B) → Option B
 found >>= next = option_and_then next found
 
--- the one word that is left, where just one is (this project)
+-- the one word that is left, if there is exactly one (this project)
 abbrev pub one_of : List (List ℕ) → Option (List ℕ)
 one_of (first ∷ []) = Some first
 one_of _ = None
 
--- the two words that are left, where just two are (this project)
+-- the two words that are left, if there are exactly two (this project)
 abbrev pub two_of : List (List ℕ) → Option (List ℕ × List ℕ)
 two_of (first ∷ second ∷ []) = Some (first, second)
 two_of _ = None
 
--- the three words that are left, where just three are (this project)
+-- the three words that are left, if there are exactly three (this project)
 abbrev pub three_of : List (List ℕ) → Option (List ℕ × List ℕ × List ℕ)
 three_of (first ∷ second ∷ third ∷ []) = Some (first, second, third)
 three_of _ = None
@@ -133,7 +133,7 @@ asked_by commands.Read cred now words =
 asked_by commands.List cred now words = option_map (λ path. steps.Question (queries.List cred path)) (one_of words)
 asked_by commands.Cut cred now words = option_map (λ nothing. steps.Cut) (none_of words)
 
--- what the words of a line ask for: `NOW UID GID`, the command and its words (this project)
+-- the step of a line's words: `NOW UID GID`, the command and its words (this project)
 abbrev pub step_by : List (List ℕ) → Option Step
 step_by (now ∷ uid ∷ gid ∷ name ∷ words) = do
   moment ← long_in now
@@ -142,16 +142,16 @@ step_by (now ∷ uid ∷ gid ∷ name ∷ words) = do
   asked_by command cred moment words
 step_by _ = None
 
--- what a line asks of a session, whose words stand between its single spaces (this project)
+-- the step of a session in a line, whose words are separated by single spaces (this project)
 abbrev pub step_in : List ℕ → Option Step
 step_in line = step_by (slice_split (λ b. b == 32) line)
 
--- the query of a step, where it is one (this project)
+-- the query of a step, if it is one (this project)
 abbrev pub query_of : Step → Option Query
 query_of (steps.Change call) = None
 query_of (steps.Question query) = Some query
 query_of steps.Cut = None
 
--- what a line asks of a view: a query alone (this project)
+-- the query of a view in a line (this project)
 abbrev pub query_in : List ℕ → Option Query
 query_in line = step_in line >>= query_of

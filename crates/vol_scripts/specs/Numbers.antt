@@ -11,16 +11,16 @@ use Rattle.hex.specs.Hex.{decode_of}
 abbrev pub is_numeral : ℕ → List ℕ → Bool
 is_numeral radix word = nat_lt 0 (length word) && list_all (λ c. nat_lt (digit_value c) radix) word
 
--- the number that a word writes in the radix, if it is at most `most`; the first digits may be zeros, and there is no sign (this project)
+-- the number of a word in the radix, if it is at most `most`; leading zeros are allowed, and there is no sign (this project)
 abbrev pub number_in : ℕ → ℕ → List ℕ → Option ℕ
 number_in radix most word =
     if is_numeral radix word && nat_le (digits_value radix word) most then Some (digits_value radix word) else None
 
--- a decimal number of 32 bits (this project)
+-- a 32-bit decimal number (this project)
 abbrev pub long_in : List ℕ → Option ℕ
 long_in word = number_in 10 4294967295 word
 
--- a decimal number of 16 bits (this project)
+-- a 16-bit decimal number (this project)
 abbrev pub short_in : List ℕ → Option ℕ
 short_in word = number_in 10 65535 word
 

@@ -1,9 +1,9 @@
--- The pieces that are left of some bytes.
+-- The remaining pieces of some bytes.
 use Rattle.std.specs.Prelude.{ℕ, ◌==◌, List, [], Option, Some, None}
 use Rattle.std.specs.Borrow.{Bor}
 use Rattle.std.specs.List.{slice_split}
 
--- the pieces between the bytes that are this separator, of the bytes that are left, if any are (this project)
+-- the pieces between separators of the remaining bytes, if any remain (this project)
 abbrev pub pieces_left : ℕ → Option (Bor (List ℕ)) → List (List ℕ)
 pieces_left separator None = []
 pieces_left separator (Some rest) = slice_split (λ b. b == separator) rest.now

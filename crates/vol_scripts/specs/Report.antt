@@ -1,4 +1,4 @@
--- The lines that `play` prints.
+-- The report of `play`.
 use Rattle.std.specs.Prelude.{ℕ, ◌+◌, ◌++◌, List, [], ◌∷◌, Option, Some, None, codes, decimal}
 use Rattle.vol_dir.specs.declared.refusal.Refusal.TheVariants as refusals
 use Rattle.vol_receipts.specs.declared.receipts.Outcome.{Outcome}
@@ -7,17 +7,17 @@ use Rattle.vol_scripts.specs.Texts.{done_text, refusal_text, reply_text}
 use Rattle.vol_scripts.specs.declared.played.Played.{Played}
 use Rattle.vol_scripts.specs.declared.played.Played.TheVariants as played
 
--- what came of a call or a query (this project)
+-- the text of a call's or query's outcome (this project)
 abbrev pub outcome_text : Outcome → List ℕ
 outcome_text (outcomes.Accepted done) = done_text done
 outcome_text (outcomes.Refused refusal) = refusal_text refusal
 outcome_text (outcomes.Answered reply) = reply_text reply
 
--- a line of the report: a script, a line of it, and what came of that (this project)
+-- a line of the report: the numbers of a script and of its line, and the result (this project)
 abbrev pub line_text : ℕ → ℕ → List ℕ → List ℕ
 line_text script line came = decimal script ++ codes "." ++ decimal line ++ codes " " ++ came ++ codes "\n"
 
--- the line of a step; the one that says that a script is for a view has none (this project)
+-- the line of a step; the line that marks a script as one for a view has none (this project)
 abbrev pub step_line_text : ℕ → ℕ → Played → List ℕ
 step_line_text script line (played.Told receipt) = line_text script line (outcome_text receipt.outcome)
 step_line_text script line (played.Cut first) = line_text script line (codes "cut " ++ decimal first)
@@ -25,17 +25,17 @@ step_line_text script line played.NoMemory = line_text script line (refusal_text
 step_line_text script line played.NotEntered = line_text script line (codes "NotEntered")
 step_line_text script line played.View = []
 
--- the lines of a script, of which the first has this number (this project)
+-- the lines of a script's steps, the first of which has this number (this project)
 abbrev pub lines_text : ℕ → ℕ → List Played → List ℕ
 lines_text script line [] = []
 lines_text script line (first ∷ others) = step_line_text script line first ++ lines_text script (line + 1) others
 
--- the last line where a script cuts the journal: how many receipts speak of what was cut (this project)
+-- the last line if a script cuts the journal: the number of receipts whose records were cut (this project)
 abbrev pub gone_text : Option ℕ → List ℕ
 gone_text None = []
 gone_text (Some gone) = codes "gone " ++ decimal gone ++ codes "\n"
 
--- the last lines: the length of the journal, and how many receipts were confirmed (this project)
+-- the last lines: the numbers of records and of confirmed receipts, and of those whose records were cut (this project)
 abbrev pub totals_text : ℕ → ℕ → Option ℕ → List ℕ
 totals_text records confirmed gone =
     codes "records " ++ decimal records ++ codes "\nconfirmed " ++ decimal confirmed ++ codes "\n" ++ gone_text gone

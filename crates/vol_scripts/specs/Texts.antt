@@ -1,4 +1,4 @@
--- What is printed of an answer, a refusal and a reply.
+-- The texts of outcomes.
 use Rattle.std.specs.Prelude.{ℕ, ◌+◌, ◌/◌, ◌%◌, ◌++◌, List, [], ◌∷◌, length, codes, decimal}
 use Rattle.hex.specs.Hex.{encode_lower}
 use Rattle.vol_dir.specs.declared.refusal.Refusal.{Refusal}
@@ -11,7 +11,7 @@ use Rattle.vol_volume.specs.declared.queries.Reply.{Reply}
 use Rattle.vol_volume.specs.declared.queries.Reply.TheVariants as replies
 use Rattle.vol_volume.specs.declared.queries.Stat.{Stat}
 
--- what an accepted call answered: the i-number made, the bytes written, or 0 (this project)
+-- the text of an accepted call's result: the i-number made, the number of bytes written, or 0 (this project)
 abbrev pub done_text : Done → List ℕ
 done_text (dones.Made number) = codes "ok " ++ decimal number
 done_text (dones.Wrote count) = codes "ok " ++ decimal count
@@ -35,7 +35,7 @@ refusal_text refusals.NotRegular = codes "102 NotRegular"
 refusal_text refusals.NoInode = codes "103 NoInode"
 refusal_text refusals.BadId = codes "104 BadId"
 
--- the word of a kind of node; what is neither a file nor a directory is special (this project)
+-- the word for a kind of node; anything but a file or a directory is special (this project)
 abbrev pub kind_text : Kind → List ℕ
 kind_text kinds.Regular = codes "file"
 kind_text kinds.Directory = codes "dir"
@@ -49,7 +49,7 @@ permissions_text bits = (48 + bits / 512 % 8) ∷ (48 + bits / 64 % 8) ∷ (48 +
 abbrev pub node_text : Stat → List ℕ
 node_text stat = decimal stat.number ++ codes " " ++ kind_text stat.kind ++ codes " " ++ permissions_text stat.permissions
 
--- what a node is: its i-number, kind, permissions, links, user, group and size (this project)
+-- a node's attributes: its i-number, kind, permissions, links, user, group and size (this project)
 abbrev pub stat_text : Stat → List ℕ
 stat_text stat =
     codes "stat " ++ node_text stat ++ codes " " ++ decimal stat.links ++ codes " " ++ decimal stat.uid ++ codes " " ++ decimal stat.gid ++ codes " "
@@ -60,7 +60,7 @@ abbrev pub bytes_text : List ℕ → List ℕ
 bytes_text [] = codes "-"
 bytes_text (byte ∷ bytes) = encode_lower (byte ∷ bytes)
 
--- what a query replied (this project)
+-- the text of a query's reply (this project)
 abbrev pub reply_text : Reply → List ℕ
 reply_text (replies.Stat stat) = stat_text stat
 reply_text (replies.Bytes bytes) = codes "read " ++ bytes_text bytes

@@ -1,4 +1,4 @@
-//! The words after the command: how many there are, and what they write.
+//! The words after the command, and their values.
 ghost use Rattle.std.specs.Prelude.{◌≡◌, Some, None, MatchOption, IfOk};
 ghost use Rattle.vol_scripts.specs.Grammar.{one_of, two_of, three_of, none_of, cred_in, path_and_permissions, path_and_length, path_and_owner, path_and_bytes, path_and_numbers};
 ghost use Rattle.vol_scripts.specs.Reading.{Reads};
@@ -10,7 +10,7 @@ use std::alloc::Global;
 use vol_dir::Cred;
 use vol_volume::Bytes;
 
-/// That no word is left.
+/// Succeeds if no word is left.
 pub(crate) fn none_of(mut words: Pieces<'_>) -> Option<()>
     ensures { result ≡ none_of words.entry }
 {
@@ -20,7 +20,7 @@ pub(crate) fn none_of(mut words: Pieces<'_>) -> Option<()>
     }
 }
 
-/// The one word that is left.
+/// Returns the one word that is left, if there is exactly one.
 fn one_of<'a>(mut words: Pieces<'a>) -> Option<&'a [u8]>
     ensures { MatchOption result (one_of words.entry ≡ None) (λ word. one_of words.entry ≡ Some word.now) }
 {
@@ -29,7 +29,7 @@ fn one_of<'a>(mut words: Pieces<'a>) -> Option<&'a [u8]>
     Some(word)
 }
 
-/// The two words that are left.
+/// Returns the two words that are left, if there are exactly two.
 fn two_of<'a>(mut words: Pieces<'a>) -> Option<(&'a [u8], &'a [u8])>
     ensures { MatchOption result (two_of words.entry ≡ None) (λ given. two_of words.entry ≡ Some (given.0.now, given.1.now)) }
 {
@@ -38,7 +38,7 @@ fn two_of<'a>(mut words: Pieces<'a>) -> Option<(&'a [u8], &'a [u8])>
     Some((first, second))
 }
 
-/// The three words that are left.
+/// Returns the three words that are left, if there are exactly three.
 fn three_of<'a>(mut words: Pieces<'a>) -> Option<(&'a [u8], &'a [u8], &'a [u8])>
     ensures { MatchOption result (three_of words.entry ≡ None)
         (λ given. three_of words.entry ≡ Some (given.0.now, given.1.now, given.2.now)) }
@@ -48,7 +48,7 @@ fn three_of<'a>(mut words: Pieces<'a>) -> Option<(&'a [u8], &'a [u8], &'a [u8])>
     Some((first, second, third))
 }
 
-/// The user and the group that two words write.
+/// Reads a user and a group from two words.
 pub(crate) fn cred_in(uid: &[u8], gid: &[u8]) -> Option<Cred>
     ensures { result ≡ cred_in uid.now gid.now }
 {
@@ -58,7 +58,7 @@ pub(crate) fn cred_in(uid: &[u8], gid: &[u8]) -> Option<Cred>
     })
 }
 
-/// `PATH`.
+/// Reads `PATH`.
 pub(crate) fn path_alone(alloc: Global, words: Pieces<'_>) -> Result<Bytes, LineFault>
     ensures { Reads (one_of words.entry) result }
 {
@@ -66,7 +66,7 @@ pub(crate) fn path_alone(alloc: Global, words: Pieces<'_>) -> Result<Bytes, Line
     Ok(Bytes::from_slice(alloc, path)?)
 }
 
-/// `FROM TO`.
+/// Reads `FROM TO`.
 pub(crate) fn two_paths(alloc: Global, words: Pieces<'_>) -> Result<(Bytes, Bytes), LineFault>
     ensures { Reads (two_of words.entry) result }
 {
@@ -77,7 +77,7 @@ pub(crate) fn two_paths(alloc: Global, words: Pieces<'_>) -> Result<(Bytes, Byte
     ))
 }
 
-/// `PATH PERM`.
+/// Reads `PATH PERM`.
 pub(crate) fn path_and_permissions(
     alloc: Global,
     words: Pieces<'_>,
@@ -89,7 +89,7 @@ pub(crate) fn path_and_permissions(
     Ok((Bytes::from_slice(alloc, path)?, permissions))
 }
 
-/// `PATH LENGTH`.
+/// Reads `PATH LENGTH`.
 pub(crate) fn path_and_length(alloc: Global, words: Pieces<'_>) -> Result<(Bytes, u32), LineFault>
     ensures { Reads (path_and_length words.entry) result }
 {
@@ -98,7 +98,7 @@ pub(crate) fn path_and_length(alloc: Global, words: Pieces<'_>) -> Result<(Bytes
     Ok((Bytes::from_slice(alloc, path)?, length))
 }
 
-/// `PATH UID GID`.
+/// Reads `PATH UID GID`.
 pub(crate) fn path_and_owner(alloc: Global, words: Pieces<'_>) -> Result<(Bytes, Cred), LineFault>
     ensures { Reads (path_and_owner words.entry) result }
 {
@@ -107,7 +107,7 @@ pub(crate) fn path_and_owner(alloc: Global, words: Pieces<'_>) -> Result<(Bytes,
     Ok((Bytes::from_slice(alloc, path)?, owner))
 }
 
-/// `PATH OFFSET HEX`.
+/// Reads `PATH OFFSET HEX`.
 pub(crate) fn path_and_bytes(
     alloc: Global,
     words: Pieces<'_>,

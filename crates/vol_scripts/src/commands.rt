@@ -1,8 +1,8 @@
-//! The words that say what a line asks for.
+//! The commands of script lines.
 ghost use Rattle.std.specs.Prelude.{◌≡◌};
 ghost use Rattle.vol_scripts.specs.Grammar.{command_word, command_named};
 
-/// What a line asks for, as its fourth word names it.
+/// The command of a line, which is its fourth word.
 #[derive(Clone, Copy, Debug, PartialEq, Eq)]
 pub(crate) enum Command {
     Create,
@@ -40,7 +40,7 @@ static COMMANDS: [Command; 14] = [
 ];
 
 impl Command {
-    /// The word of the command.
+    /// Returns the word of the command.
     fn name(self) -> &'static str
         ensures { result.now ≡ command_word self }
     {
@@ -62,7 +62,7 @@ impl Command {
         }
     }
 
-    /// The command of a word.
+    /// Returns the command with this word.
     pub(crate) fn named(word: &[u8]) -> Option<Command>
         ensures { result ≡ command_named word.now }
     {

@@ -1,5 +1,4 @@
-//! How a play ends, once no thread shares its volume any more: what it prints, its status, and the bytes that
-//! are to be saved.
+//! The end of a play, when its volume is no longer shared: its report, its status, and the bytes to save.
 ghost use Rattle.std.specs.Prelude.{◌≡◌, ◌++◌, IfOk, IfErr, None, OnOk, Some, count_by, nat_lt};
 ghost use Rattle.std.specs.String.{string_bytes};
 ghost use Rattle.command_faults.specs.Faults.{fault_status};
@@ -15,14 +14,14 @@ use std::alloc::{AllocError, Global};
 use vol_receipts::{Confirmed, Outcome, Receipt, confirm_all};
 use vol_volume::Volume;
 
-/// Ends a play: prints a line for each step of each script, in their order, then how many records the journal
-/// has and how many receipts agree with it, and, where a script cuts the journal, how many receipts speak of
-/// what was cut. The bytes of the volume are to be saved in any case.
+/// Ends a play. Prints a line for each step of each script, in order, then the number of records in the
+/// journal and the number of receipts that agree with it; if a script cuts the journal, also the number of
+/// receipts whose records were cut. The volume's bytes are to be saved in any case.
 ///
-/// The status is 3 where `output` failed; else 4 where a step, this report or its confirming ran out of memory,
-/// in the last case no receipt counts as confirmed, or where a view couldn't take what is published; else 1 where
-/// a step was refused; else 0. Without memory for the
-/// report nothing of it goes out. The fault is that of the output, or of memory for the report.
+/// The status is 3 if `output` failed; else 4 if a step, this report or confirming the receipts ran out of
+/// memory (no receipt then counts as confirmed), or if a view couldn't read the published version; else 1 if
+/// a step was refused; else 0. If memory for the report runs out, none of it is printed. The fault is that of
+/// the output, or out of memory for the report.
 ///
 /// Takes memory for the report, a list of the receipts, and confirming them.
 pub fn finish<O: Sink>(
@@ -45,7 +44,7 @@ pub fn finish<O: Sink>(
     }
 }
 
-/// How a play ends whose report was printed, or met a fault.
+/// Returns the result of a play whose report was printed, or failed.
 fn ending_of(printed: Result<u8, Fault>) -> Ending
     ensures printed { IfOk printed (λ status. (result.status ≡ status) × (result.fault ≡ None)) }
     ensures fault { IfErr printed (λ fault. (result.status ≡ fault_status fault) × (result.fault ≡ Some fault)) }
@@ -59,7 +58,7 @@ fn ending_of(printed: Result<u8, Fault>) -> Ending
     }
 }
 
-/// Prints what a play comes to, and answers its status.
+/// Prints the report of a play, and returns its status.
 fn print_report<O: Sink>(
     alloc: Global,
     volume: &Volume,
@@ -82,7 +81,8 @@ fn print_report<O: Sink>(
     }
 }
 
-/// What is printed of a play, and how many receipts were confirmed, unless memory ran out for that.
+/// Returns the report of a play, and the counts of confirmed receipts, or `None` if memory for confirming ran
+/// out.
 fn report_of(
     alloc: Global,
     volume: &Volume,
@@ -101,7 +101,8 @@ fn report_of(
     Ok((text, confirmed))
 }
 
-/// What is found of the receipts, unless memory runs out, and how many agree with the journal, none then.
+/// Confirms the receipts. Returns the counts, or `None` if memory runs out, and the number that agree with
+/// the journal, which is then 0.
 fn confirm(alloc: Global, volume: &Volume, receipts: &[Receipt]) -> (Option<Confirmed>, u64)
     ensures { AreConfirmed volume.now receipts.now result.0 result.1 }
 {
@@ -111,7 +112,7 @@ fn confirm(alloc: Global, volume: &Volume, receipts: &[Receipt]) -> (Option<Conf
     }
 }
 
-/// The lines of all scripts.
+/// Returns the lines of all scripts.
 fn lines_of(alloc: Global, scripts: &[Vec<Played>]) -> Result<String, AllocError>
     ensures { IfOk result (λ text. string_bytes text ≡ scripts_text 1 scripts.now) }
 {
@@ -124,7 +125,7 @@ fn lines_of(alloc: Global, scripts: &[Vec<Played>]) -> Result<String, AllocError
     Ok(text)
 }
 
-/// The receipts of all scripts, script by script.
+/// Returns the receipts of all scripts, script by script.
 fn receipts_of(alloc: Global, scripts: Vec<Vec<Played>>) -> Result<Vec<Receipt>, AllocError>
     ensures { IfOk result (λ receipts. receipts.items ≡ all_receipts scripts.items) }
 {
@@ -147,14 +148,14 @@ fn push_receipts(receipts: &mut Vec<Receipt>, played: Vec<Played>) -> Result<(),
     Ok(())
 }
 
-/// How many receipts speak of what was cut before the record of a number.
+/// Counts the receipts whose records were cut, which is below record number `first`.
 fn gone_among(first: u64, receipts: &[Receipt]) -> u64
     ensures { result ≡ count_by (λ receipt. nat_lt receipt.at first) receipts.now }
 {
     receipts.iter().filter(|receipt| receipt.at < first).count() as u64
 }
 
-/// The status by what came of all steps.
+/// Returns the status for the results of all steps.
 fn scripts_status(scripts: &[Vec<Played>]) -> u8
     ensures { result ≡ scripts_status scripts.now }
 {
@@ -165,7 +166,7 @@ fn scripts_status(scripts: &[Vec<Played>]) -> u8
     worst
 }
 
-/// The status by what came of the steps of a script.
+/// Returns the status for the results of a script's steps.
 fn script_status(played: &[Played]) -> u8
     ensures { result ≡ script_status played.now }
 {
@@ -176,7 +177,7 @@ fn script_status(played: &[Played]) -> u8
     worst
 }
 
-/// The status by what came of a step.
+/// Returns the status for the result of a step.
 fn step_status(played: &Played) -> u8
     ensures { result ≡ step_status played.now }
 {

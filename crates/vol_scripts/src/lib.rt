@@ -1,4 +1,4 @@
-//! Scripts of the command `play`: how their lines are read, and how what came of them is printed.
+//! Scripts of the command `play`: reads their lines and prints their results.
 #![tactic(auto)]
 
 mod arguments;

@@ -1,4 +1,4 @@
-//! Reading of one line.
+//! Reads one line of a script.
 ghost use Rattle.std.specs.Prelude.{◌≡◌, ◌∷◌, ℕ, None, MatchOption};
 ghost use Rattle.vol_scripts.specs.Grammar.{asked_by, step_by, step_in};
 ghost use Rattle.vol_scripts.specs.Reading.{Reads};
@@ -15,10 +15,10 @@ use std::alloc::{AllocError, Global};
 use vol_dir::Cred;
 use vol_volume::{Call, Query};
 
-/// Why a line wasn't read.
+/// Why a line couldn't be read.
 #[derive(Clone, Copy, Debug, PartialEq, Eq)]
 pub(crate) enum LineFault {
-    /// It is none that a script may have.
+    /// It isn't a line that a script may have.
     Unreadable,
     /// An allocation was refused.
     NoMemory,
@@ -34,13 +34,13 @@ impl From<AllocError> for LineFault {
     }
 }
 
-/// What a line of a script may ask for.
+/// A step that a line of a script can hold.
 pub(crate) trait FromLine: Drop {
     ghost use Rattle.std.specs.Prelude.{List, Option};
 
     ghost written: { List ℕ → Option Self };
 
-    /// What a line asks for. Takes memory for paths and for the bytes of a write.
+    /// Reads a line. Takes memory for paths and for the bytes of a write.
     fn from_line(alloc: Global, line: &[u8]) -> Result<Self, LineFault>
         ensures { Reads (written line.now) result };
 }
@@ -68,7 +68,7 @@ impl FromLine for Query {
     }
 }
 
-/// What a line asks of a session.
+/// Reads a step of a session from a line.
 fn read_line(alloc: Global, line: &[u8]) -> Result<Step, LineFault>
     ensures { Reads (step_in line.now) result }
 {
@@ -77,7 +77,7 @@ fn read_line(alloc: Global, line: &[u8]) -> Result<Step, LineFault>
     asked_by(alloc, command, cred, now, words)
 }
 
-/// The command of a line, its user and group, and its moment.
+/// Reads the beginning of a line: the command, the user and group, and the time.
 fn head_of(words: &mut Pieces<'_>) -> Option<(Command, Cred, u32)>
     ensures { MatchOption result (step_by words.old ≡ None)
         (λ head. step_by words.old ≡ asked_by head.0 head.1 head.2 words.new) }
@@ -89,7 +89,7 @@ fn head_of(words: &mut Pieces<'_>) -> Option<(Command, Cred, u32)>
     Some((command, cred, now))
 }
 
-/// The first four words of a line.
+/// Returns the first four words of a line.
 fn first_four_of<'a>(words: &mut Pieces<'a>) -> Option<(&'a [u8], &'a [u8], &'a [u8], &'a [u8])>
     ensures { MatchOption result (step_by words.old ≡ None)
         (λ four. words.old ≡ four.0.now ∷ four.1.now ∷ four.2.now ∷ four.3.now ∷ words.new) }
@@ -101,7 +101,7 @@ fn first_four_of<'a>(words: &mut Pieces<'a>) -> Option<(&'a [u8], &'a [u8], &'a 
     Some((first, second, third, fourth))
 }
 
-/// What a command asks for with the words after it.
+/// Reads the words after the command.
 fn asked_by(
     alloc: Global,
     command: Command,
@@ -132,7 +132,7 @@ fn asked_by(
     }
 }
 
-/// `create`.
+/// Reads `create`.
 fn create(alloc: Global, cred: Cred, now: u32, words: Pieces<'_>) -> Result<Step, LineFault>
     ensures { Reads (asked_by Command.Create cred now words.entry) result }
 {
@@ -145,7 +145,7 @@ fn create(alloc: Global, cred: Cred, now: u32, words: Pieces<'_>) -> Result<Step
     }))
 }
 
-/// `mkdir`.
+/// Reads `mkdir`.
 fn mkdir(alloc: Global, cred: Cred, now: u32, words: Pieces<'_>) -> Result<Step, LineFault>
     ensures { Reads (asked_by Command.Mkdir cred now words.entry) result }
 {
@@ -158,7 +158,7 @@ fn mkdir(alloc: Global, cred: Cred, now: u32, words: Pieces<'_>) -> Result<Step,
     }))
 }
 
-/// `link`.
+/// Reads `link`.
 fn link(alloc: Global, cred: Cred, now: u32, words: Pieces<'_>) -> Result<Step, LineFault>
     ensures { Reads (asked_by Command.Link cred now words.entry) result }
 {
@@ -171,7 +171,7 @@ fn link(alloc: Global, cred: Cred, now: u32, words: Pieces<'_>) -> Result<Step, 
     }))
 }
 
-/// `unlink`.
+/// Reads `unlink`.
 fn unlink(alloc: Global, cred: Cred, now: u32, words: Pieces<'_>) -> Result<Step, LineFault>
     ensures { Reads (asked_by Command.Unlink cred now words.entry) result }
 {
@@ -179,7 +179,7 @@ fn unlink(alloc: Global, cred: Cred, now: u32, words: Pieces<'_>) -> Result<Step
     Ok(Step::Change(Call::Unlink { cred, now, path }))
 }
 
-/// `rmdir`.
+/// Reads `rmdir`.
 fn rmdir(alloc: Global, cred: Cred, now: u32, words: Pieces<'_>) -> Result<Step, LineFault>
     ensures { Reads (asked_by Command.Rmdir cred now words.entry) result }
 {
@@ -187,7 +187,7 @@ fn rmdir(alloc: Global, cred: Cred, now: u32, words: Pieces<'_>) -> Result<Step,
     Ok(Step::Change(Call::Rmdir { cred, now, path }))
 }
 
-/// `write`.
+/// Reads `write`.
 fn write(alloc: Global, cred: Cred, now: u32, words: Pieces<'_>) -> Result<Step, LineFault>
     ensures { Reads (asked_by Command.Write cred now words.entry) result }
 {
@@ -201,7 +201,7 @@ fn write(alloc: Global, cred: Cred, now: u32, words: Pieces<'_>) -> Result<Step,
     }))
 }
 
-/// `truncate`.
+/// Reads `truncate`.
 fn truncate(alloc: Global, cred: Cred, now: u32, words: Pieces<'_>) -> Result<Step, LineFault>
     ensures { Reads (asked_by Command.Truncate cred now words.entry) result }
 {
@@ -214,7 +214,7 @@ fn truncate(alloc: Global, cred: Cred, now: u32, words: Pieces<'_>) -> Result<St
     }))
 }
 
-/// `chmod`.
+/// Reads `chmod`.
 fn chmod(alloc: Global, cred: Cred, now: u32, words: Pieces<'_>) -> Result<Step, LineFault>
     ensures { Reads (asked_by Command.Chmod cred now words.entry) result }
 {
@@ -227,7 +227,7 @@ fn chmod(alloc: Global, cred: Cred, now: u32, words: Pieces<'_>) -> Result<Step,
     }))
 }
 
-/// `chown`.
+/// Reads `chown`.
 fn chown(alloc: Global, cred: Cred, now: u32, words: Pieces<'_>) -> Result<Step, LineFault>
     ensures { Reads (asked_by Command.Chown cred now words.entry) result }
 {
@@ -255,7 +255,7 @@ fn times(alloc: Global, cred: Cred, now: u32, words: Pieces<'_>) -> Result<Step,
     }))
 }
 
-/// `stat`.
+/// Reads `stat`.
 fn stat(alloc: Global, cred: Cred, words: Pieces<'_>) -> Result<Step, LineFault>
     ensures { (now : ℕ) → Reads (asked_by Command.Stat cred now words.entry) result }
 {
@@ -263,7 +263,7 @@ fn stat(alloc: Global, cred: Cred, words: Pieces<'_>) -> Result<Step, LineFault>
     Ok(Step::Question(Query::Stat { cred, path }))
 }
 
-/// `read`.
+/// Reads `read`.
 fn read(alloc: Global, cred: Cred, words: Pieces<'_>) -> Result<Step, LineFault>
     ensures { (now : ℕ) → Reads (asked_by Command.Read cred now words.entry) result }
 {
@@ -276,7 +276,7 @@ fn read(alloc: Global, cred: Cred, words: Pieces<'_>) -> Result<Step, LineFault>
     }))
 }
 
-/// `list`.
+/// Reads `list`.
 fn list(alloc: Global, cred: Cred, words: Pieces<'_>) -> Result<Step, LineFault>
     ensures { (now : ℕ) → Reads (asked_by Command.List cred now words.entry) result }
 {

@@ -1,4 +1,4 @@
-//! Numbers as they are written in scripts.
+//! Reads numbers and bytes in scripts.
 ghost use Rattle.std.specs.Prelude.{◌≡◌, ◌≤◌, ◌+◌, ◌*◌, SomeIff};
 ghost use Rattle.vol_scripts.specs.Numbers.{number_in, long_in, short_in, permissions_in, bytes_in};
 ghost use Rattle.vol_scripts.specs.Reading.{Reads};
@@ -8,31 +8,31 @@ use hex::FromHexError;
 use std::alloc::Global;
 use vol_volume::Bytes;
 
-/// The greatest permissions, which are all twelve bits.
+/// The greatest permissions: all twelve bits.
 const ALL_PERMISSIONS: u16 = 0o7777;
 
-/// The decimal number of 32 bits that a word writes.
+/// Reads a 32-bit decimal number.
 pub(crate) fn long_in(word: &[u8]) -> Option<u32>
     ensures { result ≡ long_in word.now }
 {
     number_in(10, u32::MAX, word)
 }
 
-/// The decimal number of 16 bits that a word writes.
+/// Reads a 16-bit decimal number.
 pub(crate) fn short_in(word: &[u8]) -> Option<u16>
     ensures { result ≡ short_in word.now }
 {
     short_number_in(10, u16::MAX, word)
 }
 
-/// The permissions that a word writes, an octal number.
+/// Reads permissions, an octal number.
 pub(crate) fn permissions_in(word: &[u8]) -> Option<u16>
     ensures { result ≡ permissions_in word.now }
 {
     short_number_in(8, ALL_PERMISSIONS, word)
 }
 
-/// The number that a word writes in the radix, where it is at most `most`, which has 16 bits.
+/// Reads a number of at most `most`, which has 16 bits, in the radix.
 fn short_number_in(radix: u32, most: u16, word: &[u8]) -> Option<u16>
     requires least { 2 ≤ radix }
     requires greatest { radix ≤ 36 }
@@ -42,8 +42,8 @@ fn short_number_in(radix: u32, most: u16, word: &[u8]) -> Option<u16>
     Some(number as u16)
 }
 
-/// The number that a word writes in the radix, where it is at most `most`: one or more digits, of which the
-/// first may be zeros, and no sign. Costs the length of the word.
+/// Reads a number of at most `most` in the radix: one or more digits, with leading zeros allowed and no sign.
+/// Costs the length of the word.
 fn number_in(radix: u32, most: u32, word: &[u8]) -> Option<u32>
     requires least { 2 ≤ radix }
     requires greatest { radix ≤ 36 }
@@ -60,7 +60,7 @@ fn number_in(radix: u32, most: u32, word: &[u8]) -> Option<u32>
     Some(number)
 }
 
-/// The number with one digit more, where it is at most `most`.
+/// Appends a digit to a number, or returns `None` if the result is above `most`.
 fn with_digit(radix: u32, most: u32, number: u32, digit: u32) -> Option<u32>
     ensures { SomeIff result (number * radix + digit ≤ most) (number * radix + digit) }
 {
@@ -68,8 +68,8 @@ fn with_digit(radix: u32, most: u32, number: u32, digit: u32) -> Option<u32>
     (number <= most).then_some(number)
 }
 
-/// The bytes that a word writes, two hexadecimal digits of either case for each, or a hyphen for none. Costs
-/// the length of the word.
+/// Reads bytes, with two hexadecimal digits of either case for each, or a hyphen for none. Costs the length
+/// of the word.
 pub(crate) fn bytes_in(alloc: Global, word: &[u8]) -> Result<Bytes, LineFault>
     ensures { Reads (bytes_in word.now) result }
 {

@@ -1,10 +1,10 @@
-//! The pieces of some bytes between separators: the lines of a script, and the words of a line.
+//! Splits bytes at separators: a script into lines, and a line into words.
 ghost use Rattle.std.specs.Prelude.{◌≡◌, ◌∷◌, ◌==◌, ◌↔◌, [], IsTrue, MatchOption, position};
 ghost use Rattle.std.specs.List.{slice_split};
 
 use std::marker::Model;
 
-/// The pieces that are left of some bytes, which separators cut. A caller sees the list of them.
+/// The remaining pieces of bytes that are split at separators. Contracts see the list of them.
 #[derive(Drop)]
 pub(crate) struct Pieces<'a> {
     separator: u8,
@@ -21,7 +21,7 @@ impl<'a> Model for Pieces<'a> {
 }
 
 impl<'a> Pieces<'a> {
-    /// All pieces of some bytes.
+    /// Returns all pieces of some bytes.
     pub(crate) fn of(separator: u8, bytes: &'a [u8]) -> Pieces<'a>
         ensures { result ≡ slice_split (λ b. b == separator) bytes.now }
     {
@@ -31,14 +31,14 @@ impl<'a> Pieces<'a> {
         }
     }
 
-    /// Whether no piece is left.
+    /// True if no piece is left.
     pub(crate) fn is_empty(&self) -> bool
         ensures { IsTrue result ↔ (self.now ≡ []) }
     {
         self.rest.is_none()
     }
 
-    /// The next piece, which is left no longer. Costs its length.
+    /// Returns and removes the next piece. Costs its length.
     pub(crate) fn take_next(&mut self) -> Option<&'a [u8]>
         ensures { MatchOption result ((self.old ≡ []) × (self.new ≡ [])) (λ piece. self.old ≡ piece.now ∷ self.new) }
     {
@@ -52,7 +52,7 @@ impl<'a> Pieces<'a> {
     }
 }
 
-/// Where the first separator stands.
+/// Returns the index of the first separator.
 fn first_of(separator: u8, bytes: &[u8]) -> Option<usize>
     ensures { result ≡ position (λ b. b == separator) bytes.now }
 {

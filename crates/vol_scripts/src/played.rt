@@ -1,17 +1,17 @@
-//! What came of the lines of a script.
+//! The results of a script's lines.
 use vol_receipts::Receipt;
 
-/// What came of one line.
+/// The result of one line.
 #[derive(Debug, PartialEq, Eq, Drop)]
 pub enum Played {
-    /// A call or a query has its receipt.
+    /// The receipt of a call or a query.
     Told(Receipt),
     /// The journal was cut. The number of its next record.
     Cut(u64),
     /// An allocation was refused, so nothing was done, and there is no receipt.
     NoMemory,
-    /// A view couldn't take what is published, so there is no receipt.
+    /// A view couldn't read the published version, so there is no receipt.
     NotEntered,
-    /// The line says that the script is for a view. Nothing is printed of it.
+    /// The line that marks a script as one for a view. It prints nothing.
     View,
 }

@@ -1,4 +1,4 @@
-//! Reading of scripts.
+//! Reads scripts.
 ghost use Rattle.std.specs.Prelude.{◌≡◌, ◌≤◌, ◌∷◌, ◌++◌, [], OnOk, IfErr};
 ghost use Rattle.vol_scripts.specs.Reading.{ReadsScript, ReadsScripts, asked_in, script_after, script_in, views_after};
 
@@ -8,10 +8,10 @@ use crate::steps::{Script, Sequence};
 use std::alloc::{AllocError, Global};
 use vol_views::MOST_VIEWS;
 
-/// Why a script wasn't read.
+/// Why a script couldn't be read.
 #[derive(Clone, Copy, Debug, PartialEq, Eq)]
 pub enum ScriptFault {
-    /// The first line that can't be read, from 1.
+    /// The number of the first line that can't be read, from 1.
     Line(u64),
     /// An allocation was refused.
     NoMemory,
@@ -27,11 +27,11 @@ impl From<AllocError> for ScriptFault {
     }
 }
 
-/// The line that says that a script is for a view.
+/// The line that marks a script as one for a view.
 const VIEW_LINE: &[u8] = b"view\n";
 
-/// What a script asks for: of a view, where its first line is the word `view`, else of a session. Each line ends with
-/// a newline, and a script of no bytes has none. What is asked of a view are queries alone.
+/// Reads a script: for a view if its first line is the word `view`, else for a session. Each line ends with a
+/// newline, and an empty script has no lines. A script for a view has only queries.
 ///
 /// Takes memory for the steps, their paths and the bytes of their writes. Costs the length of the script.
 pub fn read_script(alloc: Global, script: &[u8]) -> Result<Script, ScriptFault>
@@ -43,7 +43,7 @@ pub fn read_script(alloc: Global, script: &[u8]) -> Result<Script, ScriptFault>
     }
 }
 
-/// What lines ask for, of which the first has this number.
+/// Reads the steps of lines, the first of which has number `first`.
 fn read_lines<A: FromLine>(
     alloc: Global,
     text: &[u8],
@@ -57,7 +57,7 @@ fn read_lines<A: FromLine>(
     'lines: while let Some(line) = lines.take_next() {
         let number = asked.len() as u64 + first;
         if lines.is_empty() {
-            // What stands after the last newline is no line, and has to be nothing.
+            // The text after the last newline isn't a line, and must be empty.
             return if line.is_empty() {
                 Ok(Sequence::from_vec(asked))
             } else {
@@ -73,7 +73,7 @@ fn read_lines<A: FromLine>(
     Ok(Sequence::from_vec(asked))
 }
 
-/// Appends what a line asks for.
+/// Appends the step of a line.
 fn push_item<T: Drop>(items: &mut Vec<T>, item: T) -> Result<(), ScriptFault>
     ensures pushed { OnOk result (items.new.items ≡ items.old.items ++ item ∷ []) }
     ensures fault { IfErr result (λ fault. fault ≡ ScriptFault.NoMemory) }
@@ -81,10 +81,10 @@ fn push_item<T: Drop>(items: &mut Vec<T>, item: T) -> Result<(), ScriptFault>
     items.push(item).map_err(|_| ScriptFault::NoMemory)
 }
 
-/// Why several scripts weren't read.
+/// Why several scripts couldn't be read.
 #[derive(Clone, Copy, Debug, PartialEq, Eq)]
 pub enum ScriptsFault {
-    /// The first line that can't be read, by script and line, both from 1.
+    /// The first line that can't be read, by script and line, both numbered from 1.
     Line {
         /// The script's number.
         script: u64,
@@ -95,8 +95,8 @@ pub enum ScriptsFault {
     NoMemory,
 }
 
-/// What several scripts ask for, as [`read_script`] reads each; at most [`MOST_VIEWS`] may be for views, and the first
-/// line of a further one can't be read. Takes memory as it does, and a list of the scripts.
+/// Reads several scripts as [`read_script`] does. At most [`MOST_VIEWS`] may be for views; the first line of
+/// any further one counts as unreadable. Takes the memory of [`read_script`], and a list of the scripts.
 pub fn read_scripts(alloc: Global, scripts: &[Vec<u8>]) -> Result<Vec<Script>, ScriptsFault>
     ensures { ReadsScripts scripts.now result }
 {
@@ -115,7 +115,7 @@ pub fn read_scripts(alloc: Global, scripts: &[Vec<u8>]) -> Result<Vec<Script>, S
     Ok(read)
 }
 
-/// What a script asks for, where so many before it are for views.
+/// Reads a script when `views` scripts before it are for views.
 fn read_next(alloc: Global, views: &mut u64, script: &[u8]) -> Result<Script, ScriptFault>
     requires { views.old ≤ MOST_VIEWS }
     ensures read { ReadsScript (script_after views.old script.now) result }

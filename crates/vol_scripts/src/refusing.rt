@@ -1,4 +1,4 @@
-//! What is answered where scripts can't be read.
+//! The result of a play whose scripts can't be read.
 ghost use Rattle.std.specs.Prelude.{◌≡◌, IfOk};
 ghost use Rattle.std.specs.String.{string_bytes};
 ghost use Rattle.command_faults.specs.Streams.{says, ErrorStream, Hears};
@@ -10,8 +10,8 @@ use command_faults::{Answer, Fault};
 use std::alloc::{AllocError, Global};
 use vol_dir::Refusal;
 
-/// The answer of a play whose scripts weren't read: nothing is to be saved, and the fault is the first line
-/// that can't be read, with status 2, or memory that ran out, with status 4.
+/// Returns the result of a play whose scripts couldn't be read: nothing to save, and as fault the first
+/// unreadable line with status 2, or out of memory with status 4.
 pub fn refuse(alloc: Global, fault: ScriptsFault) -> Answer
     ensures { (errors : ErrorStream) → Hears errors result.fault → AnswersFault fault (says errors) result }
 {
@@ -28,7 +28,7 @@ pub fn refuse(alloc: Global, fault: ScriptsFault) -> Answer
     }
 }
 
-/// The line of a script's line that can't be read.
+/// Returns the message for an unreadable line of a script.
 fn unread_text(alloc: Global, script: u64, line: u64) -> Result<String, AllocError>
     ensures { IfOk result (λ text. string_bytes text ≡ unread_text script line) }
 {

@@ -1,4 +1,4 @@
-//! What `play` prints.
+//! The report of `play`.
 ghost use Rattle.std.specs.Prelude.{◌≡◌, ◌++◌, IfOk, OnOk};
 ghost use Rattle.std.specs.String.{string_bytes};
 ghost use Rattle.vol_scripts.specs.Report.{line_text, lines_text, step_line_text, outcome_text, totals_text};
@@ -10,7 +10,7 @@ use std::fmt::Write;
 use vol_dir::Refusal;
 use vol_receipts::Outcome;
 
-/// What came of a call or a query.
+/// Returns the text of a call's or query's outcome.
 fn outcome_text(alloc: Global, outcome: &Outcome) -> Result<String, AllocError>
     ensures { IfOk result (λ text. string_bytes text ≡ outcome_text outcome.now) }
 {
@@ -22,7 +22,7 @@ fn outcome_text(alloc: Global, outcome: &Outcome) -> Result<String, AllocError>
 }
 
 /// Appends the lines of a script's steps; `script` is its number, from 1. Takes memory for the text, and for
-/// what came of one step at a time.
+/// the result of one step at a time.
 pub(crate) fn push_lines(
     alloc: Global,
     text: &mut String,
@@ -39,7 +39,7 @@ pub(crate) fn push_lines(
     Ok(())
 }
 
-/// Appends the line of a step. The line that says that a script is for a view has none.
+/// Appends the line of a step. The line that marks a script as one for a view has none.
 fn push_line(
     alloc: Global,
     text: &mut String,
@@ -64,15 +64,15 @@ fn push_line(
     }
 }
 
-/// Appends a line: a script, a line of it, and what came of that.
+/// Appends a line: the numbers of a script and of its line, and the result.
 fn push_came(text: &mut String, script: u64, line: u64, came: &str) -> Result<(), AllocError>
     ensures { OnOk result (string_bytes text.new ≡ string_bytes text.old ++ line_text script line came.now) }
 {
     writeln!(text, "{script}.{line} {came}").map_err(|_| AllocError)
 }
 
-/// Appends the last lines: how many records the journal has, how many receipts were confirmed, and, where a
-/// script cuts the journal, how many speak of what was cut.
+/// Appends the last lines: the number of records in the journal, the number of confirmed receipts, and, if a
+/// script cuts the journal, the number of receipts whose records were cut.
 pub(crate) fn push_totals(
     text: &mut String,
     records: u64,

@@ -1,30 +1,30 @@
-//! What the lines of a script ask for.
+//! The steps of scripts.
 ghost use Rattle.std.specs.Prelude.{◌≡◌};
 
 use std::marker::Model;
 use vol_volume::{Call, Query};
 
-/// What one line of a script asks of a session.
+/// A step of a session: one line of a script.
 #[derive(Debug, PartialEq, Eq, Drop)]
 pub enum Step {
     /// A call.
     Change(Call),
     /// A query.
     Question(Query),
-    /// The journal is to be cut.
+    /// Cuts the journal.
     Cut,
 }
 
 /// A script, which is played in a thread of its own.
 #[derive(Debug, Drop)]
 pub enum Script {
-    /// What each line asks of a session.
+    /// A script for a session: one step per line.
     Session(Sequence<Step>),
-    /// What each line after the first, which is the word `view`, asks of a view.
+    /// A script for a view: one query per line after the first, which is the word `view`.
     View(Sequence<Query>),
 }
 
-/// What lines ask for, one after another. A caller sees the list.
+/// The steps of a script, in order. Contracts see the list.
 #[derive(Debug, Drop)]
 pub struct Sequence<T> {
     items: Vec<T>,
@@ -39,21 +39,21 @@ impl<T> Model for Sequence<T> {
 }
 
 impl<T> Sequence<T> {
-    /// What a list has. Takes no memory.
+    /// Wraps a list. Takes no memory.
     pub fn from_vec(items: Vec<T>) -> Sequence<T>
         ensures { result ≡ items.items }
     {
         Sequence { items }
     }
 
-    /// The list, given back. Takes no memory.
+    /// Returns the list. Takes no memory.
     pub fn into_vec(self) -> Vec<T>
         ensures { result.items ≡ self }
     {
         self.items
     }
 
-    /// All of it, in order.
+    /// Returns all steps, in order.
     pub fn as_slice(&self) -> &[T]
         ensures { result.now ≡ self.now }
     {

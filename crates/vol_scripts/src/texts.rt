@@ -1,4 +1,4 @@
-//! What is printed of an answer, a refusal and a reply.
+//! The texts of outcomes.
 ghost use Rattle.std.specs.Prelude.{◌≡◌, IfOk};
 ghost use Rattle.std.specs.String.{string_bytes};
 ghost use Rattle.vol_scripts.specs.Texts.{bytes_text, done_text, kind_text, node_text, permissions_text, refusal_text, reply_text, stat_text};
@@ -8,7 +8,7 @@ use vol_dir::Refusal;
 use vol_layout::Kind;
 use vol_volume::{Done, Reply, Stat};
 
-/// What an accepted call answered.
+/// Returns the text of an accepted call's result.
 pub(crate) fn done_text(alloc: Global, done: Done) -> Result<String, AllocError>
     ensures { IfOk result (λ text. string_bytes text ≡ done_text done) }
 {
@@ -19,7 +19,7 @@ pub(crate) fn done_text(alloc: Global, done: Done) -> Result<String, AllocError>
     }
 }
 
-/// What a query replied.
+/// Returns the text of a query's reply.
 pub(crate) fn reply_text(alloc: Global, reply: &Reply) -> Result<String, AllocError>
     ensures { IfOk result (λ text. string_bytes text ≡ reply_text reply.now) }
 {
@@ -37,7 +37,7 @@ pub(crate) fn reply_text(alloc: Global, reply: &Reply) -> Result<String, AllocEr
     }
 }
 
-/// Bytes as hexadecimal digits, or a hyphen for none.
+/// Returns bytes as hexadecimal digits, or a hyphen for none.
 fn bytes_text(alloc: Global, bytes: &[u8]) -> Result<String, AllocError>
     ensures { IfOk result (λ text. string_bytes text ≡ bytes_text bytes.now) }
 {
@@ -47,7 +47,7 @@ fn bytes_text(alloc: Global, bytes: &[u8]) -> Result<String, AllocError>
     hex::encode(alloc, bytes)
 }
 
-/// What a node is.
+/// Returns the text of a node's attributes.
 fn stat_text(alloc: Global, stat: &Stat) -> Result<String, AllocError>
     ensures { IfOk result (λ text. string_bytes text ≡ stat_text stat.now) }
 {
@@ -63,7 +63,7 @@ fn stat_text(alloc: Global, stat: &Stat) -> Result<String, AllocError>
     format!(in alloc; "stat {node} {links} {uid} {gid} {size}")
 }
 
-/// The i-number, the kind and the permissions of a node.
+/// Returns the i-number, the kind and the permissions of a node.
 fn node_text(alloc: Global, stat: &Stat) -> Result<String, AllocError>
     ensures { IfOk result (λ text. string_bytes text ≡ node_text stat.now) }
 {
@@ -74,7 +74,7 @@ fn node_text(alloc: Global, stat: &Stat) -> Result<String, AllocError>
     format!(in alloc; "{number} {kind} {permissions}")
 }
 
-/// The word of a kind of node.
+/// Returns the word for a kind of node.
 fn kind_text(kind: Kind) -> &'static str
     ensures { result.now ≡ kind_text kind }
 {
@@ -85,7 +85,7 @@ fn kind_text(kind: Kind) -> &'static str
     }
 }
 
-/// Permissions, as four octal digits.
+/// Returns permissions as four octal digits.
 fn permissions_text(alloc: Global, bits: u16) -> Result<String, AllocError>
     ensures { IfOk result (λ text. string_bytes text ≡ permissions_text bits) }
 {
@@ -94,7 +94,7 @@ fn permissions_text(alloc: Global, bits: u16) -> Result<String, AllocError>
     format!(in alloc; "{first}{second}{third}{fourth}")
 }
 
-/// The number and the name of a refusal.
+/// Returns the number and the name of a refusal.
 pub(crate) fn refusal_text(refusal: Refusal) -> &'static str
     ensures { result.now ≡ refusal_text refusal }
 {

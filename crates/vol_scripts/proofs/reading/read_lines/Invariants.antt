@@ -3,7 +3,7 @@ use Rattle.vol_scripts.specs.Reading.{asked_from, asked_in}
 use Rattle.vol_scripts.proofs.ReadingLemmas.{after}
 use Rattle.vol_scripts.proofs.reading.read_lines.Given as goal
 
--- the text asks for what was read so far, and for what the lines that are left do
+-- the text has the steps read so far, followed by those of the lines that are left
 abbrev pub invariant-lines : goal.invariant-lines
 invariant-lines g l = asked_in g.A.FromLine.written l.first l.text ≡ after l.asked.items (asked_from g.A.FromLine.written (length l.asked.items + l.first) l.lines)
 

@@ -1,4 +1,4 @@
--- What is known of a volume once all scripts were played, by what came of their lines.
+-- Facts about a volume once all scripts were played, from the results of their lines.
 use Rattle.std.proofs.Common.{◌≡◌, ◌∙◌, ℕ, ◌+◌, ◌≤◌, List, [], ◌∷◌, ◌++◌, Some, map, max, All, true≢false, false, refl, ap, sym, arith}
 use Rattle.std.proofs.lemmas.List.Elements.{All-append, All-cons, All-head, All-nil, All-same, All-tail, All-weaker}
 use Rattle.std.specs.Prelude.{Vec}
@@ -56,7 +56,7 @@ module _ (shared : Opened) where
   places_dealt weight (Viewer view queries played ∷ players) all =
       let one = ap (total weight) all.0.0 in let rest = places_dealt weight players all.1 in omega arith
 
-  -- the greatest number that a cut answered
+  -- the greatest number that a cut returned
   cuts_dealt : (players : List Player) → AllByRecursion (IsEnded shared) players
       → greatest (λ s. greatest_of s.cuts) (sessions_of players) ≡ greatest (λ came. greatest_of (cuts_made came.items)) (map played_by players)
   unfolding greatest
@@ -67,7 +67,7 @@ module _ (shared : Opened) where
       omega arith
   cuts_dealt (Viewer view queries played ∷ players) all = let one = ap greatest_of all.0.1 in let rest = cuts_dealt players all.1 in omega arith
 
-  -- where no script cut the journal, no session did
+  -- if no script cut the journal, no session did
   uncut_dealt : (players : List Player) → AllByRecursion (IsEnded shared) players → All (λ came. cuts_made came.items ≡ []) (map played_by players)
       → All (λ s. s.cuts ≡ []) (sessions_of players)
   uncut_dealt [] all none = All-nil (λ (s : Known). s.cuts ≡ [])
@@ -79,7 +79,7 @@ module _ (shared : Opened) where
   uncut_dealt (Viewer view queries played ∷ players) all none =
       uncut_dealt players all.1 (All-tail (λ (came : Vec Played Global). cuts_made came.items ≡ []) played (map played_by players) none)
 
-  -- what holds of the receipts of all sessions and views holds of all receipts
+  -- a fact of the receipts of all sessions and views is one of all receipts
   receipts_dealt : (fits : Receipt → Type 0) (players : List Player) → AllByRecursion (IsEnded shared) players
       → All (λ s. All fits s.receipts) (sessions_of players) → All (λ v. All fits v.receipts) (views_of players)
       → All (λ came. All fits (receipts_in came.items)) (map played_by players)
@@ -94,7 +94,7 @@ module _ (shared : Opened) where
       (All-same fits (receipts_in played.items) view.receipts (sym all.0.3) (All-head (λ (v : Watched). All fits v.receipts) view (views_of players) views))
       (receipts_dealt fits players all.1 sessions (All-tail (λ (v : Watched). All fits v.receipts) view (views_of players) views))
 
-  -- what holds of the receipts of all sessions holds of those of the scripts for sessions
+  -- a fact of the receipts of all sessions is one of those of the scripts for sessions
   called_dealt : (fits : Receipt → Type 0) (players : List Player) → AllByRecursion (IsEnded shared) players
       → All (λ s. All fits s.receipts) (sessions_of players)
       → All (λ came. is_seen came.items ≡ false → All fits (receipts_in came.items)) (map played_by players)
@@ -154,7 +154,7 @@ module _ (shared : Opened) where
         → All (λ came. is_seen came.items ≡ false → All fits (receipts_in came.items)) (map played_by players)
     ended_called fits sessions = called_dealt fits players ended (all_after (λ (s : Known). All fits s.receipts) left (sessions_of players) sessions)
 
-    -- what is known of the volume once it ended is what a play comes to
+    -- the facts about the volume at the end are the result of a play
     pub whole_played : (scripts : List Script) (last : Mounted) → InPairs (λ script came. CameOfScript script (next_number shared.stored) came.items) scripts (map played_by players)
         → Closes shared.stored (left ++ sessions_of players) (views_of players) last → ArePlayed (unpublished shared.stored) scripts last (map played_by players)
     whole_played scripts last came closes = record {

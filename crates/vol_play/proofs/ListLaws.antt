@@ -7,16 +7,16 @@ use Rattle.count_table.specs.Sums.{total}
 use Rattle.vol_shared.specs.Lists.{greatest}
 use Rattle.vol_play.specs.Players.{InPairs}
 
--- a count over one more
+-- a count with one more
 pub counted_first : {A : Type 0} (p : A → Bool) (x : A) (xs : List A) → count_by p (x ∷ xs) ≡ cond (p x) 1 0 + count_by p xs
 counted_first p x xs = sum_by-cons (λ y. cond (p y) 1 0) x xs
 
--- a list without length is empty
+-- a list of length 0 is empty
 pub empty_of : {A : Type 0} (xs : List A) → length xs ≡ 0 → xs ≡ []
 empty_of [] none = refl
 empty_of (x ∷ xs) none = absurd (omega arith)
 
--- what holds of all of two lists in a row holds of all of the second
+-- a fact of all elements of two lists in a row is one of the second's
 pub all_after : {A : Type 0} (P : A → Type 0) (xs ys : List A) → All P (xs ++ ys) → All P ys
 all_after P [] ys all = all
 all_after P (x ∷ xs) ys all = all_after P xs ys (All-tail P x (xs ++ ys) all)
@@ -36,7 +36,7 @@ module _ {A : Type 0} (weight : A → ℕ) where
   greatest_none (x ∷ xs) all =
       let one = All-head (λ (y : A). weight y ≡ 0) x xs all in let rest = greatest_none xs (All-tail (λ (y : A). weight y ≡ 0) x xs all) in omega arith
 
--- lists whose elements at each place are related
+-- lists whose elements at each index are related
 pub pairs_at : {A : Type 0} (related : A → A → Type 0) (xs ys : List A) → length ys ≡ length xs
     → ((k : ℕ) (d : A) → k < length xs → related (slice_index_or xs k d) (slice_index_or ys k d)) → InPairs related xs ys
 pairs_at related [] [] same each = tt
@@ -45,26 +45,26 @@ pairs_at related (x ∷ xs) [] same each = absurd (omega arith)
 pairs_at related (x ∷ xs) (y ∷ ys) same each =
     (each 0 x (omega arith), pairs_at related xs ys (omega arith) (λ k d lt. each (suc k) d (omega arith)))
 
--- what holds of all, of which one is the last, holds of the others and of the last
+-- a fact of all elements is one of the last and of the others
 pub all_pushed : {A : Type 0} (P : A → Type 0) (xs : List A) (x : A) → All P (xs ++ x ∷ []) → All P xs × P x
 all_pushed P [] x all = (All-nil P, All-head P x [] all)
 all_pushed P (y ∷ ys) x all =
     let rest = all_pushed P ys x (All-tail P y (ys ++ x ∷ []) all) in
     (All-cons P y ys (All-head P y (ys ++ x ∷ []) all) rest.0, rest.1)
 
--- a list that is written over with one as long
+-- a list overwritten by one of the same length
 over : {A : Type 0} (xs ys : List A) → length ys ≡ length xs → take (length xs) (ys ++ drop (length ys) xs) ≡ ys
 over [] [] same = refl
 over [] (y ∷ ys) same = absurd (omega arith)
 over (x ∷ xs) [] same = absurd (omega arith)
 over (x ∷ xs) (y ∷ ys) same = ap (λ zs. y ∷ zs) (over xs ys (omega arith))
 
--- the same, whose length is known by another name
+-- the same, with the length under another name
 pub written_over : {A : Type 0} (xs ys : List A) (n : ℕ) → length ys ≡ length xs → n ≡ length xs → take n (ys ++ drop (length ys) xs) ≡ ys
 written_over xs ys n same is = ap (λ m. take m (ys ++ drop (length ys) xs)) is ∙ over xs ys same
 
 module _ {A B : Type 0} (related : A → B → Type 0) (whole : List A) where
-  -- one more of two lists in pairs
+  -- two lists in pairs, with one more of each
   pub pairs_more : (x : A) (rest : List A) (y : B) (front now : List B) → now ≡ front ++ y ∷ [] → related x y
       → ((others : List B) → InPairs related (x ∷ rest) others → InPairs related whole (front ++ others))
       → (others : List B) → InPairs related rest others → InPairs related whole (now ++ others)

@@ -1,4 +1,4 @@
--- A volume that is shared, with views or without, for as many scripts as there are.
+-- A volume that is shared, with or without views, for as many scripts as there are.
 use Rattle.std.proofs.Common.{◌≡◌, ◌≢◌, ◌∙◌, ℕ, ◌+◌, List, [], ◌∷◌, None, Some, length, map, All, refl, ap, sym, arith}
 use Rattle.std.proofs.lemmas.List.Elements.{All-nil}
 use Rattle.std.specs.Prelude.{cond, count_by}
@@ -45,7 +45,7 @@ opened_published stored sessions views shared all seen some is callers viewers f
   published = λ more. viewers.0 ∙ sym viewers.1;
 }
 
--- the same volume, by its counts under other names
+-- the same volume, with its counts under other names
 pub opened_as : (stored : Stored) (sessions views callers viewers : ℕ) (shared : Opened) (all : List Known) (seen : List Watched)
     → sessions ≡ callers → views ≡ viewers → IsOpened stored sessions views shared all seen → IsOpened (unpublished shared.stored) callers viewers shared all seen
 opened_as stored sessions views callers viewers shared all seen callers_are viewers_are is = record {

@@ -37,14 +37,14 @@ views_first (Caller session steps played) players = refl
 views_first (Viewer view queries played) players = refl
 
 module _ {A : Type 0} (of : List Player → List A) (first : (player : Player) (players : List Player) → of (player ∷ players) ≡ of (player ∷ []) ++ of players) where
-  -- what a list has after what the first player had put on it, with what the others have, is all
+  -- a list that got the first player's part, followed by the parts of the others, has all
   pub put_on : (old new whole : List A) (player : Player) (players left : List Player) → left ≡ player ∷ players → new ≡ old ++ of (player ∷ [])
       → old ++ of left ≡ whole → new ++ of players ≡ whole
   put_on old new whole player players left left_is new_is so_far =
       ap (λ (xs : List A). xs ++ of players) new_is ∙ append_assoc old (of (player ∷ [])) (of players)
       ∙ ap (λ (xs : List A). old ++ xs) (sym (first player players) ∙ ap of (sym left_is)) ∙ so_far
 
-  -- there is room for what the first player has, and then for what the others have
+  -- there is room for the first player's part, followed by those of the others
   pub fits_on : (old new : List A) (room : ℕ) (player : Player) (players left : List Player) → left ≡ player ∷ players → new ≡ old ++ of (player ∷ [])
       → length old + length (of left) ≤ room → (length old + length (of (player ∷ [])) ≤ room) × (length new + length (of players) ≤ room)
   fits_on old new room player players left left_is new_is fits =
@@ -92,7 +92,7 @@ module _ (shared : Opened) where
       let one = All-head IsPrepared p ps ready in
       All-cons (CanPlay shared.of) q qs (can_play p.script p.played q one.empty one.room dealt.0) (dealt_can ps qs (All-tail IsPrepared p ps ready) dealt.1)
 
-  -- what a script's player knows once it was played
+  -- a script's player after it was played
   abbrev EndedAs : Script → Player → Type 0
   EndedAs (kinds.Session wanted) (Caller session steps played) =
       CameInTurn CameOf wanted (next_number shared.stored) played.items × (session ≡ known_after_all (fresh_session shared) played.items)
@@ -129,7 +129,7 @@ module _ (shared : Opened) where
   ended_all (p ∷ ps) (o ∷ os) [] dealt has = absurd has
   ended_all (p ∷ ps) (o ∷ os) (n ∷ ns) dealt has = (ended_one p.script p.played o n dealt.0 has.0, ended_all ps os ns dealt.1 has.1)
 
-  -- something came of each line
+  -- each line has a result
   came_one : (script : Script) (player : Player) → EndedAs script player → CameOfScript script (next_number shared.stored) (played_by player).items
   came_one (kinds.Session wanted) (Caller session steps played) ended = ended.0
   came_one (kinds.Session wanted) (Viewer view queries played) ended = absurd ended
@@ -172,7 +172,7 @@ module _ (shared : Opened) where
   views_many (p ∷ ps) [] all = absurd all
   views_many (p ∷ ps) (q ∷ qs) all = views_one p.script q qs all.0 ∙ ap (λ n. cond (is_view p.script) 1 0 + n) (views_many ps qs all.1) ∙ sym (counted_first wants_view p ps)
 
-  -- what is known of a player by itself once its script was played: its session has done what came of the lines, or its view made no records, no cuts and their receipts
+  -- facts about one player once its script was played: its session has run the lines with these results, or its view made no records, no cuts and their receipts
   abbrev pub IsEnded : Player → Type 0
   IsEnded (Caller session steps played) = session ≡ known_after_all (fresh_session shared) played.items
   IsEnded (Viewer view queries played) = (places_made played.items ≡ []) × (cuts_made played.items ≡ [])

@@ -1,4 +1,4 @@
--- What comes of the queries of a view.
+-- The results of a view's queries.
 use Rattle.std.proofs.Common.{◌≡◌, ℕ, ◌≤◌, ◌-◌, List, [], ◌∷◌, length, true, refl, ap, subst, arith, length-append}
 use Rattle.vol_views.specs.declared.history.LogEntry.{LogEntry}
 use Rattle.vol_views.specs.Logs.{history_of, number_of, origin_in}
@@ -16,7 +16,7 @@ use Rattle.vol_volume.specs.declared.calls.Record.{Record}
 use Rattle.vol_volume.specs.declared.queries.Query.{Query}
 use Rattle.vol_play.specs.Steps.{CameInTurn, CameOfQuery, CameOfView, is_seen, cuts_made, next_after, places_made}
 
--- the receipt of a query has no place
+-- the receipt of a query has no record
 question_after : (origin : Origin) (journal : List Record) (count : ℕ) (query : Query) (at : ℕ) (outcome : Outcome)
     → AgreesAfter origin journal count (Question query) outcome → place_of at outcome ≡ []
 question_after origin journal count query at (Accepted done) agrees = absurd agrees.1
@@ -30,13 +30,13 @@ question_place log receipt query is agrees =
     question_after (origin_in log) (history_of log) count query receipt.at receipt.outcome
     (subst (λ (asked : Asked). AgreesAfter (origin_in log) (history_of log) count asked receipt.outcome) is agrees.1)
 
--- without a place the next receipt may have the same number
+-- without a record the next receipt may have the same number
 pub question_next : (at : ℕ) (outcome : Outcome) → place_of at outcome ≡ [] → next_of at outcome ≡ at
 question_next at (Accepted done) none = absurd (let e = none in cc)
 question_next at (Refused refusal) none = refl
 question_next at (Answered reply) none = refl
 
--- where a greater number is the least, so is a lesser one
+-- a number above the least is above any lesser one
 query_less : (query : Query) (less next : ℕ) (came : Played) → less ≤ next → CameOfQuery query next came → CameOfQuery query less came
 query_less query less next (played.Told receipt) below one = (one.0, let least = one.1 in omega arith, one.2)
 query_less query less next (played.Cut first) below one = absurd one
@@ -97,7 +97,7 @@ view_cuts queries next (played.NoMemory ∷ others) all = absurd all
 view_cuts queries next (played.NotEntered ∷ others) all = absurd all
 view_cuts queries next (played.View ∷ others) all = queries_cuts queries next others all
 
--- what came of a view's script says that it is one
+-- the results of a view's script say that it is one
 pub view_seen : (queries : List Query) (next : ℕ) (came : List Played) → CameOfView queries next came → is_seen came ≡ true
 view_seen queries next [] all = absurd all
 view_seen queries next (played.Told receipt ∷ others) all = absurd all

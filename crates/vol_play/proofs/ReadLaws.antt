@@ -13,7 +13,7 @@ use Rattle.vol_volume.specs.declared.queries.Query.{Query}
 use Rattle.vol_play.specs.Players.{is_view}
 use Rattle.vol_play.proofs.ListLaws.{counted_first}
 
--- where scripts were read, the first was, and those after it
+-- if scripts were read, the first was, and those after it
 before_read : (first : Result Script ℕ) (number : ℕ) (others : Result (List Script) (ℕ × ℕ)) (read : List Script) → before_scripts first number others ≡ Ok read
     → (head : Script) × (tail : List Script) × (first ≡ Ok head) × (others ≡ Ok tail) × (read ≡ head ∷ tail)
 before_read (Err line) number others read is = absurd (let e = is in cc)
@@ -47,7 +47,7 @@ read_by views true false viewed asked script over_is as_view as_session few is =
     let yes = as_view is in let below = leb-false 16 views (sym over_is) in (rw yes (omega arith), omega arith)
 read_by views false over viewed asked script over_is as_view as_session few is = let no = as_session is in (rw no (omega arith), few)
 
--- a script that was read is for a view where its first line says so, and then at most 15 came before it
+-- a script that was read is for a view if its first line says so, and then at most 15 came before it
 read_one : (views : ℕ) (bytes : List ℕ) (script : Script) → views ≤ 16 → script_after views bytes ≡ Ok script
     → (views_after views bytes ≡ cond (is_view script) 1 0 + views) × (views_after views bytes ≤ 16)
 read_one views bytes script few is =

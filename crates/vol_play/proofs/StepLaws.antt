@@ -1,4 +1,4 @@
--- What comes of the steps of a script, and what its session is then.
+-- The results of a script's steps, and their effect on its session.
 use Rattle.std.proofs.Common.{◌≡◌, ℕ, ◌∙◌, List, [], ◌∷◌, ◌++◌, refl, sym, ap, subst, append-nil, append_assoc, length, arith}
 use Rattle.vol_receipts.specs.declared.receipts.Receipt.{Receipt}
 use Rattle.vol_scripts.specs.Ending.{receipts_in}
@@ -36,13 +36,13 @@ known_next known played.NoMemory = refl
 known_next known played.NotEntered = refl
 known_next known played.View = refl
 
--- one step more
+-- one more step
 pub known_push : (known : Known) (all : List Played) (came : Played) → known_after_all known (all ++ came ∷ []) ≡ known_after (known_after_all known all) came
 known_push known [] came = refl
 known_push known (first ∷ all) came = known_push (known_after known first) all came
 
 module _ {A : Type 0} (came_of : A → ℕ → Played → Type 0) (Came : List Played → Type 0) where
-  -- what came of a line goes before what comes of those after it
+  -- the result of a line comes before those of the lines after it
   pub came_more : (rest : List A) (line : A) (next later : ℕ) (front now : List Played) (came : Played)
       → later ≡ next_after next came → now ≡ front ++ came ∷ [] → came_of line next came
       → ((others : List Played) → CameInTurn came_of (line ∷ rest) next others → Came (front ++ others))
@@ -51,13 +51,13 @@ module _ {A : Type 0} (came_of : A → ℕ → Played → Type 0) (Came : List P
       let joined : now ++ others ≡ front ++ came ∷ others = ap (λ (ps : List Played). ps ++ others) now_is ∙ append_assoc front (came ∷ []) others in
       subst Came (sym joined) (given (came ∷ others) (one, subst (λ (n : ℕ). CameInTurn came_of rest n others) later_is all))
 
-  -- once no line is left, that is what came of all
+  -- once no line is left, these are all results
   pub came_end : (rest : List A) (next : ℕ) (front : List Played) → length rest ≡ 0
       → ((others : List Played) → CameInTurn came_of rest next others → Came (front ++ others)) → Came front
   came_end [] next front none given = subst Came (append-nil front) (given [] tt)
   came_end (line ∷ rest) next front none given = absurd (omega arith)
 
--- a session's places are those of its steps
+-- a session's records are those of its steps
 pub known_places : (known : Known) (all : List Played) → (known_after_all known all).places ≡ known.places ++ places_made all
 known_places known [] = sym (append-nil known.places)
 known_places known (played.Told receipt ∷ others) = known_places (known_after known (played.Told receipt)) others ∙ append_assoc known.places _ (places_made others)
@@ -66,7 +66,7 @@ known_places known (played.NoMemory ∷ others) = known_places known others
 known_places known (played.NotEntered ∷ others) = known_places known others
 known_places known (played.View ∷ others) = known_places known others
 
--- so are the numbers that its cuts answered
+-- so are the numbers that its cuts returned
 pub known_cuts : (known : Known) (all : List Played) → (known_after_all known all).cuts ≡ known.cuts ++ cuts_made all
 known_cuts known [] = sym (append-nil known.cuts)
 known_cuts known (played.Told receipt ∷ others) = known_cuts (known_after known (played.Told receipt)) others
@@ -85,7 +85,7 @@ known_receipts known (played.NoMemory ∷ others) = known_receipts known others
 known_receipts known (played.NotEntered ∷ others) = known_receipts known others
 known_receipts known (played.View ∷ others) = known_receipts known others
 
--- the receipts with one line more
+-- the receipts with one more line
 pub receipts_push : (front : List Played) (came : Played) → receipts_in (front ++ came ∷ []) ≡ receipts_in front ++ receipts_in (came ∷ [])
 receipts_push [] came = refl
 receipts_push (played.Told receipt ∷ front) came = ap (λ rs. receipt ∷ rs) (receipts_push front came)

@@ -1,4 +1,4 @@
--- The volume that scripts share, with views or without.
+-- The volume that scripts share, with or without views.
 use Rattle.std.specs.Prelude.{◌≡◌, ◌≢◌, ℕ, ◌+◌, ◌≤◌, List, [], All, None, Some, length, max}
 use Rattle.count_table.specs.Sums.{total, below}
 use Rattle.vol_receipts.specs.Agrees.{origin_of, Agrees}
@@ -19,7 +19,7 @@ pub record IsFreshView (shared : Opened) (view : Watched) : Type 0 where
   pub own : shared.of.book ≡ Some view.book
   pub fresh : IsNewView shared.stored view
 
--- a volume is shared by so many new sessions and so many new views; without views nothing is published (this project)
+-- a volume is shared by `callers` new sessions and `viewers` new views; without views nothing is published (this project)
 pub record IsOpened (volume : Stored) (callers viewers : ℕ) (shared : Opened) (all : List Known) (seen : List Watched) : Type 0 where
   pub stored : unpublished shared.stored ≡ volume
   pub sessions : shared.sessions ≡ callers
@@ -30,7 +30,7 @@ pub record IsOpened (volume : Stored) (callers viewers : ℕ) (shared : Opened) 
   pub plain : seen ≡ [] → shared.of.book ≡ None
   pub published : seen ≢ [] → shared.views ≡ length seen
 
--- all sessions and views of a shared volume are given back (this project)
+-- all sessions and views of a shared volume are handed back (this project)
 pub record IsReturned (shared : Opened) (all : List Known) (seen : List Watched) : Type 0 where
   pub count : length all ≡ shared.sessions
   pub own : All (λ s. s.of ≡ shared.of) all
@@ -38,7 +38,7 @@ pub record IsReturned (shared : Opened) (all : List Known) (seen : List Watched)
   pub plain : seen ≡ [] → shared.of.book ≡ None
   pub published : seen ≢ [] → length seen ≡ shared.views
 
--- what is known of a shared volume that ends, by its sessions and views (this project)
+-- a shared volume at its end, given its sessions and views (this project)
 pub record Closes (opened : Stored) (all : List Known) (seen : List Watched) (last : Mounted) : Type 0 where
   pub goes_on : Continues opened (stored_of last) (λ agrees. All (λ s. All agrees s.receipts) all)
   pub uncut : All (λ s. s.cuts ≡ []) all → (origin_of last ≡ opened.origin) × BeginsWith last.journal opened.journal

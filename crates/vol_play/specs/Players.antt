@@ -1,4 +1,4 @@
--- Scripts with their sessions and views, before they are played and after it.
+-- Scripts with their sessions and views, before and after they are played.
 use Rattle.std.specs.Prelude.{◌≡◌, ℕ, ◌+◌, ◌≤◌, ◌++◌, Bool, true, false, List, [], ◌∷◌, length, Vec, vec_capacity}
 use Rattle.std.specs.Global.{Global}
 use Rattle.vol_views.specs.Logs.{number_of}
@@ -15,42 +15,42 @@ use Rattle.vol_play.specs.declared.preparing.Prepared.{Prepared}
 use Rattle.vol_play.specs.declared.preparing.Player.{Player}
 use Rattle.vol_play.specs.declared.preparing.Player.TheVariants.{Caller, Viewer}
 
--- two lists have one length, and a relation holds of the elements at each place (this project)
+-- two lists have the same length, and a relation holds between the elements at each index (this project)
 abbrev pub InPairs : {A B : Type 0} → (A → B → Type 0) → List A → List B → Type 0
 InPairs related [] [] = Unit {0}
 InPairs related [] (y ∷ ys) = ⊥
 InPairs related (x ∷ xs) [] = ⊥
 InPairs related (x ∷ xs) (y ∷ ys) = related x y × InPairs related xs ys
 
--- a script is for a view (this project)
+-- true if a script is for a view (this project)
 abbrev pub is_view : Script → Bool
 is_view (kinds.Session steps) = false
 is_view (kinds.View queries) = true
 
--- a script is for a session (this project)
+-- true if a script is for a session (this project)
 abbrev pub is_session : Script → Bool
 is_session (kinds.Session steps) = true
 is_session (kinds.View queries) = false
 
--- a script that is to be played wants a view (this project)
+-- true if a prepared script needs a view (this project)
 abbrev pub wants_view : Prepared → Bool
 wants_view prepared = is_view prepared.script
 
--- a script that is to be played wants a session (this project)
+-- true if a prepared script needs a session (this project)
 abbrev pub wants_session : Prepared → Bool
 wants_session prepared = is_session prepared.script
 
--- how many lines of a script something comes of (this project)
+-- the number of results that a script's lines have (this project)
 abbrev pub lines_of : Script → ℕ
 lines_of (kinds.Session steps) = length steps
 lines_of (kinds.View queries) = length queries + 1
 
--- nothing came of a script yet, and there is room for what comes of each line (this project)
+-- a script has no results yet, and there is room for the result of each line (this project)
 pub record IsPrepared (prepared : Prepared) : Type 0 where
   pub empty : prepared.played.items ≡ []
   pub room : lines_of prepared.script ≤ vec_capacity prepared.played
 
--- what came of the lines of a player's script (this project)
+-- the results of a player's script (this project)
 abbrev pub played_by : Player → Vec Played Global
 played_by (Caller session steps played) = played
 played_by (Viewer view queries played) = played
@@ -67,14 +67,14 @@ views_of [] = []
 views_of (Caller session steps played ∷ players) = views_of players
 views_of (Viewer view queries played ∷ players) = view ∷ views_of players
 
--- a player has what a script asks for and the room for what comes of it, and a session or a view that was just opened (this project)
+-- a player has a script's lines and the room for their results, and a session or a view that was just opened (this project)
 abbrev pub IsDealtTo : Opened → Script → Vec Played Global → Player → Type 0
 IsDealtTo shared (kinds.Session wanted) room (Caller session steps played) = (session ≡ fresh_session shared) × (steps ≡ wanted) × (played ≡ room)
 IsDealtTo shared (kinds.Session wanted) room (Viewer view queries played) = ⊥
 IsDealtTo shared (kinds.View wanted) room (Caller session steps played) = ⊥
 IsDealtTo shared (kinds.View wanted) room (Viewer view queries played) = IsFreshView shared view × (queries ≡ wanted) × (played ≡ room)
 
--- a script has its player (this project)
+-- a player has a script (this project)
 abbrev pub IsDealt : Opened → Prepared → Player → Type 0
 IsDealt shared prepared player = IsDealtTo shared prepared.script prepared.played player
 
@@ -83,7 +83,7 @@ abbrev pub CanPlay : Identity → Player → Type 0
 CanPlay of (Caller session steps played) = (session.of ≡ of) × (played.items ≡ []) × (length steps ≤ vec_capacity played)
 CanPlay of (Viewer view queries played) = (played.items ≡ []) × (length queries + 1 ≤ vec_capacity played)
 
--- a player played its script (this project)
+-- a player after it played its script (this project)
 abbrev pub HasPlayed : Player → Player → Type 0
 HasPlayed (Caller old steps room) (Caller new none played) = CameInTurn CameOf steps old.next played.items × (new ≡ known_after_all old played.items)
 HasPlayed (Caller old steps room) (Viewer new none played) = ⊥

@@ -1,4 +1,4 @@
--- What a play comes to.
+-- The result of a play.
 use Rattle.std.specs.Prelude.{◌≡◌, ◌⊎◌, ℕ, ◌+◌, ◌≤◌, Bool, true, false, List, [], max, All, Err, Ok, Vec}
 use Rattle.std.specs.Global.{Global}
 use Rattle.std.specs.Io.KnownBytes.{Keeps}
@@ -26,22 +26,22 @@ use Rattle.vol_scripts.specs.declared.steps.Script.TheVariants as kinds
 use Rattle.vol_scripts.specs.declared.steps.Step.{Step}
 use Rattle.vol_scripts.specs.declared.steps.Step.TheVariants as steps
 
--- a step cuts the journal (this project)
+-- true if a step cuts the journal (this project)
 abbrev pub is_cut : Step → Bool
 is_cut (steps.Change call) = false
 is_cut (steps.Question query) = false
 is_cut steps.Cut = true
 
--- a script cuts the journal (this project)
+-- true if a script cuts the journal (this project)
 abbrev pub script_cuts : Script → Bool
 script_cuts (kinds.Session steps) = list_any is_cut steps
 script_cuts (kinds.View queries) = false
 
--- one of some scripts cuts the journal (this project)
+-- true if one of some scripts cuts the journal (this project)
 abbrev pub any_cut : List Script → Bool
 any_cut scripts = list_any script_cuts scripts
 
--- scripts were played on a volume: something came of each line of each script, in order; the volume goes on from what it was by records with which all receipts of sessions agree, those of before a cut too, the bytes that no call changes stay, and where no script cut the journal, that goes on from the one that there was; the journal's first number is the greatest that a cut answered, or that of the start; the accepted calls of all scripts have the numbers of the records made since, each once; and each receipt agrees with the journal, but for those with lesser numbers than its first (this project)
+-- scripts were played on a volume: each line of each script has a result, in order; the volume continues what it was by records with which all receipts of sessions agree, also those given before a cut; the bytes that no call changes stay; if no script cut the journal, it extends the one that was there; the journal's first number is the greatest that a cut returned, or that of the start; the accepted calls of all scripts have the numbers of the records made since, each once; and each receipt agrees with the journal, unless its number is below that of the journal's first record (this project)
 pub record ArePlayed (opened : Stored) (scripts : List Script) (last : Mounted) (played : List (Vec Played Global)) : Type 0 where
   pub came : InPairs (λ script came. CameOfScript script (next_number opened) came.items) scripts played
   pub goes_on : Continues opened (stored_of last) (λ agrees. All (λ came. is_seen came.items ≡ false → All agrees (receipts_in came.items)) played)
@@ -51,13 +51,13 @@ pub record ArePlayed (opened : Stored) (scripts : List Script) (last : Mounted) 
       ≡ below weight (next_number (stored_of last))
   pub agree : All (λ came. All (λ receipt. last.first ≤ receipt.at → Agrees (origin_of last) last.journal receipt) (receipts_in came.items)) played
 
--- scripts were played on the sound volume in some bytes, and it reads as its journal says (this project)
+-- scripts were played on the sound volume in an image, and it has the state after its journal (this project)
 pub record IsPlayed (edition : Edition) (image : List ℕ) (scripts : List Script) (last : Mounted) (played : List (Vec Played Global)) : Type 0 where
   pub sound : IsSound edition image
   pub whole : ArePlayed (stored_of (mounted edition image)) scripts last played
   pub consistent : IsConsistent last
 
--- a reason to play no step: the least rule that the image breaks, or want of memory (this project)
+-- a reason to play no step: the first rule that the image breaks, or out of memory (this project)
 abbrev pub IsUnplayed : Edition → List ℕ → Fault → Type 0
 IsUnplayed edition image fault = IsCause edition image (λ refusal. ⊥) fault
 
@@ -69,17 +69,17 @@ IsSilent streams = Keeps streams.old streams.new × (streams.failed ≡ streams.
 abbrev pub StopsUnread : List (Vec ℕ Global) → Streams → Answer → Type 0
 StopsUnread scripts streams answer = IsSilent streams × ((fault : ScriptsFault) × ReadsScripts scripts (Err fault) × AnswersFault fault streams.said answer)
 
--- no step is played, and the reason has its status and its line (this project)
+-- no step is played, and the result has the status and the line of the reason (this project)
 abbrev pub StopsUnplayed : Edition → List ℕ → Streams → Answer → Type 0
 StopsUnplayed edition image streams answer =
     IsSilent streams × ((fault : Fault) × IsUnplayed edition image fault × SavesNothing answer (fault_status fault) (streams.said (fault_line fault)))
 
--- scripts are played, and what came of their steps is printed (this project)
+-- scripts are played, and the results of their steps are printed (this project)
 abbrev pub PlaysAll : Edition → List ℕ → List Script → Streams → Answer → Type 0
 PlaysAll edition image scripts streams answer = (last : Mounted) × (played : List (Vec Played Global)) × IsPlayed edition image scripts last played
     × Finishes last (any_cut scripts) played (PrintsPlay last (any_cut scripts) played streams.old streams.new streams.had_failed streams.failed) streams.said answer
 
--- what `play` comes to: a line of a script can't be read; or all can, and no step is played; or all scripts are played (this project)
+-- the result of `play`: a line of a script can't be read; or all can, and no step is played; or all scripts are played (this project)
 abbrev pub PlaysVolume : Edition → List ℕ → List (Vec ℕ Global) → Streams → Answer → Type 0
 PlaysVolume edition image scripts streams answer = StopsUnread scripts streams answer
     ⊎ ((read : List Script) × (scripts_in scripts ≡ Ok read) × (StopsUnplayed edition image streams answer ⊎ PlaysAll edition image read streams answer))

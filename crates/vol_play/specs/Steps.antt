@@ -1,4 +1,4 @@
--- What comes of the lines of a script, and what its session is then.
+-- The results of a script's lines, and their effect on its session.
 use Rattle.std.specs.Prelude.{◌≡◌, ℕ, ◌≤◌, Bool, List, [], ◌∷◌, ◌++◌, true, false}
 use Rattle.vol_receipts.specs.Agrees.{place_of, next_of}
 use Rattle.vol_receipts.specs.declared.receipts.Asked.TheVariants as asked
@@ -12,7 +12,7 @@ use Rattle.vol_scripts.specs.declared.steps.Step.TheVariants as steps
 use Rattle.vol_volume.specs.Answer.{takes_memory}
 use Rattle.vol_volume.specs.declared.queries.Query.{Query}
 
--- what may come of a step, by the least number that its receipt or its cut may have: a call and a query leave a receipt of themselves, unless memory runs out, which a query meets only if its reply takes memory; a cut is made (this project)
+-- a possible result of a step, given the least number that its receipt or its cut may have: a call or query has a receipt of itself, unless memory runs out, for a query only if its reply takes memory; a cut always succeeds (this project)
 abbrev pub CameOf : Step → ℕ → Played → Type 0
 CameOf (steps.Change call) next (played.Told receipt) = (receipt.asked ≡ asked.Change call) × (next ≤ receipt.at)
 CameOf (steps.Question query) next (played.Told receipt) = (receipt.asked ≡ asked.Question query) × (next ≤ receipt.at)
@@ -26,7 +26,7 @@ CameOf steps.Cut next played.NoMemory = ⊥
 CameOf step next played.NotEntered = ⊥
 CameOf step next played.View = ⊥
 
--- what may come of a query of a view, by the least number that its receipt may have: a receipt of itself, which has no place; none where its reply takes memory and that runs out, or what is published couldn't be taken (this project)
+-- a possible result of a view's query, given the least number that its receipt may have: a receipt of itself, which has no record; none if its reply takes memory and that runs out, or if the published version couldn't be read (this project)
 abbrev pub CameOfQuery : Query → ℕ → Played → Type 0
 CameOfQuery query next (played.Told receipt) = (receipt.asked ≡ asked.Question query) × (next ≤ receipt.at) × (place_of receipt.at receipt.outcome ≡ [])
 CameOfQuery query next (played.Cut first) = ⊥
@@ -42,24 +42,24 @@ next_after next played.NoMemory = next
 next_after next played.NotEntered = next
 next_after next played.View = next
 
--- what may come of lines, one after another, by what may come of each (this project)
+-- possible results of lines, one after another, given those of each (this project)
 abbrev pub CameInTurn : {A : Type 0} → (A → ℕ → Played → Type 0) → List A → ℕ → List Played → Type 0
 CameInTurn came_of [] next [] = Unit {0}
 CameInTurn came_of [] next (came ∷ others) = ⊥
 CameInTurn came_of (line ∷ lines) next [] = ⊥
 CameInTurn came_of (line ∷ lines) next (came ∷ others) = came_of line next came × CameInTurn came_of lines (next_after next came) others
 
--- what may come of a script for a view: its first line says that it is one (this project)
+-- possible results of a script for a view: the first one says so (this project)
 abbrev pub CameOfView : List Query → ℕ → List Played → Type 0
 CameOfView queries next (played.View ∷ others) = CameInTurn CameOfQuery queries next others
 CameOfView queries next _ = ⊥
 
--- something came of a script for a view: of its first line (this project)
+-- true if the results are those of a script for a view, as the first one says (this project)
 abbrev pub is_seen : List Played → Bool
 is_seen (played.View ∷ others) = true
 is_seen _ = false
 
--- what may come of the lines of a script (this project)
+-- possible results of a script's lines (this project)
 abbrev pub CameOfScript : Script → ℕ → List Played → Type 0
 CameOfScript (kinds.Session steps) next came = CameInTurn CameOf steps next came
 CameOfScript (kinds.View queries) next came = CameOfView queries next came
@@ -73,7 +73,7 @@ places_made (played.NoMemory ∷ others) = places_made others
 places_made (played.NotEntered ∷ others) = places_made others
 places_made (played.View ∷ others) = places_made others
 
--- the numbers that the cuts of a script answered, in order (this project)
+-- the numbers that the cuts of a script returned, in order (this project)
 abbrev pub cuts_made : List Played → List ℕ
 cuts_made [] = []
 cuts_made (played.Told receipt ∷ others) = cuts_made others

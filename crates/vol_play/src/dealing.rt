@@ -1,4 +1,4 @@
-//! Each script gets a session or a view.
+//! Deals a session or a view to each script.
 ghost use Rattle.std.specs.Prelude.{◌≡◌, ◌+◌, ◌≤◌, ◌∷◌, [], All, IsTrue, count_by, vec_len, vec_capacity};
 ghost use Rattle.vol_shared.specs.Opened.{Opened};
 ghost use Rattle.vol_shared.specs.Sessions.{Known};
@@ -9,7 +9,8 @@ use crate::preparing::{Player, Prepared};
 use vol_scripts::Script;
 use vol_shared::{Session, View};
 
-/// Deals a session or a view to each script, in their order. The sessions that are left, and all room, stay.
+/// Deals a session or a view to each script, in order. Sessions that aren't needed stay in `sessions`, and all lists
+/// keep their capacity.
 pub(crate) fn deal(
     sessions: &mut Vec<Session>,
     views: &mut Vec<View>,

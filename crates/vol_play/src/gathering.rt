@@ -1,4 +1,4 @@
-//! The sessions and the views come back, and what came of all lines.
+//! Gathers the sessions, the views and the results of all lines.
 ghost use Rattle.std.specs.Prelude.{◌≡◌, ◌++◌, ◌∷◌, ◌+◌, ◌<◌, ◌≤◌, [], length, map, vec_len, vec_capacity};
 ghost use Rattle.vol_play.specs.Players.{played_by, sessions_of, views_of};
 
@@ -6,8 +6,8 @@ use crate::preparing::Player;
 use vol_scripts::Played;
 use vol_shared::{Session, View};
 
-/// Puts each player's session or view on its list, after those that are there, and what came of its script on another, in
-/// their order.
+/// Moves each player's session or view to its list, after those that are there, and its script's results to `played`,
+/// in order.
 pub(crate) fn gather(
     players: Vec<Player>,
     sessions: &mut Vec<Session>,
@@ -27,7 +27,7 @@ pub(crate) fn gather(
     }
 }
 
-/// Puts back what one player has.
+/// Moves one player's session or view and its results back.
 fn put_back(
     player: Player,
     sessions: &mut Vec<Session>,

@@ -1,5 +1,5 @@
-//! Scripts of calls and queries, played on a volume that threads share: one session or one view, and one thread, for
-//! each script.
+//! Plays scripts of calls and queries on a volume that threads share. Each script has one session or one view, and
+//! one thread.
 #![tactic(auto)]
 
 mod dealing;

@@ -1,4 +1,4 @@
-//! The volume that scripts share, with views only where a script wants one.
+//! Opens the volume that scripts share, with views only if a script needs one.
 ghost use Rattle.std.specs.Prelude.{◌≤◌, IfOk};
 ghost use Rattle.vol_shared.specs.Stored.{stored_of};
 ghost use Rattle.vol_play.specs.Opened.{Closes, IsOpened, IsReturned};
@@ -8,10 +8,10 @@ use std::sync::Wait;
 use vol_shared::{Closed, MOST_SESSIONS, MOST_VIEWS, Session, Shared, View};
 use vol_volume::Volume;
 
-/// Shares a volume, with so many sessions, 1 to [`MOST_SESSIONS`], and so many views, at most [`MOST_VIEWS`]. If there is
-/// no place for a view, that counts as out of memory.
+/// Shares a volume with `sessions` sessions, 1 to [`MOST_SESSIONS`], and `views` views, at most [`MOST_VIEWS`]. A
+/// view that finds no seat counts as out of memory.
 ///
-/// Takes what [`Shared::open`] takes, and with views what [`Shared::open_with`] takes.
+/// Takes the memory of [`Shared::open`], or with views that of [`Shared::open_with`].
 pub(crate) fn open<R: Wait>(
     rt: &R,
     alloc: Global,
@@ -47,7 +47,7 @@ fn open_plain(
     }
 }
 
-/// Shares a volume with views, of which there is at least one.
+/// Shares a volume with at least one view.
 fn open_published<R: Wait>(
     rt: &R,
     alloc: Global,
@@ -67,7 +67,7 @@ fn open_published<R: Wait>(
     }
 }
 
-/// Ends it, with all its sessions and views.
+/// Ends the sharing, with all sessions and views.
 pub(crate) fn close<R: Wait>(
     rt: &R,
     shared: Shared,

@@ -1,4 +1,4 @@
-//! Scripts are played on a volume.
+//! Plays scripts on a mounted volume.
 ghost use Rattle.std.specs.Prelude.{◌≡◌, ◌≤◌, [], map, All, IfOk, count_by, length, max, vec_len, vec_capacity};
 ghost use Rattle.vol_shared.specs.Stored.{stored_of, unpublished};
 ghost use Rattle.vol_play.specs.Opened.{IsOpened};
@@ -18,8 +18,9 @@ use vol_scripts::{Played, Script};
 use vol_shared::{MOST_SESSIONS, MOST_VIEWS, Session, Shared, View};
 use vol_volume::Volume;
 
-/// Plays scripts on a volume, each by a session or a view of its own, and returns the volume and what came of their lines.
-/// Where all are for views, one session is opened and not used. Where memory runs out for that, nothing is done.
+/// Plays scripts on a volume, each with a session or a view of its own, and returns the volume and the results of
+/// their lines. If all are for views, one session is opened and not used. If memory runs out before the first step,
+/// nothing is done.
 pub(crate) fn play_on<R: Threads + Wait + Sync, G: Gate>(
     rt: &R,
     alloc: Global,
@@ -39,7 +40,7 @@ pub(crate) fn play_on<R: Threads + Wait + Sync, G: Gate>(
     Ok(play_opened(rt, alloc, shared, sessions, views, stage, gate))
 }
 
-/// How many scripts are for views.
+/// Counts the scripts that are for views.
 fn count_views(scripts: &[Script]) -> usize
     ensures { result ≡ count_by is_view scripts.now }
 {
@@ -52,14 +53,14 @@ fn count_views(scripts: &[Script]) -> usize
     count
 }
 
-/// Whether a script is for a view.
+/// True if a script is for a view.
 fn is_view(script: &Script) -> bool
     ensures { result ≡ is_view script.now }
 {
     matches!(script, Script::View(_))
 }
 
-/// Plays all scripts of a stage on a volume that was just opened, and ends it.
+/// Plays all scripts of a stage on a volume that was just opened, and closes it.
 fn play_opened<R: Threads + Wait + Sync, G: Gate>(
     rt: &R,
     alloc: Global,

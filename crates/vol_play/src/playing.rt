@@ -1,4 +1,4 @@
-//! The command `play`: from the bytes of an image and of scripts to what is printed, the status and the bytes to be saved.
+//! The command `play`: from the bytes of an image and of scripts to the report, the status and the bytes to save.
 ghost use Rattle.std.specs.Prelude.{◌≡◌, ◌≤◌, IfOk, IfErr, count_by, length};
 ghost use Rattle.std.specs.List.{list_any};
 ghost use Rattle.command_faults.specs.Streams.{heard, ErrorStream, Hears, streams};
@@ -18,7 +18,7 @@ use vol_scripts::{Played, Script, Step, finish, read_scripts, refuse};
 use vol_shared::{MOST_SESSIONS, MOST_VIEWS};
 use vol_volume::Volume;
 
-/// Plays scripts as [`perform`] does, and writes the line of its fault to `errors`.
+/// Plays scripts as [`perform`] does, and writes the line of a fault to `errors`.
 pub fn play<R: Threads + Wait + Sync, G: Gate, O: Sink, E: Sink>(
     rt: &R,
     alloc: Global,
@@ -38,16 +38,16 @@ pub fn play<R: Threads + Wait + Sync, G: Gate, O: Sink, E: Sink>(
     answer
 }
 
-/// Plays 1 to [`MOST_SESSIONS`] scripts on the volume in some bytes, each by one session, or one view where its first
-/// line says so, in one thread; a script whose thread can't be started is played by the calling thread. The gate is
-/// called round each script, with its number from 0.
+/// Plays 1 to [`MOST_SESSIONS`] scripts on the volume in an image, each with one session, or one view if its first
+/// line says so, in one thread. A script whose thread can't be started is played by the calling thread. The gate is
+/// called before and after each script, with the script's number, counted from 0.
 ///
-/// All scripts are read before the first call. Where a line can't be read, the volume isn't mounted or memory runs out
-/// before the first call, nothing is to be saved, and that is the fault; the status is 2 for a line, 1
-/// for an image that isn't sound, 4 for memory. Else the scripts are played, and all ends as [`finish`] says: a line for
-/// each step on `output`, and the bytes of the volume to be saved, whatever the status.
+/// All scripts are read before the first call. If a line can't be read, the volume isn't sound or memory runs out
+/// before the first call, nothing is saved and that is the fault; the status is 2 for a line, 1 for an image that
+/// isn't sound, 4 for memory. Otherwise the scripts are played, and the play ends as [`finish`] says: a line for each
+/// step on `output`, and the bytes of the volume to save, whatever the status.
 ///
-/// Takes memory for the scripts, what [`Volume::mount`] takes, for each step and call, and what [`finish`] takes.
+/// Takes memory for the scripts, for [`Volume::mount`], for each step and call, and for [`finish`].
 pub fn perform<R: Threads + Wait + Sync, G: Gate, O: Sink>(
     rt: &R,
     alloc: Global,
@@ -73,7 +73,7 @@ pub fn perform<R: Threads + Wait + Sync, G: Gate, O: Sink>(
     }
 }
 
-/// Mounts the volume in some bytes, and plays scripts on it.
+/// Mounts the volume in an image and plays scripts on it.
 fn play_image<R: Threads + Wait + Sync, G: Gate>(
     rt: &R,
     alloc: Global,
@@ -97,14 +97,14 @@ fn play_image<R: Threads + Wait + Sync, G: Gate>(
     Ok((volume, played))
 }
 
-/// Whether one of some scripts cuts the journal.
+/// True if one of some scripts cuts the journal.
 fn any_cut(scripts: &[Script]) -> bool
     ensures { result ≡ any_cut scripts.now }
 {
     scripts.iter().any(|script| script_cuts(script))
 }
 
-/// Whether a script cuts the journal.
+/// True if a script cuts the journal.
 fn script_cuts(script: &Script) -> bool
     ensures { result ≡ script_cuts script.now }
 {
@@ -114,14 +114,14 @@ fn script_cuts(script: &Script) -> bool
     }
 }
 
-/// Whether one of some steps cuts the journal.
+/// True if one of some steps cuts the journal.
 fn steps_cut(steps: &[Step]) -> bool
     ensures { result ≡ list_any is_cut steps.now }
 {
     steps.iter().any(|step| is_cut(step))
 }
 
-/// Whether a step cuts the journal.
+/// True if a step cuts the journal.
 fn is_cut(step: &Step) -> bool
     ensures { result ≡ is_cut step.now }
 {

@@ -1,4 +1,4 @@
-//! What a play takes of memory before its volume is shared, so that nothing can fail while it is, but calls and queries.
+//! The memory that a play takes before its volume is shared, so that only calls and queries can fail while it is.
 ghost use Rattle.std.specs.Prelude.{◌≡◌, ◌∷◌, ◌++◌, [], map, All, IfOk, OnOk, length, vec_len, vec_capacity, ◌≤◌};
 ghost use Rattle.vol_play.specs.Players.{IsPrepared, lines_of};
 
@@ -7,23 +7,23 @@ use vol_scripts::{Played, Script, Sequence, Step};
 use vol_shared::{Session, View};
 use vol_volume::Query;
 
-/// A script that is to be played, with room for what comes of its lines.
+/// A script to play, with room for the results of its lines.
 #[derive(Drop)]
 pub(crate) struct Prepared {
     pub(crate) script: Script,
     pub(crate) played: Vec<Played>,
 }
 
-/// Who plays a script, and what came of its lines.
+/// A script's player, with the results of its lines.
 #[derive(Drop)]
 pub(crate) enum Player {
-    /// A session, which makes calls and asks queries.
+    /// A session, which makes calls and queries.
     Caller {
         session: Session,
         steps: Sequence<Step>,
         played: Vec<Played>,
     },
-    /// A view, which asks queries.
+    /// A view, which makes queries.
     Viewer {
         view: View,
         queries: Sequence<Query>,
@@ -31,7 +31,7 @@ pub(crate) enum Player {
     },
 }
 
-/// The scripts, and room for their players and for what comes of all lines.
+/// The scripts, with room for their players and for the results of all lines.
 #[derive(Drop)]
 pub(crate) struct Stage {
     pub(crate) prepared: Vec<Prepared>,
@@ -40,7 +40,7 @@ pub(crate) struct Stage {
 }
 
 impl Stage {
-    /// A stage for these scripts.
+    /// Returns a stage for these scripts.
     pub(crate) fn new(alloc: Global, scripts: Vec<Script>) -> Result<Stage, AllocError>
         ensures scripts { IfOk result (λ stage. map (λ p. p.script) stage.prepared.items ≡ scripts.items) }
         ensures ready { IfOk result (λ stage. All IsPrepared stage.prepared.items) }
@@ -59,7 +59,7 @@ impl Stage {
     }
 }
 
-/// The scripts, each with room for what comes of its lines.
+/// Returns the scripts, each with room for the results of its lines.
 fn prepare(alloc: Global, scripts: Vec<Script>) -> Result<Vec<Prepared>, AllocError>
     ensures scripts { IfOk result (λ prepared. map (λ p. p.script) prepared.items ≡ scripts.items) }
     ensures ready { IfOk result (λ prepared. All IsPrepared prepared.items) }
@@ -72,7 +72,7 @@ fn prepare(alloc: Global, scripts: Vec<Script>) -> Result<Vec<Prepared>, AllocEr
     Ok(prepared)
 }
 
-/// How many lines of a script something comes of.
+/// Returns the number of results that a script's lines have.
 fn lines_of(script: &Script) -> usize
     ensures { result ≡ lines_of script.now }
 {

@@ -1,4 +1,4 @@
-//! The lines of a script for a view.
+//! Plays the lines of a script for a view.
 ghost use Rattle.std.specs.Prelude.{◌≡◌, ◌++◌, ◌∷◌, ◌+◌, ◌≤◌, [], length, vec_capacity};
 ghost use Rattle.vol_views.specs.Logs.{number_of};
 ghost use Rattle.vol_scripts.specs.Ending.{receipts_in};
@@ -9,8 +9,8 @@ use vol_scripts::{Played, Sequence};
 use vol_shared::{View, ViewFault};
 use vol_volume::Query;
 
-/// Asks the queries of a script, one after another, and puts what came of each on the list, after what says that they were
-/// asked of a view.
+/// Runs the queries of a script, one after another, and appends `Played::View` and then the result of each to the
+/// list.
 pub(crate) fn play_queries(
     alloc: Global,
     view: &mut View,
@@ -30,7 +30,7 @@ pub(crate) fn play_queries(
     }
 }
 
-/// Asks one query.
+/// Runs one query.
 fn ask(alloc: Global, view: &mut View, query: Query) -> Played
     ensures came { CameOfQuery query (number_of view.old.log) result }
     ensures next { next_after (number_of view.old.log) result ≤ number_of view.new.log }

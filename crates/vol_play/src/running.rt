@@ -1,4 +1,4 @@
-//! The players at work, each in a thread of its own.
+//! Runs the players, each in a thread of its own.
 ghost use Rattle.std.specs.Prelude.{◌≡◌, ◌<◌, All, length};
 ghost use Rattle.vol_play.specs.Players.{InPairs, CanPlay, HasPlayed};
 
@@ -15,7 +15,7 @@ use vol_scripts::Sequence;
 use vol_shared::Shared;
 
 impl Player {
-    /// Plays the script, of which no line is left then.
+    /// Plays the script; no line of it is left afterwards.
     fn play<R: Wait>(&mut self, rt: &R, alloc: Global, shared: &Shared)
         requires { CanPlay shared.now.of self.old }
         ensures { HasPlayed self.old self.new }
@@ -41,8 +41,8 @@ impl Player {
     }
 }
 
-/// Has each player play its script in a thread of its own; where no thread can be made, this one plays it. The gate is
-/// called round each script.
+/// Runs one thread per player, which plays its script; if no thread can be started, the calling one plays it. The
+/// gate is called before and after each script.
 pub(crate) fn run_all<R: Threads + Wait + Sync, G: Gate>(
     rt: &R,
     alloc: Global,

@@ -1,4 +1,4 @@
-//! The lines of a script for a session.
+//! Plays the lines of a script for a session.
 ghost use Rattle.std.specs.Prelude.{◌≡◌, ◌+◌, ◌≤◌, [], length, vec_len, vec_capacity};
 ghost use Rattle.vol_play.specs.Steps.{CameOf, CameInTurn, known_after, known_after_all};
 
@@ -7,7 +7,7 @@ use std::sync::Wait;
 use vol_scripts::{Played, Sequence, Step};
 use vol_shared::{Session, Shared};
 
-/// Does the steps of a script, one after another, and puts what came of each on the list.
+/// Runs the steps of a script, one after another, and appends the result of each to the list.
 pub(crate) fn play_steps<R: Wait>(
     rt: &R,
     alloc: Global,
@@ -28,7 +28,7 @@ pub(crate) fn play_steps<R: Wait>(
     }
 }
 
-/// Does one step.
+/// Runs one step.
 fn play_step<R: Wait>(
     rt: &R,
     alloc: Global,

@@ -7,7 +7,7 @@ use Rattle.vol_play.specs.Players.{InPairs, IsDealt, wants_session, wants_view}
 use Rattle.vol_play.specs.declared.preparing.Player.{Player}
 use Rattle.vol_play.proofs.dealing.deal.Given as goal
 
--- there is a session or a view for each script that is left, and the players so far, and those of these scripts, are all
+-- there is a session or a view for each script that is left; the players so far, and those of these scripts, are all
 abbrev pub invariant-scripts : goal.invariant-scripts
 invariant-scripts l = record {
   left : length l.sessions.items + count_by wants_session l.fn.prepared.items ≡ length l.fn.sessions.items + count_by wants_session l.script-iterator.rest.items;

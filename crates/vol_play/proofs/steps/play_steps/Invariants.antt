@@ -3,7 +3,7 @@ use Rattle.vol_scripts.specs.declared.played.Played.{Played}
 use Rattle.vol_play.specs.Steps.{CameInTurn, CameOf, known_after_all}
 use Rattle.vol_play.proofs.steps.play_steps.Given as goal
 
--- what comes of the steps that are left joins what came of those so far, for which the session has done them
+-- the results of the steps that are left follow those so far, whose steps the session has run
 abbrev pub invariant-steps : goal.invariant-steps
 invariant-steps g l = record {
   own : l.session.of ≡ l.shared.of;

@@ -1,4 +1,4 @@
--- What `put` and `get` are asked for: of one file, or of several.
+-- Invocations of `put` and `get`: for one file, or for several.
 use Rattle.std.proofs.Common.{◌≡◌, ◌⊎◌, ◌∙◌, ℕ, List, [], Option, Some, None, Bool, true, false, true≢false, codes, map, option_map, sym, ap, inl, inr}
 use Rattle.command_words.specs.Asking.{AreFilesGiven, ArePathsGiven, AsksForNothing, IsFirstWord, IsGiven, IsLeftOut, IsMomentGiven, IsNonEmptyWord, IsValue, Words, get_words, put_words, verb_of}
 use Rattle.command_words.specs.declared.invocation.Copying.TheVariants as copies
@@ -35,7 +35,7 @@ is_get : Verb → Bool
 is_get verbs.Get = true
 is_get _ = false
 
--- what `put` is asked for
+-- the invocations of `put`
 puts : (clock : Option ℕ) (given : Words) (invocation : Invocation) → is_put (verb_of invocation) ≡ true → IsGiven clock given invocation → IsPut clock given
 unfolding is_put
 puts clock given (invocations.Change volume (changes.Put path file now)) put is = inl (file.now, now, is.1.1, is.1.2, is.1.3, is.1.4)
@@ -59,7 +59,7 @@ puts clock given (invocations.Mkfs i volume) put is = absurd (true≢false (sym 
 puts clock given (invocations.Migrate old new migration) put is = absurd (true≢false (sym put))
 puts clock given (invocations.Serve volume) put is = absurd (true≢false (sym put))
 
--- what `get` is asked for
+-- the invocations of `get`
 gets : (clock : Option ℕ) (given : Words) (invocation : Invocation) → is_get (verb_of invocation) ≡ true → IsGiven clock given invocation → IsGot given
 unfolding is_get
 gets clock given (invocations.Get volume path) got is = inl (is.1.1, is.1.2)
@@ -93,17 +93,17 @@ gets clock given (invocations.Mkfs i volume) got is = absurd (true≢false (sym 
 gets clock given (invocations.Migrate old new migration) got is = absurd (true≢false (sym got))
 gets clock given (invocations.Serve volume) got is = absurd (true≢false (sym got))
 
--- where neither one file nor several are put, nothing is asked for
+-- if neither one file nor several are put, there is no invocation
 no_put : (clock : Option ℕ) (given : Words) → (IsPut clock given → ⊥) → AsksForNothing clock verbs.Put given
 unfolding AsksForNothing is_put
 no_put clock given none = λ invocation asks. none (puts clock given invocation (sym (ap is_put asks.0)) asks.1)
 
--- where neither one file nor several are got, nothing is asked for
+-- if neither one file nor several are got, there is no invocation
 no_get : (clock : Option ℕ) (given : Words) → (IsGot given → ⊥) → AsksForNothing clock verbs.Get given
 unfolding AsksForNothing is_get
 no_get clock given none = λ invocation asks. none (gets clock given invocation (sym (ap is_get asks.0)) asks.1)
 
--- a word that is there wasn't left out
+-- a word that exists wasn't left out
 both : (first : Option (List ℕ)) (word : List ℕ) → first ≡ Some word → first ≡ None → ⊥
 both first word some none = absurd (cc)
 
@@ -111,7 +111,7 @@ both first word some none = absurd (cc)
 one_word : (first : Option (List ℕ)) (one other : List ℕ) → first ≡ Some one → first ≡ Some other → one ≡ other
 one_word first one other is other_is = cc
 
--- where the option is there and the words are no files with a moment, `put` asks for nothing
+-- if the option is given and the words are no files with a time, `put` has no invocation
 pub no_files : (clock : Option ℕ) (given : Words) (directory : List ℕ) → IsFirstWord given (codes "target-directory") directory
     → ((files : List (List ℕ)) (now : ℕ) (word : Option (List ℕ)) → AreFilesGiven clock (put_words given) files now word → ⊥)
     → AsksForNothing clock verbs.Put given
@@ -121,7 +121,7 @@ no_files clock given directory is none = no_put clock given go
     go (inl one) = both _ directory is one.5
     go (inr several) = none several.1 several.2 several.3 several.5
 
--- where the option is there and its word is empty, `put` asks for nothing
+-- if the option is given and its word is empty, `put` has no invocation
 pub empty_target : (clock : Option ℕ) (given : Words) (directory : List ℕ) → IsFirstWord given (codes "target-directory") directory → directory ≡ []
     → AsksForNothing clock verbs.Put given
 empty_target clock given directory is empty = no_put clock given go
@@ -130,7 +130,7 @@ empty_target clock given directory is empty = no_put clock given go
     go (inl one) = both _ directory is one.5
     go (inr several) = several.4.1 (one_word _ several.0 directory several.4.0 is ∙ empty)
 
--- where the option isn't there and no one file is put, `put` asks for nothing
+-- if the option isn't given and no one file is put, `put` has no invocation
 no_one : (clock : Option ℕ) (given : Words) → IsLeftOut given (codes "target-directory")
     → ((file : List ℕ) (now : ℕ) → IsFirstWord given (codes "FILE") file → IsMomentGiven clock (given (codes "NOW")) now → IsLeftOut given (codes "MORE") → ⊥)
     → AsksForNothing clock verbs.Put given
@@ -140,21 +140,21 @@ no_one clock given left none = no_put clock given go
     go (inl one) = none one.0 one.1 one.2 one.3 one.4
     go (inr several) = both _ several.0 several.4.0 left
 
--- where neither the option nor the file is there, `put` asks for nothing
+-- if neither the option nor the file is given, `put` has no invocation
 pub no_file : (clock : Option ℕ) (given : Words) → IsLeftOut given (codes "target-directory") → IsLeftOut given (codes "FILE") → AsksForNothing clock verbs.Put given
 no_file clock given left none = no_one clock given left (λ file now first moment more. both _ file first none)
 
--- where the option isn't there, and further words are, `put` asks for nothing
+-- if the option isn't given but further words are, `put` has no invocation
 pub too_many_put : (clock : Option ℕ) (given : Words) → IsLeftOut given (codes "target-directory") → (IsLeftOut given (codes "MORE") → ⊥)
     → AsksForNothing clock verbs.Put given
 too_many_put clock given left many = no_one clock given left (λ file now first moment more. many more)
 
--- where the option isn't there, and no moment is meant, `put` asks for nothing
+-- if the option isn't given and there is no time, `put` has no invocation
 pub no_moment : (clock : Option ℕ) (given : Words) → IsLeftOut given (codes "target-directory") → (IsValue clock kinds.Moment (given (codes "NOW")) → ⊥)
     → AsksForNothing clock verbs.Put given
 no_moment clock given left none = no_one clock given left (λ file now first moment more. none (now, moment))
 
--- where the option is there and the words are no paths, `get` asks for nothing
+-- if the option is given and the words are no paths, `get` has no invocation
 pub no_paths : (clock : Option ℕ) (given : Words) (folder : List ℕ) → IsFirstWord given (codes "output") folder
     → ((paths : List (List ℕ)) → ArePathsGiven (get_words given) paths → ⊥) → AsksForNothing clock verbs.Get given
 no_paths clock given folder is none = no_get clock given go
@@ -163,7 +163,7 @@ no_paths clock given folder is none = no_get clock given go
     go (inl one) = both _ folder is one.1
     go (inr several) = none several.1 several.3
 
--- where the option is there and its word is empty, `get` asks for nothing
+-- if the option is given and its word is empty, `get` has no invocation
 pub empty_output : (clock : Option ℕ) (given : Words) (folder : List ℕ) → IsFirstWord given (codes "output") folder → folder ≡ []
     → AsksForNothing clock verbs.Get given
 empty_output clock given folder is empty = no_get clock given go
@@ -172,7 +172,7 @@ empty_output clock given folder is empty = no_get clock given go
     go (inl one) = both _ folder is one.1
     go (inr several) = several.2.1 (one_word _ several.0 folder several.2.0 is ∙ empty)
 
--- where the option isn't there, and further words are, `get` asks for nothing
+-- if the option isn't given but further words are, `get` has no invocation
 pub too_many_got : (clock : Option ℕ) (given : Words) → IsLeftOut given (codes "output") → (IsLeftOut given (codes "MORE") → ⊥)
     → AsksForNothing clock verbs.Get given
 too_many_got clock given left many = no_get clock given go
@@ -181,7 +181,7 @@ too_many_got clock given left many = no_get clock given go
     go (inl one) = many one.0
     go (inr several) = both _ several.0 several.2.0 left
 
--- where the edition is none, a command on a volume asks for nothing
+-- if the edition isn't valid, a command on a volume has no invocation
 pub no_edition_put : (clock : Option ℕ) (given : Words) → (IsValue None kinds.Edition (given (codes "EDITION")) → ⊥) → AsksForNothing clock verbs.Put given
 no_edition_put clock given none = no_value clock verbs.Put given (inl none)
 

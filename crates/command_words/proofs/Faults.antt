@@ -1,15 +1,15 @@
--- What is told of a fault that is handed on.
+-- Faults that are handed on.
 use Rattle.std.proofs.Common.{◌≡◌, Result, Ok, Err, IfErr, IsErrAnd, sym, subst}
 use Rattle.command_words.specs.Asking.{TellsOf}
 use Rattle.command_words.specs.declared.fault.Fault.{Fault}
 use Rattle.command_words.specs.declared.fault.Fault.TheVariants as faults
 
--- where a fault tells of one thing, and that of another, it tells of the other
+-- a fault that means one thing means whatever follows from it
 tells_more : (one other : Type 0) (fault : Fault) → (one → other) → TellsOf one fault → TellsOf other fault
 tells_more one other faults.NoMemory leads tells = tt
 tells_more one other (faults.Wrong word) leads tells = leads tells
 
--- an outcome that hands on a fault tells of what its thing leads to
+-- an outcome that hands on a fault means whatever follows from it
 pub hands_on : {T : Type 0} (result : Result T Fault) (error : Fault) (one other : Type 0) → IsErrAnd result (λ e. e ≡ error) → TellsOf one error → (one → other)
     → IfErr result (TellsOf other)
 hands_on (Ok value) error one other is tells leads = tt

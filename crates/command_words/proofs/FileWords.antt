@@ -17,7 +17,7 @@ use Rattle.std.proofs.lemmas.Option.{slice_get-get_or, slice_get-map}
 use Rattle.std.proofs.lemmas.Slice.Eq.{bytes_eq-Decides}
 use Rattle.command_words.specs.Asking.{AreFilesGiven, EndsInMoment, IsMomentAfter, are_apart, are_distinct, last_names, with_name}
 
--- the texts behind references
+-- the texts of references
 abbrev pub texts : List (Bor (List ℕ)) → List (List ℕ)
 texts words = map (λ word. word.now) words
 
@@ -27,7 +27,7 @@ pub texts_more : (words : List (Bor (List ℕ))) (i : ℕ) (other : Bor (List �
 texts_more words i other inside =
     ap texts (take_more words i other inside) ∙ map-append (λ (word : Bor (List ℕ)). word.now) (take i words) (get_or words i other ∷ [])
 
--- nothing after a list is the list
+-- a list with nothing after it is the list
 append_nil : (l : List (List ℕ)) → l ++ [] ≡ l
 append_nil [] = refl
 append_nil (x ∷ l) = ap (λ (m : List (List ℕ)). x ∷ m) (append_nil l)
@@ -43,22 +43,22 @@ words_more given words more names i other inside were are =
     ∙ (sym (flat_map-append given (texts (take i names)) ((get_or names i other).now ∷ []))
     ∙ ap (flat_map given) (sym (texts_more names i other inside))))
 
--- a name before others, and then more
+-- a name before others, followed by more
 name-append : (name : Option (List ℕ)) (all names more : List (List ℕ)) → all ≡ names ++ more → with_name name all ≡ with_name name names ++ more
 name-append None all names more is = is
 name-append (Some name) all names more is = ap (λ (l : List (List ℕ)). name ∷ l) is
 
--- the last names of some paths and then of others
+-- the last names of some paths followed by others
 names-append : (paths more : List (List ℕ)) → last_names (paths ++ more) ≡ last_names paths ++ last_names more
 names-append [] more = refl
 names-append (path ∷ paths) more = name-append (path_file_name path) (last_names (paths ++ more)) (last_names paths) (last_names more) (names-append paths more)
 
--- the last names of one path more
+-- the last names of one more path
 names_at : (paths : List (Bor (List ℕ))) (i : ℕ) (other : Bor (List ℕ)) → i < length paths
     → last_names (texts (take (i + 1) paths)) ≡ last_names (texts (take i paths)) ++ with_name (path_file_name (get_or paths i other).now) []
 names_at paths i other inside = ap last_names (texts_more paths i other inside) ∙ names-append (texts (take i paths)) ((get_or paths i other).now ∷ [])
 
--- one name more, of a path that has one
+-- one more name, of a path that has one
 pub names_more : (names : List (Bor (List ℕ))) (name : Bor (List ℕ)) (paths : List (Bor (List ℕ))) (i : ℕ) (other : Bor (List ℕ)) → i < length paths
     → texts names ≡ last_names (texts (take i paths)) → Some name.now ≡ path_file_name (get_or paths i other).now
     → texts (names ++ name ∷ []) ≡ last_names (texts (take (i + 1) paths))
@@ -67,14 +67,14 @@ names_more names name paths i other inside were is =
     ∙ (ap₂ (λ (l m : List (List ℕ)). l ++ m) were (ap (λ (o : Option (List ℕ)). with_name o []) is)
     ∙ sym (names_at paths i other inside))
 
--- no name more, of a path that has none
+-- no more names, of a path that has none
 pub names_stay : (names : List (Bor (List ℕ))) (paths : List (Bor (List ℕ))) (i : ℕ) (other : Bor (List ℕ)) → i < length paths
     → texts names ≡ last_names (texts (take i paths)) → None ≡ path_file_name (get_or paths i other).now
     → texts names ≡ last_names (texts (take (i + 1) paths))
 names_stay names paths i other inside were is =
     were ∙ (sym (append_nil (last_names (texts (take i paths)))) ∙ (ap (λ (o : Option (List ℕ)). last_names (texts (take i paths)) ++ with_name o []) is ∙ sym (names_at paths i other inside)))
 
--- a reference to nothing, where one is asked for that isn't used
+-- a reference to nothing, where one is needed that isn't used
 abbrev pub no_name : Bor (List ℕ)
 no_name = record { ref_ptr = (0, 0); now = [] }
 
@@ -86,7 +86,7 @@ text_cmp one other = slice_cmp nat_cmp one.now other.now
 abbrev pub HoldsNames : BTreeSet (Bor (List ℕ)) → List (List ℕ) → Type 0
 HoldsNames seen names = (name : Bor (List ℕ)) → contains text_cmp seen name ≡ list_any (λ other. bytes_eq name.now other) names
 
--- two tests, and two more, in another order
+-- two tests followed by two more, in another order
 reordered : (a b c d : Bool) → (not (a || (b || false)) && (not c && d)) ≡ (not (b || c) && (not a && d))
 reordered true true c d = refl
 reordered true false true d = refl
@@ -95,7 +95,7 @@ reordered false true c d = refl
 reordered false false true d = refl
 reordered false false false d = refl
 
--- whether names are distinct, with one name more after them
+-- the test that names are distinct, with one more name after them
 distinct_after : (names : List (List ℕ)) (name : List ℕ) → are_distinct (names ++ name ∷ []) ≡ (not (list_any (λ other. bytes_eq name other) names) && are_distinct names)
 distinct_after [] name = refl
 distinct_after (first ∷ names) name =
@@ -116,7 +116,7 @@ not_distinct_before (name ∷ names) more fails =
     ∙ either_fails (list_any (λ other. bytes_eq other name) names) (list_any (λ other. bytes_eq other name) more) (are_distinct names) (are_distinct (names ++ more)) fails
     (not_distinct_before names more)
 
--- a text is the same as another exactly where the other is the same as it
+-- a text equals another exactly if the other equals it
 same_both_ways : (one other : List ℕ) → bytes_eq one other ≡ bytes_eq other one
 same_both_ways one other =
     elim (cases_Bool (bytes_eq one other)) [
@@ -134,7 +134,7 @@ put_or_there true false = refl
 put_or_there false true = refl
 put_or_there false false = refl
 
--- a set with one name more
+-- a set with one more name
 pub holds_more : (seen new : BTreeSet (Bor (List ℕ))) (names : List (List ℕ)) (name : Bor (List ℕ)) → HoldsNames seen names
     → Updates text_cmp seen new name true → HoldsNames new (names ++ name.now ∷ [])
 holds_more seen new names name holds updates other =
@@ -143,13 +143,13 @@ holds_more seen new names name holds updates other =
     ∙ put_or_there (bytes_eq other.now name.now) (list_any (λ earlier. bytes_eq other.now earlier) names)
     ∙ sym (list_any-append (λ (earlier : List ℕ). bytes_eq other.now earlier) names (name.now ∷ []))
 
--- names are distinct with one more that the set of them has not
+-- names are distinct with one more that isn't in their set
 pub distinct_more : (seen : BTreeSet (Bor (List ℕ))) (names : List (List ℕ)) (name : Bor (List ℕ)) → HoldsNames seen names → contains text_cmp seen name ≡ false
     → are_distinct names ≡ true → are_distinct (names ++ name.now ∷ []) ≡ true
 distinct_more seen names name holds new distinct =
     distinct_after names name.now ∙ ap₂ (λ (a b : Bool). not a && b) (sym (holds name) ∙ new) distinct
 
--- where the set of some names has the one after them, the names aren't distinct
+-- if the set of some names has the one after them, the names aren't distinct
 pub not_distinct : (seen : BTreeSet (Bor (List ℕ))) (names : List (Bor (List ℕ))) (i : ℕ) (other : Bor (List ℕ)) → i < length names
     → HoldsNames seen (texts (take i names)) → contains text_cmp seen (get_or names i other) ≡ true → are_distinct (texts names) ≡ false
 not_distinct seen names i other inside holds old =
@@ -166,7 +166,7 @@ not_distinct seen names i other inside holds old =
 pub holds_none : (seen : BTreeSet (Bor (List ℕ))) → seen.keys ≡ [] → HoldsNames seen []
 holds_none seen empty name = ap (list_any (is_at (text_cmp name))) empty
 
--- what an answer says that is the opposite
+-- the meaning of an answer with the opposite sense
 pub not_false : (answer there : Bool) → answer ≡ not there → answer ≡ false → there ≡ true
 not_false answer true is refused = refl
 not_false answer false is refused = absurd (true≢false (sym is ∙ refused))
@@ -183,13 +183,13 @@ last_text words other some =
     ap (λ (n : ℕ). get_or (texts words) (n - 1) []) (length-map words (λ (word : Bor (List ℕ)). word.now))
     ∙ get_or-map (λ (word : Bor (List ℕ)). word.now) words (length words - 1) other [] (omega arith)
 
--- all words are files where the last writes no moment
+-- all words are files if the last is no time
 pub all_files : (clock : Option ℕ) (passed words : List (Bor (List ℕ))) (now : ℕ) → passed ≡ words
     → ((moment : ℕ) → EndsInMoment (texts passed) moment → ⊥) → clock ≡ Some now → IsMomentAfter clock (texts words) (texts words) now None
 all_files clock passed words now same none told =
     inr (subst (λ (l : List (Bor (List ℕ))). (moment : ℕ) → EndsInMoment (texts l) moment → ⊥) same none, refl, told, refl)
 
--- the last word is the moment where it writes one, and the words before it are files
+-- the last word is the time if it is one, and the words before it are files
 pub files_before : (clock : Option ℕ) (passed words files : List (Bor (List ℕ))) (now count : ℕ) (word : Option (Bor (List ℕ))) → passed ≡ words
     → count ≡ length words → EndsInMoment (texts passed) now → files ≡ take (count - 1) words
     → ((other : Bor (List ℕ)) → 0 < count → word ≡ Some (get_or words (count - 1) other))
@@ -208,11 +208,11 @@ files_before clock passed words files now count word same counted ends before la
           ∙ (sym (slice_get-map (λ (text : Bor (List ℕ)). text.now) words (count - 1)) ∙ ap (slice_get (texts words)) place),
     )
 
--- the moment of a clock that tells none isn't told
+-- a clock without a time gives none
 untold : (clock : Option ℕ) (now : ℕ) → clock ≡ None → clock ≡ Some now → ⊥
 untold clock now none told = absurd (cc)
 
--- where the last word writes no moment and the clock tells none, there are no files
+-- if the last word is no time and the clock has none, there are no files
 pub none_told : (clock : Option ℕ) (passed words : List (Bor (List ℕ))) → passed ≡ words → ((moment : ℕ) → EndsInMoment (texts passed) moment → ⊥)
     → clock ≡ None → (files : List (List ℕ)) (now : ℕ) (word : Option (List ℕ)) → IsMomentAfter clock (texts words) files now word → ⊥
 none_told clock passed words same none is files now word (inl ends) =
@@ -227,7 +227,7 @@ files_same clock words one other now then_ word another (inl a) (inr b) = absurd
 files_same clock words one other now then_ word another (inr a) (inl b) = absurd (a.0 then_ b.0)
 files_same clock words one other now then_ word another (inr a) (inr b) = a.1 ∙ sym b.1
 
--- where no files come before a moment, none are given
+-- if no files come before a time, none are given
 pub none_after : (clock : Option ℕ) (words given : List (List ℕ)) → words ≡ given
     → ((files : List (List ℕ)) (now : ℕ) (word : Option (List ℕ)) → IsMomentAfter clock words files now word → ⊥)
     → (files : List (List ℕ)) (now : ℕ) (word : Option (List ℕ)) → AreFilesGiven clock given files now word → ⊥
@@ -240,7 +240,7 @@ given_found : (clock : Option ℕ) (words given found files : List (List ℕ)) (
 given_found clock words given found files now then_ word another same is are =
     files_same clock given files found then_ now another word are.2 (subst (λ (w : List (List ℕ)). IsMomentAfter clock w found now word) same is)
 
--- where none were found, none are given
+-- if none were found, none are given
 pub none_found : (clock : Option ℕ) (words given : List (List ℕ)) (found passed : List (Bor (List ℕ))) (now : ℕ) (word : Option (List ℕ)) → words ≡ given
     → passed ≡ found → IsMomentAfter clock words (texts found) now word → length passed ≡ 0
     → (files : List (List ℕ)) (then_ : ℕ) (another : Option (List ℕ)) → AreFilesGiven clock given files then_ another → ⊥
@@ -250,7 +250,7 @@ none_found clock words given found passed now word same passed_is is none files 
     let some : 1 ≤ length files = are.0 in
     absurd (omega arith)
 
--- where two that were found have one last name, none are given
+-- if two that were found have the same last name, none are given
 pub none_apart : (clock : Option ℕ) (words given : List (List ℕ)) (found passed : List (Bor (List ℕ))) (now : ℕ) (word : Option (List ℕ)) → words ≡ given
     → passed ≡ found → IsMomentAfter clock words (texts found) now word → are_apart (texts passed) ≡ false
     → (files : List (List ℕ)) (then_ : ℕ) (another : Option (List ℕ)) → AreFilesGiven clock given files then_ another → ⊥

@@ -1,4 +1,4 @@
--- The moment or the number that is meant, where a word was given for it.
+-- The time or the number that is meant, if a word was given for it.
 use Rattle.std.proofs.Common.{◌≡◌, ℕ, List, [], ◌∷◌, Option, Some, None, Result, IfErr, refl, sym, subst}
 use Rattle.std.specs.List.{slice_get}
 use Rattle.std.specs.Option.{ok_or}
@@ -8,23 +8,23 @@ use Rattle.command_words.specs.Asking.{IsMomentGiven, IsWordIfAny, TellsOf}
 use Rattle.command_words.specs.declared.fault.Fault.{Fault}
 use Rattle.command_words.specs.declared.fault.Fault.TheVariants as faults
 
--- the moment that is meant is the one that the first word writes
+-- the time that is meant is the one in the first word
 pub written : (clock : Option ℕ) (words : List (List ℕ)) (word : List ℕ) → Some word ≡ slice_get words 0 → (now : ℕ) → IsMomentGiven clock words now
     → IsMomentOf word now
 written clock [] word first now given = cc
 written clock (other ∷ more) word first now given = let same : word ≡ other = cc in subst (λ (w : List ℕ). IsMomentOf w now) (sym same) given
 
--- where words are a number of 16 bits, if there are any, the first is one
+-- if words are a 16-bit number or none, the first, if any, is such a number
 pub first_number : (words : List (List ℕ)) (word : List ℕ) → Some word ≡ slice_get words 0 → IsWordIfAny words → IsNumberUpTo 65535 word
 first_number [] word first if_any = absurd (cc)
 first_number (other ∷ more) word first if_any = let same : word ≡ other = cc in subst (IsNumberUpTo 65535) (sym same) if_any
 
--- a fault tells of what is wrong
+-- a fault names a word that isn't valid
 pub tells : (wrong : Type 0) (fault : Fault) → wrong → TellsOf wrong fault
 tells wrong faults.NoMemory is = tt
 tells wrong (faults.Wrong word) is = is
 
--- where a word writes no moment, the fault tells of what is wrong then
+-- if a word is no time, the fault names it
 pub refused : (wrong : Type 0) (moment : Option ℕ) (result : Result ℕ Fault) (fault : Fault) → result ≡ ok_or moment fault → (moment ≡ None → wrong)
     → IfErr result (TellsOf wrong)
 refused wrong None result fault same none = subst (λ (r : Result ℕ Fault). IfErr r (TellsOf wrong)) (sym same) (tells wrong fault (none refl))

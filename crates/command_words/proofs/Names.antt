@@ -1,11 +1,11 @@
--- The names of the commands: no two commands have one name.
+-- The names of the commands: no two commands have the same name.
 use Rattle.std.proofs.Common.{◌≡◌, ◌∙◌, ℕ, List, cond, codes, refl, sym, ap}
 use Rattle.std.specs.Str.{bytes_eq}
 use Rattle.command_words.specs.Verbs.{verb_name}
 use Rattle.command_words.specs.declared.verbs.Verb.{Verb}
 use Rattle.command_words.specs.declared.verbs.Verb.TheVariants as verbs
 
--- the command of this name, or another command where it is a name of none of the others
+-- the command with this name, or another command if the name is that of none of the others
 abbrev named : List ℕ → Verb
 named text =
     cond (bytes_eq text (codes "cat")) verbs.Cat
@@ -63,6 +63,6 @@ named_by_its_name verbs.Play = refl
 named_by_its_name verbs.Migrate = refl
 named_by_its_name verbs.Serve = refl
 
--- commands of one name are the same
+-- commands with the same name are equal
 pub verb_name-injective : (one other : Verb) → verb_name one ≡ verb_name other → one ≡ other
 verb_name-injective one other same = sym (named_by_its_name one) ∙ (ap named same ∙ named_by_its_name other)

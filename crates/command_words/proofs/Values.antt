@@ -1,4 +1,4 @@
--- What is asked for was given by words that are values: a word that is none asks for nothing.
+-- Invocations come from words that are valid; a word that isn't gives none.
 use Rattle.std.proofs.Common.{◌≡◌, ◌⊎◌, ◌∙◌, ◌≤◌, ◌∷◌, ℕ, List, [], Option, codes, length, map, sym, ap, subst, inl, inr, Result, Ok, Err, IfErr}
 use Rattle.std.specs.Borrow.{Bor}
 use Rattle.std.proofs.lemmas.List.{length-map}
@@ -37,7 +37,7 @@ word_value : (other number : ℕ) (words : List (List ℕ)) → IsWordOr other w
 word_value other number [] is = tt
 word_value other number (word ∷ more) is = is.0
 
--- the words of what is asked for are values of its command's arguments
+-- the words of an invocation are valid for its command's arguments
 pub values_given : (clock : Option ℕ) (given : Words) (invocation : Invocation) → IsGiven clock given invocation
     → AreValues clock given (arguments_of (verb_of invocation))
 values_given clock given (invocations.Cat volume ino) is = (edition_value volume.edition _ is.0.0, (tt, (is.1.0, tt)))
@@ -88,20 +88,20 @@ values_given clock given (invocations.Work volume (works.Play scripts)) is =
     (edition_value volume.edition _ is.0.0, (tt, (scripts_value scripts.items _ is.1.0 is.1.1 is.1.2, tt)))
 values_given clock given (invocations.Serve volume) is = (edition_value volume.edition _ is.0.0, (tt, (is.1, tt)))
 
--- words that are all values have none that is no value
+-- words that are all valid have none that isn't
 none_wrong : (clock : Option ℕ) (given : Words) (row : List Argument) → AreValues clock given row → IsOneWrong clock given row → ⊥
 none_wrong clock given [] are wrong = wrong
 none_wrong clock given (argument ∷ rest) are (inl wrong) = wrong are.0
 none_wrong clock given (argument ∷ rest) are (inr wrong) = none_wrong clock given rest are.1 wrong
 
--- where one of the words is no value, nothing is asked for
+-- if one of the words isn't valid, there is no invocation
 pub no_value : (clock : Option ℕ) (verb : Verb) (given : Words) → IsOneWrong clock given (arguments_of verb) → AsksForNothing clock verb given
 unfolding AsksForNothing
 no_value clock verb given wrong = λ invocation asks.
     none_wrong clock given (arguments_of (verb_of invocation)) (values_given clock given invocation asks.1)
     (subst (λ (other : Verb). IsOneWrong clock given (arguments_of other)) asks.0 wrong)
 
--- a fault that tells of a word that is no value tells that nothing is asked for
+-- a fault that names a word that isn't valid means that there is no invocation
 tells_nothing : (clock : Option ℕ) (verb : Verb) (given : Words) (fault : Fault) → TellsOf (IsOneWrong clock given (arguments_of verb)) fault
     → TellsOf (AsksForNothing clock verb given) fault
 tells_nothing clock verb given faults.NoMemory tells = tt
@@ -113,12 +113,12 @@ pub refuses_value : {T : Type 0} (clock : Option ℕ) (verb : Verb) (given : Wor
 refuses_value clock verb given (Ok value) tells = tt
 refuses_value clock verb given (Err fault) tells = tells_nothing clock verb given fault tells
 
--- where a command asks for nothing, its name does
+-- if a command has no invocation, neither has its name
 pub names_nothing : (clock : Option ℕ) (verb : Verb) (given : Words) → AsksForNothing clock verb given → (invocation : Invocation)
     → NameAsksFor clock (verb_name verb) given invocation → ⊥
 unfolding AsksForNothing
 names_nothing clock verb given none invocation asks = none invocation (verb_name-injective verb (verb_of invocation) asks.0, asks.1)
 
--- where the name is that of no command, nothing is asked for
+-- if the name is that of no command, there is no invocation
 pub no_command : (clock : Option ℕ) (name : List ℕ) (given : Words) → IsNoCommand name → (invocation : Invocation) → NameAsksFor clock name given invocation → ⊥
 no_command clock name given none invocation asks = none (verb_of invocation) asks.0

@@ -1,4 +1,4 @@
--- What the words after a command ask for.
+-- The invocations that the words after a command are read as.
 use Rattle.std.specs.Prelude.{◌≡◌, ◌≢◌, ◌⊎◌, ◌∷◌, ◌≤◌, ◌-◌, ◌&&◌, ℕ, List, [], length, map, take, get_or, slice_get, flat_map, Option, Some, None, option_map, Bool, false, true, not, codes}
 use Rattle.std.specs.List.{list_any}
 use Rattle.std.specs.Path.{path_file_name}
@@ -41,24 +41,24 @@ use Rattle.command_changes.specs.declared.changes.Change.TheVariants as changes
 use Rattle.command_changes.specs.declared.migrate.Migration.{Migration}
 use Rattle.vol_mkfs.specs.declared.blank.NewVolume.{NewVolume}
 
--- the words that were given for each argument, by its name (this project)
+-- the words given for each argument, by its name (this project)
 abbrev pub Words : Type 0
 Words = List ℕ → List (List ℕ)
 
--- the first word, or the empty one where there is none (this project)
+-- the first word, or the empty one if there is none (this project)
 abbrev pub first_word : List (List ℕ) → List ℕ
 first_word [] = []
 first_word (word ∷ more) = word
 
--- the first word that was given for an argument, or the empty one (this project)
+-- the first word given for an argument, or the empty one (this project)
 abbrev pub the_word : Words → List ℕ → List ℕ
 the_word given name = first_word (given name)
 
--- this is the first word that was given for an argument (this project)
+-- this is the first word given for an argument (this project)
 abbrev pub IsFirstWord : Words → List ℕ → List ℕ → Type 0
 IsFirstWord given name word = slice_get (given name) 0 ≡ Some word
 
--- this is the first word that was given for an argument, and it isn't empty (this project)
+-- this is the first word given for an argument, and it isn't empty (this project)
 abbrev pub IsNonEmptyWord : Words → List ℕ → List ℕ → Type 0
 IsNonEmptyWord given name word = IsFirstWord given name word × (word ≢ [])
 
@@ -75,22 +75,22 @@ abbrev pub IsEditionNamed : Edition → List ℕ → Type 0
 IsEditionNamed V6 text = text ≡ codes "6"
 IsEditionNamed V7 text = text ≡ codes "7"
 
--- the moment that is meant: the one that was written, or that of the program's clock where no word was given (this project)
+-- the time that is meant: the one written, or that of the program's clock if there is no word (this project)
 abbrev pub IsMomentGiven : Option ℕ → List (List ℕ) → ℕ → Type 0
 IsMomentGiven clock [] now = clock ≡ Some now
 IsMomentGiven clock (word ∷ more) now = IsMomentOf word now
 
--- the number of 16 bits that was given, or another one where no word was given (this project)
+-- the 16-bit number that was given, or `other` if there is no word (this project)
 abbrev pub IsWordOr : ℕ → List (List ℕ) → ℕ → Type 0
 IsWordOr other [] number = number ≡ other
 IsWordOr other (word ∷ more) number = IsNumberGiven 65535 word number
 
--- where a word was given, it is a number of 16 bits (this project)
+-- if there is a word, it is a 16-bit number (this project)
 abbrev pub IsWordIfAny : List (List ℕ) → Type 0
 IsWordIfAny [] = Unit {0}
 IsWordIfAny (word ∷ more) = IsNumberUpTo 65535 word
 
--- the words are a value of an argument of this kind (this project)
+-- the words are valid for an argument of this kind (this project)
 abbrev pub IsValue : Option ℕ → Kind → List (List ℕ) → Type 0
 IsValue clock kinds.Edition words = (first_word words ≡ codes "6") ⊎ (first_word words ≡ codes "7")
 IsValue clock kinds.Text words = Unit {0}
@@ -105,12 +105,12 @@ IsValue clock kinds.Scripts words = (1 ≤ length words) × (length words ≤ 64
 IsValue clock kinds.Flag words = Unit {0}
 IsValue clock kinds.Wanted words = is_set words ≡ true
 
--- the words that were given for each of these arguments are a value of it (this project)
+-- the words given for each of these arguments are valid for it (this project)
 abbrev pub AreValues : Option ℕ → Words → List Argument → Type 0
 AreValues clock given [] = Unit {0}
 AreValues clock given (argument ∷ rest) = IsValue clock argument.1 (given argument.0) × AreValues clock given rest
 
--- the words that were given for one of these arguments are no value of it (this project)
+-- the words given for one of these arguments aren't valid for it (this project)
 abbrev pub IsOneWrong : Option ℕ → Words → List Argument → Type 0
 IsOneWrong clock given [] = ⊥
 IsOneWrong clock given (argument ∷ rest) = (IsValue clock argument.1 (given argument.0) → ⊥) ⊎ IsOneWrong clock given rest
@@ -121,12 +121,12 @@ checker_verb checkers.Blocks = verbs.Icheck
 checker_verb checkers.Entries = verbs.Dcheck
 checker_verb checkers.Names = verbs.Ncheck
 
--- the command of what several threads do (this project)
+-- the command for work with several threads (this project)
 abbrev pub work_verb : Work → Verb
 work_verb (works.Check checker workers) = checker_verb checker
 work_verb (works.Play scripts) = verbs.Play
 
--- the command of a change (this project)
+-- the command for a change (this project)
 abbrev pub change_verb : Change → Verb
 change_verb (changes.Put path file now) = verbs.Put
 change_verb (changes.Import path now) = verbs.Import
@@ -142,7 +142,7 @@ change_verb (changes.Chown path uid gid now) = verbs.Chown
 change_verb (changes.Touch path now) = verbs.Touch
 change_verb changes.Salvage = verbs.Salvage
 
--- the command of what is looked at (this project)
+-- the command that shows part of an image (this project)
 abbrev pub look_verb : Look → Verb
 look_verb (looks.Export path) = verbs.Export
 look_verb (looks.Inode number form) = verbs.Inode
@@ -156,7 +156,7 @@ abbrev pub copying_verb : Copying → Verb
 copying_verb (copies.Put directory files now) = verbs.Put
 copying_verb (copies.Get folder paths) = verbs.Get
 
--- the command that asks for this (this project)
+-- the command of an invocation (this project)
 abbrev pub verb_of : Invocation → Verb
 verb_of (invocations.Cat volume ino) = verbs.Cat
 verb_of (invocations.Mkfs image volume) = verbs.Mkfs
@@ -173,11 +173,11 @@ abbrev pub IsVolumeGiven : Words → VolumeFile → Type 0
 IsVolumeGiven given volume =
     IsEditionNamed volume.edition (the_word given (codes "EDITION")) × (volume.image.now ≡ the_word given (codes "IMAGE"))
 
--- the words name this file that is made, by the argument for its path, and say whether nothing may stand there (this project)
+-- the words name this file to make, by the argument for its path, and say whether it must not exist (this project)
 abbrev pub IsMadeGiven : Words → List ℕ → MadeFile → Type 0
 IsMadeGiven given name file = (file.path.now ≡ the_word given name) × (file.is_new ≡ is_set (given (codes "new")))
 
--- the words describe this new volume: an i-list that was left out is as mkfs reckoned it, and a user or a group is 0 (this project)
+-- the words describe this new volume: an i-list that was left out has mkfs's default size, and a user or a group is 0 (this project)
 abbrev pub IsNewVolumeGiven : Option ℕ → Words → NewVolume → Type 0
 IsNewVolumeGiven clock given volume = IsEditionNamed volume.edition (the_word given (codes "EDITION"))
     × AreBlocksOf (the_word given (codes "FSIZE")) volume.blocks
@@ -192,7 +192,7 @@ IsMigrationGiven clock given migration = IsNumberGiven 4294967295 (the_word give
     × IsNumberGiven 65535 (the_word given (codes "IBLOCKS")) migration.list_blocks
     × IsMomentGiven clock (given (codes "NOW")) migration.now
 
--- the words ask for this one file of a volume, and for no other (this project)
+-- the words name this one file of a volume, and no other (this project)
 abbrev pub IsPathGiven : Words → List ℕ → Type 0
 IsPathGiven given path = (path ≡ the_word given (codes "PATH")) × IsLeftOut given (codes "MORE") × IsLeftOut given (codes "output")
 
@@ -225,29 +225,29 @@ IsChangeGiven clock given (changes.Touch path now) =
     (path.now ≡ the_word given (codes "PATH")) × IsMomentGiven clock (given (codes "NOW")) now
 IsChangeGiven clock given changes.Salvage = Unit {0}
 
--- the words ask for a report of this form: JSON where they say so (this project)
+-- the words choose this form of a report: JSON if its option is given (this project)
 abbrev pub IsFormGiven : Words → Form → Type 0
 IsFormGiven given forms.Text = is_set (given (codes "json")) ≡ false
 IsFormGiven given forms.Json = is_set (given (codes "json")) ≡ true
 
--- the words ask for a drawing of this form: SVG where they say so (this project)
+-- the words choose this form of a block map: SVG if its option is given (this project)
 abbrev pub IsPictureGiven : Words → Picture → Type 0
 IsPictureGiven given pictures.Cells = is_set (given (codes "svg")) ≡ false
 IsPictureGiven given pictures.Svg = is_set (given (codes "svg")) ≡ true
 
--- the words ask for lines of this form: JSON where they say so, else long ones where they say so (this project)
+-- the words choose this form of lines: JSON if its option is given, else long ones if theirs is (this project)
 abbrev pub AreLinesGiven : Words → Lines → Type 0
 AreLinesGiven given lines.Plain = (is_set (given (codes "json")) ≡ false) × (is_set (given (codes "long")) ≡ false)
 AreLinesGiven given lines.Long = (is_set (given (codes "json")) ≡ false) × (is_set (given (codes "long")) ≡ true)
 AreLinesGiven given lines.Json = is_set (given (codes "json")) ≡ true
 
--- the words ask for a listing that goes so far: not into a directory where they say so, else to all below where they say so (this project)
+-- the words choose the depth of a listing: only the directory itself if that option is given, else everything below if that one is (this project)
 abbrev pub IsDepthGiven : Words → Depth → Type 0
 IsDepthGiven given depths.Itself = is_set (given (codes "directory")) ≡ true
 IsDepthGiven given depths.Names = (is_set (given (codes "directory")) ≡ false) × (is_set (given (codes "recursive")) ≡ false)
 IsDepthGiven given depths.Below = (is_set (given (codes "directory")) ≡ false) × (is_set (given (codes "recursive")) ≡ true)
 
--- the words describe what is looked at (this project)
+-- the words describe this part of an image (this project)
 abbrev pub IsLookGiven : Words → Look → Type 0
 IsLookGiven given (looks.Export path) = path.now ≡ the_word given (codes "PATH")
 IsLookGiven given (looks.Inode number form) = IsNumberGiven 65535 (the_word given (codes "INO")) number × IsFormGiven given form
@@ -257,11 +257,11 @@ IsLookGiven given looks.Check = Unit {0}
 IsLookGiven given (looks.List path listing) = (path.now ≡ the_word given (codes "PATH")) × AreLinesGiven given listing.lines
     × IsDepthGiven given listing.depth
 
--- the words of `put` for several files, in their order (this project)
+-- the words of `put` for several files, in order (this project)
 abbrev pub put_words : Words → List (List ℕ)
 put_words given = flat_map given (codes "PATH" ∷ codes "FILE" ∷ codes "NOW" ∷ codes "MORE" ∷ [])
 
--- the words of `get` for several files, in their order (this project)
+-- the words of `get` for several files, in order (this project)
 abbrev pub get_words : Words → List (List ℕ)
 get_words given = flat_map given (codes "PATH" ∷ codes "MORE" ∷ [])
 
@@ -270,7 +270,7 @@ abbrev pub with_name : Option (List ℕ) → List (List ℕ) → List (List ℕ)
 with_name None names = names
 with_name (Some name) names = name ∷ names
 
--- the last names of the paths that have one: `/` and what ends in `..` have none (std's Path::file_name)
+-- the last names of the paths that have one: `/` and paths that end in `..` have none (std's Path::file_name)
 abbrev pub last_names : List (List ℕ) → List (List ℕ)
 last_names [] = []
 last_names (path ∷ more) = with_name (path_file_name path) (last_names more)
@@ -284,38 +284,38 @@ are_distinct (name ∷ more) = not (list_any (λ other. bytes_eq other name) mor
 abbrev pub are_apart : List (List ℕ) → Bool
 are_apart paths = are_distinct (last_names paths)
 
--- the last of two words or more writes this moment (this project)
+-- the last of two words or more is this time (this project)
 abbrev pub EndsInMoment : List (List ℕ) → ℕ → Type 0
 EndsInMoment words now = (2 ≤ length words) × IsMomentOf (get_or words (length words - 1) []) now
 
--- the words are these files, and then the moment where the last of two words or more writes one, which is the moment's word; else the moment is the clock's, and has no word (this project)
+-- the words are these files followed by the time, if the last of two words or more is one, which is then the time's word; otherwise the time is the clock's, and has no word (this project)
 abbrev pub IsMomentAfter : Option ℕ → List (List ℕ) → List (List ℕ) → ℕ → Option (List ℕ) → Type 0
 IsMomentAfter clock words files now word =
     (EndsInMoment words now × (files ≡ take (length words - 1) words) × (word ≡ slice_get words (length words - 1)))
     ⊎ (((moment : ℕ) → EndsInMoment words moment → ⊥) × (files ≡ words) × (clock ≡ Some now) × (word ≡ None))
 
--- the words are these files, one or more and no two of one last name, and the moment that is meant, with its word, if it has one (this project)
+-- the words are these files, one or more with different last names, and the time that is meant, with its word if it has one (this project)
 abbrev pub AreFilesGiven : Option ℕ → List (List ℕ) → List (List ℕ) → ℕ → Option (List ℕ) → Type 0
 AreFilesGiven clock words files now word = (1 ≤ length files) × (are_apart files ≡ true) × IsMomentAfter clock words files now word
 
--- the words are these paths, one or more and no two of one last name (this project)
+-- the words are these paths, one or more with different last names (this project)
 abbrev pub ArePathsGiven : List (List ℕ) → List (List ℕ) → Type 0
 ArePathsGiven words paths = (1 ≤ length paths) × (are_apart paths ≡ true) × (paths ≡ words)
 
--- the words describe what is copied (this project)
+-- the words describe this copying (this project)
 abbrev pub IsCopyGiven : Option ℕ → Words → Copying → Type 0
 IsCopyGiven clock given (copies.Put directory files now) = IsNonEmptyWord given (codes "target-directory") directory.now
     × AreFilesGiven clock (put_words given) (map (λ file. file.now) files.items) now.seconds (option_map (λ word. word.now) now.word)
 IsCopyGiven clock given (copies.Get folder paths) = IsNonEmptyWord given (codes "output") folder.now
     × ArePathsGiven (get_words given) (map (λ path. path.now) paths.items)
 
--- the words describe what several threads do (this project)
+-- the words describe this work with several threads (this project)
 abbrev pub IsWorkGiven : Words → Work → Type 0
 IsWorkGiven given (works.Check checker workers) = IsThreadsGiven (the_word given (codes "WORKERS")) workers
 IsWorkGiven given (works.Play scripts) =
     (map (λ script. script.now) scripts.items ≡ given (codes "SCRIPT")) × (1 ≤ length scripts.items) × (length scripts.items ≤ 64)
 
--- the words describe what is asked for (this project)
+-- the words describe this invocation (this project)
 abbrev pub IsGiven : Option ℕ → Words → Invocation → Type 0
 IsGiven clock given (invocations.Cat volume ino) = IsVolumeGiven given volume × IsNumberGiven 65535 (the_word given (codes "INO")) ino
 IsGiven clock given (invocations.Mkfs image volume) = IsMadeGiven given (codes "IMAGE") image × IsNewVolumeGiven clock given volume
@@ -328,29 +328,29 @@ IsGiven clock given (invocations.Copy volume copying) = IsVolumeGiven given volu
 IsGiven clock given (invocations.Work volume work) = IsVolumeGiven given volume × IsWorkGiven given work
 IsGiven clock given (invocations.Serve volume) = IsVolumeGiven given volume × (is_set (given (codes "read-only")) ≡ true)
 
--- the command with the words for its arguments asks for this (this project)
+-- the command and the words for its arguments are this invocation (this project)
 abbrev pub AsksFor : Option ℕ → Verb → Words → Invocation → Type 0
 AsksFor clock verb given invocation = (verb ≡ verb_of invocation) × IsGiven clock given invocation
 
--- the command with the words for its arguments asks for nothing (this project)
+-- the command and the words for its arguments are no invocation (this project)
 unfoldable pub AsksForNothing : Option ℕ → Verb → Words → Type 0
 AsksForNothing clock verb given = (invocation : Invocation) → AsksFor clock verb given invocation → ⊥
 
--- the command of this name with the words for its arguments asks for this (this project)
+-- the command with this name and the words for its arguments are this invocation (this project)
 abbrev pub NameAsksFor : Option ℕ → List ℕ → Words → Invocation → Type 0
 NameAsksFor clock name given invocation = (name ≡ verb_name (verb_of invocation)) × IsGiven clock given invocation
 
--- memory ran out, or the fault tells of a word that is no value, of which this holds (this project)
+-- memory ran out, or the fault names a word that isn't valid, and `wrong` holds (this project)
 abbrev pub TellsOf : Type 0 → Fault → Type 0
 TellsOf wrong faults.NoMemory = Unit {0}
 TellsOf wrong (faults.Wrong word) = wrong
 
--- the fault tells of a word that is no value (this project)
+-- the fault names a word that isn't valid (this project)
 abbrev pub IsWrong : Fault → Type 0
 IsWrong faults.NoMemory = ⊥
 IsWrong (faults.Wrong word) = Unit {0}
 
--- several threads can do this: their number, or that of the scripts, is 1 to 64 (this project)
+-- the number of threads, or of scripts, is 1 to 64 (this project)
 abbrev pub IsWorkable : Work → Type 0
 IsWorkable (works.Check checker workers) = (1 ≤ workers) × (workers ≤ 64)
 IsWorkable (works.Play scripts) = (1 ≤ length scripts.items) × (length scripts.items ≤ 64)

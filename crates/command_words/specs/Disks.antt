@@ -1,11 +1,11 @@
--- Sizes of new volumes: disks by their names, and i-lists.
+-- Sizes of new volumes: disks by name, and i-lists.
 use Rattle.std.specs.Prelude.{◌≡◌, ◌⊎◌, ◌==◌, ◌+◌, ◌/◌, ℕ, nat_lt, if◌then◌else◌, List, Option, Some, None, codes}
 use Rattle.std.specs.Str.{bytes_eq}
 use Rattle.vol_layout.specs.declared.edition.Edition.{Edition}
 use Rattle.vol_layout.specs.declared.edition.Edition.TheVariants.{V6, V7}
 use Rattle.command_words.specs.Decimal.{IsNumberGiven}
 
--- how many blocks of 512 bytes the disk of this name has: cylinders times tracks times blocks of a track, as 203 * 2 * 12 of an RK05 (DEC's handbooks of these disks; manual section 4, rk)
+-- the number of 512-byte blocks of the disk with this name: cylinders times tracks times blocks of a track, such as 203 * 2 * 12 for an RK05 (DEC's handbooks of these disks; manual section 4, rk)
 abbrev pub disk_blocks : List ℕ → Option ℕ
 disk_blocks name =
     if bytes_eq name (codes "rk05") then Some 4872
@@ -15,15 +15,15 @@ disk_blocks name =
     else if bytes_eq name (codes "rp06") then Some 340670
     else None
 
--- the text is this number, or the name of a disk that has so many blocks (this project)
+-- the text is this number, or the name of a disk with that many blocks (this project)
 abbrev pub AreBlocksOf : List ℕ → ℕ → Type 0
 AreBlocksOf text blocks = IsNumberGiven 4294967295 text blocks ⊎ (disk_blocks text ≡ Some blocks)
 
--- a number of blocks as that of an i-list: one at least, and at most so many (this project)
+-- a number of blocks limited to that of an i-list: 1 to `most` (this project)
 abbrev pub list_of : ℕ → ℕ → ℕ
 list_of most blocks = if nat_lt most blocks then most else (if blocks == 0 then 1 else blocks)
 
--- how many blocks mkfs gave the i-list of a volume of so many blocks where no prototype said it (mkfs.c)
+-- the number of blocks that mkfs gave the i-list of a volume with `blocks` blocks by default (mkfs.c)
 abbrev pub list_default : Edition → ℕ → ℕ
 list_default V6 blocks = list_of 4095 (blocks / (43 + blocks / 1000))
 list_default V7 blocks = list_of 8187 (blocks / 25)

@@ -1,4 +1,4 @@
--- Moments as they are written on the command line.
+-- Times on the command line.
 use Rattle.std.specs.Prelude.{◌≡◌, ◌⊎◌, ◌≤◌, ◌*◌, ℕ, ℤ, List, Ok, pos}
 use Rattle.jiff.specs.Words.{parse_timestamp}
 use Rattle.command_words.specs.Decimal.{IsNumberGiven, IsNumberUpTo}
@@ -7,10 +7,10 @@ use Rattle.command_words.specs.Decimal.{IsNumberGiven, IsNumberUpTo}
 abbrev pub second_of : ℕ → ℤ
 second_of now = pos (now * 1000000000)
 
--- the text is a date and a time, and the moment is this second (RFC 3339, jiff's contract)
+-- the text is a date and a time, for this second (RFC 3339, jiff's contract)
 abbrev pub IsDateOf : List ℕ → ℕ → Type 0
 IsDateOf text now = (parse_timestamp text ≡ Ok (second_of now)) × (now ≤ 4294967295)
 
--- the text writes this moment, in seconds since the beginning of 1970: as a number of 32 bits, or as a date and a time (this project)
+-- the text is this time, in seconds since the beginning of 1970: a 32-bit number, or a date and a time (this project)
 abbrev pub IsMomentOf : List ℕ → ℕ → Type 0
 IsMomentOf text now = IsNumberGiven 4294967295 text now ⊎ ((IsNumberUpTo 4294967295 text → ⊥) × IsDateOf text now)

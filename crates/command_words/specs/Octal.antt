@@ -1,4 +1,4 @@
--- Permissions as they are written on the command line.
+-- Permissions on the command line.
 use Rattle.std.specs.Prelude.{◌≡◌, ℕ, ◌≤◌, List}
 use Rattle.std.specs.Str.Parse.{IsNumeral, digits_value}
 

@@ -1,4 +1,4 @@
--- The commands, and the words that each takes.
+-- The commands, and their words.
 use Rattle.std.specs.Prelude.{◌≢◌, ◌∷◌, ℕ, List, [], None, Some, codes}
 use Rattle.command_words.specs.declared.parameters.Kind.{Kind}
 use Rattle.command_words.specs.declared.parameters.Kind.TheVariants as kinds
@@ -10,11 +10,11 @@ use Rattle.command_words.specs.declared.parameters.ValueName.TheVariants as valu
 use Rattle.command_words.specs.declared.verbs.Verb.{Verb}
 use Rattle.command_words.specs.declared.verbs.Verb.TheVariants as verbs
 
--- what a command takes: the name of the argument, what its words have to be, and how many there are (this project)
+-- an argument of a command: its name, the kind of its words, and their number (this project)
 abbrev pub Argument : Type 0
 Argument = List ℕ × Kind × Need
 
--- what a parameter says to a parse (this project)
+-- the argument of a parameter (this project)
 abbrev pub argument_of : Parameter → Argument
 argument_of parameter = (parameter.name.now, parameter.kind, parameter.need)
 
@@ -26,15 +26,15 @@ edition = (codes "EDITION", kinds.Edition, needs.Once)
 abbrev pub word : List ℕ → Argument
 word name = (name, kinds.Text, needs.Once)
 
--- an argument for a number of 16 bits (this project)
+-- an argument for a 16-bit number (this project)
 abbrev pub number : List ℕ → Argument
 number name = (name, kinds.Word, needs.Once)
 
--- an argument for a number of 16 bits, which may be left out (this project)
+-- an argument for a 16-bit number, which may be left out (this project)
 abbrev pub maybe_number : List ℕ → Argument
 maybe_number name = (name, kinds.WordOr, needs.Maybe)
 
--- an argument for a number of 32 bits (this project)
+-- an argument for a 32-bit number (this project)
 abbrev pub long_number : List ℕ → Argument
 long_number name = (name, kinds.Long, needs.Once)
 
@@ -54,7 +54,7 @@ maybe_word name = (name, kinds.Text, needs.Maybe)
 abbrev pub more_words : Argument
 more_words = (codes "MORE", kinds.Text, needs.Any)
 
--- an option with a value: its name, its letter, and what the help calls the value (this project)
+-- an option with a value: its name, its letter, and the value's name in the help (this project)
 abbrev pub valued : List ℕ → ℕ → ValueName → Argument
 valued name letter value = (name, kinds.Text, needs.Value letter value)
 
@@ -103,7 +103,7 @@ verb_name verbs.Play = codes "play"
 verb_name verbs.Migrate = codes "migrate"
 verb_name verbs.Serve = codes "serve"
 
--- the words of a command, in their order (this project)
+-- the words of a command, in order (this project)
 abbrev pub arguments_of : Verb → List Argument
 arguments_of verbs.Cat = on_volume (number (codes "INO") ∷ [])
 arguments_of verbs.Ls = on_volume (maybe_path ∷ lettered (codes "long") 108 ∷ lettered (codes "recursive") 82
@@ -144,6 +144,6 @@ all_verbs =
     ∷ verbs.Ncheck ∷ verbs.Mkfs ∷ verbs.Put ∷ verbs.Import ∷ verbs.Rm ∷ verbs.Rmdir ∷ verbs.Mkdir ∷ verbs.Ln ∷ verbs.Mv ∷ verbs.Chmod
     ∷ verbs.Chown ∷ verbs.Touch ∷ verbs.Salvage ∷ verbs.Play ∷ verbs.Migrate ∷ verbs.Serve ∷ []
 
--- the word names no command (this project)
+-- no command has this name (this project)
 abbrev pub IsNoCommand : List ℕ → Type 0
 IsNoCommand text = (verb : Verb) → text ≢ verb_name verb

@@ -1,12 +1,12 @@
-//! Numbers as they are written on the command line.
+//! Numbers on the command line.
 ghost use Rattle.std.specs.Prelude.{◌≡◌, ◌==◌, SomeIff, slice_index};
 ghost use Rattle.std.specs.Str.Parse.{digits_value};
 ghost use Rattle.command_words.specs.Decimal.{IsNumberUpTo, IsThreads};
 
 use vol_check::MOST_WORKERS;
 
-/// The number of 16 bits that `text` writes: one or more decimal digits, of which the first may be
-/// zeros, and no sign. `None` where the text is anything else, or the number has more bits.
+/// Reads a 16-bit number: one or more decimal digits, with leading zeros allowed and no sign. Returns `None` for any other
+/// text, or if the number has more bits.
 pub(crate) fn word_of(text: &str) -> Option<u16>
     ensures { SomeIff result (IsNumberUpTo 65535 text.now) (digits_value 10 text.now) }
 {
@@ -16,7 +16,7 @@ pub(crate) fn word_of(text: &str) -> Option<u16>
     text.parse().ok()
 }
 
-/// The number of 32 bits that `text` writes, as [`word_of`] reads one of 16 bits.
+/// Reads a 32-bit number, written as [`word_of`] reads it.
 pub(crate) fn long_of(text: &str) -> Option<u32>
     ensures { SomeIff result (IsNumberUpTo 4294967295 text.now) (digits_value 10 text.now) }
 {
@@ -26,8 +26,8 @@ pub(crate) fn long_of(text: &str) -> Option<u32>
     text.parse::<u32>().ok()
 }
 
-/// The number of threads, 1 to [`MOST_WORKERS`], that `text` writes, as [`word_of`] reads a number. `None` where the text is anything
-/// else, or another number.
+/// Reads a number of threads, 1 to [`MOST_WORKERS`], written as [`word_of`] reads it. Returns `None` for any other text or
+/// number.
 pub(crate) fn threads_of(text: &str) -> Option<usize>
     ensures { SomeIff result (IsThreads text.now) (digits_value 10 text.now) }
 {
@@ -39,7 +39,7 @@ pub(crate) fn threads_of(text: &str) -> Option<usize>
     }
 }
 
-/// Whether a text begins with a plus sign, which Rust's numbers may.
+/// True if a text begins with a plus sign, which Rust's parser would accept.
 pub(crate) fn is_signed(text: &str) -> bool
     ensures { result ≡ (slice_index text.now 0 == 43) }
 {

@@ -1,12 +1,11 @@
-//! Sizes of new volumes: disks by their names, and i-lists.
+//! Sizes of new volumes: disks by name, and i-lists.
 ghost use Rattle.std.specs.Prelude.{◌≡◌, None, ℕ, IfSome};
 ghost use Rattle.command_words.specs.Disks.{AreBlocksOf, disk_blocks, list_default, list_of};
 
 use crate::decimal::long_of;
 use vol_layout::Edition;
 
-/// The number of blocks that `text` writes: as [`long_of`] reads a number, or as the name of a disk. `None` where the text is anything
-/// else.
+/// Reads a number of blocks: a number as [`long_of`] reads it, or the name of a disk. Returns `None` for any other text.
 pub(crate) fn blocks_of(text: &str) -> Option<u32>
     ensures some { IfSome result (AreBlocksOf text.now) }
     ensures none { result ≡ None → (blocks : ℕ) → AreBlocksOf text.now blocks → ⊥ }
@@ -17,7 +16,7 @@ pub(crate) fn blocks_of(text: &str) -> Option<u32>
     }
 }
 
-/// How many blocks of 512 bytes the disk of a name has.
+/// Returns the number of 512-byte blocks of the disk with this name.
 fn disk_blocks(name: &str) -> Option<u32>
     ensures { result ≡ disk_blocks name.now }
 {
@@ -36,7 +35,7 @@ fn disk_blocks(name: &str) -> Option<u32>
     }
 }
 
-/// How many blocks the i-list of a volume of so many blocks has, if nothing else is said: as `mkfs` of the edition reckoned it.
+/// Returns the number of blocks in the i-list of a volume with `blocks` blocks, as the edition's `mkfs` chose it by default.
 pub(crate) fn list_default(edition: Edition, blocks: u32) -> u16
     ensures { result ≡ list_default edition blocks }
 {
@@ -46,7 +45,7 @@ pub(crate) fn list_default(edition: Edition, blocks: u32) -> u16
     }
 }
 
-/// A number of blocks as that of an i-list: one at least, and at most so many.
+/// Limits a number of blocks to that of an i-list: 1 to `most`.
 fn list_of(most: u16, blocks: u32) -> u16
     ensures { result ≡ list_of most blocks }
 {

@@ -1,39 +1,39 @@
-//! Why the words of a command ask for nothing.
+//! The faults of a command's words.
 ghost use Rattle.std.specs.Prelude.{◌≡◌};
 ghost use Rattle.command_words.specs.declared.fault.Fault.TheVariants as faults;
 
 use std::alloc::AllocError;
 
-/// Why the words of a command ask for nothing.
+/// The reason why the words of a command were refused.
 #[derive(Clone, Copy, Debug, PartialEq, Eq)]
 pub enum Fault<'a> {
-    /// Memory ran out.
+    /// Out of memory.
     NoMemory,
-    /// A word is no value of its argument.
+    /// A word isn't valid for its argument.
     Wrong(WrongWord<'a>),
 }
 
-/// A word that is no value of its argument.
+/// A word that isn't valid for its argument.
 #[derive(Clone, Copy, Debug, PartialEq, Eq)]
 pub struct WrongWord<'a> {
-    /// The argument.
+    /// The argument's name.
     pub name: &'a str,
-    /// What was given for it.
+    /// The word given for it.
     pub said: Said<'a>,
-    /// What is wanted.
+    /// The text that says what is expected.
     pub wanted: &'a str,
 }
 
-/// What was given for an argument.
+/// The word given for an argument.
 #[derive(Clone, Copy, Debug, PartialEq, Eq)]
 pub enum Said<'a> {
     /// Nothing.
     Nothing,
     /// A word.
     Word(&'a str),
-    /// So many words.
+    /// This number of words.
     Words(usize),
-    /// Nothing, where an option is needed.
+    /// No option, where one is needed.
     NoOption,
 }
 

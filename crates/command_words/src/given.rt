@@ -1,4 +1,4 @@
-//! The words that were given for the arguments of a command.
+//! The words given for the arguments of a command.
 ghost use Rattle.std.specs.Prelude.{◌≡◌, ◌≤◌, true, ℕ, List, None, IfOk, IfErr, codes, length, map, option_map, slice_get};
 ghost use Rattle.command_words.specs.Decimal.{IsNumberUpTo, IsNumberGiven, IsThreads, IsThreadsGiven};
 ghost use Rattle.command_words.specs.Octal.{IsOctalUpTo, IsOctalGiven};
@@ -15,34 +15,34 @@ use crate::texts;
 use std::alloc::{AllocError, Global};
 use vol_layout::Edition;
 
-/// The words that were given for the arguments of a command.
+/// The words given for the arguments of a command.
 pub trait Given<'a> {
     ghost words: { Self → List ℕ → List (List ℕ) };
 
-    /// The first word that was given for an argument.
+    /// Returns the first word given for an argument.
     fn first(&self, name: &str) -> Option<&'a str>
         ensures { option_map (λ word. word.now) result ≡ slice_get (words self.now name.now) 0 };
 
-    /// All words that were given for an argument.
+    /// Returns all words given for an argument.
     fn all(&self, alloc: Global, name: &str) -> Result<Vec<&'a str>, AllocError>
         ensures { IfOk result (λ found. map (λ word. word.now) found.items ≡ words self.now name.now) };
 }
 
-/// The first word that was given for an argument, or the empty one.
+/// Returns the first word given for an argument, or the empty one.
 pub(crate) fn text_in<'a, G: Given<'a>>(given: &G, name: &str) -> &'a str
     ensures { result.now ≡ the_word (G.words given.now) name.now }
 {
     given.first(name).unwrap_or("")
 }
 
-/// Whether an option was given.
+/// True if an option was given.
 pub(crate) fn flag_in<'a, G: Given<'a>>(given: &G, name: &str) -> bool
     ensures { result ≡ is_set (G.words given.now name.now) }
 {
     text_in(given, name) == SET
 }
 
-/// That an option was given.
+/// Succeeds if an option was given.
 pub(crate) fn option_in<'a, G: Given<'a>>(
     given: &G,
     name: &'a str,
@@ -61,10 +61,10 @@ pub(crate) fn option_in<'a, G: Given<'a>>(
     }))
 }
 
-/// The word that stands for an option that was given.
+/// The word of an option that was given.
 const SET: &str = "true";
 
-/// The edition that was given.
+/// Reads the edition.
 pub(crate) fn edition_in<'a, G: Given<'a>>(given: &G) -> Result<Edition, Fault<'a>>
     ensures read { IfOk result (λ edition. IsEditionNamed edition (the_word (G.words given.now) (codes "EDITION"))) }
     ensures refused { IfErr result (TellsOf (IsValue None kinds.Edition (G.words given.now (codes "EDITION")) → ⊥)) }
@@ -77,7 +77,7 @@ pub(crate) fn edition_in<'a, G: Given<'a>>(given: &G) -> Result<Edition, Fault<'
     }
 }
 
-/// The number of 16 bits that was given for an argument.
+/// Reads the 16-bit number given for an argument.
 pub(crate) fn word_in<'a, G: Given<'a>>(given: &G, name: &'a str) -> Result<u16, Fault<'a>>
     ensures read { IfOk result (λ number. IsNumberGiven 65535 (the_word (G.words given.now) name.now) number) }
     ensures refused { IfErr result (TellsOf (IsNumberUpTo 65535 (the_word (G.words given.now) name.now) → ⊥)) }
@@ -86,7 +86,7 @@ pub(crate) fn word_in<'a, G: Given<'a>>(given: &G, name: &'a str) -> Result<u16,
     word_of(text).ok_or(wrong(name, text, texts::WORD))
 }
 
-/// The number of 32 bits that was given for an argument.
+/// Reads the 32-bit number given for an argument.
 pub(crate) fn long_in<'a, G: Given<'a>>(given: &G, name: &'a str) -> Result<u32, Fault<'a>>
     ensures read { IfOk result (λ number. IsNumberGiven 4294967295 (the_word (G.words given.now) name.now) number) }
     ensures refused { IfErr result (TellsOf (IsNumberUpTo 4294967295 (the_word (G.words given.now) name.now) → ⊥)) }
@@ -95,7 +95,7 @@ pub(crate) fn long_in<'a, G: Given<'a>>(given: &G, name: &'a str) -> Result<u32,
     long_of(text).ok_or(wrong(name, text, texts::LONG))
 }
 
-/// The number of 16 bits that was given for an argument, or another one where it was left out.
+/// Reads the 16-bit number given for an argument, or returns `other` if it was left out.
 pub(crate) fn word_or<'a, G: Given<'a>>(
     given: &G,
     name: &'a str,
@@ -110,7 +110,7 @@ pub(crate) fn word_or<'a, G: Given<'a>>(
     }
 }
 
-/// The number of blocks that was given.
+/// Reads the number of blocks.
 pub(crate) fn blocks_in<'a, G: Given<'a>>(given: &G) -> Result<u32, Fault<'a>>
     ensures read { IfOk result (AreBlocksOf (the_word (G.words given.now) (codes "FSIZE"))) }
     ensures refused { IfErr result (TellsOf (IsValue None kinds.Blocks (G.words given.now (codes "FSIZE")) → ⊥)) }
@@ -119,7 +119,7 @@ pub(crate) fn blocks_in<'a, G: Given<'a>>(given: &G) -> Result<u32, Fault<'a>>
     blocks_of(text).ok_or(wrong("FSIZE", text, texts::BLOCKS_OR_DISK))
 }
 
-/// The number of threads that was given for an argument.
+/// Reads the number of threads given for an argument.
 pub(crate) fn threads_in<'a, G: Given<'a>>(given: &G, name: &'a str) -> Result<usize, Fault<'a>>
     ensures read { IfOk result (λ number. IsThreadsGiven (the_word (G.words given.now) name.now) number) }
     ensures refused { IfErr result (TellsOf (IsThreads (the_word (G.words given.now) name.now) → ⊥)) }
@@ -128,7 +128,7 @@ pub(crate) fn threads_in<'a, G: Given<'a>>(given: &G, name: &'a str) -> Result<u
     threads_of(text).ok_or(wrong(name, text, texts::THREADS))
 }
 
-/// The permissions that were given for an argument.
+/// Reads the permissions given for an argument.
 pub(crate) fn permissions_in<'a, G: Given<'a>>(given: &G, name: &'a str) -> Result<u16, Fault<'a>>
     ensures read { IfOk result (λ number. IsOctalGiven 4095 (the_word (G.words given.now) name.now) number) }
     ensures refused { IfErr result (TellsOf (IsOctalUpTo 4095 (the_word (G.words given.now) name.now) → ⊥)) }
@@ -137,7 +137,7 @@ pub(crate) fn permissions_in<'a, G: Given<'a>>(given: &G, name: &'a str) -> Resu
     permissions_of(text).ok_or(wrong(name, text, texts::OCTAL))
 }
 
-/// The moment that was given, or that of the program's clock where none was.
+/// Reads the time, or returns the program's clock if it was left out.
 pub(crate) fn moment_in<'a, G: Given<'a>>(given: &G, clock: Option<u32>) -> Result<u32, Fault<'a>>
     ensures read { IfOk result (IsMomentGiven clock (G.words given.now (codes "NOW"))) }
     ensures refused { IfErr result (TellsOf (IsValue clock kinds.Moment (G.words given.now (codes "NOW")) → ⊥)) }
@@ -148,10 +148,10 @@ pub(crate) fn moment_in<'a, G: Given<'a>>(given: &G, clock: Option<u32>) -> Resu
     }
 }
 
-/// The most scripts that are played: one for each session that a shared volume may have.
+/// The greatest number of scripts: one for each session that a shared volume may have.
 const MOST_SCRIPTS: usize = 64;
 
-/// The scripts that were given.
+/// Returns the scripts that were given.
 pub(crate) fn scripts_in<'a, G: Given<'a>>(
     alloc: Global,
     given: &G,
@@ -171,7 +171,7 @@ pub(crate) fn scripts_in<'a, G: Given<'a>>(
     Ok(scripts)
 }
 
-/// The fault where there is no word for the argument `name`.
+/// Returns the fault for the argument `name` when it has no word.
 pub(crate) fn missing<'a>(name: &'a str, wanted: &'a str) -> Fault<'a>
     ensures { IsWrong result }
 {
@@ -182,7 +182,7 @@ pub(crate) fn missing<'a>(name: &'a str, wanted: &'a str) -> Fault<'a>
     })
 }
 
-/// The fault of a word that is no value of the argument `name`.
+/// Returns the fault for a word that isn't valid for the argument `name`.
 pub(crate) fn wrong<'a>(name: &'a str, word: &'a str, wanted: &'a str) -> Fault<'a>
     ensures { IsWrong result }
 {

@@ -1,4 +1,4 @@
-//! What the user asks for.
+//! Invocations: a command with its arguments read.
 use command_changes::{Change, Migration};
 use command_reads::Look;
 use vol_check::Checker;
@@ -14,37 +14,37 @@ pub struct VolumeFile<'a> {
     pub image: &'a str,
 }
 
-/// A file that is made.
+/// A file to make.
 #[derive(Clone, Copy, Debug, PartialEq, Eq)]
 pub struct MadeFile<'a> {
     /// Its path.
     pub path: &'a str,
-    /// True if nothing may stand there; else a file that does is replaced.
+    /// True if the file must not exist; otherwise an existing file is replaced.
     pub is_new: bool,
 }
 
-/// What several threads do with a volume.
+/// Work on a volume with several threads.
 #[derive(Debug, PartialEq, Eq, Drop)]
 pub enum Work<'a> {
-    /// Print what a checker finds, by so many threads, 1 to 64.
+    /// Print a checker's findings, with 1 to 64 threads.
     Check { checker: Checker, workers: usize },
-    /// Play the scripts in these files, 1 to 64, each by a thread of its own.
+    /// Play the scripts in these files, 1 to 64, each in a thread of its own.
     Play { scripts: Vec<&'a str> },
 }
 
-/// A moment, and where it was read.
+/// A time, and the word it was read from.
 #[derive(Clone, Copy, Debug, PartialEq, Eq)]
 pub struct Moment<'a> {
-    /// The moment, in seconds since the beginning of 1970.
+    /// The time, in seconds since the beginning of 1970.
     pub seconds: u32,
-    /// The word that writes it, which may have been meant as a file's name; `None` where the clock told it.
+    /// Its word, which may have been meant as a file's name; `None` if the time is the clock's.
     pub word: Option<&'a str>,
 }
 
-/// What is copied between files outside a volume and the volume.
+/// Copying between a volume and files outside it.
 #[derive(Debug, PartialEq, Eq, Drop)]
 pub enum Copying<'a> {
-    /// Put files into a directory of the volume, each under its last name; `now` is the moment of the calls.
+    /// Put files into a directory of the volume, each under its last name; `now` is the time of the calls.
     Put {
         directory: &'a str,
         files: Vec<&'a str>,
@@ -57,7 +57,7 @@ pub enum Copying<'a> {
     },
 }
 
-/// What the user asks for.
+/// A command with its arguments.
 #[derive(Debug, PartialEq, Eq, Drop)]
 pub enum Invocation<'a> {
     /// Print the body of i-node `ino` of the volume in a file.
@@ -75,7 +75,7 @@ pub enum Invocation<'a> {
         image: MadeFile<'a>,
         volume: NewVolume,
     },
-    /// Make a volume of the seventh edition in the file `new`, out of the one of the sixth in the file `old`.
+    /// Make a volume of the seventh edition in the file `new` from the one of the sixth in the file `old`.
     Migrate {
         old: &'a str,
         new: MadeFile<'a>,
@@ -86,7 +86,7 @@ pub enum Invocation<'a> {
         volume: VolumeFile<'a>,
         change: Change<'a>,
     },
-    /// Look at the image in a file, sound or not.
+    /// Show part of the image in a file, sound or not.
     Look {
         volume: VolumeFile<'a>,
         look: Look<'a>,
@@ -96,12 +96,12 @@ pub enum Invocation<'a> {
         volume: VolumeFile<'a>,
         copying: Copying<'a>,
     },
-    /// Do something with the volume in a file, by several threads.
+    /// Work on the volume in a file with several threads.
     Work {
         volume: VolumeFile<'a>,
         work: Work<'a>,
     },
-    /// Serve the volume in a file to Linux's FUSE, to be read.
+    /// Serve the volume in a file read-only to Linux's FUSE.
     Serve {
         volume: VolumeFile<'a>,
     },

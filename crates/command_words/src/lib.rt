@@ -1,4 +1,4 @@
-//! The commands, the words that each takes, and what these ask for.
+//! The commands and their words, and the functions that read them.
 #![tactic(auto)]
 
 mod decimal;

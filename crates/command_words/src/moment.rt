@@ -1,4 +1,4 @@
-//! Moments as they are written on the command line.
+//! Times on the command line.
 ghost use Rattle.std.specs.Prelude.{◌≡◌, ◌≢◌, ◌≤◌, ◌*◌, ℕ, None, IfSome, Ok, pos};
 ghost use Rattle.jiff.specs.Words.{parse_timestamp};
 ghost use Rattle.command_words.specs.Moment.{IsMomentOf, second_of};
@@ -9,9 +9,9 @@ use jiff::Timestamp;
 /// Nanoseconds in a second.
 const SECOND: u128 = 1_000_000_000;
 
-/// The moment that `text` writes, in seconds since the beginning of 1970: as [`long_of`] reads a number, or as a date and a
-/// time with its offset, as `2026-11-23T12:00:00Z`. `None` where the text is anything else, or the moment has a
-/// fraction of a second, or is no number of 32 bits.
+/// Reads a time, in seconds since the beginning of 1970: a number as [`long_of`] reads it, or a date and time with an
+/// offset, such as `2026-11-23T12:00:00Z`. Returns `None` for any other text, or if the time has a fraction of a second or
+/// doesn't fit in 32 bits.
 pub(crate) fn moment_of(text: &str) -> Option<u32>
     ensures some { IfSome result (IsMomentOf text.now) }
     ensures none { result ≡ None → (now : ℕ) → IsMomentOf text.now now → ⊥ }
@@ -22,7 +22,8 @@ pub(crate) fn moment_of(text: &str) -> Option<u32>
     }
 }
 
-/// The moment that a date and a time write. `None` where the text is anything else, or the moment is no number of 32 bits.
+/// Reads a date and time. Returns `None` for any other text, or if the time has a fraction of a second or doesn't fit in 32
+/// bits.
 fn date_of(text: &str) -> Option<u32>
     ensures some { IfSome result (λ now. parse_timestamp text.now ≡ Ok (second_of now)) }
     ensures none { result ≡ None → (now : ℕ) → now ≤ 4294967295 → parse_timestamp text.now ≢ Ok (second_of now) }

@@ -1,15 +1,15 @@
-//! Permissions as they are written on the command line.
+//! Permissions on the command line.
 ghost use Rattle.std.specs.Prelude.{SomeIff};
 ghost use Rattle.std.specs.Str.Parse.{digits_value};
 ghost use Rattle.command_words.specs.Octal.{IsOctalUpTo};
 
 use crate::decimal::is_signed;
 
-/// The greatest permissions, which are all twelve bits.
+/// The greatest permissions: all twelve bits.
 const ALL_PERMISSIONS: u16 = 0o7777;
 
-/// The permissions that `text` writes: one or more octal digits, of which the first may be zeros, and no sign.
-/// `None` where the text is anything else, or the number is above 7777.
+/// Reads permissions: one or more octal digits, with leading zeros allowed and no sign. Returns `None` for any other text,
+/// or if the number is above 7777.
 pub(crate) fn permissions_of(text: &str) -> Option<u16>
     ensures { SomeIff result (IsOctalUpTo 4095 text.now) (digits_value 8 text.now) }
 {

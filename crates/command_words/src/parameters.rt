@@ -1,36 +1,36 @@
 //! The words that commands take.
 use crate::texts;
 
-/// What the words for an argument have to be.
+/// The kind of words that an argument takes.
 #[derive(Clone, Copy, Debug, PartialEq, Eq)]
 pub enum Kind {
     /// An edition, `6` or `7`.
     Edition,
     /// Any word.
     Text,
-    /// A number of 16 bits.
+    /// A 16-bit number.
     Word,
-    /// A number of 16 bits, if there is a word.
+    /// A 16-bit number, if there is a word.
     WordOr,
-    /// A number of 32 bits, or the name of a disk that has so many blocks.
+    /// A 32-bit number, or the name of a disk with that many blocks.
     Blocks,
-    /// A number of 32 bits.
+    /// A 32-bit number.
     Long,
     /// Permissions, in octal digits.
     Permissions,
     /// A number of threads, 1 to 64.
     Threads,
-    /// A moment; where there is no word, that of the program's clock.
+    /// A time; without a word, that of the program's clock.
     Moment,
     /// The names of 1 to 64 scripts.
     Scripts,
-    /// No word of its own: whether the option is there.
+    /// No word of its own: an option that may be given.
     Flag,
-    /// No word of its own: the option has to be there.
+    /// No word of its own: an option that must be given.
     Wanted,
 }
 
-/// How many words there are for an argument.
+/// The number of words that an argument takes.
 #[derive(Clone, Copy, Debug, PartialEq, Eq)]
 pub enum Need {
     /// One.
@@ -41,13 +41,13 @@ pub enum Need {
     Several,
     /// Any number.
     Any,
-    /// None: it is an option of this name, and of this letter, if there is one.
+    /// None: it is an option with this name, and this letter if there is one.
     Flag(Option<char>),
-    /// One or none: it is the value of an option of this name and of this letter.
+    /// One or none: it is the value of an option with this name and letter.
     Value(char, ValueName),
 }
 
-/// What the help calls the value of an option.
+/// The name of an option's value in the help.
 #[derive(Clone, Copy, Debug, PartialEq, Eq)]
 pub enum ValueName {
     /// A directory of a volume.
@@ -57,7 +57,7 @@ pub enum ValueName {
 }
 
 impl ValueName {
-    /// The name, as the help shows it.
+    /// Returns the name, as the help shows it.
     pub fn text(self) -> &'static str {
         match self {
             ValueName::Directory => "DIR",
@@ -71,11 +71,11 @@ impl ValueName {
 pub struct Parameter {
     /// Its name, as the help shows it.
     pub name: &'static str,
-    /// What its words have to be.
+    /// The kind of its words.
     pub kind: Kind,
-    /// How many words there are.
+    /// The number of its words.
     pub need: Need,
-    /// What the help says of it.
+    /// Its text in the help.
     pub help: &'static str,
 }
 

@@ -1,4 +1,4 @@
-//! What the words after a command ask for.
+//! Reads the words after a command.
 ghost use Rattle.std.specs.Prelude.{◌≡◌, ℕ, None, Option, IfOk, IfErr, codes};
 ghost use Rattle.command_words.specs.Asking.{AreLinesGiven, AsksFor, AsksForNothing, IsDepthGiven, IsFormGiven, IsMadeGiven, IsOneWrong, IsPictureGiven, IsValue, IsVolumeGiven, TellsOf, checker_verb};
 ghost use Rattle.command_words.specs.Verbs.{arguments_of, of_checker};
@@ -22,10 +22,10 @@ use vol_check::Checker;
 use vol_listing::{Depth, Lines, Listing};
 use vol_mkfs::NewVolume;
 
-/// Reads the words after a command. `clock` is the moment of the program's clock, in seconds since the beginning of 1970,
-/// if it tells one; a command whose moment was left out means it. Where a word is no value of its argument, or a word
-/// is missing or one too many, or no moment is given or told, or two files that are copied have the same last name, or
-/// the place that they are copied to is the empty word, the fault says so.
+/// Reads the words after a command. `clock` is the time of the program's clock, in seconds since the beginning of 1970, if
+/// it has one; it is used if the command's time was left out. Returns a fault if a word isn't valid for its argument, a word
+/// is missing or one too many, there is no time, two files to copy have the same last name, or the place to copy them to is
+/// the empty word.
 pub fn read<'a, G: Given<'a>>(
     alloc: Global,
     verb: Verb,
@@ -92,7 +92,7 @@ fn read_ls<'a, G: Given<'a>>(given: &G) -> Result<Invocation<'a>, Fault<'a>>
     })
 }
 
-/// What is to be told of each name.
+/// Reads the form of the lines.
 fn lines_in<'a, G: Given<'a>>(given: &G) -> Lines
     ensures { AreLinesGiven (G.words given.now) result }
 {
@@ -105,7 +105,7 @@ fn lines_in<'a, G: Given<'a>>(given: &G) -> Lines
     }
 }
 
-/// How far a listing is to go into a directory.
+/// Reads the depth of a listing.
 fn depth_in<'a, G: Given<'a>>(given: &G) -> Depth
     ensures { IsDepthGiven (G.words given.now) result }
 {
@@ -204,7 +204,7 @@ fn read_check<'a, G: Given<'a>>(given: &G) -> Result<Invocation<'a>, Fault<'a>>
     })
 }
 
-/// How a report is to be written.
+/// Reads the form of a report.
 fn form_in<'a, G: Given<'a>>(given: &G) -> Form
     ensures { IsFormGiven (G.words given.now) result }
 {
@@ -215,7 +215,7 @@ fn form_in<'a, G: Given<'a>>(given: &G) -> Form
     }
 }
 
-/// How the uses of blocks are to be drawn.
+/// Reads the form of a block map.
 fn picture_in<'a, G: Given<'a>>(given: &G) -> Picture
     ensures { IsPictureGiven (G.words given.now) result }
 {
@@ -245,7 +245,7 @@ fn read_mkfs<'a, G: Given<'a>>(given: &G, clock: Option<u32>) -> Result<Invocati
     Ok(Invocation::Mkfs { image, volume })
 }
 
-/// The file that is made, of the path that was given for an argument.
+/// Reads the file to make, whose path was given for an argument.
 fn made_in<'a, G: Given<'a>>(given: &G, name: &str) -> MadeFile<'a>
     ensures { IsMadeGiven (G.words given.now) name.now result }
 {
@@ -501,7 +501,7 @@ fn read_serve<'a, G: Given<'a>>(given: &G) -> Result<Invocation<'a>, Fault<'a>>
     Ok(Invocation::Serve { volume })
 }
 
-/// The edition and the file of the volume that were given.
+/// Reads the edition and the file of the volume.
 fn volume_in<'a, G: Given<'a>>(given: &G) -> Result<VolumeFile<'a>, Fault<'a>>
     ensures read { IfOk result (IsVolumeGiven (G.words given.now)) }
     ensures refused { IfErr result (TellsOf (IsValue None kinds.Edition (G.words given.now (codes "EDITION")) → ⊥)) }

@@ -1,4 +1,4 @@
-//! The words of several files that are copied.
+//! The words for several files to copy.
 ghost use Rattle.std.specs.Prelude.{◌≡◌, ◌≢◌, ◌≤◌, ◌-◌, ◌∷◌, [], None, ℕ, List, Option, Some, false, true, IfErr, IfOk, IfSome, codes, flat_map, length, map, option_map, take};
 ghost use Rattle.command_words.specs.Asking.{AreFilesGiven, ArePathsGiven, EndsInMoment, IsFirstWord, IsLeftOut, IsMomentAfter, TellsOf, are_apart, are_distinct, get_words, last_names, put_words};
 
@@ -11,16 +11,16 @@ use std::alloc::{AllocError, Global};
 use std::collections::BTreeSet;
 use std::path::Path;
 
-/// Files that are put, and the moment of that.
+/// Files to put, and the time.
 #[derive(Drop)]
 pub(crate) struct PutFiles<'a> {
     /// The files.
     pub files: Vec<&'a str>,
-    /// The moment.
+    /// The time.
     pub now: Moment<'a>,
 }
 
-/// The one file that is put.
+/// Returns the one file to put.
 pub(crate) fn file_in<'a, G: Given<'a>>(given: &G) -> Result<&'a str, Fault<'a>>
     ensures read { IfOk result (λ file. IsFirstWord (G.words given.now) (codes "FILE") file.now) }
     ensures refused { IfErr result (TellsOf (IsLeftOut (G.words given.now) (codes "FILE"))) }
@@ -31,7 +31,7 @@ pub(crate) fn file_in<'a, G: Given<'a>>(given: &G) -> Result<&'a str, Fault<'a>>
     }
 }
 
-/// That there is no further word, where the option that `wanted` speaks of was left out.
+/// Succeeds if there is no further word; otherwise `wanted` names the option that is missing.
 pub(crate) fn no_more<'a, G: Given<'a>>(given: &G, wanted: &'a str) -> Result<(), Fault<'a>>
     ensures none { IfOk result (λ _. IsLeftOut (G.words given.now) (codes "MORE")) }
     ensures refused { IfErr result (TellsOf (IsLeftOut (G.words given.now) (codes "MORE") → ⊥)) }
@@ -42,13 +42,13 @@ pub(crate) fn no_more<'a, G: Given<'a>>(given: &G, wanted: &'a str) -> Result<()
     }
 }
 
-/// The arguments of `put` whose words are files, where several are put.
+/// The arguments of `put` whose words are files, when several are put.
 const PUT_FILES: [&str; 4] = ["PATH", "FILE", "NOW", "MORE"];
 
-/// The arguments of `get` whose words are paths, where several files are got.
+/// The arguments of `get` whose words are paths, when several files are read.
 const GET_PATHS: [&str; 2] = ["PATH", "MORE"];
 
-/// The several files that are put, and the moment that was given after them, or that of the program's clock.
+/// Returns the files to put, and the time given after them, or that of the program's clock.
 pub(crate) fn files_in<'a, G: Given<'a>>(
     alloc: Global,
     given: &G,
@@ -66,7 +66,7 @@ pub(crate) fn files_in<'a, G: Given<'a>>(
     Ok(found)
 }
 
-/// The several files of the volume that are got.
+/// Returns the paths of the files to get.
 pub(crate) fn paths_in<'a, G: Given<'a>>(
     alloc: Global,
     given: &G,
@@ -80,7 +80,7 @@ pub(crate) fn paths_in<'a, G: Given<'a>>(
     Ok(paths)
 }
 
-/// All words that were given for these arguments, one argument's after another's.
+/// Returns all words given for these arguments, argument by argument.
 fn words_in<'a, G: Given<'a>>(
     alloc: Global,
     given: &G,
@@ -96,7 +96,7 @@ fn words_in<'a, G: Given<'a>>(
     Ok(words)
 }
 
-/// The files of some words, and the moment after them, or that of the program's clock.
+/// Returns the files among some words, and the time after them, or that of the program's clock.
 fn with_moment<'a>(words: Vec<&'a str>, clock: Option<u32>) -> Result<PutFiles<'a>, Fault<'a>>
     ensures read { IfOk result (λ found. IsMomentAfter clock (map (λ word. word.now) words.entry.items) (map (λ file. file.now) found.files.items)
         found.now.seconds (option_map (λ word. word.now) found.now.word)) }
@@ -123,7 +123,7 @@ fn with_moment<'a>(words: Vec<&'a str>, clock: Option<u32>) -> Result<PutFiles<'
     }
 }
 
-/// The moment that the last of two words or more writes.
+/// Reads a time from the last of two words or more.
 fn moment_after(words: &[&str]) -> Option<u32>
     ensures some { IfSome result (EndsInMoment (map (λ word. word.now) words.now)) }
     ensures none { result ≡ None → (now : ℕ) → EndsInMoment (map (λ word. word.now) words.now) now → ⊥ }
@@ -134,7 +134,7 @@ fn moment_after(words: &[&str]) -> Option<u32>
     moment_of(words[words.len() - 1])
 }
 
-/// That the word for an option isn't empty.
+/// Succeeds if the word for an option isn't empty.
 pub(crate) fn not_empty<'a>(name: &'a str, word: &'a str, wanted: &'a str) -> Result<(), Fault<'a>>
     ensures some { IfOk result (λ _. word.now ≢ []) }
     ensures refused { IfErr result (TellsOf (word.now ≡ [])) }
@@ -145,7 +145,7 @@ pub(crate) fn not_empty<'a>(name: &'a str, word: &'a str, wanted: &'a str) -> Re
     Ok(())
 }
 
-/// That there is one at least.
+/// Succeeds if there is at least one path.
 fn one_or_more<'a>(name: &'a str, paths: &[&'a str]) -> Result<(), Fault<'a>>
     ensures some { IfOk result (λ _. 1 ≤ length paths.now) }
     ensures refused { IfErr result (TellsOf (length paths.now ≡ 0)) }
@@ -156,7 +156,7 @@ fn one_or_more<'a>(name: &'a str, paths: &[&'a str]) -> Result<(), Fault<'a>>
     Ok(())
 }
 
-/// That no two paths have the same last name, by which they are copied.
+/// Succeeds if no two paths have the same last name, under which they are copied.
 fn apart<'a>(alloc: Global, name: &'a str, paths: &[&'a str]) -> Result<(), Fault<'a>>
     ensures apart { IfOk result (λ _. are_apart (map (λ path. path.now) paths.now) ≡ true) }
     ensures refused { IfErr result (TellsOf (are_apart (map (λ path. path.now) paths.now) ≡ false)) }
@@ -168,7 +168,7 @@ fn apart<'a>(alloc: Global, name: &'a str, paths: &[&'a str]) -> Result<(), Faul
     }
 }
 
-/// The last names of the paths that have one.
+/// Returns the last names of the paths that have one.
 fn last_names<'a>(alloc: Global, paths: &[&'a str]) -> Result<Vec<&'a str>, AllocError>
     ensures { IfOk result (λ names. map (λ name. name.now) names.items ≡ last_names (map (λ path. path.now) paths.now)) }
 {
@@ -181,9 +181,9 @@ fn last_names<'a>(alloc: Global, paths: &[&'a str]) -> Result<Vec<&'a str>, Allo
     Ok(names)
 }
 
-/// The first of the names that stands among those before it.
+/// Returns the first name that equals one before it.
 ///
-/// Costs as much as sorting the names.
+/// Costs sorting the names.
 fn repeated<'a>(alloc: Global, names: &[&'a str]) -> Result<Option<&'a str>, AllocError>
     ensures some { IfOk result (λ found. IfSome found (λ _. are_distinct (map (λ name. name.now) names.now) ≡ false)) }
     ensures none { IfOk result (λ found. found ≡ None → are_distinct (map (λ name. name.now) names.now) ≡ true) }

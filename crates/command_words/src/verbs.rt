@@ -1,12 +1,12 @@
-//! The commands: their names, their words and their texts.
+//! The commands, with their names, words and texts.
 ghost use Rattle.std.specs.Prelude.{◌≡◌, ◌∷◌, [], None, IfSome, map};
 ghost use Rattle.command_words.specs.Verbs.{IsNoCommand, argument_of, arguments_of, verb_name};
 
 use crate::parameters::{
     CAT_WORDS, CHECKER_WORDS, CHMOD_WORDS, CHOWN_WORDS, EXPORT_WORDS, GET_WORDS, IMPORT_WORDS,
     INODE_WORDS, LS_WORDS, MAP_WORDS, MIGRATE_WORDS, MKDIR_WORDS, MKFS_WORDS, NAMES_WORDS,
-    PLAY_WORDS, PUT_WORDS, Parameter, RM_WORDS, RMDIR_WORDS, SERVE_WORDS, SUPER_WORDS,
-    TOUCH_WORDS, VOLUME_WORDS,
+    PLAY_WORDS, PUT_WORDS, Parameter, RM_WORDS, RMDIR_WORDS, SERVE_WORDS, SUPER_WORDS, TOUCH_WORDS,
+    VOLUME_WORDS,
 };
 use crate::texts;
 
@@ -72,7 +72,7 @@ pub static VERBS: [Verb; 26] = [
 ];
 
 impl Verb {
-    /// The name of the command.
+    /// Returns the name of the command.
     pub fn name(self) -> &'static str
         ensures { result.now ≡ verb_name self }
     {
@@ -106,7 +106,7 @@ impl Verb {
         }
     }
 
-    /// The command of a name.
+    /// Returns the command with this name.
     pub fn of(name: &str) -> Option<Verb>
         ensures some { IfSome result (λ verb. name.now ≡ verb_name verb) }
         ensures none { result ≡ None → IsNoCommand name.now }
@@ -114,7 +114,7 @@ impl Verb {
         VERBS.iter().copied().find(|verb| verb.name() == name)
     }
 
-    /// The words that the command takes.
+    /// Returns the words that the command takes.
     pub fn parameters(self) -> &'static [Parameter]
         ensures { map argument_of result.now ≡ arguments_of self }
     {
@@ -144,7 +144,7 @@ impl Verb {
         }
     }
 
-    /// How the command is called, where there is more than one form of it.
+    /// Returns the usage of the command, if it has more than one form.
     pub fn usage(self) -> Option<&'static str> {
         match self {
             Verb::Get => Some(texts::GET_USAGE),
@@ -153,7 +153,7 @@ impl Verb {
         }
     }
 
-    /// How many paths the command takes before its moment, for those that are often given more.
+    /// Returns the text on how many paths the command takes before its time, for commands that are often given more.
     pub fn paths(self) -> Option<&'static str> {
         match self {
             Verb::Rm | Verb::Rmdir | Verb::Mkdir => Some(texts::ONE_PATH),
@@ -162,7 +162,7 @@ impl Verb {
         }
     }
 
-    /// What the command does, in a line of the help.
+    /// Returns a line for the help on what the command does.
     pub fn about(self) -> &'static str {
         match self {
             Verb::Cat => texts::CAT_ABOUT,
@@ -194,7 +194,7 @@ impl Verb {
         }
     }
 
-    /// What else the help says of the command.
+    /// Returns the rest of the command's help.
     pub fn more(self) -> &'static str {
         match self {
             Verb::Cat => texts::CAT_MORE,

@@ -1,8 +1,10 @@
 //! The texts of `touch`.
 
-pub const ABOUT: &str = "Sets the times of a file or directory of a volume, or makes an empty file.";
+pub const ABOUT: &str =
+    "Sets the times of a file or directory of a volume, or makes an empty file.";
 
-pub const PATH: &str = "The path of the file or directory in the volume, or of the file that is made";
+pub const PATH: &str =
+    "The path of the file or directory in the volume, or of the file that is made";
 
 pub const MORE: &str = "\
 Example:

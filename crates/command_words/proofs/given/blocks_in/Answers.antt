@@ -1,4 +1,4 @@
--- Where the word writes no number of blocks, it is no value.
+-- A word that is no number of blocks isn't valid.
 use Rattle.std.proofs.Common.{ℕ, codes, subst, sym}
 use Rattle.command_words.specs.Asking.{the_word}
 use Rattle.command_words.specs.Disks.{AreBlocksOf}

@@ -1,4 +1,4 @@
--- The first word, where there is one, writes the moment that is meant; where it writes none, none is meant.
+-- The first word, if there is one, is the time that is meant; if it is no time, there is none.
 use Rattle.std.proofs.Common.{ℕ, codes}
 use Rattle.command_words.specs.Asking.{IsMomentGiven}
 use Rattle.command_words.proofs.Moments.{refused, written}

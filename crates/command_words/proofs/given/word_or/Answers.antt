@@ -1,4 +1,4 @@
--- The first word, where there is one, is the number that is meant; where it is none, the words are no value.
+-- The first word, if there is one, is the number that is meant; if it is no number, the words aren't valid.
 use Rattle.std.proofs.Common.{ℕ, Option, SomeIff, subst}
 use Rattle.std.specs.Str.Parse.{digits_value}
 use Rattle.command_words.specs.Asking.{IsWordIfAny}

@@ -1,4 +1,4 @@
--- Where a word of a command is no value, the command asks for nothing.
+-- If a word of a command isn't valid, there is no invocation.
 use Rattle.command_words.proofs.Values.{refuses_value}
 use Rattle.command_words.specs.declared.verbs.Verb.TheVariants as verbs
 use Rattle.command_words.proofs.reading.read.Goals as goal

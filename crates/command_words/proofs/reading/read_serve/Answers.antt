@@ -1,4 +1,4 @@
--- Without its option `serve` has a word that is no value.
+-- Without its option, the words of `serve` aren't valid.
 use Rattle.std.proofs.Common.{inl, inr}
 use Rattle.command_words.proofs.Faults.{hands_on}
 use Rattle.command_words.proofs.reading.read_serve.Goals as goal

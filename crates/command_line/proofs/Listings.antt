@@ -1,4 +1,4 @@
--- What the words of `ls` ask for.
+-- The words of `ls`.
 use Rattle.std.proofs.Common.{◌≡◌, ◌↔◌, ◌==◌, ◌∙◌, ℕ, true≢false, true, false, List, ◌∷◌, [], map, slice_index_or, Option, Some, None, refl, sym, ap, subst, codes}
 use Rattle.std.specs.Borrow.{Bor}
 use Rattle.std.specs.Str.{bytes_eq}
@@ -30,11 +30,11 @@ abbrev word_of : Edition → List ℕ
 word_of V6 = codes "6"
 word_of V7 = codes "7"
 
--- the names of the editions, behind these references
+-- the names of the editions, through these references
 abbrev names_at : ℕ × ℕ → ℕ × ℕ → ℕ × ℕ → Bor (List (Bor (List ℕ)))
 names_at p q r = record { ref_ptr = p; now = record { ref_ptr = q; now = codes "6" } ∷ record { ref_ptr = r; now = codes "7" } ∷ [] }
 
--- what holds behind any references holds of all names of the editions
+-- a fact for any references is one of all names of the editions
 at_names : (P : Bor (List (Bor (List ℕ))) → Type 0) → ((p q r : ℕ × ℕ) → P (names_at p q r)) → (editions : Bor (List (Bor (List ℕ)))) → AreEditions editions → P editions
 at_names P holds editions are = go editions.ref_ptr editions.now are
   where
@@ -49,7 +49,7 @@ at_names P holds editions are = go editions.ref_ptr editions.now are
         (holds p a.ref_ptr b.ref_ptr))
     go p (a ∷ b ∷ c ∷ rest) is = absurd (cc)
 
--- the name of the command that was met, and the words for the arguments of `ls`
+-- the name of the command that was found, and the words for the arguments of `ls`
 abbrev seen : Option (List ℕ × List Row) → List (List ℕ)
 seen None = []
 seen (Some met) = met.0 ∷ the_word (words_by met.1) (codes "EDITION") ∷ the_word (words_by met.1) (codes "IMAGE") ∷ the_word (words_by met.1) (codes "PATH")
@@ -60,17 +60,17 @@ seen (Some met) = met.0 ∷ the_word (words_by met.1) (codes "EDITION") ∷ the_
 abbrev no_options : List (List ℕ)
 no_options = codes "false" ∷ codes "false" ∷ codes "false" ∷ codes "false" ∷ []
 
--- the name of the command, and the words for the arguments of `ls`, where no option was given
+-- the name of the command, and the words for the arguments of `ls`, if no option was given
 abbrev words_of : Edition → List ℕ → List ℕ → List (List ℕ)
 words_of edition image path = codes "ls" ∷ word_of edition ∷ image ∷ path ∷ no_options
 
--- the command line takes the words of `ls`, and has them for its arguments, and no options
+-- the command line accepts the words of `ls`, and has them for its arguments, and no options
 abbrev IsTaken : Bor (List (Bor (List ℕ))) → Edition → List ℕ → List ℕ → List ℕ → Type 0
 IsTaken editions edition program image path =
     (faults_of (unixvol_app editions) (program ∷ codes "ls" ∷ word_of edition ∷ image ∷ path ∷ []) ≡ [])
     × (seen (command_in (unixvol_app editions) (program ∷ codes "ls" ∷ word_of edition ∷ image ∷ path ∷ [])) ≡ words_of edition image path)
 
--- the command line takes the words of `ls` where the file and the path begin with no hyphen
+-- the command line accepts the words of `ls` if the file and the path don't begin with a hyphen
 taken : (p q r : ℕ × ℕ) (edition : Edition) (name image path : List ℕ) → IsPlainWord image → IsPlainWord path → IsTaken (names_at p q r) edition name image path
 unfolding clap_on_literals faults_of command_in unixvol_app program bare_program explain_rule with_command verb_shape with_argument named_shape argument_rule need_rule
 taken p q r V6 name [] [] image path = (refl {a = []}, refl {a = words_of V6 [] []})
@@ -96,7 +96,7 @@ taken p q r V7 name (x ∷ xs) (y ∷ ys) image path =
     let f : (y == 45) ≡ false = ne_eqb _ _ path in
     (rw (e, e, f, f) (refl {a = []}), rw (e, e, f, f) (refl {a = words_of V7 (x ∷ xs) (y ∷ ys)}))
 
--- texts that are the same pass the test for that
+-- equal texts pass the test for that
 same : (one other : List ℕ) → one ≡ other → bytes_eq one other ≡ true
 same one other is = (bytes_eq-Decides one other).1 is
 
@@ -123,7 +123,7 @@ record HasNoOptions (given : Words) : Type 0 where
 unset : (words : List (List ℕ)) → first_word words ≡ codes "false" → is_set words ≡ false
 unset words is = ap (λ (word : List ℕ). bytes_eq word (codes "true")) is
 
--- where no option was given, the lines are plain ones
+-- if no option was given, the lines are plain ones
 plain : (given : Words) (form : Lines) → HasNoOptions given → AreLinesGiven given form → form ≡ lines.Plain
 plain given lines.Plain none are = refl
 plain given lines.Long none are = absurd (true≢false (sym are.1 ∙ unset (given (codes "long")) none.long))
@@ -133,7 +133,7 @@ plain_given : (given : Words) (form : Lines) → HasNoOptions given → form ≡
 plain_given given form none is =
     subst (AreLinesGiven given) (sym is) (unset (given (codes "json")) none.json, unset (given (codes "long")) none.long)
 
--- where no option was given, the names are listed
+-- if no option was given, the names are listed
 to_names : (given : Words) (depth : Depth) → HasNoOptions given → IsDepthGiven given depth → depth ≡ depths.Names
 to_names given depths.Itself none is = absurd (true≢false (sym is ∙ unset (given (codes "directory")) none.itself))
 to_names given depths.Names none is = refl
@@ -143,7 +143,7 @@ to_names_given : (given : Words) (depth : Depth) → HasNoOptions given → dept
 to_names_given given depth none is =
     subst (IsDepthGiven given) (sym is) (unset (given (codes "directory")) none.itself, unset (given (codes "recursive")) none.below)
 
--- what `ls` asks for, by the words for its arguments
+-- the invocation of `ls`, by the words for its arguments
 asks_listing : (clock : Option ℕ) (given : Words) (edition : Edition) (image path : List ℕ) (invocation : Invocation) → bytes_eq (codes "ls") (verb_name (verb_of invocation)) ≡ true
     → the_word given (codes "EDITION") ≡ word_of edition → the_word given (codes "IMAGE") ≡ image → the_word given (codes "PATH") ≡ path → HasNoOptions given
     → IsGiven clock given invocation → IsListing edition image path invocation
@@ -184,7 +184,7 @@ asks_listing clock given edition image path (invocations.Work volume (works.Chec
 asks_listing clock given edition image path (invocations.Work volume (works.Check checkers.Names workers)) test e_is i_is p_is none is = absurd (true≢false (sym test))
 asks_listing clock given edition image path (invocations.Work volume (works.Play scripts)) test e_is i_is p_is none is = absurd (true≢false (sym test))
 
--- no option was given, by what was seen
+-- no option was given, by the words that were found
 no_options_by : (met : List ℕ × List Row) (edition : Edition) (image path : List ℕ) → seen (Some met) ≡ words_of edition image path
     → HasNoOptions (words_by met.1)
 no_options_by met edition image path is = record {
@@ -194,7 +194,7 @@ no_options_by met edition image path is = record {
   itself = ap (λ (l : List (List ℕ)). slice_index_or l 7 []) is;
 }
 
--- what `ls` asks for, by the command that was met and the rows of its words
+-- the invocation of `ls`, by the command that was found and the rows of its words
 listed : (clock : Option ℕ) (met : Option (List ℕ × List Row)) (edition : Edition) (image path : List ℕ) (invocation : Invocation) → seen met ≡ words_of edition image path
     → MetAsks clock met invocation → IsListing edition image path invocation
 listed clock None edition image path invocation is asks = absurd asks
@@ -209,7 +209,7 @@ word_names : (edition : Edition) → IsEditionNamed edition (word_of edition)
 word_names V6 = refl
 word_names V7 = refl
 
--- where the words of `ls` were met, they ask for that listing
+-- if the words of `ls` were found, they are that listing
 listing_asks : (clock : Option ℕ) (met : Option (List ℕ × List Row)) (edition : Edition) (image path : List ℕ) (invocation : Invocation)
     → seen met ≡ words_of edition image path → IsListing edition image path invocation → MetAsks clock met invocation
 listing_asks clock None edition image path invocation is listed = absurd (cc)
@@ -246,7 +246,7 @@ listing_asks clock (Some met) edition image path (invocations.Change v change) i
 listing_asks clock (Some met) edition image path (invocations.Copy v copying) is listed = absurd listed
 listing_asks clock (Some met) edition image path (invocations.Work v work) is listed = absurd listed
 
--- the words of `ls` ask for a listing, where they have its edition's word
+-- the words of `ls` are a listing, if they have its edition's word
 abbrev AsksListing : Option ℕ → Bor (List (Bor (List ℕ))) → Edition → List ℕ → List ℕ → List ℕ → List ℕ → Type 0
 AsksListing clock editions edition program image path word = (faults_of (unixvol_app editions) (program ∷ codes "ls" ∷ word ∷ image ∷ path ∷ []) ≡ [])
     × ((invocation : Invocation) → MetAsks clock (command_in (unixvol_app editions) (program ∷ codes "ls" ∷ word ∷ image ∷ path ∷ [])) invocation
@@ -258,7 +258,7 @@ asks clock editions edition program image path t =
     let met = command_in (unixvol_app editions) (program ∷ codes "ls" ∷ word_of edition ∷ image ∷ path ∷ []) in
     (t.0, λ invocation. (listed clock met edition image path invocation t.1, listing_asks clock met edition image path invocation t.1))
 
--- what the words of `ls` ask for
+-- the invocation of the words of `ls`
 pub reads_listing : ReadsListing
 reads_listing clock editions are edition program word image path named plain_image plain_path =
     subst (AsksListing clock editions edition program image path) (sym (word_is edition word named))

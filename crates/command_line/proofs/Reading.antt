@@ -1,4 +1,4 @@
--- What is read of the words that the command line takes.
+-- Reading the words that the command line accepts.
 use Rattle.std.proofs.Common.{◌≡◌, ◌∙◌, true≢false, is_some, ℕ, true, false, List, ◌∷◌, [], Option, Some, None, Ok, Err, Result, IfErr, IfOk, IsErrAnd, IfSome, refl, sym, ap, subst, inl, inr}
 use Rattle.std.specs.Option.{option_map}
 use Rattle.std.specs.Borrow.{Bor}
@@ -36,14 +36,14 @@ pub simple_and_free : (editions : Bor (List (Bor (List ℕ)))) → is_simple_and
 unfolding unixvol_app program bare_program explain_rule with_command verb_shape with_argument named_shape argument_rule need_rule
 simple_and_free editions = refl
 
--- a command that was met, by its name and the rows of its words
+-- a command that was found, by its name and the rows of its words
 met : {Z : Type 0} (found : Option (Box SubCommand Z)) (name : List ℕ) (rows : List Row)
     → option_map (λ b. (out-SubCommand (box_value b)).name.now) found ≡ Some name → option_map (λ p. p.1) (subcommand_rows found) ≡ Some rows
     → subcommand_rows found ≡ Some (name, rows)
 met None name rows named rows_are = absurd (cc)
 met (Some b) name rows named rows_are = cc
 
--- what the command asks for, it asks for by its rows
+-- an invocation of the command is one of its rows
 pub asks_by_rows : (clock : Option ℕ) (matches values : ArgMatches) (name : List ℕ) (invocation : Invocation) → subcommand_name_of matches ≡ Some name
     → option_map (λ p. p.1) (subcommand_rows_of matches) ≡ Some (rows_of (found_of values)) → NameAsksFor clock name (words_of values) invocation
     → MetAsks clock (subcommand_rows_of matches) invocation
@@ -58,12 +58,12 @@ asked_by_rows clock matches values name invocation named rows_are asks =
     subst (λ (given : Words). NameAsksFor clock name given invocation) (sym (words_same values))
     (rw (met (out-ArgMatches matches).subcommand name (rows_of (found_of values)) named rows_are) at asks)
 
--- a fault that is not want of memory tells of what is wrong
+-- a fault other than out of memory reports a wrong word
 pub told_wrong : (wrong : Type 0) (fault : Fault) → IsToldBy wrong fault → IsWrong fault → wrong
 told_wrong wrong faults.NoMemory tells is = absurd is
 told_wrong wrong (faults.Wrong word) tells is = tells
 
--- where a command asks for nothing, as a fault tells, its name asks for nothing
+-- if a command has no invocation, according to a fault, its name has none
 pub told_nothing : (clock : Option ℕ) (given : Words) (name : List ℕ) (verb : Verb) (fault : Fault) → name ≡ verb_name verb
     → IsToldBy (AsksForNothing clock verb given) fault → IsWrong fault → NameAsksForNothing clock name given
 unfolding NameAsksForNothing
@@ -71,7 +71,7 @@ told_nothing clock given name verb fault is tells wrong = λ invocation asks.
     names_nothing clock verb given (told_wrong (AsksForNothing clock verb given) fault tells wrong) invocation
     (subst (λ (n : List ℕ). NameAsksFor clock n given invocation) is asks)
 
--- what a parse found asks for what its command asks for
+-- the words that clap found are an invocation if their command has it
 pub asked : {E : Type 0} (clock : Option ℕ) (matches values : ArgMatches) (name : List ℕ) (result : Result (Option Invocation) E) → Some name ≡ subcommand_name_of matches
     → Some (rows_of (found_of values)) ≡ option_map (λ p. p.1) (subcommand_rows_of matches)
     → IfOk result (λ found. IfSome found (NameAsksFor clock name (words_of values))) → IfOk result (λ found. IfSome found (MetAsks clock (subcommand_rows_of matches)))
@@ -79,7 +79,7 @@ asked clock matches values name (Ok (Some invocation)) named rows_are asks = ask
 asked clock matches values name (Ok None) named rows_are asks = tt
 asked clock matches values name (Err e) named rows_are asks = tt
 
--- what a parse found asks for nothing where the name that it met is that of no command
+-- they are no invocation if no command has the name that was found
 pub missed : {E : Type 0} (clock : Option ℕ) (matches values : ArgMatches) (name : List ℕ) (result : Result (Option Invocation) E) → Some name ≡ subcommand_name_of matches
     → Some (rows_of (found_of values)) ≡ option_map (λ p. p.1) (subcommand_rows_of matches)
     → IfOk result (λ found. found ≡ None → IsNoCommand name) → IfOk result (λ found. found ≡ None → AsksNothing clock (subcommand_rows_of matches))
@@ -88,7 +88,7 @@ missed clock matches values name (Ok found) named rows_are none = λ is invocati
     no_command clock name (words_of values) (none is) invocation (asked_by_rows clock matches values name invocation (sym named) (sym rows_are) asks)
 missed clock matches values name (Err e) named rows_are none = tt
 
--- what a parse found asks for nothing where the command does that it met
+-- they are no invocation if the command that was found has none
 pub refused : {T : Type 0} (clock : Option ℕ) (matches values : ArgMatches) (name : List ℕ) (result : Result T Error) → Some name ≡ subcommand_name_of matches
     → Some (rows_of (found_of values)) ≡ option_map (λ p. p.1) (subcommand_rows_of matches)
     → IfErr result (TellsOf (NameAsksForNothing clock name (words_of values))) → IfErr result (TellsOf (AsksNothing clock (subcommand_rows_of matches)))
@@ -100,7 +100,7 @@ refused clock matches values name (Err e) named rows_are (inr (kind, none)) = in
   λ invocation asks. none invocation (asked_by_rows clock matches values name invocation (sym named) (sym rows_are) asks),
 )
 
--- a parse that met no command asks for nothing
+-- a parse without a command is no invocation
 pub none_met : (clock : Option ℕ) (matches : ArgMatches) → has_subcommand matches ≡ false → AsksNothing clock (subcommand_rows_of matches)
 unfolding AsksNothing
 none_met clock matches none = go (out-ArgMatches matches).subcommand none
@@ -109,20 +109,20 @@ none_met clock matches none = go (out-ArgMatches matches).subcommand none
     go None none invocation asks = asks
     go (Some b) none invocation asks = absurd (true≢false none)
 
--- what a parse of the command line met
+-- the command that a parse of the command line found
 pub met_by : (command : Command) (editions : Bor (List (Bor (List ℕ)))) (words : List (List ℕ)) (matches : ArgMatches) → app command ≡ unixvol_app editions
     → HasMatchesOf (app_of command) words matches → subcommand_rows_of matches ≡ command_in (unixvol_app editions) words
 unfolding app command_in
 met_by command editions words matches is has = (has (ap is_simple is ∙ simple editions)).1 ∙ ap (λ (a : App). subcommand_of a words) is
 
--- what a parse of the command line tells of the words that it refuses
+-- the errors of a parse of the command line for words that it refuses
 pub tells : (command : Command) (editions : Bor (List (Bor (List ℕ)))) (words : List (List ℕ)) (error : Error) → app command ≡ unixvol_app editions
     → (is_simple_and_free (app_of command) ≡ true → HasKind (fault_of (app_of command) words) error) → HasKind (faults_of (unixvol_app editions) words) error
 unfolding app faults_of
 tells command editions words error is fails =
     subst (λ (a : App). HasKind (fault_of a words) error) is (fails (ap is_simple_and_free is ∙ simple_and_free editions))
 
--- a parse of the command line tells nothing of the words that it takes
+-- a parse of the command line has no errors for words that it accepts
 pub takes : (command : Command) (editions : Bor (List (Bor (List ℕ)))) (words : List (List ℕ)) → app command ≡ unixvol_app editions
     → (is_simple_and_free (app_of command) ≡ true → fault_of (app_of command) words ≡ []) → faults_of (unixvol_app editions) words ≡ []
 unfolding app faults_of
@@ -142,32 +142,32 @@ pub refuses : (clock : Option ℕ) (editions : Bor (List (Bor (List ℕ)))) (wor
 unfolding IsRefused
 refuses clock editions words error are kind = (editions, are, inl kind)
 
--- the command line takes the words, and they ask for nothing
+-- the command line accepts the words, but they are no invocation
 pub asks_nothing : (clock : Option ℕ) (editions : Bor (List (Bor (List ℕ)))) (words : List (List ℕ)) (matches : ArgMatches) (error : Error) → AreEditions editions
     → faults_of (unixvol_app editions) words ≡ [] → subcommand_rows_of matches ≡ command_in (unixvol_app editions) words
     → HasKind (kinds.ValueValidation ∷ kinds.MissingSubcommand ∷ []) error → AsksNothing clock (subcommand_rows_of matches) → IsRefused clock words error
 unfolding IsRefused
 asks_nothing clock editions words matches error are taken is kind none = (editions, are, inr (taken, kind, subst (AsksNothing clock) is none))
 
--- the command line takes the words, and one of them is no value
+-- the command line accepts the words, but one of them isn't valid
 pub tells_of : (clock : Option ℕ) (editions : Bor (List (Bor (List ℕ)))) (words : List (List ℕ)) (matches : ArgMatches) (error : Error) → AreEditions editions
     → faults_of (unixvol_app editions) words ≡ [] → subcommand_rows_of matches ≡ command_in (unixvol_app editions) words
     → TellsOf (AsksNothing clock (subcommand_rows_of matches)) error → IsRefused clock words error
 tells_of clock editions words matches error are taken is (inl memory) = refuses clock editions words error are (inl memory)
 tells_of clock editions words matches error are taken is (inr (kind, none)) = asks_nothing clock editions words matches error are taken is (inr (inl kind)) none
 
--- what holds of an error holds of an outcome that hands it on
+-- a fact of an error is one of an outcome that hands it on
 pub handed_on : {T : Type 0} (result : Result T Error) (error : Error) (P : Error → Type 0) → IsErrAnd result (λ e. e ≡ error) → P error → IfErr result P
 handed_on (Ok value) error P is holds = tt
 handed_on (Err e) error P is holds = rw is holds
 
--- where memory ran out, the words are refused
+-- if memory ran out, the words are refused
 pub memory_ran_out : {T : Type 0} (clock : Option ℕ) (result : Result T Error) (editions : Bor (List (Bor (List ℕ)))) (words : List (List ℕ)) → AreEditions editions
     → IsErrAnd result (λ e. kind_of e ≡ kinds.OutOfMemory) → IfErr result (IsRefused clock words)
 memory_ran_out clock (Ok value) editions words are is = tt
 memory_ran_out clock (Err e) editions words are is = refuses clock editions words e are (inl is)
 
--- what several threads are asked for they can do
+-- the work of several threads in an invocation can be done
 work_given : (given : Words) (work : Work) → IsWorkGiven given work → IsWorkable work
 work_given given (works.Check checker workers) is = rw is.1 (is.0.1, is.0.2)
 work_given given (works.Play scripts) is = (is.1, is.2)
@@ -176,7 +176,7 @@ work_asked : (clock : Option ℕ) (met : Option (List ℕ × List Row)) (volume 
 work_asked clock None volume work asks = absurd asks
 work_asked clock (Some met) volume work asks = work_given (words_by met.1) work asks.1.1
 
--- what the words ask several threads for, they can do
+-- the work of several threads that the words ask for can be done
 pub workable : (clock : Option ℕ) (words : List (List ℕ)) (volume : VolumeFile) (work : Work) → IsRead clock words (invocations.Work volume work) → IsWorkable work
 unfolding IsRead
 workable clock words volume work read = work_asked clock (command_in (unixvol_app read.0) words) volume work read.2.1

@@ -1,23 +1,23 @@
--- Whether words ask for second lines.
+-- The words that ask for second lines.
 use Rattle.std.proofs.Common.{◌≡◌, ◌∷◌, ◌∙◌, ◌+◌, ◌<◌, ◌≤◌, ap, false, true, ℕ, List, [], codes, drop, length, map, refl, slice_index_or, subst, sym, arith}
 use Rattle.std.specs.Str.{bytes_eq}
 use Rattle.std.proofs.lemmas.List.{at_drop_all, at_drop_more}
 use Rattle.command_line.specs.Explaining.{asks_to_explain, has_explain}
 
--- the words from a place on begin with the one that stands there
+-- the words from an index on begin with the one at that index
 from : {A : Type 0} (bytes : A → List ℕ) (words : List A) (i : ℕ) (word : A) → i < length words → word ≡ slice_index_or words i word
     → has_explain (map bytes (drop i words)) ≡ has_explain (bytes word ∷ map bytes (drop (i + 1) words))
 from bytes words i word inside is =
     at_drop_more (λ ws. has_explain (map bytes ws)) words i word inside
     ∙ ap (λ w. has_explain (bytes w ∷ map bytes (drop (i + 1) words))) (sym is)
 
--- a word that is neither leaves it to the others
+-- a word that is neither leaves the decision to the others
 passes : (word : List ℕ) (rest : List (List ℕ)) → bytes_eq word (codes "--") ≡ false → bytes_eq word (codes "--explain") ≡ false
     → has_explain (word ∷ rest) ≡ has_explain rest
 unfolding has_explain
 passes word rest goes other = rw (goes, other) refl
 
--- nothing behind a lone `--` counts
+-- no word after a lone `--` counts
 stops : (word : List ℕ) (rest : List (List ℕ)) → bytes_eq word (codes "--") ≡ true → has_explain (word ∷ rest) ≡ false
 unfolding has_explain
 stops word rest ends = rw ends refl
@@ -27,7 +27,7 @@ asks : (word : List ℕ) (rest : List (List ℕ)) → bytes_eq word (codes "--")
 unfolding has_explain
 asks word rest goes is = rw (goes, is) refl
 
--- where a word is neither, the words behind it decide
+-- if a word is neither, the words after it decide
 pub passed : {A : Type 0} (bytes : A → List ℕ) (words : List A) (i : ℕ) (word : A) (text : List ℕ) → i < length words → word ≡ slice_index_or words i word
     → text ≡ bytes word → bytes_eq text (codes "--") ≡ false → bytes_eq text (codes "--explain") ≡ false
     → has_explain (map bytes words) ≡ has_explain (map bytes (drop i words)) → has_explain (map bytes words) ≡ has_explain (map bytes (drop (i + 1) words))
@@ -35,14 +35,14 @@ passed bytes words i word text inside is shown goes other before =
     before ∙ (from bytes words i word inside is ∙ passes (bytes word) (map bytes (drop (i + 1) words))
     (subst (λ t. bytes_eq t (codes "--") ≡ false) shown goes) (subst (λ t. bytes_eq t (codes "--explain") ≡ false) shown other))
 
--- where a word is a lone `--`, they don't ask for them
+-- after a lone `--`, they don't ask for them
 pub stopped : {A : Type 0} (bytes : A → List ℕ) (words : List A) (i : ℕ) (word : A) (text : List ℕ) → i < length words → word ≡ slice_index_or words i word
     → text ≡ bytes word → bytes_eq text (codes "--") ≡ true
     → has_explain (map bytes words) ≡ has_explain (map bytes (drop i words)) → false ≡ has_explain (map bytes words)
 stopped bytes words i word text inside is shown ends before =
     sym (before ∙ (from bytes words i word inside is ∙ stops (bytes word) (map bytes (drop (i + 1) words)) (subst (λ t. bytes_eq t (codes "--") ≡ true) shown ends)))
 
--- where a word is the one that asks for them, they do
+-- if a word is the one that asks for them, they do
 pub asked : {A : Type 0} (bytes : A → List ℕ) (words : List A) (i : ℕ) (word : A) (text : List ℕ) → i < length words → word ≡ slice_index_or words i word
     → text ≡ bytes word → bytes_eq text (codes "--") ≡ false → bytes_eq text (codes "--explain") ≡ true
     → has_explain (map bytes words) ≡ has_explain (map bytes (drop i words)) → true ≡ has_explain (map bytes words)
@@ -55,12 +55,12 @@ none : has_explain [] ≡ false
 unfolding has_explain
 none = refl
 
--- where no word is either, they don't ask for them
+-- if no word is either, they don't ask for them
 pub ended : {A : Type 0} (bytes : A → List ℕ) (words : List A) (i : ℕ) → length words ≤ i → has_explain (map bytes words) ≡ has_explain (map bytes (drop i words))
     → false ≡ has_explain (map bytes words)
 ended bytes words i past before = sym (before ∙ (at_drop_all (λ ws. has_explain (map bytes ws)) words i past ∙ none))
 
--- where there is no word, they don't ask for them
+-- if there is no word, they don't ask for them
 pub nothing : {A : Type 0} (bytes : A → List ℕ) (words : List A) → length words ≡ 0 → false ≡ asks_to_explain (map bytes words)
 unfolding has_explain
 nothing bytes [] is = refl

@@ -1,4 +1,4 @@
--- What the steps add by which the command line is built.
+-- The steps that build the command line, and what each adds.
 use Rattle.std.proofs.Common.{Bool, codes, map, take, length, get_or, Option, Some, None, IsSomeAnd, Result, Ok, Err, IfOk, ◌&&◌, not, is_some, ◌≡◌, ◌<◌, ◌+◌, ◌∙◌, ℕ, true, false, List, ◌∷◌, ◌++◌, [], refl, sym, ap, ap₂}
 use Rattle.std.specs.Borrow.{Bor}
 use Rattle.std.proofs.lemmas.Grind.{fold-append}
@@ -34,7 +34,7 @@ last a b c d e f g h i j all =
     let from_h = (both g (h && (i && j)) (both f (g && (h && (i && j))) from_f).1).1 in
     (both i j (both h (i && j) from_h).1).1
 
--- an argument that changes nothing of how words are read is that of one command alone
+-- an argument that doesn't change how words are read belongs to one command alone
 local : (argument : Arg) → is_simple_arg argument ≡ true → argument.global ≡ false
 local argument simple =
     is_false argument.global
@@ -42,7 +42,7 @@ local argument simple =
     (not (is_some argument.terminator)) (not argument.allow_hyphen_values) (not argument.allow_negative_numbers) (not argument.require_equals)
     (not argument.last) (not argument.global) simple)
 
--- a command with one more argument, of which it is known what a parse reads
+-- a command with one more argument, whose readable part is known
 adds_rule : (old new : Command) (argument : Arg) (known : Rule) → AddsArg old argument new → rule_of argument ≡ known → known.is_simple ≡ true
     → shape new ≡ with_argument (shape old) known
 unfolding shape with_argument
@@ -50,7 +50,7 @@ adds_rule old new argument known added is simple =
     let simple_argument : is_simple_arg argument ≡ true = ap (λ (r : Rule). r.is_simple) is ∙ simple in
     ap (λ (a : App). a.top) (added.shape (local argument simple_argument)) ∙ ap (λ (r : Rule). record (shape old) { rules = (shape old).rules ++ r ∷ [] }) is
 
--- an argument for a word that has to be given, once it may have so many values
+-- an argument for a required word, once its number of values is set
 ranged : (old : Arg) (range : Option ValueRange) (name : List ℕ) → rule old ≡ need_rule name needs.Once
     → IsSomeAnd range (λ r. r ≡ record { start_inclusive = 1; end_inclusive = usize_max }) → rule (record old { num_vals = range }) ≡ need_rule name needs.Several
 unfolding rule need_rule
@@ -58,12 +58,12 @@ ranged old None name before is = absurd is
 ranged old (Some range) name before is =
     ap (λ (r : Rule). record r { range = Some range }) before ∙ ap (λ (r : ValueRange). record (need_rule name needs.Once) { range = Some r }) is
 
--- an argument for one word or more, out of one for a word that has to be given
+-- an argument for one word or more, from one for a required word
 pub takes_words : (old new : Arg) (name : List ℕ) → rule old ≡ need_rule name needs.Once → new ≡ record old { num_vals = new.num_vals }
     → IsSomeAnd new.num_vals (λ r. r ≡ record { start_inclusive = 1; end_inclusive = usize_max }) → rule new ≡ need_rule name needs.Several
 takes_words old new name before same is = ap rule same ∙ ranged old new.num_vals name before is
 
--- an argument for a word that may be left out, once it may have so many values
+-- an argument for an optional word, once its number of values is set
 ranged_maybe : (old : Arg) (range : Option ValueRange) (name : List ℕ) → rule old ≡ need_rule name needs.Maybe
     → IsSomeAnd range (λ r. r ≡ record { start_inclusive = 1; end_inclusive = usize_max }) → rule (record old { num_vals = range }) ≡ need_rule name needs.Any
 unfolding rule need_rule
@@ -71,7 +71,7 @@ ranged_maybe old None name before is = absurd is
 ranged_maybe old (Some range) name before is =
     ap (λ (r : Rule). record r { range = Some range }) before ∙ ap (λ (r : ValueRange). record (need_rule name needs.Maybe) { range = Some r }) is
 
--- an argument for any number of words, out of one for a word that may be left out
+-- an argument for any number of words, from one for an optional word
 pub takes_any : (old new : Arg) (name : List ℕ) → rule old ≡ need_rule name needs.Maybe → new ≡ record old { num_vals = new.num_vals }
     → IsSomeAnd new.num_vals (λ r. r ≡ record { start_inclusive = 1; end_inclusive = usize_max }) → rule new ≡ need_rule name needs.Any
 takes_any old new name before same is = ap rule same ∙ ranged_maybe old new.num_vals name before is
@@ -85,12 +85,12 @@ takes_editions old new editions before was same is =
     ∙ (ap (λ (r : Rule). record r { parser = new.value_parser }) was
     ∙ ap (λ (p : Option ValueParser). record before { parser = p }) is)
 
--- what words have to be that are no edition's changes nothing of an argument
+-- the kind of other words changes nothing of an argument
 pub other_kinds : (editions : Bor (List (Bor (List ℕ)))) (kind : Kind) (before : Rule) → (kind ≡ kinds.Edition → ⊥) → before ≡ kind_rule editions kind before
 other_kinds editions kinds.Edition before other = absurd (other refl)
 other_kinds editions _ before other = refl
 
--- an argument for so many words changes nothing of how words are read
+-- the number of words of an argument doesn't change how words are read
 need_simple : (name : List ℕ) (need : Need) → (need_rule name need).is_simple ≡ true
 unfolding need_rule
 need_simple name needs.Once = refl
@@ -100,7 +100,7 @@ need_simple name needs.Any = refl
 need_simple name (needs.Flag letter) = refl
 need_simple name (needs.Value letter value) = refl
 
--- nor does what its words have to be
+-- nor does their kind
 kind_simple : (editions : Bor (List (Bor (List ℕ)))) (kind : Kind) (argument : Rule) → (kind_rule editions kind argument).is_simple ≡ argument.is_simple
 kind_simple editions kinds.Edition argument = refl
 kind_simple editions _ argument = refl
@@ -130,7 +130,7 @@ adds_argument old new argument editions begun parameters i other inside added kn
     ∙ (ap (λ (s : Shape). with_argument s (argument_rule editions (argument_of parameter))) was
     ∙ sym (more_arguments editions begun parameters i other inside))
 
--- the option of all commands changes nothing of how words are read
+-- the option of all commands doesn't change how words are read
 explain_simple : explain_rule.is_simple ≡ true
 unfolding explain_rule
 explain_simple = need_simple (codes "explain") (needs.Flag None)
@@ -159,16 +159,16 @@ pub starts : (new texts more : Command) (about after_help : Bor (List ℕ)) (nam
 unfolding shape named_shape
 starts new texts more about after_help name is texts_are more_are = ap shape_of_fields more_are ∙ (ap shape_of_fields texts_are ∙ ap (λ (a : App). a.top) is)
 
--- a text of the usage changes nothing of how words are read
+-- a text of the usage doesn't change how words are read
 pub shows_usage : (old new : Command) (usage : Bor (List ℕ)) → out-Command new ≡ record (out-Command old) { usage_str = Some usage } → shape new ≡ shape old
 unfolding shape
 shows_usage old new usage is = ap shape_of_fields is
 
--- a command whose arguments change nothing of how words are read has none that its subcommands take
+-- a command whose arguments don't change how words are read has none that its subcommands take
 no_globals : (command : Command) → (shape_of command).is_plain ≡ true → (out-Command command).has_globals ≡ false
 no_globals command plain = (plain_fields command plain).globals
 
--- a command with arguments changes nothing of how words are read
+-- a command with arguments doesn't change how words are read
 arguments_plain : (editions : Bor (List (Bor (List ℕ)))) (before : Shape) (arguments : List Argument) → before.is_plain ≡ true
     → (with_arguments editions before arguments).is_plain ≡ true
 unfolding with_argument

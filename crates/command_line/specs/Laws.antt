@@ -1,4 +1,4 @@
--- What the words of `ls` ask for.
+-- The words of `ls`.
 use Rattle.std.specs.Prelude.{◌≡◌, ◌≢◌, ◌↔◌, ◌∷◌, ℕ, List, [], Option, slice_index, codes}
 use Rattle.std.specs.Borrow.{Bor}
 use Rattle.command_words.specs.Asking.{IsEditionNamed}
@@ -11,17 +11,17 @@ use Rattle.vol_listing.specs.declared.options.Lines.TheVariants as lines
 use Rattle.command_reads.specs.declared.looks.Look.TheVariants as looks
 use Rattle.vol_layout.specs.declared.edition.Edition.{Edition}
 
--- a word that begins with no hyphen (this project)
+-- a word that doesn't begin with a hyphen (this project)
 abbrev pub IsPlainWord : List ℕ → Type 0
 IsPlainWord word = slice_index word 0 ≢ 45
 
--- what is asked for is the names in the directory of this path, each with its i-number, of the volume of this edition in this file (this project)
+-- the invocation lists the names in the directory at this path, each with its i-number, of the volume of this edition in this file (this project)
 abbrev pub IsListing : Edition → List ℕ → List ℕ → Invocation → Type 0
 IsListing edition image path (invocations.Look volume (looks.List directory listing)) =
     (volume.edition ≡ edition) × (volume.image.now ≡ image) × (directory.now ≡ path) × (listing.lines ≡ lines.Plain) × (listing.depth ≡ depths.Names)
 IsListing edition image path _ = ⊥
 
--- whatever the clock tells, clap takes `ls`, an edition and two words without a hyphen at their beginning, and they ask for that listing and nothing else (this project)
+-- whatever the clock gives, clap accepts `ls`, an edition and two words that don't begin with a hyphen, and they are that listing and no other invocation (this project)
 abbrev pub ReadsListing : Type 0
 ReadsListing = (clock : Option ℕ) (editions : Bor (List (Bor (List ℕ)))) → AreEditions editions → (edition : Edition) (program word image path : List ℕ)
     → IsEditionNamed edition word → IsPlainWord image → IsPlainWord path

@@ -1,4 +1,4 @@
--- The command line as clap sees it: its commands, and the words that each takes.
+-- The command line as clap sees it: its commands, and their words.
 use Rattle.std.specs.Prelude.{◌≡◌, ◌∷◌, ◌++◌, ℕ, List, [], Option, Some, None, true, codes, fold, map}
 use Rattle.std.specs.Borrow.{Bor}
 use Rattle.clap.specs.Lexer.{usize_max}
@@ -15,23 +15,23 @@ use Rattle.command_words.specs.declared.parameters.Need.{Need}
 use Rattle.command_words.specs.declared.parameters.Need.TheVariants as needs
 use Rattle.command_words.specs.declared.verbs.Verb.{Verb}
 
--- what a parse reads of an argument (clap's contract)
+-- the part of an argument that clap's parse reads (clap's contract)
 unfoldable pub rule : Arg → Rule
 rule argument = rule_of argument
 
--- what a parse reads of a command without subcommands (clap's contract)
+-- the part of a command without subcommands that clap's parse reads (clap's contract)
 unfoldable pub shape : Command → Shape
 shape command = shape_of command
 
--- what a parse reads of a command with its subcommands (clap's contract)
+-- the part of a command with subcommands that clap's parse reads (clap's contract)
 unfoldable pub app : Command → App
 app command = app_of command
 
--- the texts behind references are the names of the editions (this project)
+-- the referenced texts are the names of the editions (this project)
 abbrev pub AreEditions : Bor (List (Bor (List ℕ))) → Type 0
 AreEditions editions = map (λ name. name.now) editions.now ≡ codes "6" ∷ codes "7" ∷ []
 
--- an argument of this name for so many words (this project)
+-- an argument with this name and number of words (this project)
 unfoldable pub need_rule : List ℕ → Need → Rule
 need_rule name needs.Once = record (new_rule name) { required = true }
 need_rule name needs.Maybe = new_rule name
@@ -40,7 +40,7 @@ need_rule name needs.Any = record (new_rule name) { range = Some (record { start
 need_rule name (needs.Flag letter) = record (new_rule name) { long = Some name; short = letter; action = Some actions.SetTrue }
 need_rule name (needs.Value letter value) = record (new_rule name) { long = Some name; short = Some letter; value_names = 1 }
 
--- the argument, of which an edition's words are one of these texts (this project)
+-- the argument; an edition's words are one of these texts (this project)
 abbrev pub kind_rule : Bor (List (Bor (List ℕ))) → Kind → Rule → Rule
 kind_rule editions kinds.Edition argument = record argument { parser = Some (parsers.Names editions) }
 kind_rule editions _ argument = argument
@@ -57,19 +57,19 @@ named_shape name = new_shape name
 unfoldable pub with_argument : Shape → Rule → Shape
 with_argument command argument = record command { rules = command.rules ++ argument ∷ [] }
 
--- a command with these arguments more (this project)
+-- a command with more arguments (this project)
 abbrev pub with_arguments : Bor (List (Bor (List ℕ))) → Shape → List Argument → Shape
 with_arguments editions = fold (λ command argument. with_argument command (argument_rule editions argument))
 
--- the option of the program and of all commands that asks for a second line where something fails (this project)
+-- the option of the program and of all commands that asks for a second line about a fault (this project)
 unfoldable pub explain_rule : Rule
 explain_rule = need_rule (codes "explain") (needs.Flag None)
 
--- a command with its arguments, behind which is the option of all commands (this project)
+-- a command with its arguments, followed by the option of all commands (this project)
 unfoldable pub verb_shape : Bor (List (Bor (List ℕ))) → Verb → Shape
 verb_shape editions verb = with_argument (with_arguments editions (named_shape (verb_name verb)) (arguments_of verb)) explain_rule
 
--- the program without its commands and its option: it has a version and asks for a command (this project)
+-- the program without its commands and its option: it has a version and requires a command (this project)
 unfoldable pub bare_program : App
 bare_program = record {
   top = record (new_shape (codes "unixvol")) { has_version = true; subcommand_required = true; arg_required_else_help = true };
@@ -84,7 +84,7 @@ program = record bare_program { top = with_argument bare_program.top explain_rul
 unfoldable pub with_command : App → Shape → App
 with_command old command = with_subcommand old command
 
--- a program with these commands more (this project)
+-- a program with more commands (this project)
 abbrev pub with_commands : Bor (List (Bor (List ℕ))) → App → List Verb → App
 with_commands editions = fold (λ old verb. with_command old (verb_shape editions verb))
 
@@ -92,10 +92,10 @@ with_commands editions = fold (λ old verb. with_command old (verb_shape edition
 unfoldable pub unixvol_app : Bor (List (Bor (List ℕ))) → App
 unixvol_app editions = with_commands editions program all_verbs
 
--- what clap tells of the words, nothing where it takes them (clap's contract)
+-- clap's errors for the words, none if it accepts them (clap's contract)
 unfoldable pub faults_of : App → List (List ℕ) → Kinds
 faults_of app words = fault_of app words
 
--- the command that the words name, and what a parse makes of the words after it (clap's contract)
+-- the command that the words name, and the rows that clap makes of the words after it (clap's contract)
 unfoldable pub command_in : App → List (List ℕ) → Option (List ℕ × List Row)
 command_in app words = subcommand_of app words

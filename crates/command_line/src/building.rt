@@ -1,4 +1,4 @@
-//! The command line, built from the table of commands.
+//! Builds the command line from the table of commands.
 ghost use Rattle.std.specs.Prelude.{◌≡◌, None, IfOk};
 ghost use Rattle.command_words.specs.Verbs.{argument_of, arguments_of, verb_name};
 ghost use Rattle.command_words.specs.declared.parameters.Need.TheVariants as needs;
@@ -9,7 +9,7 @@ use command_words::parameters::EDITIONS;
 use command_words::{Kind, Need, Parameter, VERBS, ValueName, Verb, texts};
 use std::alloc::{AllocError, Global};
 
-/// What the command line is built with.
+/// A builder of the command line.
 #[derive(Clone, Copy)]
 pub(crate) struct Builder<'a> {
     /// The allocator.
@@ -19,7 +19,7 @@ pub(crate) struct Builder<'a> {
 }
 
 impl<'a> Builder<'a> {
-    /// A builder that knows the editions' names.
+    /// Returns a builder with the editions' names.
     pub(crate) fn new(alloc: Global) -> Builder<'a>
         ensures { AreEditions result.editions }
     {
@@ -29,7 +29,7 @@ impl<'a> Builder<'a> {
         }
     }
 
-    /// The whole command line.
+    /// Builds the whole command line.
     pub(crate) fn command_line(self) -> Result<Command<'a>, AllocError>
         ensures { IfOk result (λ command. app command ≡ unixvol_app self.entry.editions) }
     {
@@ -40,14 +40,14 @@ impl<'a> Builder<'a> {
         Ok(whole)
     }
 
-    /// A command with its texts, its arguments, and the option of all commands.
+    /// Builds a command with its texts, its arguments, and the option of all commands.
     pub(crate) fn command(self, verb: Verb) -> Result<Command<'a>, AllocError>
         ensures { IfOk result (λ command. shape command ≡ verb_shape self.entry.editions verb) }
     {
         self.bare_command(verb)?.arg(explain_option(self.alloc))
     }
 
-    /// A command with its texts and the arguments of its table.
+    /// Builds a command with its texts and the arguments of its table.
     fn bare_command(self, verb: Verb) -> Result<Command<'a>, AllocError>
         ensures { IfOk result (λ command. shape command ≡ with_arguments self.entry.editions (named_shape (verb_name verb)) (arguments_of verb)) }
     {
@@ -59,7 +59,7 @@ impl<'a> Builder<'a> {
         Ok(command)
     }
 
-    /// An argument of a command.
+    /// Builds an argument of a command.
     fn argument(self, parameter: Parameter) -> Arg<'a>
         ensures { rule result ≡ argument_rule self.entry.editions (argument_of parameter) }
     {
@@ -71,14 +71,14 @@ impl<'a> Builder<'a> {
     }
 }
 
-/// The program with its texts and the option of all commands, and no command.
+/// Builds the program with its texts and the option of all commands, but without commands.
 fn program<'a>(alloc: Global) -> Result<Command<'a>, AllocError>
     ensures { IfOk result (λ command. app command ≡ program) }
 {
     bare_program(alloc).arg(explain_option(alloc))
 }
 
-/// The program with its texts, and no command or option.
+/// Builds the program with its texts, without commands or options.
 fn bare_program<'a>(alloc: Global) -> Command<'a>
     ensures { app result ≡ bare_program }
 {
@@ -90,7 +90,7 @@ fn bare_program<'a>(alloc: Global) -> Command<'a>
         .arg_required_else_help(true)
 }
 
-/// A command with its texts, which takes no words yet.
+/// Builds a command with its texts, which takes no words yet.
 fn named<'a>(alloc: Global, verb: Verb) -> Command<'a>
     ensures { shape result ≡ named_shape (verb_name verb) }
 {
@@ -104,7 +104,7 @@ fn named<'a>(alloc: Global, verb: Verb) -> Command<'a>
     }
 }
 
-/// The option that asks for a second line where something fails.
+/// Builds the option that asks for a second line about a fault.
 #[tactic(auto, unfolding(crate::specs::Words::explain_rule))]
 fn explain_option<'a>(alloc: Global) -> Arg<'a>
     ensures { rule result ≡ explain_rule }
@@ -112,7 +112,7 @@ fn explain_option<'a>(alloc: Global) -> Arg<'a>
     long_flag(alloc, "explain", texts::EXPLAIN)
 }
 
-/// An argument of this name for so many words.
+/// Builds an argument with this name and number of words.
 fn needed<'a>(alloc: Global, name: &'a str, help: &'a str, need: Need) -> Arg<'a>
     ensures { rule result ≡ need_rule name.entry.now need }
 {
@@ -126,7 +126,7 @@ fn needed<'a>(alloc: Global, name: &'a str, help: &'a str, need: Need) -> Arg<'a
     }
 }
 
-/// An argument for a word that is required.
+/// Builds an argument for a word that is required.
 #[tactic(auto, unfolding(crate::specs::Words::rule, crate::specs::Words::need_rule))]
 fn required<'a>(alloc: Global, name: &'a str, help: &'a str) -> Arg<'a>
     ensures { rule result ≡ need_rule name.entry.now needs.Once }
@@ -134,7 +134,7 @@ fn required<'a>(alloc: Global, name: &'a str, help: &'a str) -> Arg<'a>
     Arg::new(alloc, name).required(true).help(help)
 }
 
-/// An argument for a word that may be left out.
+/// Builds an argument for a word that may be left out.
 #[tactic(auto, unfolding(crate::specs::Words::rule, crate::specs::Words::need_rule))]
 fn optional<'a>(alloc: Global, name: &'a str, help: &'a str) -> Arg<'a>
     ensures { rule result ≡ need_rule name.entry.now needs.Maybe }
@@ -142,21 +142,21 @@ fn optional<'a>(alloc: Global, name: &'a str, help: &'a str) -> Arg<'a>
     Arg::new(alloc, name).help(help)
 }
 
-/// An argument for one word or more.
+/// Builds an argument for one word or more.
 fn several<'a>(alloc: Global, name: &'a str, help: &'a str) -> Arg<'a>
     ensures { rule result ≡ need_rule name.entry.now needs.Several }
 {
     required(alloc, name, help).num_args(1..)
 }
 
-/// An argument for any number of words.
+/// Builds an argument for any number of words.
 fn any<'a>(alloc: Global, name: &'a str, help: &'a str) -> Arg<'a>
     ensures { rule result ≡ need_rule name.entry.now needs.Any }
 {
     optional(alloc, name, help).num_args(1..)
 }
 
-/// An option with a value.
+/// Builds an option with a value.
 #[tactic(auto, unfolding(crate::specs::Words::rule, crate::specs::Words::need_rule))]
 fn valued<'a>(
     alloc: Global,
@@ -175,7 +175,7 @@ fn valued<'a>(
         .help(help)
 }
 
-/// An option, with a letter of its own or without.
+/// Builds an option, with or without a letter.
 #[tactic(auto, unfolding(crate::specs::Words::rule, crate::specs::Words::need_rule))]
 fn flag<'a>(alloc: Global, name: &'a str, letter: Option<char>, help: &'a str) -> Arg<'a>
     ensures { rule result ≡ need_rule name.entry.now (needs.Flag letter) }
@@ -187,7 +187,7 @@ fn flag<'a>(alloc: Global, name: &'a str, letter: Option<char>, help: &'a str) -
     }
 }
 
-/// An option without a letter.
+/// Builds an option without a letter.
 #[tactic(auto, unfolding(crate::specs::Words::rule, crate::specs::Words::need_rule))]
 fn long_flag<'a>(alloc: Global, name: &'a str, help: &'a str) -> Arg<'a>
     ensures { rule result ≡ need_rule name.entry.now (needs.Flag None) }

@@ -1,9 +1,9 @@
-//! Whether the words of the command line ask for a second line where something fails.
+//! The option `--explain`, read before clap reads the words.
 ghost use Rattle.std.specs.Prelude.{◌≡◌, map, string_bytes};
 ghost use Rattle.command_line.specs.Explaining.{asks_to_explain, has_explain};
 
-/// Whether one of the words after the first, which is the program's own name, and before a lone `--` is `--explain`. Where
-/// the command line takes the words, it is this option; of other words the answer is true too.
+/// True if one of the words after the first, which is the program's own name, and before a lone `--` is `--explain`. If
+/// clap accepts the words, it is this option; other words may have it too.
 pub fn asks_to_explain(words: &[String]) -> bool
     ensures { result ≡ asks_to_explain (map string_bytes words.now) }
 {
@@ -13,7 +13,7 @@ pub fn asks_to_explain(words: &[String]) -> bool
     }
 }
 
-/// Whether one of the words before a lone `--` is `--explain`.
+/// True if one of the words before a lone `--` is `--explain`.
 fn has_explain(words: &[String]) -> bool
     ensures { result ≡ has_explain (map string_bytes words.now) }
 {

@@ -1,14 +1,14 @@
-//! The words that a parse found.
+//! The words that clap found.
 ghost use Rattle.command_line.specs.CommandLine.{words_of};
 
 use clap::ArgMatches;
 use command_words::Given;
 use std::alloc::{AllocError, Global};
 
-/// What a parse found of the words after a command.
+/// The words that clap found after a command.
 #[derive(Drop)]
 pub(crate) struct Found<'m, 'a> {
-    /// What clap holds of them.
+    /// Clap's values for them.
     pub values: &'m ArgMatches<'a>,
 }
 

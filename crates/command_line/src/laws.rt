@@ -1,9 +1,8 @@
-//! A law about what the words of `ls` ask for. A call does nothing: what matters is the contract,
-//! which is proved.
+//! A law of the words of `ls`. Calling it does nothing; its contract is proved.
 ghost use Rattle.command_line.specs.Laws.{ReadsListing};
 
-/// `unixvol ls EDITION IMAGE PATH` asks for the names in that directory of the volume in that file, and
-/// for nothing else, where neither word begins with a hyphen.
+/// `unixvol ls EDITION IMAGE PATH`, if neither word begins with a hyphen, lists the names in that directory of the
+/// volume in that file, and nothing else.
 pub fn words_ask_for_listings()
     ensures { ReadsListing }
 {}

@@ -1,4 +1,4 @@
-//! The words of the command line, read by clap.
+//! Reads the words of the command line with clap.
 #![tactic(auto)]
 
 ghost use Rattle.std.specs.Prelude.{◌≡◌, None, Option, ℕ, IfOk, IfErr, IfSome, map, string_bytes};
@@ -25,11 +25,11 @@ pub use explaining::asks_to_explain;
 use found::Found;
 pub use rewording::reworded;
 
-/// Reads the words of the command line, of which the first is the program's own name. `clock` is the moment of the
-/// program's clock, in seconds since the beginning of 1970, if it tells one; a command whose moment was left out means
-/// it. The error is clap's, with its text, its stream and its status: of the kind `ValueValidation` where a word is no
-/// value of its argument, no moment is given or told, or the words of several files don't fit one another, `MissingSubcommand` where there is no command, `OutOfMemory`
-/// where an allocation was refused, and else what clap itself tells of the words.
+/// Reads the words of the command line, the first of which is the program's own name. `clock` is the time of the
+/// program's clock, in seconds since the beginning of 1970, if it has one; it is used if a command's time was left out.
+/// The error is clap's, with its text, its stream and its status: of the kind `ValueValidation` if a word isn't valid
+/// for its argument, there is no time, or the words for several files don't fit together; `MissingSubcommand` if there
+/// is no command; `OutOfMemory` if an allocation was refused; and otherwise clap's own for the words.
 pub fn read<'a>(
     alloc: Global,
     clock: Option<u32>,
@@ -46,7 +46,7 @@ pub fn read<'a>(
     }
 }
 
-/// Reads what a parse found. `None` where it met no command.
+/// Reads the words that clap found. Returns `None` if there is no command.
 fn read_matches<'a>(
     alloc: Global,
     clock: Option<u32>,
@@ -62,7 +62,7 @@ fn read_matches<'a>(
     }
 }
 
-/// Reads the words after a command. `None` where there is no command of that name.
+/// Reads the words after a command. Returns `None` if no command has that name.
 fn read_command<'a>(
     alloc: Global,
     clock: Option<u32>,
@@ -83,7 +83,7 @@ fn read_command<'a>(
     }
 }
 
-/// The error that tells of a fault, in the words of the help.
+/// Returns the error for a fault, in the words of the help.
 fn told(alloc: Global, verb: Verb, fault: Fault<'_>) -> Result<Error, AllocError>
     ensures kind { IfOk result (λ error. kind_of error ≡ clap_kinds.ValueValidation) }
     ensures wrong { IfOk result (λ _. IsWrong fault.entry) }
@@ -94,7 +94,7 @@ fn told(alloc: Global, verb: Verb, fault: Fault<'_>) -> Result<Error, AllocError
     }
 }
 
-/// The error of a word that is no value of its argument.
+/// Returns the error for a word that isn't valid for its argument.
 fn wrong_word(alloc: Global, verb: Verb, word: WrongWord<'_>) -> Result<Error, AllocError>
     ensures { IfOk result (λ error. kind_of error ≡ clap_kinds.ValueValidation) }
 {
@@ -109,12 +109,12 @@ fn wrong_word(alloc: Global, verb: Verb, word: WrongWord<'_>) -> Result<Error, A
     command.error(ErrorKind::ValueValidation, text.as_str())
 }
 
-/// The name of a command as the usage shows it.
+/// Returns the name of a command as the usage shows it.
 pub(crate) fn whole_name(alloc: Global, verb: Verb) -> Result<String, AllocError> {
     format!(in alloc; "unixvol {}", verb.name())
 }
 
-/// What the error says of a word that is no moment, and that may have been meant as a further path.
+/// Returns the text for a word that is no time, and that may have been meant as a further path.
 fn more_text(
     alloc: Global,
     verb: Verb,
@@ -125,7 +125,7 @@ fn more_text(
     format!(in alloc; "{text}; {} {paths}", verb.name())
 }
 
-/// What the error says of a word that is no value.
+/// Returns the text for a word that isn't valid.
 fn wrong_text(alloc: Global, word: WrongWord<'_>) -> Result<String, AllocError> {
     let name = word.name;
     let wanted = word.wanted;

@@ -1,4 +1,4 @@
-//! Errors of clap in words that help more.
+//! Rewords errors of clap so that they help more.
 ghost use Rattle.std.specs.Prelude.{◌≡◌, IfOk, IfSome};
 ghost use Rattle.clap.specs.Words.{kind_of};
 
@@ -9,24 +9,25 @@ use clap::error::ErrorKind;
 use command_words::{Verb, texts};
 use std::alloc::{AllocError, Global};
 
-/// How the text of an error of clap begins.
+/// The beginning of clap's error texts.
 const ERROR: &str = "error: ";
 
-/// How clap begins the values that an argument can have.
+/// The beginning of clap's list of an argument's possible values.
 const VALUES: &str = "\n  [possible values: ";
 
-/// How clap begins a tip on an option that isn't known: as a value it would mostly come at the place of another word.
+/// The beginning of clap's tip on an unknown option. The tip is to pass it as a value, where it would mostly replace
+/// another word.
 const VALUE_TIP: &str = "\n  tip: to pass '";
 
-/// What clap says behind its text.
+/// The usage that clap appends to a text.
 const USAGE: &str = "\n\nUsage: ";
 
-/// How clap names the first path of a command, where that is missing.
+/// Clap's name for the first path of a command, if it is missing.
 const PATH: &str = "<PATH>";
 
-/// An error of clap in words that help more, with the usage of the command that the words name: what the editions are, where a word is
-/// none; no tip to pass an option that isn't known as a value; and that a file is missing, where `put` has a directory and no file.
-/// `None` of an error that can stay as it is.
+/// Rewords an error of clap, with the usage of the command that the words name. It lists the editions if a word isn't
+/// one, leaves out the tip to pass an unknown option as a value, and says that a file is missing if `put` has a
+/// directory but no file. Returns `None` if the error can stay as it is.
 pub fn reworded(alloc: Global, words: &[String], error: &Error) -> Result<Option<Error>, AllocError>
     ensures { IfOk result (λ told. IfSome told (λ better. kind_of better ≡ kind_of error.now)) }
 {
@@ -47,7 +48,7 @@ pub fn reworded(alloc: Global, words: &[String], error: &Error) -> Result<Option
     }
 }
 
-/// The first of the words that names a command.
+/// Returns the first command that the words name.
 fn verb_in(words: &[String]) -> Option<Verb> {
     for word in words {
         if let Some(verb) = Verb::of(word.as_str()) {
@@ -57,7 +58,7 @@ fn verb_in(words: &[String]) -> Option<Verb> {
     None
 }
 
-/// The better text of an error, without its beginning and the usage.
+/// Returns the better text of an error, without its beginning and the usage.
 fn better_text(
     alloc: Global,
     verb: Verb,
@@ -76,7 +77,7 @@ fn better_text(
     }
 }
 
-/// The text of a word that is no edition.
+/// Returns the text for a word that isn't an edition.
 fn edition_text(alloc: Global, text: &str) -> Result<Option<String>, AllocError> {
     match text.split_once(VALUES) {
         Some((front, _)) => Ok(Some(format!(in alloc; "{front}: {}", texts::EDITIONS)?)),
@@ -84,7 +85,7 @@ fn edition_text(alloc: Global, text: &str) -> Result<Option<String>, AllocError>
     }
 }
 
-/// The text of an option that isn't known, without the tip to pass it as a value.
+/// Returns the text for an unknown option, without the tip to pass it as a value.
 fn untipped(alloc: Global, text: &str) -> Result<Option<String>, AllocError> {
     match text.split_once(VALUE_TIP) {
         Some((front, _)) => Ok(Some(String::from_str(alloc, front.trim_end())?)),
@@ -92,7 +93,7 @@ fn untipped(alloc: Global, text: &str) -> Result<Option<String>, AllocError> {
     }
 }
 
-/// The text of words that are missing, where the first of the files has the place of a path.
+/// Returns the text for missing words, when the first of the files was read as the path.
 fn file_text(alloc: Global, text: &str) -> Result<Option<String>, AllocError> {
     let Some((front, _)) = text.split_once(USAGE) else {
         return Ok(None);

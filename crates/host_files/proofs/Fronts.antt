@@ -1,4 +1,4 @@
--- The front of a file that its volume has.
+-- The part of a file that its volume has.
 use Rattle.std.proofs.Common.{◌≡◌, ◌∙◌, ◌+◌, ◌-◌, ◌*◌, ◌<◌, ◌≤◌, ◌++◌, ℕ, true, false, List, [], length, take, Option, Result, Ok, Err, OnErr, inl, inr, refl, sym, ap, subst, arith}
 use Rattle.std.proofs.lemmas.Bool.{cases_lt}
 use Rattle.std.proofs.lemmas.Bool.Decides.{nat_tests}
@@ -14,24 +14,24 @@ use Rattle.vol_layout.specs.declared.edition.Edition.{Edition}
 use Rattle.vol_layout.specs.declared.edition.Edition.TheVariants.{V6, V7}
 use Rattle.host_files.specs.Reading.{IsEndless, IsReadOn, IsSkipped, IsVolumeRead}
 
--- what is so whatever the result is
+-- the facts that hold whatever the result is
 pub on_err : {T E : Type 0} (result : Result T E) (P : Type 0) → P → OnErr result P
 on_err (Ok x) P p = tt
 on_err (Err e) P p = p
 
--- two fronts are lost, one after the other
+-- two prefixes are lost, one after the other
 pub loses_both : (a b c : Option (List ℕ)) → LosesFront a b → LosesFront b c → LosesFront a c
 loses_both a b c one other = (one.0 ++ other.0, Consumes-trans a b c one.0 other.0 one.1 other.1)
 
 word_front : (head more : List ℕ) (at : ℕ) → at + 2 ≤ length head → word (head ++ more) at ≡ word head at
 word_front head more at within = rw (get_or_append_left head more 0 at (omega arith), get_or_append_left head more 0 (at + 1) (omega arith)) refl
 
--- the super-block in the first 1024 bytes says how many blocks there are
+-- the super-block in the first 1024 bytes gives the number of blocks
 pub count_front : (edition : Edition) (head more : List ℕ) → 1024 ≤ length head → block_count edition (head ++ more) ≡ block_count edition head
 count_front V6 head more within = word_front head more 514 (omega arith)
 count_front V7 head more within = rw (word_front head more 514 (omega arith), word_front head more 516 (omega arith)) refl
 
--- an image is whole if all its blocks are read, and else the source is at its end
+-- an image is whole if all its blocks are read, and otherwise the source is at its end
 pub read_far : (edition : Edition) (a b c : Option (List ℕ)) (none head all : List ℕ) (blocks : ℕ) → none ≡ [] → IsReadOn a b none head 1024 → 1024 ≤ length head
     → blocks ≡ block_count edition head → IsReadOn b c head all (512 * blocks) → IsVolumeRead edition a c all
 read_far edition a b c none head all blocks empty first enough count on =
@@ -66,7 +66,7 @@ pub more_than_one : (edition : Edition) → 1 < (constants edition).block_limit
 more_than_one V6 = omega arith
 more_than_one V7 = omega arith
 
--- an image whose super-block says more blocks than any volume has, and that ends before them, is its first 1024 bytes
+-- an image whose super-block gives more blocks than any volume has, and that ends before them, is its first 1024 bytes
 pub read_ended : (edition : Edition) (a b c : Option (List ℕ)) (none head : List ℕ) (blocks limit : ℕ) → none ≡ [] → IsReadOn a b none head 1024 → 1024 ≤ length head
     → blocks ≡ block_count edition head → limit ≡ (constants edition).block_limit → limit < blocks → 1 < limit → IsSkipped (512 * (limit - 1)) b c true
     → IsVolumeRead edition a c head
@@ -90,7 +90,7 @@ read_ended edition a b c none head blocks limit empty first enough count most ov
       ),
     )
 
--- one that goes on is none
+-- one that continues past them is none
 pub read_endless : (edition : Edition) (a b c : Option (List ℕ)) (none head : List ℕ) (blocks : ℕ) → none ≡ [] → IsReadOn a b none head 1024 → 1024 ≤ length head
     → blocks ≡ block_count edition head → (constants edition).block_limit < blocks → IsSkipped (512 * ((constants edition).block_limit - 1)) b c false
     → IsEndless edition a c

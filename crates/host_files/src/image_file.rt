@@ -1,4 +1,4 @@
-//! The file of an image that a command changes: of which kind it is, whether it is still as it was read, and its lock.
+//! The file of an image to change: its kind, its lock, and whether it has changed since it was read.
 ghost use Rattle.std.specs.Prelude.{◌≡◌, ◌≢◌, ◌↔◌, ◌==◌, ◌&&◌, ℕ, List, Bool, true, false, IfErr, IfOk, IfSome};
 ghost use Rattle.std.specs.Fs.{IsDir, IsFile, file_type, metadata_len};
 ghost use Rattle.host_files.specs.declared.image_file.Stamp.{Stamp};
@@ -11,16 +11,16 @@ use std::rt::Clock;
 use std::thread;
 use std::time::Duration;
 
-/// How often it is tried to lock a file, before that counts as another program's.
+/// The number of tries to lock a file before giving up.
 const TRIES: u32 = 3000;
 
 /// The pause between two tries, in milliseconds: half a minute in all.
 const PAUSE: u64 = 10;
 
-/// After how many tries a user is told that a lock is waited for: about a second.
+/// The number of tries, about a second, before a message reports the wait.
 const PATIENCE: u32 = 100;
 
-/// Of which kind a file is.
+/// The kind of a file.
 #[derive(Clone, Copy, PartialEq, Eq)]
 pub enum Kind {
     /// A regular file.
@@ -29,12 +29,12 @@ pub enum Kind {
     Device,
     /// A directory.
     Directory,
-    /// A pipe, a socket or a terminal: what was read from it isn't there any more.
+    /// A pipe, a socket or a terminal: bytes that were read from it are gone.
     Stream,
 }
 
 impl Kind {
-    /// The kind that the system gives. A terminal counts as a device here.
+    /// Returns the kind that the system reports. A terminal counts as a device here.
     fn of(metadata: &Metadata) -> Kind
         ensures regular { (result ≡ Kind.Regular) ↔ IsFile (file_type metadata.now) }
         ensures directory { (result ≡ Kind.Directory) ↔ IsDir (file_type metadata.now) }
@@ -52,15 +52,15 @@ impl Kind {
     }
 }
 
-/// Which file it was, and when it was written last: two that are equal are of one file that stayed as it was, unless it
-/// was written twice within one tick of its clock and kept its size.
+/// The identity of a file and of its contents: two equal stamps belong to one file that hasn't changed, unless it was written twice
+/// within one tick of its clock and kept its size.
 #[derive(Clone, Copy, PartialEq, Eq)]
 pub struct Stamp {
-    /// Of which kind the file is.
+    /// The kind of the file.
     pub kind: Kind,
-    /// The device that it lies on.
+    /// The device that it is on.
     pub device: u64,
-    /// Its i-number there.
+    /// Its i-number on the device.
     pub ino: u64,
     /// Its size in bytes.
     pub size: u64,
@@ -71,7 +71,7 @@ pub struct Stamp {
 }
 
 impl Stamp {
-    /// The stamp of a file, by what the system says of it.
+    /// Returns the stamp of a file, from what the system reports.
     fn of(metadata: &Metadata) -> Stamp
         ensures regular { (result.kind ≡ Kind.Regular) ↔ IsFile (file_type metadata.now) }
         ensures directory { (result.kind ≡ Kind.Directory) ↔ IsDir (file_type metadata.now) }
@@ -87,7 +87,7 @@ impl Stamp {
         }
     }
 
-    /// Whether it is a stamp of the same file, whatever has changed of the file.
+    /// True if both stamps belong to the same file, changed or not.
     pub fn is_of(self, other: Stamp) -> bool
         ensures { result ≡ (self.device == other.device && self.ino == other.ino) }
     {
@@ -95,37 +95,37 @@ impl Stamp {
     }
 }
 
-/// What the program asks of the system about the file of an image.
+/// The system's functions for the file of an image.
 pub trait ImageFiles: Files {
-    /// The system said of an open file that this was its stamp.
+    /// The system reported this stamp for an open file.
     ghost had: { Self.File → Stamp → Type 0 };
 
-    /// The system said of what stands at a path that this was its stamp.
+    /// The system reported this stamp for the file at a path.
     ghost stood: { Stamp → Type 0 };
 
-    /// The system said of a path whether something stands there.
+    /// The system reported whether something exists at a path.
     ghost stands: { List ℕ → Bool → Type 0 };
 
-    /// The stamp that an open file has now; a terminal is a stream.
+    /// Returns the present stamp of an open file; a terminal is a stream.
     fn stamp_of(&self, file: &Self::File) -> io::Result<Stamp>
         ensures { IfOk result (had file.now) };
 
-    /// The stamp that the file at `path` has now. A symbolic link is followed; a terminal counts as a device.
+    /// Returns the present stamp of the file at `path`. A symbolic link is followed; a terminal counts as a device.
     fn stamp_at(&self, path: &str) -> io::Result<Stamp>
         ensures { IfOk result stood };
 
-    /// The stamp of what has the name `path` itself: a symbolic link isn't followed, and counts as a stream.
+    /// Returns the stamp of the name `path` itself: a symbolic link isn't followed, and counts as a stream.
     fn stamp_of_name(&self, path: &str) -> io::Result<Stamp>;
 
-    /// Whether something stands at `path`, if only a symbolic link that leads to nothing. What can't be looked at counts as there.
+    /// True if something exists at `path`, even a symbolic link that leads nowhere. A path that can't be examined counts as existing.
     fn is_there(&self, path: &str) -> bool
         ensures { stands path.now result };
 
-    /// Gives an open file to a user, a group or both. True if the system let it.
+    /// Gives an open file to a user, a group or both. True if the system allowed it.
     fn give(&self, file: &Self::File, user: Option<u32>, group: Option<u32>) -> bool;
 
-    /// Locks an open file for this program alone, until all its handles are closed. False where another
-    /// program has it locked; true too where the file's system has no such locks.
+    /// Locks an open file for this program alone, until all its handles are closed. False if another program has it locked; true also
+    /// if the file's system has no such locks.
     fn try_lock(&self, file: &Self::File) -> bool;
 }
 
@@ -170,7 +170,7 @@ impl ImageFiles for HostRuntime {
     }
 }
 
-/// Opens a file, and returns its stamp too.
+/// Opens a file, and returns it with its stamp.
 pub fn open_stamped<R: ImageFiles>(rt: &R, path: &str) -> io::Result<(R::File, Stamp)>
     ensures { IfOk result (λ opened. R.had opened.0 opened.1) }
 {
@@ -186,27 +186,27 @@ pub enum OpenFault {
     Unread(io::Error),
     /// It is a pipe, a socket or a terminal.
     Stream(io::Error),
-    /// Another program has had it locked for half a minute.
+    /// Another program kept it locked for half a minute.
     Locked(io::Error),
 }
 
-/// What is told of a file that is a pipe, a socket or a terminal.
+/// The message for a pipe, a socket or a terminal.
 const STREAM: &str = "it is a pipe, a socket or a terminal, which keeps nothing to be changed";
 
-/// What is told of a file that another program has locked.
+/// The message for a file that another program has locked.
 const LOCKED: &str = "another program has had it locked for half a minute";
 
-/// What one try to open the file of an image comes to.
+/// The result of one try to open the file of an image.
 enum Try<F> {
-    /// It is open and locked, and stands at its path, with this stamp.
+    /// It is open and locked, and still at its path, with this stamp.
     Open(F, Stamp),
     /// It is a pipe, a socket or a terminal.
     Stream,
-    /// Another program has it locked, or put another file in its place just now.
+    /// Another program has it locked, or has just replaced it.
     Busy,
 }
 
-/// Looks whether the file of an image that is to be changed can be opened, and closes it again. It waits for no lock.
+/// Checks that the file of an image can be opened for a change, and closes it again. Waits for no lock.
 pub fn expect_image<R: ImageFiles>(rt: &R, path: &str) -> Result<(), OpenFault> {
     match open_kept(rt, path) {
         Ok(Some(_)) => Ok(()),
@@ -215,9 +215,8 @@ pub fn expect_image<R: ImageFiles>(rt: &R, path: &str) -> Result<(), OpenFault> 
     }
 }
 
-/// Opens the file of an image that is to be changed, locks it, and answers its stamp. The lock is gone once the file is closed.
-/// It waits, for half a minute at most, while another program has the file locked; `is_watched` says whether standard error is told so
-/// after a second.
+/// Opens the file of an image for a change, locks it, and returns it with its stamp. The lock ends when the file is closed. Waits at
+/// most half a minute while another program has the file locked; if `is_watched`, a line on standard error says so after a second.
 pub fn open_image<R: ImageFiles + Clock + Eprint>(
     rt: &R,
     path: &str,
@@ -254,8 +253,8 @@ fn try_open<R: ImageFiles>(rt: &R, path: &str) -> io::Result<Try<R::File>>
     Ok(Try::Busy)
 }
 
-/// Opens a file and answers its stamp, unless it is a pipe, a socket or a terminal. A pipe isn't opened, since that could wait for
-/// its other end.
+/// Opens a file and returns it with its stamp, unless it is a pipe, a socket or a terminal. A pipe isn't opened, since that could wait
+/// for its other end.
 fn open_kept<R: ImageFiles>(rt: &R, path: &str) -> io::Result<Option<(R::File, Stamp)>>
     ensures { IfOk result (λ kept. IfSome kept (λ opened. OpensTo R.had opened.0 opened.1)) }
 {

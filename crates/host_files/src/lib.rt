@@ -1,4 +1,4 @@
-//! Files of the host that hold an image: opening and locking them, whether they have changed, and saving in them.
+//! Files of the host that hold an image: opening and locking them, noticing changes, and saving.
 #![tactic(auto)]
 
 mod archive_front;

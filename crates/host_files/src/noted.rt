@@ -1,17 +1,17 @@
-//! A device that keeps the system's reason where it failed.
+//! A device that keeps the system's reason for a failure.
 ghost use Rattle.std.specs.Prelude.{◌≡◌, false};
 
 use pdp_words::{FromRead, IntoWrite, Sink, Source};
 use std::io::{self, Read, Write};
 
-/// A source or a sink that hands all on to another, and keeps its last error.
+/// A source or a sink that forwards to another, and keeps its last error.
 #[derive(Drop)]
 pub struct Noted<D> {
     device: D,
     error: Option<io::Error>,
 }
 
-/// A source of the bytes that `reader` has left, as [`FromRead::new`] is one. It has not failed.
+/// Returns a source of the bytes that `reader` has left, as [`FromRead::new`] does. It has not failed.
 pub fn noted_reader<R: Read>(reader: R) -> Noted<FromRead<R>>
     ensures bytes { ⟦<Noted<FromRead<R>> as Source>⟧.remaining result ≡ R.remaining reader }
     ensures fresh { ⟦<Noted<FromRead<R>> as Source>⟧.failed result ≡ false }
@@ -22,7 +22,7 @@ pub fn noted_reader<R: Read>(reader: R) -> Noted<FromRead<R>>
     }
 }
 
-/// A sink into `writer`, after the bytes that it holds, as [`IntoWrite::new`] is one. It has not failed.
+/// Returns a sink into `writer`, after the bytes that it holds, as [`IntoWrite::new`] does. It has not failed.
 pub fn noted_writer<W: Write>(writer: W) -> Noted<IntoWrite<W>>
     ensures bytes { ⟦<Noted<IntoWrite<W>> as Sink>⟧.contents result ≡ W.contents writer }
     ensures fresh { ⟦<Noted<IntoWrite<W>> as Sink>⟧.failed result ≡ false }
@@ -34,14 +34,14 @@ pub fn noted_writer<W: Write>(writer: W) -> Noted<IntoWrite<W>>
 }
 
 impl<D> Noted<D> {
-    /// The device in it.
+    /// Returns the device.
     pub fn into_inner(self) -> D
         ensures { result ≡ self.device }
     {
         self.device
     }
 
-    /// The error that it answered last, if it answered one.
+    /// Returns the device's last error, if it had one.
     pub fn error(&self) -> Option<io::Error> {
         self.error
     }

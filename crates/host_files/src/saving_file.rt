@@ -1,4 +1,4 @@
-//! Saving an image in a file, so that a failure leaves the file that was there.
+//! Saves an image in a file, so that a failure leaves the old file.
 ghost use Rattle.std.specs.Prelude.{◌≡◌, true, IfOk, IfSome, OnErr, OnOk};
 ghost use Rattle.std.specs.Path.{path_bytes, path_buf_bytes};
 ghost use Rattle.host_files.specs.Saving.{IsBeside, Grows, Saves, IsPlaced, Holds};
@@ -12,16 +12,16 @@ use std::os::unix::fs::{MetadataExt, OpenOptionsExt, PermissionsExt};
 use std::path::{Path, PathBuf};
 use vol_mkfs::BlankVolume;
 
-/// How many names are tried for the new file.
+/// The number of names that are tried for the new file.
 const TRIES: u32 = 1000;
 
-/// How many symbolic links are followed, one after another: as many as the system follows.
+/// The greatest number of symbolic links that are followed in a row: as many as the system follows.
 const MOST_LINKS: u32 = 40;
 
-/// What is told of a file that has another stamp than when it was read.
+/// The message for a file whose stamp has changed since it was read.
 const CHANGED: &str = "it has changed since it was read";
 
-/// The message for a file in whose place another one is found.
+/// The message for a file that another program has replaced.
 const REPLACED: &str = "another program has put another file in its place";
 
 /// The message for a new file whose name another program gave to something else.
@@ -30,51 +30,51 @@ const MOVED: &str = "another program moved the new file that was to take its pla
 /// The message for a new file that another program has locked.
 const TAKEN: &str = "another program has locked the new file that was to take its place";
 
-/// What is told of a path at which too many symbolic links begin.
+/// The message for a path with too many symbolic links.
 const TOO_MANY_LINKS: &str = "more than 40 symbolic links lead on from it";
 
-/// What is told of a file beside which no new one can be made.
+/// The message for a folder in which no new file can be made.
 const NO_NAME: &str = "beside it .unixvol-0 to .unixvol-999 are all there";
 
-/// Permissions of a new file that is to have those of an old one: until then it is nobody else's.
+/// The permissions of a new file that will get those of an old one: until then it is private.
 const PRIVATE: u32 = 0o600;
 
-/// The permissions that a new file has of the old one: nobody runs an image, so none runs with its owner's rights.
+/// The permissions that a new file takes over from the old one. An image isn't run, so it never runs with its owner's rights.
 const RIGHTS: u32 = 0o777;
 
-/// What is saved in a file.
+/// The content to save in a file.
 #[derive(Clone, Copy)]
 pub enum Content<'a> {
-    /// Bytes that stand in memory.
+    /// Bytes in memory.
     Bytes(&'a [u8]),
-    /// A new volume, whose bytes are made as they go out.
+    /// A new volume, whose bytes are made while they are written.
     Volume(&'a BlankVolume),
 }
 
-/// The regular file that a new one is to replace.
+/// The regular file that a new one will replace.
 #[derive(Drop)]
 struct Replaced {
-    /// Which file it is.
+    /// Its stamp.
     stamp: Stamp,
     /// Its owner, its group and its permissions.
     metadata: Metadata,
 }
 
-/// Where a content was saved, and the stamp that the file there has now.
+/// The file in which a content was saved, and its stamp now.
 #[derive(Drop)]
 enum Place<F> {
-    /// In a new file that took the old one's place, and is locked.
+    /// A new file, which replaced the old one and is locked.
     New(F, Stamp),
-    /// In the file that was there, which is no regular file.
+    /// The old file, which isn't a regular file.
     Old(Stamp),
 }
 
-/// The file of an image that stays open and locked while its image is saved in it, as often as it changes.
+/// The file of an image, which stays open and locked while the image changes and is saved in it.
 #[derive(Drop)]
 pub struct HeldFile<F> {
     /// The file.
     pub file: F,
-    /// The stamp that it had when it was read or saved last.
+    /// Its stamp when it was last read or saved.
     pub stamp: Stamp,
 }
 
@@ -91,17 +91,17 @@ impl Content<'_> {
     }
 }
 
-/// Saves a content in the file `path`. Its bytes go into a new file in the same folder, which then takes the
-/// place of the old one. The new file has the old one's owner, group and permissions, where the system lets it; else it is the
-/// caller's, and the rights of a group that it can't have are dropped. So a failure leaves the old file as it was, and no new one.
-/// A symbolic link is followed. What is no regular file, as a device or a pipe, is written in place.
+/// Saves a content in the file `path`. Its bytes are written to a new file in the same folder, which then replaces the old one. The
+/// new file gets the old one's owner, group and permissions if the system allows it; otherwise it is the caller's, without the rights
+/// of a group that it can't have. So a failure leaves the old file as it was, and no new one. A symbolic link is followed. Anything
+/// but a regular file, such as a device or a pipe, is written in place.
 ///
-/// If the content was made out of what the file had, `read` is the stamp that it then had: it must have that still,
-/// just before the new file takes its place or the first byte is written.
+/// If the content was made from what the file had, `read` is the stamp that it had then. The stamp must be the same just before the
+/// new file replaces it or the first byte is written.
 ///
-/// The error is the system's if a file can't be opened, written, synchronised or renamed; `ResourceBusy` if the stamp is another, or another
-/// program gave the new file's name to something else; `FilesystemLoop` past 40 symbolic links;
-/// `AlreadyExists` if a thousand names of new files were taken; `OutOfMemory` if an allocation was refused.
+/// The error is the system's if a file can't be opened, written, synchronised or renamed; `ResourceBusy` if the stamp differs, or
+/// another program gave the new file's name to something else; `FilesystemLoop` past 40 symbolic links; `AlreadyExists` if a thousand
+/// names of new files were taken; `OutOfMemory` if an allocation was refused.
 pub fn save_file<R: ImageFiles + AllocGlobal>(
     rt: &R,
     path: &str,
@@ -115,11 +115,11 @@ pub fn save_file<R: ImageFiles + AllocGlobal>(
     Ok(())
 }
 
-/// Saves a content in the file `path`, from which `held` was opened and locked, as [`save_file`] does if `read` is the stamp of `held`. The
-/// new file is locked before it takes the old one's place, and is held from then on: so no other command comes between two saves.
-/// What is no regular file stays held.
+/// Saves a content in the file `path`, from which `held` was opened and locked, as [`save_file`] does with the stamp of `held`. The new file
+/// is locked before it replaces the old one, and is held from then on, so no other command comes between two saves. A file that
+/// isn't regular stays held.
 ///
-/// The errors are those of [`save_file`], and `held` stays as it was.
+/// The errors are those of [`save_file`], and leave `held` unchanged.
 pub fn save_held<R: ImageFiles + AllocGlobal>(
     rt: &R,
     path: &str,
@@ -138,7 +138,7 @@ pub fn save_held<R: ImageFiles + AllocGlobal>(
     Ok(())
 }
 
-/// Saves a content in the file `path`, as [`save_file`] says, and returns where it is.
+/// Saves a content in the file `path`, as [`save_file`] does, and returns its place.
 fn put_content<R: ImageFiles + AllocGlobal>(
     rt: &R,
     path: &str,
@@ -171,7 +171,7 @@ fn put_content<R: ImageFiles + AllocGlobal>(
     }
 }
 
-/// Fails where what stands at `path` hasn't the stamp that it had when it was read.
+/// Fails if the file at `path` doesn't have the stamp that it had when it was read.
 fn expect_unchanged<R: ImageFiles>(rt: &R, path: &str, read: Option<Stamp>) -> io::Result<()>
     ensures { OnOk result (IfSome read R.stood) }
 {
@@ -193,7 +193,7 @@ fn expect_same(one: Stamp, other: Stamp) -> io::Result<()> {
     }
 }
 
-/// Fails if another file than `old` is at `path`, or, if there is no old one, any.
+/// Fails if another file than `old` is at `path`, or, if there is no old one, if any file is.
 fn expect_there<R: ImageFiles>(rt: &R, path: &str, old: Option<&Replaced>) -> io::Result<()> {
     match old {
         Some(old) => expect_same(old.stamp, rt.stamp_of_name(path)?),
@@ -202,7 +202,7 @@ fn expect_there<R: ImageFiles>(rt: &R, path: &str, old: Option<&Replaced>) -> io
     }
 }
 
-/// Where the symbolic links end that begin at `path`, at a file or at nothing; `path` itself, where no link is.
+/// Follows the symbolic links from `path` to a file or to nothing, and returns that path; `path` itself if it is no link.
 fn end_of_links<R: Files + AllocGlobal>(rt: &R, path: &str) -> io::Result<PathBuf> {
     let mut place = PathBuf::from_str(rt.alloc(), path)?;
     for _ in 0..=MOST_LINKS {
@@ -215,8 +215,9 @@ fn end_of_links<R: Files + AllocGlobal>(rt: &R, path: &str) -> io::Result<PathBu
     Err(io::Error::new(ErrorKind::FilesystemLoop, TOO_MANY_LINKS))
 }
 
-/// Whether `path`, or the end of the symbolic links that begin there, is the name of a pipe or a socket: to open a pipe for writing waits
-/// until another program reads from it. What the system can't tell of counts as none. A pipe that has no name, as `/dev/stdout` may lead to, is none.
+/// True if `path`, or the end of its symbolic links, names a pipe or a socket: opening a pipe for writing waits until another program
+/// reads from it. A path that the system can't examine counts as none, and so does a pipe without a name, as `/dev/stdout` may lead
+/// to.
 pub fn is_pipe<R: ImageFiles + AllocGlobal>(rt: &R, path: &str) -> bool {
     let Ok(place) = end_of_links(rt, path) else {
         return false;
@@ -227,13 +228,13 @@ pub fn is_pipe<R: ImageFiles + AllocGlobal>(rt: &R, path: &str) -> bool {
     }
 }
 
-/// Whether the system answered so of a link because none is there: what stands there is another file, or nothing does.
+/// True if the system's error for reading a link means that there is none: another file is there, or nothing.
 fn is_end(error: io::Error) -> bool {
     let kind = error.kind();
     kind == ErrorKind::InvalidInput || kind == ErrorKind::NotFound
 }
 
-/// Puts a new file with this content in the place of `path`, which is no symbolic link, and still has the stamp `read`, if one is given.
+/// Replaces `path`, which is no symbolic link and must still have the stamp `read`, if one is given, by a new file with this content.
 /// Returns the new file, locked.
 fn replace<R: ImageFiles + AllocGlobal>(
     rt: &R,
@@ -260,8 +261,8 @@ fn replace<R: ImageFiles + AllocGlobal>(
     }
 }
 
-/// Locks the new file `file`, which has the name `beside`, puts it in the place of `path`, and returns it with its stamp. Each of the two
-/// names must be that of the same file as before, and the old one must have the stamp `read` still.
+/// Locks the new file, open as `file` and named `beside`, renames it to `path`, and returns it with its stamp. Each of the two names must
+/// still belong to the same file, and the old file must still have the stamp `read`.
 fn rename_over<R: ImageFiles>(
     rt: &R,
     file: R::File,
@@ -288,7 +289,7 @@ fn rename_over<R: ImageFiles>(
     Ok((file, stamp))
 }
 
-/// Sees the names in the folder of `path` on the disk, if the system lets it: the image is whole in any case.
+/// Synchronises the folder of `path`, if the system allows it: the image is complete in any case.
 fn sync_folder<R: Files>(rt: &R, path: Path<'_>) {
     let folder = match path.parent() {
         Some(folder) if folder.as_str() != "" => folder,
@@ -299,7 +300,7 @@ fn sync_folder<R: Files>(rt: &R, path: Path<'_>) {
     }
 }
 
-/// Makes an empty file in the folder of `path`, with a name that no file has.
+/// Makes an empty file in the folder of `path`, with an unused name.
 fn new_file<R: Files + AllocGlobal>(
     rt: &R,
     path: Path<'_>,
@@ -340,8 +341,8 @@ fn fill<R: ImageFiles>(
     Ok(file)
 }
 
-/// Gives an open file the owner, group and permissions of an old one. Only the super-user may give a file away; for others it is their
-/// own, and its group is one of theirs.
+/// Gives an open file the owner, group and permissions of an old one. Only the super-user can give a file to another user; others
+/// remain its owner, and can only choose one of their groups.
 fn keep_owner<R: ImageFiles>(rt: &R, file: &R::File, old: &Metadata) -> io::Result<()> {
     let new = file.metadata()?;
     let mut mode = old.permissions().mode() & RIGHTS;
@@ -354,12 +355,13 @@ fn keep_owner<R: ImageFiles>(rt: &R, file: &R::File, old: &Metadata) -> io::Resu
     file.set_permissions(Permissions::from_mode(mode))
 }
 
-/// The permissions where a file can't have its old group: the new group may do nothing, and others only what the old group might do too.
+/// Returns the permissions of a file that can't have its old group: none for the new group, and for others only those that the old
+/// group had too.
 fn without_group(mode: u32) -> u32 {
     (mode & 0o700) | (mode & (mode >> 3) & 0o007)
 }
 
-/// Writes a content into what is no regular file, sees it on the disk that it may be, and answers the file.
+/// Writes a content into something other than a regular file, synchronises it if it is on a disk, and returns the file.
 fn write_in_place<F: Write + OpenFile + Drop>(file: F, content: Content<'_>) -> io::Result<F>
     ensures { IfOk result (λ written. Grows content.entry (F.contents file) (F.contents written)) }
 {
@@ -371,7 +373,7 @@ fn write_in_place<F: Write + OpenFile + Drop>(file: F, content: Content<'_>) -> 
     }
 }
 
-/// Writes a content after the bytes that a file has taken, and answers the file.
+/// Writes a content after the bytes that a file has taken, and returns the file.
 fn write<F: Write + Drop>(file: F, content: Content<'_>) -> io::Result<F>
     ensures { IfOk result (λ written. Grows content.entry (F.contents file) (F.contents written)) }
 {
@@ -382,7 +384,7 @@ fn write<F: Write + Drop>(file: F, content: Content<'_>) -> io::Result<F>
     }
 }
 
-/// The error of a file that didn't take all bytes: the system's, unless that is of the kind that tells of the program's memory.
+/// Returns the error for a file that didn't take all bytes: the system's, unless that would mean that the program's memory ran out.
 fn unwritten(error: Option<io::Error>) -> io::Error {
     match error {
         Some(error) if error.kind() != ErrorKind::OutOfMemory => error,

@@ -1,4 +1,4 @@
-//! The image or the archive in a file, which is read no further than this.
+//! Reads the image or the archive in a file, and no further.
 ghost use Rattle.std.specs.Prelude.{◌≡◌, false, true, IfOk, OnErr, OnOk, IsErrOf};
 ghost use Rattle.pdp_words.specs.Devices.{LosesFront};
 ghost use Rattle.host_files.specs.Reading.{IsEndless, IsPast, IsReadOn, IsReadUpTo, IsSkipped, IsVolumeRead, up_to_kept};
@@ -10,19 +10,20 @@ use std::alloc::Global;
 use std::io;
 use vol_layout::{Edition, Super};
 
-/// The end up to which a file is read.
+/// The point up to which a file is read.
 #[derive(Clone, Copy)]
 pub enum UpTo {
     /// To its end.
     End,
     /// Up to the last block of the volume in it.
     Volume(Edition),
-    /// Up to the end of the archive in it, which has so many blocks at most.
+    /// Up to the end of the archive in it, which has at most this many blocks.
     Archive(u32),
 }
 
 impl UpTo {
-    /// The end up to which the file of an image that is to be changed is read: a regular file is read whole, since the bytes after its volume are kept.
+    /// Returns the point up to which the file of an image to change is read. A regular file is read whole, since the bytes after its
+    /// volume are kept.
     pub fn kept(edition: Edition, kind: Kind) -> UpTo
         ensures { result ≡ up_to_kept edition kind }
     {
@@ -33,24 +34,24 @@ impl UpTo {
     }
 }
 
-/// Why a file was not read.
+/// Why a file wasn't read.
 #[derive(Clone, Copy)]
 pub enum FrontFault {
     /// The source failed.
     Device,
     /// An allocation was refused.
     NoMemory,
-    /// Its super-block says more blocks than any volume has, and it goes on past them; or its archive has more blocks than it may.
+    /// Its super-block gives more blocks than any volume has, and it continues past them; or its archive has more blocks than it may.
     Endless,
 }
 
-/// Bytes that one read asks for.
+/// The greatest number of bytes in one read.
 pub(crate) const PIECE: usize = 64 * 1024;
 
-/// Where the super-block ends.
+/// The end of the super-block.
 const HEAD: usize = 1024;
 
-/// Reads a source up to `up_to`. Whatever is returned, the source has lost the bytes that were read.
+/// Reads a source up to `up_to`. Whatever is returned, the bytes that were read are gone from the source.
 pub fn read_up_to<S: Source>(
     alloc: Global,
     up_to: UpTo,
@@ -73,11 +74,11 @@ pub fn read_up_to<S: Source>(
     }
 }
 
-/// Reads the image of a volume up to the last block that its super-block says, or to the source's end. Where it says more blocks than
-/// any volume of the edition has, what follows the super-block is read and dropped: if it ends before it has one block more than the
-/// greatest volume, rule 1 doesn't hold of it, and else it is a fault.
+/// Reads the image of a volume up to the last block that its super-block gives, or to the source's end. If that is more blocks than
+/// any volume of the edition has, the bytes after the super-block are read and dropped: if the source ends before it has one block
+/// more than the greatest volume, the image breaks rule 1; otherwise it is a fault.
 ///
-/// Takes memory as `pdp_words::load` does, for what is kept.
+/// Takes memory as `pdp_words::load` does, for the bytes that are kept.
 fn read_volume<S: Source>(
     alloc: Global,
     edition: Edition,
@@ -108,7 +109,7 @@ fn read_volume<S: Source>(
     }
 }
 
-/// Reads on behind `bytes`, until these are `most` or the source is at its end.
+/// Appends bytes from the source to `bytes`, until there are `most` or the source ends.
 pub(crate) fn read_on<S: Source>(
     mut bytes: Vec<u8>,
     most: usize,
@@ -141,7 +142,7 @@ pub(crate) fn read_on<S: Source>(
     Ok(bytes)
 }
 
-/// Reads up to `most` bytes and drops them. True if the source is at its end then.
+/// Reads up to `most` bytes and drops them. True if the source is then at its end.
 pub(crate) fn skip<S: Source>(source: &mut S, most: usize) -> io::Result<bool>
     ensures ok { IfOk result (IsSkipped most (S.remaining source.old) (S.remaining source.new)) }
     ensures front { OnErr result (LosesFront (S.remaining source.old) (S.remaining source.new)) }

@@ -1,4 +1,4 @@
--- `read_on` holds what the source lost behind what it had; the source hasn't failed.
+-- `read_on` has the bytes that the source lost after those that it had; the source hasn't failed.
 use Rattle.std.proofs.Common.{◌≡◌, ◌-◌, ◌++◌, ◌≤◌, List, ℕ, length, max, false, vec_len}
 use Rattle.std.specs.Io.KnownBytes.{Consumes}
 use Rattle.host_files.proofs.volume_front.read_on.Given as goal

@@ -1,4 +1,4 @@
--- What was read of the words, by what it asks for.
+-- The words that were read, by their invocation.
 use Rattle.std.proofs.Common.{◌≡◌, ℕ, List, Option, Result, Ok, Err, IfOk, subst}
 use Rattle.clap.specs.Words.{kind_of}
 use Rattle.clap.specs.declared.error.Error.{Error}
@@ -12,14 +12,14 @@ use Rattle.command_line.proofs.Reading.{workable}
 use Rattle.command_faults.specs.Streams.{Streams}
 use Rattle.unixvol.specs.Running.{HostFiles, RunsRead, Tells}
 
--- what was read of some words asks several threads only for what they can do
+-- words that were read request from several threads only work that they can do
 pub asked : {E : Type 0} (clock : Option ℕ) (result : Result Invocation E) (words : List (List ℕ)) (volume : VolumeFile) (work : Work) → IfOk result (IsRead clock words)
     → result ≡ Ok (invocations.Work volume work) → IsWorkable work
 asked clock (Ok invocation) words volume work read is =
     let same : invocation ≡ invocations.Work volume work = cc in workable clock words volume work (subst (λ (i : Invocation). IsRead clock words i) same read)
 asked clock (Err e) words volume work read is = absurd (cc)
 
--- what is told of words that are refused is what runs of them
+-- the text for words that are refused is their run
 pub refusal_runs : (streams : Streams) (files : HostFiles) (status : ℕ) (read : Result Invocation Error) (error : Error) → read ≡ Err error
     → Tells streams (kind_of error) status → RunsRead streams files status read
 refusal_runs streams files status (Ok invocation) error is tells = absurd (cc)

@@ -1,12 +1,12 @@
--- What a run of the program comes to, from what its two streams held before.
+-- The result of a run of the program, from the contents of its two streams before.
 use Rattle.std.proofs.Common.{◌≡◌, ◌⊎◌, ◌∙◌, Bool, false, ℕ, List, Option, inl, inr, subst}
 use Rattle.command_faults.specs.Streams.{Gets, Streams}
 
--- what the two streams were and are
+-- the two streams, before and after
 abbrev pub streams_of : Option (List ℕ) → Option (List ℕ) → Bool → Bool → Option (List ℕ) → Option (List ℕ) → Bool → Streams
 streams_of old new had_failed failed errors told untold = record { old = old; new = new; had_failed = had_failed; failed = failed; said = Gets untold errors told }
 
--- what holds of a run from what its writers hold, which have not failed, holds of it from what the streams held
+-- a fact of a run from the contents of its writers, which have not failed, is one of it from the contents of the streams
 pub begun : (P : Streams → Type 0) (output errors old was : Option (List ℕ)) (had_failed : Bool) (new told : Option (List ℕ)) (failed untold : Bool)
     → old ≡ output → was ≡ errors → had_failed ≡ false → P (streams_of old new had_failed failed was told untold)
     → P (streams_of output new false failed errors told untold)

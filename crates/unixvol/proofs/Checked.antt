@@ -1,4 +1,4 @@
--- How a checker that runs ends.
+-- The end of a checker's run.
 use Rattle.std.proofs.Common.{ℕ, ◌≤◌, Bool, true, false, if◌then◌else◌, List, Option, inl, inr, sym, subst, arith}
 use Rattle.command_reads.specs.Checkers.{Checks, IsUnreported, PrintsReport}
 use Rattle.command_faults.specs.Streams.{Streams}
@@ -10,7 +10,7 @@ use Rattle.vol_reports.specs.declared.line.Line.{Line}
 use Rattle.unixvol.specs.Running.{IsEnd, IsUnread, RunsCheck, host_files}
 use Rattle.host_files.specs.declared.image_file.Stamp.{Stamp}
 
--- a run that wants a file or memory ends so
+-- a run that lacks a file or memory ends so
 ends_badly : (streams : Streams) (status : ℕ) → (3 ≤ status) → (status ≤ 4) → IsEnd streams status
 ends_badly streams status least most = record { within = most; whole = λ e. absurd (omega (arith, least, e)) }
 
@@ -36,7 +36,7 @@ ends_unread : {F : Type 0} (remaining : F → Option (List ℕ)) (streams : Stre
 ends_unread remaining streams status (inl is) = ends_badly streams status (omega (arith, is)) (omega (arith, is))
 ends_unread remaining streams status (inr memory) = ends_badly streams status (omega (arith, memory.0)) (omega (arith, memory.0))
 
--- a checker that runs ends with a status of at most 4, and with 0 only where all went out and no fault was told
+-- a checker's run ends with a status of at most 4, and with 0 only if all was printed and no fault was reported
 pub ends_checked : {F : Type 0} (remaining contents : F → Option (List ℕ)) (had : F → Stamp → Type 0) (stood : Stamp → Type 0) (streams : Streams)
     (screen : Screen) (edition : Edition) (checker : Checker) (status : ℕ) → RunsCheck streams (host_files remaining contents had stood) screen edition checker status
     → IsEnd streams status

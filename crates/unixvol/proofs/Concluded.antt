@@ -1,4 +1,4 @@
--- How a run ends that saves what a command made, or one that reads no file.
+-- The end of a run that saves a command's result, or of one that reads no file.
 use Rattle.std.proofs.Common.{◌≡◌, ◌∙◌, true≢false, ℕ, ◌≤◌, List, [], Option, None, Some, IsSome, IfSome, Result, inl, inr, refl, sym, subst, arith}
 use Rattle.std.specs.Global.{Vec}
 use Rattle.std.specs.Io.KnownBytes.{Keeps}
@@ -32,7 +32,7 @@ ends_unread remaining streams status (inl is) kept =
 ends_unread remaining streams status (inr memory) kept =
     record { within = omega (arith, memory.0); silent = λ _ _. kept; whole = λ e. absurd (omega (arith, memory.0, e)) }
 
--- a run ends with the status of an answer, or that of a file; nothing went out, and where it is 0 no fault was told
+-- a run ends with the status of an answer, or that of a file; nothing was printed, and if it is 0 no fault was reported
 pub ends_answer : (streams : Streams) (taken : List ℕ → Type 0) (answer : Answer) (status : ℕ) → answer.status ≤ 4
     → (answer.status ≡ 0 → streams.said []) → Keeps streams.old streams.new → streams.failed ≡ streams.had_failed → EndsSaved taken answer status
     → Ends streams status
@@ -47,17 +47,17 @@ ends_answer streams taken answer status few quiet unprinted unused (inr file) = 
   whole = λ e. absurd (elim file.1 [ inl three ↦ omega (arith, three, e) | inr four ↦ omega (arith, four, e) ]);
 }
 
--- where something was made, no fault is told
+-- if something was made, no fault is reported
 quiet : {A : Type 0} (makes : A → Type 0) (said : List ℕ → Type 0) (made : Option A) → IsSome made → IfSome made (λ a. makes a × said []) → said []
 quiet makes said (Some a) some given = given.1
 quiet makes said None some given = absurd (true≢false (sym some))
 
--- the status of an answer is at most 4, where that of each reason is
+-- the status of an answer is at most 4, if that of each reason is
 few : {A : Type 0} (made : Option A) (status : ℕ) → (IsSome made → status ≡ 0) → (made ≡ None → status ≤ 4) → status ≤ 4
 few (Some a) status zero some_few = let is = zero refl in omega (arith, is)
 few None status zero some_few = some_few refl
 
--- what a command that makes bytes comes to ends so
+-- a command that makes bytes ends so
 pub ends_concluded : (makes : List ℕ → Type 0) (is_reason : Fault → Type 0) (streams : Streams) (taken : List ℕ → Type 0) (answer : Answer) (status : ℕ)
     → Concludes makes is_reason streams.said answer → Keeps streams.old streams.new → streams.failed ≡ streams.had_failed
     → EndsSaved taken answer status → Ends streams status
@@ -85,7 +85,7 @@ import_few (imports.Member path cause) = omega arith
 import_few (imports.Refused refusal call) = refusal_within refusal
 import_few imports.NoMemory = omega arith
 
--- what the import of an archive comes to ends so
+-- the import of an archive ends so
 pub ends_imported : (edition : Edition) (image : List ℕ) (wanted : Result (List Call) ImportFault) (streams : Streams) (taken : List ℕ → Type 0) (answer : Answer)
     (status : ℕ) → ImportsArchive edition image wanted streams.said answer → Keeps streams.old streams.new → streams.failed ≡ streams.had_failed
     → EndsSaved taken answer status → Ends streams status
@@ -99,7 +99,7 @@ get_few : (fault : GetFault) → get_status fault ≤ 4
 get_few (Volume fault) = (fault_few fault).1
 get_few (File refusal path) = refusal_within refusal
 
--- where files were read, no fault is told
+-- if files were read, no fault is reported
 quiet_got : (P Q : List FileRead → Type 0) (said : List ℕ → Type 0) (files : Option (Vec FileRead)) → IsSome files
     → IfSome files (λ files. P files.items × Q files.items × said []) → said []
 quiet_got P Q said (Some files) some given = given.2

@@ -1,4 +1,4 @@
--- Copies of several files: their names, and what saving them comes to.
+-- Copies of several files: their names, and the result of saving them.
 use Rattle.std.proofs.Common.{◌≡◌, ◌⊎◌, ◌∙◌, ◌<◌, ◌+◌, ◌++◌, ℕ, List, [], ◌∷◌, length, map, take, get_or, Option, Some, IsSome, IfSome, inl, inr, refl, sym, ap, subst, arith}
 use Rattle.std.specs.Borrow.{Bor}
 use Rattle.std.specs.Global.{Vec}
@@ -17,7 +17,7 @@ file_name file = file.name.now
 abbrev path_name : Bor (List ℕ) → List ℕ
 path_name path = name_of path.now
 
--- the names of one file more
+-- the names with one more file
 pub names_more : (paths : List (Bor (List ℕ))) (k : ℕ) (d : Bor (List ℕ)) (old new : List NewFile) (file : NewFile) → k < length paths
     → map file_name old ≡ map path_name (take k paths) → new ≡ old ++ file ∷ [] → file.name.now ≡ name_of (get_or paths k d).now
     → map file_name new ≡ map path_name (take (k + 1) paths)
@@ -27,7 +27,7 @@ names_more paths k d old new file within was is named =
     ∙ ap (λ (name : List ℕ). map path_name (take k paths) ++ name ∷ []) named
     ∙ sym (ap (map path_name) (take_more paths k d within) ∙ map-append path_name (take k paths) (get_or paths k d ∷ []))
 
--- what was saved, where the status says so
+-- the files were saved, if the status says so
 pub saved_one : (status : ℕ) (P : Type 0) → ((status ≡ 0) × P) ⊎ IsStatusOfFileOrMemory status → status ≡ 0 → P
 saved_one status P (inl own) is = own.1
 saved_one status P (inr (inl three)) is = absurd (omega (arith, three, is))

@@ -1,4 +1,4 @@
--- How `get` ends, and a change.
+-- The ends of `get`, and of a change.
 use Rattle.std.proofs.Common.{◌≡◌, ◌≢◌, ◌∙◌, true≢false, ℕ, zero, suc, ◌≤◌, List, Option, None, Some, IfSome, IsSome, Err, inl, inr, refl, sym, ap, subst, arith}
 use Rattle.std.specs.Global.{Vec}
 use Rattle.std.specs.Io.KnownBytes.{Keeps}
@@ -17,7 +17,7 @@ use Rattle.vol_volume.specs.declared.queries.Query.{Query}
 use Rattle.unixvol.specs.Running.{EndsSaved, Ends, IsUngiven, IsUnread}
 use Rattle.unixvol.proofs.Concluded.{ends_concluded, ends_imported, ends_unread}
 
--- nothing went out at a fault that isn't the output's
+-- nothing was printed for a fault that isn't the output's
 kept_by : (edition : Edition) (image : List ℕ) (query : Query) (streams : Streams) (status : ℕ) (fault : Fault)
     → Prints edition image query streams.old streams.new streams.had_failed streams.failed (Err fault) → status ≢ 3
     → (faults.Output ≡ fault → status ≡ 3) → Keeps streams.old streams.new
@@ -35,7 +35,7 @@ few_by : (status : ℕ) → (status ≢ 0 → status ≤ 4) → status ≤ 4
 few_by zero other = omega arith
 few_by (suc n) other = other (λ e. omega (arith, e))
 
--- what a query shows ends so
+-- a query that is shown ends so
 pub ends_shown : (edition : Edition) (image : List ℕ) (query : Query) (streams : Streams) (status : ℕ)
     → Asks edition image streams status query → Ends streams status
 ends_shown edition image query streams status asks = record {

@@ -1,4 +1,4 @@
--- How a look at an image ends.
+-- The end of a command that shows part of an image.
 use Rattle.std.proofs.Common.{◌≡◌, ℕ, ◌≤◌, ◌==◌, Bool, true, false, if◌then◌else◌, List, [], ◌∷◌, length, Option, Result, Ok, Err, inl, inr, sym, ap, subst, ◌∙◌, arith}
 use Rattle.std.proofs.lemmas.Bool.{ne_eqb}
 use Rattle.vol_archive.specs.Exporting.{start_of}
@@ -20,7 +20,7 @@ use Rattle.vol_listing.specs.declared.options.Screen.TheVariants as screens
 use Rattle.unixvol.specs.Running.{IsEnd, IsUnread, RunsLook, host_files}
 use Rattle.host_files.specs.declared.image_file.Stamp.{Stamp}
 
--- a run ends so that meets a fault
+-- a run with a fault ends so
 ends_badly : (streams : Streams) (status : ℕ) → 1 ≤ status → status ≤ 4 → IsEnd streams status
 ends_badly streams status least most = record { within = most; whole = λ e. absurd (omega (arith, least, e)) }
 
@@ -41,7 +41,7 @@ ends_one : (IsText : List ℕ → Type 0) (IsFault : Fault → Type 0) (streams 
 ends_one IsText IsFault streams status (inl (text, is, prints)) = ends_prints 0 streams text status (omega arith) prints
 ends_one IsText IsFault streams status (inr (fault, is, told)) = ends_told streams fault status told
 
--- an archive that went out whole ends with 0 only where nothing is told
+-- an archive that was written whole ends with 0 only if there are no remarks
 ends_lines : (streams : Streams) (status : ℕ) (lines : List ℕ) → streams.failed ≡ streams.had_failed → streams.said lines
     → status ≡ (if length lines == 0 then 0 else 1) → IsEnd streams status
 ends_lines streams status [] working said is = record { within = omega (arith, is); whole = λ e. (working, said) }
@@ -89,7 +89,7 @@ ends_unread : {F : Type 0} (remaining : F → Option (List ℕ)) (streams : Stre
 ends_unread remaining streams status (inl is) = ends_badly streams status (omega (arith, is)) (omega (arith, is))
 ends_unread remaining streams status (inr memory) = ends_badly streams status (omega (arith, memory.0)) (omega (arith, memory.0))
 
--- a look at an image ends with a status of at most 4, and with 0 only where all went out and no fault was told
+-- a command that shows part of an image ends with a status of at most 4, and with 0 only if all was printed and no fault was reported
 pub ends_looked : {F : Type 0} (remaining contents : F → Option (List ℕ)) (had : F → Stamp → Type 0) (stood : Stamp → Type 0) (streams : Streams)
     (screen : Screen) (edition : Edition) (look : Look) (status : ℕ) → RunsLook streams (host_files remaining contents had stood) screen edition look status
     → IsEnd streams status

@@ -1,4 +1,4 @@
--- What a run of `mkfs` comes to, by what it made and by whether that was saved.
+-- The result of a run of `mkfs`, from what it made and whether that was saved.
 use Rattle.std.proofs.Common.{◌≡◌, ◌≢◌, ◌↔◌, ◌⊎◌, ◌∙◌, ℕ, zero, suc, ◌≤◌, Bool, true≢false, true, false, List, [], Option, None, Some, IsSome, IfSome, inl, inr, sym, subst, arith}
 use Rattle.std.specs.Io.KnownBytes.{Keeps}
 use Rattle.vol_mkfs.specs.Blank.{Blank, blank_of, IsMade}
@@ -12,7 +12,7 @@ use Rattle.command_changes.specs.declared.mkfs.Made.{Made}
 use Rattle.vol_mkfs.specs.declared.blank.NewVolume.{NewVolume}
 use Rattle.unixvol.specs.Running.{IsStatusOfFileOrMemory, MadeSaved, RunsMkfs}
 
--- the volume asked for was taken, where one was made and taken
+-- the requested volume was taken, if one was made and taken
 taken_whole : (made : Option Blank) (wanted : Blank) (taken : List ℕ → Type 0) → IfSome made (λ blank. blank ≡ wanted)
     → IfSome made (λ blank. (bytes : List ℕ) × IsMade blank bytes × taken bytes) → IsSome made
     → (bytes : List ℕ) × IsMade wanted bytes × taken bytes
@@ -26,18 +26,18 @@ own_within (suc zero) other = (omega arith, λ e. omega arith)
 own_within (suc (suc n)) other =
     let four : suc (suc n) ≡ 4 = other (λ e. omega arith) (λ e. omega arith) in (omega arith, λ e. omega arith)
 
--- the statuses where a file can't be read or written, or memory ran out, are 3 and 4
+-- the statuses if a file can't be read or written, or memory ran out, are 3 and 4
 file_within : (status : ℕ) → IsStatusOfFileOrMemory status → (3 ≤ status) × (status ≤ 4)
 file_within status file = elim file [ inl e ↦ (omega arith, omega arith) | inr e ↦ (omega arith, omega arith) ]
 
--- the line that is told is that of the status
+-- the line that is printed is that of the status
 pub told_at : (volume : NewVolume) (status known : ℕ) (fault : Option Fault) (errors : ErrorStream)
     → line_after fault ≡ mkfs_line_at (is_size volume.edition volume.blocks volume.list_blocks) status → Hears errors fault → status ≡ known
     → says errors (mkfs_line_at (is_size volume.edition volume.blocks volume.list_blocks) known)
 told_at volume status known fault errors line hears is =
     subst (λ n. says errors (mkfs_line_at (is_size volume.edition volume.blocks volume.list_blocks) n)) is (subst (says errors) line hears)
 
--- what `mkfs` comes to, where what it made was saved or wasn't
+-- the result of `mkfs`, whether the volume was saved or not
 pub runs_by : (streams : Streams) (taken : List ℕ → Type 0) (volume : NewVolume) (made : Made) (status : ℕ)
     → IfSome made.volume (λ blank. blank ≡ blank_of volume)
     → (made.status ≡ 0 ↔ IsSome made.volume)

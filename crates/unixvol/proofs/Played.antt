@@ -1,4 +1,4 @@
--- How a play that runs ends.
+-- The end of a play's run.
 use Rattle.std.proofs.Common.{◌≡◌, ◌∙◌, ℕ, ◌≤◌, List, [], ◌∷◌, map, fold, max, Option, Some, None, inl, inr, sym, subst, arith}
 use Rattle.std.specs.Global.{Vec}
 use Rattle.command_faults.proofs.Concluded.{fault_few}
@@ -48,7 +48,7 @@ printed_few : (scripts : List (Vec Played)) (confirmed : Option Confirmed) → p
 printed_few scripts (Some confirmed) = scripts_few 0 scripts (omega arith)
 printed_few scripts None = omega arith
 
--- an answer ends: its status is at most 4; where it is 0, no output failed and no fault was told
+-- an answer ends: its status is at most 4; if it is 0, no output failed and no fault was reported
 record Answered (streams : Streams) (answer : Answer) : Type 0 where
   within : answer.status ≤ 4
   whole : answer.status ≡ 0 → (streams.failed ≡ streams.had_failed) × streams.said []
@@ -92,7 +92,7 @@ ends_unread : {F : Type 0} (remaining : F → Option (List ℕ)) (streams : Stre
 ends_unread remaining streams status (inl is) = record { within = omega (arith, is); whole = λ e. absurd (omega (arith, is, e)) }
 ends_unread remaining streams status (inr memory) = record { within = omega (arith, memory.0); whole = λ e. absurd (omega (arith, memory.0, e)) }
 
--- a play that runs ends with a status of at most 4, and with 0 only where all went out and no fault was told
+-- a play's run ends with a status of at most 4, and with 0 only if all was printed and no fault was reported
 pub ends_played : {F : Type 0} (remaining contents : F → Option (List ℕ)) (had : F → Stamp → Type 0) (stood : Stamp → Type 0) (streams : Streams)
     (edition : Edition) (count status : ℕ) → RunsPlay streams (host_files remaining contents had stood) edition count status → IsEnd streams status
 ends_played remaining contents had stood streams edition count status (inl nothing) = ends_unread remaining streams status nothing.0

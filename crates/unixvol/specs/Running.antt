@@ -1,4 +1,4 @@
--- What a run of the program comes to, by the bytes that its files give.
+-- The result of a run of the program, from the bytes that its files give.
 use Rattle.std.specs.Prelude.{All, length, ◌≡◌, ◌≢◌, ◌⊎◌, ◌↔◌, ◌≤◌, ℕ, false, true, List, [], Option, IsSome, IfSome, Result, Ok, Err, IsErrAnd, Bool}
 use Rattle.std.specs.Io.KnownBytes.{Keeps}
 use Rattle.clap.specs.Words.{kind_of}
@@ -45,15 +45,15 @@ use Rattle.host_files.specs.declared.volume_front.UpTo.TheVariants.{End, Volume,
 use Rattle.host_files.specs.Saving.{IsTaken}
 use Rattle.host_files.specs.declared.image_file.Stamp.{Stamp}
 
--- some file, which was read so far, gave these bytes (std::io::Read)
+-- some file, which was read up to this point, gave these bytes (std::io::Read)
 abbrev pub Gave : {F : Type 0} → UpTo → (F → Option (List ℕ)) → List ℕ → Type 0
 Gave {F} up_to remaining bytes = (old : F) × (new : F) × IsReadUpTo up_to (remaining old) (remaining new) bytes
 
--- some file gave these bytes, which are all that it had left (std::io::Read)
+-- some file gave these bytes, all that it had left (std::io::Read)
 abbrev pub GaveBytes : {F : Type 0} → (F → Option (List ℕ)) → List ℕ → Type 0
 GaveBytes remaining bytes = Gave End remaining bytes
 
--- some file gave this archive, of so many blocks at most, and what followed it, if anything, may be left (std::io::Read)
+-- some file gave this archive, of at most `blocks` blocks, and what followed it, if anything, may be left (std::io::Read)
 abbrev pub GaveArchive : {F : Type 0} → (F → Option (List ℕ)) → List ℕ → Type 0
 GaveArchive remaining archive = (blocks : ℕ) × Gave (Archive blocks) remaining archive
 
@@ -61,11 +61,11 @@ GaveArchive remaining archive = (blocks : ℕ) × Gave (Archive blocks) remainin
 abbrev pub GaveImage : {F : Type 0} → Edition → (F → Option (List ℕ)) → List ℕ → Type 0
 GaveImage edition remaining image = Gave (Volume edition) remaining image ⊎ Gave End remaining image
 
--- a file isn't read, with this status: 3, where it can't be opened, can't be read on, is past the greatest volume or has a longer archive than it may, or isn't to be changed; or 4, for want of memory, once some file was open and gave no more than a front of its bytes (this project)
+-- a file isn't read, with this status: 3 if it can't be opened, can't be read to the end, is longer than the greatest volume or has a longer archive than it may, or may not be changed; or 4 for out of memory, after some file was open and gave at most a prefix of its bytes (this project)
 abbrev pub IsUnread : {F : Type 0} → (F → Option (List ℕ)) → ℕ → Type 0
 IsUnread {F} remaining status = (status ≡ 3) ⊎ ((status ≡ 4) × (old : F) × (new : F) × LosesFront (remaining old) (remaining new))
 
--- what files do for the program: none could be read, with this status; one gave these bytes; one gave this image of a volume of an edition; the same, or all that it had; one that is to be changed gave such an image, and had this stamp before; one took these bytes; something that stood at some path had this stamp (this project)
+-- the effects of files on the program: none could be read, with this status; one gave these bytes; one gave this image of a volume of an edition; the same, or all that it had; one that will be changed gave such an image, and had this stamp before; one took these bytes; some path had this stamp (this project)
 pub record HostFiles : Type 1 where
   pub unread : ℕ → Type 0
   pub given : List ℕ → Type 0
@@ -75,7 +75,7 @@ pub record HostFiles : Type 1 where
   pub taken : List ℕ → Type 0
   pub stood : Stamp → Type 0
 
--- what files do, by what is known of them (std::io::Read and Write)
+-- the effects of files, from what is known of them (std::io::Read and Write)
 abbrev pub host_files : {F : Type 0} → (F → Option (List ℕ)) → (F → Option (List ℕ)) → (F → Stamp → Type 0) → (Stamp → Type 0) → HostFiles
 host_files remaining contents had stood =
     record {
@@ -88,7 +88,7 @@ host_files remaining contents had stood =
       stood = stood;
     }
 
--- the status where a file can't be read or written, or where memory ran out (this project)
+-- the status if a file can't be read or written, or if memory ran out (this project)
 abbrev pub IsStatusOfFileOrMemory : ℕ → Type 0
 IsStatusOfFileOrMemory status = (status ≡ 3) ⊎ (status ≡ 4)
 
@@ -97,7 +97,7 @@ abbrev pub status_after : Result (Unit {0}) CatFault → ℕ
 status_after (Ok done) = 0
 status_after (Err fault) = cat_status fault
 
--- `cat` prints: nothing, where a file isn't read; or of an image that a file gave, what goes out, that standard output failed where its fault is a writer's and else no more than before, and the status (this project)
+-- `cat` prints: nothing if a file isn't read; or, from an image that a file gave, its output, whether standard output failed (if its fault is a writer's, and otherwise no more than before), and the status (this project)
 abbrev pub PrintsBody : (ℕ → Type 0) → (List ℕ → Type 0) → Option (List ℕ) → Option (List ℕ) → Bool → Bool → Edition → ℕ → ℕ → Type 0
 PrintsBody unread shown old new had_failed failed edition i status =
     (unread status × Keeps old new × (failed ≡ had_failed))
@@ -105,12 +105,12 @@ PrintsBody unread shown old new had_failed failed edition i status =
     × (IsErrAnd result (λ fault. (count : ℕ) × (fault ≡ Writer count)) → failed ≡ true) × (IsNoWriters result → failed ≡ had_failed)
     × (status ≡ status_after result))
 
--- `cat` runs: what goes out, and the status, which is 0 only where standard output didn't fail (this project)
+-- `cat` runs: its output, and the status, which is 0 only if standard output didn't fail (this project)
 abbrev pub RunsCat : Streams → HostFiles → Edition → ℕ → ℕ → Type 0
 RunsCat streams files edition i status =
     PrintsBody files.unread (files.shown edition) streams.old streams.new streams.had_failed streams.failed edition i status × (status ≡ 0 → streams.failed ≡ streams.had_failed) × streams.said []
 
--- `mkfs` runs: nothing goes out; it is refused exactly where its numbers are no volume's, with the line of that; another line is that of memory, with its status; and a file took the volume, where it is done (this project)
+-- `mkfs` runs: nothing is printed; it is refused exactly if its numbers aren't a volume's, with the line for that; any other line is that of memory, with its status; and if it succeeds, a file took the volume (this project)
 pub record RunsMkfs (streams : Streams) (taken : List ℕ → Type 0) (volume : NewVolume) (status : ℕ) : Type 0 where
   pub unprinted : Keeps streams.old streams.new
   pub unused : streams.failed ≡ streams.had_failed
@@ -125,44 +125,44 @@ pub record RunsMkfs (streams : Streams) (taken : List ℕ → Type 0) (volume : 
   pub unsaved : status ≡ 3 → streams.said []
   pub wanting : status ≡ 4 → streams.said [] ⊎ streams.said (mkfs_line_at (is_size volume.edition volume.blocks volume.list_blocks) 4)
 
--- the status after an answer: its own, where its image, if any, was taken, or that of a file (this project)
+-- the status after an answer: its own if its image, if any, was taken, or that of a file (this project)
 abbrev pub EndsSaved : (List ℕ → Type 0) → Answer → ℕ → Type 0
 EndsSaved taken answer status =
     ((status ≡ answer.status) × IfSome answer.image (λ bytes. taken bytes.items)) ⊎ (IsSome answer.image × IsStatusOfFileOrMemory status)
 
--- the status after a play: as after another command that saves; and where it was that of an output that failed, it still is (this project)
+-- the status after a play: as after another command that saves; and if it was that of an output that failed, it still is (this project)
 abbrev pub EndsPlayed : (List ℕ → Type 0) → Answer → ℕ → Type 0
 EndsPlayed taken answer status = EndsSaved taken answer status × (answer.status ≡ 3 → status ≡ 3)
 
--- the status after `mkfs`: its own, where the volume that it made, if any, was taken, or that of a file (this project)
+-- the status after `mkfs`: its own if the volume that it made, if any, was taken, or that of a file (this project)
 abbrev pub MadeSaved : (List ℕ → Type 0) → Made → ℕ → Type 0
 MadeSaved taken made status =
     ((status ≡ made.status) × IfSome made.volume (λ blank. (bytes : List ℕ) × IsMade blank bytes × taken bytes))
     ⊎ (IsSome made.volume × IsStatusOfFileOrMemory status)
 
--- nothing is done: a file isn't read, and nothing goes out (this project)
+-- nothing is done: a file isn't read, and nothing is printed (this project)
 abbrev pub RunsNothing : Streams → HostFiles → ℕ → Type 0
 RunsNothing streams files status =
     files.unread status × Keeps streams.old streams.new × (streams.failed ≡ streams.had_failed) × streams.said []
 
--- `migrate` runs: nothing is done; or the volume in an image that a file gave is migrated, nothing goes out, and what is made is saved (this project)
+-- `migrate` runs: nothing is done; or the volume in an image that a file gave is migrated, nothing is printed, and the result is saved (this project)
 abbrev pub RunsMigrate : Streams → HostFiles → Migration → ℕ → Type 0
 RunsMigrate streams files migration status =
     RunsNothing streams files status
     ⊎ ((image : List ℕ) × (answer : Answer) × files.shown V6 image × MigratesVolume image migration streams.said answer
     × Keeps streams.old streams.new × (streams.failed ≡ streams.had_failed) × EndsSaved files.taken answer status)
 
--- `get` runs: nothing is done; or the file at a path is printed of an image that a file gave (this project)
+-- `get` runs: nothing is done; or the file at a path of an image that a file gave is printed (this project)
 abbrev pub RunsGetOne : Streams → HostFiles → Edition → List ℕ → ℕ → Type 0
 RunsGetOne streams files edition path status =
     RunsNothing streams files status ⊎ ((image : List ℕ) × files.shown edition image × GetsFile edition image path streams status)
 
--- a checker runs: nothing is done; or what it finds in an image that a file gave is printed (this project)
+-- a checker runs: nothing is done; or its findings on an image that a file gave are printed (this project)
 abbrev pub RunsCheck : Streams → HostFiles → Screen → Edition → Checker → ℕ → Type 0
 RunsCheck streams files screen edition checker status =
     RunsNothing streams files status ⊎ ((image : List ℕ) × files.shown edition image × Checks checker edition image screen streams status)
 
--- so many scripts are played: nothing is done; or files gave them, and they are played on an image that a file gave which may be changed, and the volume is saved where the system said that something had the stamp of the file that was read (this project)
+-- `count` scripts are played: nothing is done; or files gave them, they are played on an image that may be changed and that a file gave, and the volume is saved if the system reported that some file had the stamp of the one that was read (this project)
 abbrev pub RunsPlay : Streams → HostFiles → Edition → ℕ → ℕ → Type 0
 RunsPlay streams files edition count status =
     RunsNothing streams files status
@@ -170,19 +170,19 @@ RunsPlay streams files edition count status =
     × All (λ script. files.given script.items) scripts × (length scripts ≡ count)
     × PlaysVolume edition image scripts streams answer × EndsPlayed (λ saved. files.taken saved × files.stood stamp) answer status)
 
--- what several threads do runs (this project)
+-- work with several threads runs (this project)
 abbrev pub RunsWork : Streams → HostFiles → Screen → Edition → Work → ℕ → Type 0
 RunsWork streams files screen edition (works.Check checker workers) status = RunsCheck streams files screen edition checker status
 RunsWork streams files screen edition (works.Play scripts) status = RunsPlay streams files edition (length scripts.items) status
 
--- what shows standard output is a terminal with one column or more, where the system says that it is a terminal, and else none (this project)
+-- the screen is a terminal with at least one column if the system says that standard output is a terminal, and otherwise none (this project)
 abbrev pub IsShownBy : Bool → Screen → Type 0
 IsShownBy true (screens.Terminal columns colours) = 1 ≤ columns
 IsShownBy true screens.Stream = ⊥
 IsShownBy false (screens.Terminal columns colours) = ⊥
 IsShownBy false screens.Stream = Unit {0}
 
--- the image that is looked at: `check` may have all that a file had, since it also says of which edition an image is (this project)
+-- the image to show: `check` may have all that a file had, since it also says of which edition an image is (this project)
 abbrev pub IsSeen : HostFiles → Edition → Look → List ℕ → Type 0
 IsSeen files edition looks.Check image = files.checked edition image
 IsSeen files edition (looks.List path listing) image = files.shown edition image
@@ -191,60 +191,60 @@ IsSeen files edition (looks.Inode number form) image = files.shown edition image
 IsSeen files edition (looks.Super form) image = files.shown edition image
 IsSeen files edition (looks.Map picture) image = files.shown edition image
 
--- an image is looked at: nothing is done; or what is looked at is shown of an image that a file gave (this project)
+-- part of an image is shown: nothing is done; or it is shown from an image that a file gave (this project)
 abbrev pub RunsLook : Streams → HostFiles → Screen → Edition → Look → ℕ → Type 0
 RunsLook streams files screen edition look status =
     RunsNothing streams files status ⊎ ((image : List ℕ) × IsSeen files edition look image × Looks edition image screen streams status look)
 
--- what standard input does for the program: it couldn't be read, with this status; it gave this archive (this project)
+-- the effects of standard input on the program: it couldn't be read, with this status; it gave this archive (this project)
 pub record HostInput : Type 1 where
   pub unread : ℕ → Type 0
   pub given : List ℕ → Type 0
 
--- what standard input does, by what is known of it (std::io::Read)
+-- the effects of standard input, from what is known of it (std::io::Read)
 abbrev pub host_input : {F : Type 0} → (F → Option (List ℕ)) → HostInput
 host_input remaining = record { unread = IsUnread remaining; given = GaveArchive remaining }
 
--- the bytes that a change takes aren't read, with this status: those of the file that is put, or of the archive that standard input gives (this project)
+-- the bytes that a change needs aren't read, with this status: those of the file to put, or of the archive on standard input (this project)
 abbrev pub IsUngiven : (ℕ → Type 0) → (ℕ → Type 0) → Change → ℕ → Type 0
 IsUngiven unread unheard (changes.Put path file now) status = unread status
 IsUngiven unread unheard (changes.Import path now) status = unheard status
 IsUngiven unread unheard _ status = ⊥
 
--- nothing is done: the bytes that a change takes aren't read, and nothing goes out (this project)
+-- nothing is done: the bytes that a change needs aren't read, and nothing is printed (this project)
 abbrev pub TakesNothing : Streams → HostFiles → HostInput → Change → ℕ → Type 0
 TakesNothing streams files input change status =
     IsUngiven files.unread input.unread change status × Keeps streams.old streams.new × (streams.failed ≡ streams.had_failed) × streams.said []
 
--- a file gave the bytes that are put, and standard input the archive that is imported; other changes take no bytes (this project)
+-- a file gave the bytes to put, and standard input the archive to import; other changes need no bytes (this project)
 abbrev pub IsGivenTo : (List ℕ → Type 0) → (List ℕ → Type 0) → Change → List ℕ → Type 0
 IsGivenTo given heard (changes.Put path file now) bytes = given bytes
 IsGivenTo given heard (changes.Import path now) bytes = heard bytes
 IsGivenTo given heard _ bytes = Unit {0}
 
--- whether a change imports an archive from standard input, and this is a terminal, which gives none (this project)
+-- true if a change imports an archive from standard input, which is a terminal and gives none (this project)
 abbrev pub wants_terminal : Bool → Change → Bool
 wants_terminal is_terminal (changes.Import path now) = is_terminal
 wants_terminal is_terminal _ = false
 
--- nothing is done, since an archive is wanted of a terminal: the status is that of a file that can't be read, and nothing goes out (this project)
+-- nothing is done, since an archive is needed from a terminal: the status is that of a file that can't be read, and nothing is printed (this project)
 abbrev pub LeavesTerminal : Streams → ℕ → Type 0
 LeavesTerminal streams status = (status ≡ 3) × Keeps streams.old streams.new × (streams.failed ≡ streams.had_failed) × streams.said []
 
--- a volume is changed: nothing is done; or it is changed in an image that a file gave which may be changed, by the bytes that were given, and what is made is saved where the system said that something had the stamp of the file that was read (this project)
+-- a volume is changed: nothing is done; or it is changed in an image that may be changed and that a file gave, with the bytes that were given, and the result is saved if the system reported that some file had the stamp of the one that was read (this project)
 abbrev pub ChangesImage : Streams → HostFiles → HostInput → Edition → Change → ℕ → Type 0
 ChangesImage streams files input edition change status =
     RunsNothing streams files status ⊎ (TakesNothing streams files input change status
     ⊎ ((image : List ℕ) × (stamp : Stamp) × (bytes : List ℕ) × (answer : Answer) × files.opened edition image stamp × IsGivenTo files.given input.given change bytes
     × Changes edition image bytes streams answer change × EndsSaved (λ saved. files.taken saved × files.stood stamp) answer status))
 
--- a change runs: where an archive is wanted of a terminal, nothing is done; else the volume is changed (this project)
+-- a change runs: if an archive is needed from a terminal, nothing is done; otherwise the volume is changed (this project)
 abbrev pub RunsChange : Streams → HostFiles → HostInput → Bool → Edition → Change → ℕ → Type 0
 RunsChange streams files input is_terminal edition change status =
     ((wants_terminal is_terminal change ≡ true) × LeavesTerminal streams status)
     ⊎ ((wants_terminal is_terminal change ≡ false) × ChangesImage streams files input edition change status)
 
--- what is asked for is a plain command: no look at an image, no change, no copies of several files, nothing for several threads (this project)
+-- the invocation is a plain command: it doesn't show part of an image, change a volume, copy several files or use several threads (this project)
 abbrev pub IsPlainCommand : Invocation → Type 0
 IsPlainCommand (invocations.Look volume look) = ⊥
 IsPlainCommand (invocations.Change volume change) = ⊥
@@ -253,7 +253,7 @@ IsPlainCommand (invocations.Work volume work) = ⊥
 IsPlainCommand (invocations.Serve volume) = ⊥
 IsPlainCommand _ = Unit {0}
 
--- what a plain command asks for runs: what goes out, what files give and take, and the status; other things run elsewhere (this project)
+-- a plain command runs: its output, what files give and take, and the status; other commands run elsewhere (this project)
 abbrev pub Runs : Streams → HostFiles → ℕ → Invocation → Type 0
 Runs streams files status (invocations.Cat volume i) = RunsCat streams files volume.edition i status
 Runs streams files status (invocations.Get volume path) = RunsGetOne streams files volume.edition path.now status
@@ -265,7 +265,7 @@ Runs streams files status (invocations.Copy volume copying) = ⊥
 Runs streams files status (invocations.Work volume work) = ⊥
 Runs streams files status (invocations.Serve volume) = ⊥
 
--- what an error of the command line comes to: the status by its kind, which is 3 only where standard output failed, and no line of a command (this project)
+-- the result of an error of the command line: the status by its kind, which is 3 only if standard output failed, and no line of a command (this project)
 pub record Tells (streams : Streams) (kind : ErrorKind) (status : ℕ) : Type 0 where
   pub memory : kind ≡ kinds.OutOfMemory → status ≡ 4
   pub mistake : kind ≢ kinds.OutOfMemory → kind ≢ kinds.DisplayHelp → kind ≢ kinds.DisplayVersion → status ≡ 2
@@ -273,18 +273,18 @@ pub record Tells (streams : Streams) (kind : ErrorKind) (status : ℕ) : Type 0 
   pub failed : status ≡ 3 → streams.failed ≡ true
   pub quiet : streams.said []
 
--- what was read of the words runs: what they ask for is carried out, or they are refused, with the status of that (this project)
+-- the words that were read run: their invocation is carried out, or they are refused, with the status for that (this project)
 abbrev pub RunsRead : Streams → HostFiles → ℕ → Result Invocation Error → Type 0
 RunsRead streams files status (Ok invocation) = Runs streams files status invocation
 RunsRead streams files status (Err error) = Tells streams (kind_of error) status
 
--- a run ends: the status is at most 4; nothing went out, unless it is 0 or 3; where it is 0, no output failed and no fault was told (this project)
+-- a run ends: the status is at most 4; nothing was printed, unless it is 0 or 3; if it is 0, no output failed and no fault was reported (this project)
 pub record Ends (streams : Streams) (status : ℕ) : Type 0 where
   pub within : status ≤ 4
   pub silent : status ≢ 0 → status ≢ 3 → Keeps streams.old streams.new
   pub whole : status ≡ 0 → (streams.failed ≡ streams.had_failed) × streams.said []
 
--- the program runs to its end, from what its two streams hold: there is what they come to hold, whether they fail, and the status of the run, and that is the status at the end, or 3 in place of 0 (this project)
+-- the program runs to its end, from the contents of its two streams: their contents afterwards, whether they failed, and the status of the run, which is the exit status, or 3 is in place of 0 (this project)
 abbrev pub RunsToEnd : HostFiles → Option (List ℕ) → Option (List ℕ) → Result Invocation Error → ℕ → Type 0
 RunsToEnd files output errors read end =
     (new : Option (List ℕ)) × (failed : Bool) × (told : Option (List ℕ)) × (untold : Bool) × (status : ℕ)
@@ -292,12 +292,12 @@ RunsToEnd files output errors read end =
     × Ends (record { old = output; new = new; had_failed = false; failed = failed; said = Gets untold errors told }) status
     × ((end ≡ status) ⊎ ((status ≡ 0) × (end ≡ 3)))
 
--- a run ends that may have printed something whatever its status is: that is at most 4; where it is 0, no output failed and no fault was told (this project)
+-- a run that may have printed something with any status ends: the status is at most 4; if it is 0, no output failed and no fault was reported (this project)
 pub record IsEnd (streams : Streams) (status : ℕ) : Type 0 where
   pub within : status ≤ 4
   pub whole : status ≡ 0 → (streams.failed ≡ streams.had_failed) × streams.said []
 
--- what several threads do runs to its end, from what the program's two streams hold: there is what they come to hold, whether they fail, and the status of the run, and that is the status at the end, or 3 in place of another (this project)
+-- work with several threads runs to its end, from the contents of the program's two streams: their contents afterwards, whether they failed, and the status of the run, which is the exit status, or 3 is in place of another (this project)
 abbrev pub WorksToEnd : HostFiles → Screen → Option (List ℕ) → Option (List ℕ) → Edition → Work → ℕ → Type 0
 WorksToEnd files screen output errors edition work end =
     (new : Option (List ℕ)) × (failed : Bool) × (told : Option (List ℕ)) × (untold : Bool) × (status : ℕ)
@@ -305,7 +305,7 @@ WorksToEnd files screen output errors edition work end =
     × IsEnd (record { old = output; new = new; had_failed = false; failed = failed; said = Gets untold errors told }) status
     × ((end ≡ status) ⊎ (end ≡ 3))
 
--- a look at an image runs to its end, as what several threads do does (this project)
+-- a command that shows part of an image runs to its end, as work with several threads does (this project)
 abbrev pub LooksToEnd : HostFiles → Screen → Option (List ℕ) → Option (List ℕ) → Edition → Look → ℕ → Type 0
 LooksToEnd files screen output errors edition look end =
     (new : Option (List ℕ)) × (failed : Bool) × (told : Option (List ℕ)) × (untold : Bool) × (status : ℕ)

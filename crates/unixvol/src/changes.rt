@@ -1,4 +1,4 @@
-//! The commands that change a volume: what they open, and what they save.
+//! The commands that change a volume: the files they open and save.
 ghost use Rattle.std.specs.Prelude.{◌≡◌, ◌+◌, ◌*◌, ◌/◌, ◌^◌, ◌≤◌, min, ℕ, Bool, IfErr, IfOk, List, Option};
 ghost use Rattle.std.specs.Process.{exit_status};
 ghost use Rattle.command_faults.specs.Streams.{ErrorStream, Hears, still};
@@ -19,21 +19,22 @@ use std::io::{self, Read, Write};
 use std::process::ExitCode;
 use std::rt::Clock;
 
-/// What is told of standard input that is a terminal, where an archive is wanted.
+/// The message for a terminal as standard input, where an archive is needed.
 const TERMINAL: &str = "it is a terminal, which gives no archive";
 
-/// How many blocks an archive may have beside those by the size of the image: 64 MiB.
+/// The number of blocks that an archive may have for an image of any size: 64 MiB.
 const LEAST_ROOM: u32 = 131_072;
 
-/// How many blocks an archive may have for each block of the image: a member may have some blocks of headers, and take an i-node and a name.
+/// The number of further blocks that an archive may have for each block of the image: a member may have some blocks of headers, and
+/// take an i-node and a name.
 const ROOM: u32 = 64;
 
 /// More blocks than any volume has.
 const GREATEST: u64 = 1 << 24;
 
-/// Changes the volume in a file, and answers how the program ends. An archive is read from `input`, which is
-/// standard input; where this is a terminal, nothing is opened. A fault is one line on standard error. `errors` writes to
-/// standard error too. Nothing goes to `output`, which is standard output.
+/// Changes the volume in a file, and returns the exit code. An archive is read from `input`, which is standard input; if this is a
+/// terminal, nothing is opened. A fault is one line on standard error, to which `errors` writes too. Nothing is written to `output`,
+/// which is standard output.
 pub fn run_to_end<
     R: ImageFiles + Clock + Eprint + AllocGlobal,
     I: Read + Drop,
@@ -58,7 +59,7 @@ pub fn run_to_end<
     ExitCode::from(finish(host, output, ending.status))
 }
 
-/// Changes the volume in a file, saves it, and answers how it ends.
+/// Changes the volume in a file, saves it, and returns how the run ends.
 fn run<R: ImageFiles + Clock + Eprint + AllocGlobal, I: Read + Drop>(
     host: &Host<'_, R>,
     input: I,
@@ -86,7 +87,7 @@ fn run<R: ImageFiles + Clock + Eprint + AllocGlobal, I: Read + Drop>(
             };
         }
     };
-    // The image's file stays open, and so locked, until what is made of it is saved.
+    // The image's file stays open, and so locked, until the result is saved.
     let Begun {
         given,
         image,
@@ -101,7 +102,7 @@ fn run<R: ImageFiles + Clock + Eprint + AllocGlobal, I: Read + Drop>(
     }
 }
 
-/// Whether an archive is wanted of standard input, and this is a terminal.
+/// True if an archive is needed from standard input, which is a terminal.
 fn wants_terminal(is_terminal: bool, change: Change<'_>) -> bool
     ensures { result ≡ wants_terminal is_terminal change.entry }
 {
@@ -111,7 +112,7 @@ fn wants_terminal(is_terminal: bool, change: Change<'_>) -> bool
     }
 }
 
-/// The bytes of the file that is put, or of the archive that is imported; none of another change.
+/// Returns the bytes of the file to put, or of the archive to import; none for another change.
 fn given_to<R: ImageFiles + Eprint + AllocGlobal, I: Read + Drop>(
     host: &Host<'_, R>,
     image: &str,
@@ -131,8 +132,8 @@ fn given_to<R: ImageFiles + Eprint + AllocGlobal, I: Read + Drop>(
     }
 }
 
-/// How many blocks an archive may have that is imported into the image at a path. An image that is no regular file counts as the greatest
-/// volume.
+/// Returns the number of blocks that an archive may have to be imported into the image at a path. An image that isn't a regular file
+/// counts as the greatest volume.
 fn archive_room<R: ImageFiles>(rt: &R, path: &str) -> u32
     ensures { 131072 ≤ result }
 {
@@ -142,7 +143,7 @@ fn archive_room<R: ImageFiles>(rt: &R, path: &str) -> u32
     }
 }
 
-/// How many blocks an archive may have that is imported into an image of `size` bytes.
+/// Returns the number of blocks that an archive may have to be imported into an image of `size` bytes.
 fn room_for(size: u64) -> u32
     ensures { result ≡ 131072 + 64 * min (size / 512) (2 ^ 24) }
 {

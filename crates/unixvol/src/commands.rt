@@ -1,4 +1,4 @@
-//! `cat`, `get`, `mkfs` and `migrate`, which print all or nothing: what they open, and what they save.
+//! `cat`, `get`, `mkfs` and `migrate`, which print all or nothing: the files they open and save.
 ghost use Rattle.std.specs.Prelude.{◌≡◌, ◌≢◌, ◌≤◌, ℕ, Bool, List, Option, IfOk};
 ghost use Rattle.std.specs.Io.KnownBytes.{Keeps};
 ghost use Rattle.std.specs.Process.{exit_status};
@@ -28,9 +28,8 @@ use std::rt::Clock;
 use vol_layout::Edition;
 use vol_mkfs::NewVolume;
 
-/// Does what was read of the command line, and answers how the program ends. What it prints goes to `output`,
-/// which is standard output; a fault is one line on standard error, or clap's text. `errors` writes to
-/// standard error too.
+/// Runs the command line that was read, and returns the exit code. Output is written to `output`, which is standard output; a fault is
+/// one line on standard error, or clap's text. `errors` writes to standard error too.
 pub fn run_to_end<R: ImageFiles + Clock + Eprint + AllocGlobal, O: Write + Drop, E: Write + Drop>(
     host: &Host<'_, R>,
     output: O,
@@ -48,7 +47,7 @@ pub fn run_to_end<R: ImageFiles + Clock + Eprint + AllocGlobal, O: Write + Drop,
     ExitCode::from(finish(host, output.into_inner().into_inner(), ending.status))
 }
 
-/// Does what was read of the command line, and answers how it ends, if [`finish`] goes well.
+/// Runs the command line that was read, and returns how the run ends if [`finish`] succeeds.
 fn run<R: ImageFiles + Clock + Eprint + AllocGlobal, O: Sink>(
     host: &Host<'_, R>,
     output: &mut O,
@@ -69,7 +68,7 @@ fn run<R: ImageFiles + Clock + Eprint + AllocGlobal, O: Sink>(
     }
 }
 
-/// Does what the user asks for, and answers how it ends.
+/// Runs a command, and returns how the run ends.
 fn carry_out<R: ImageFiles + Clock + Eprint + AllocGlobal, O: Sink>(
     host: &Host<'_, R>,
     output: &mut O,
@@ -101,7 +100,7 @@ fn carry_out<R: ImageFiles + Clock + Eprint + AllocGlobal, O: Sink>(
     }
 }
 
-/// Prints the body of i-node `ino` of the volume in a file, and answers the status to end with.
+/// Prints the body of i-node `ino` of the volume in a file, and returns the exit status.
 fn run_cat<R: ImageFiles + Eprint + AllocGlobal, O: Sink>(
     host: &Host<'_, R>,
     output: &mut O,
@@ -124,7 +123,7 @@ fn run_cat<R: ImageFiles + Eprint + AllocGlobal, O: Sink>(
     }
 }
 
-/// Makes a new volume, saves it in a file, and answers how it ends.
+/// Makes a new volume, saves it in a file, and returns how the run ends.
 fn run_mkfs<R: ImageFiles + Clock + Eprint + AllocGlobal>(
     host: &Host<'_, R>,
     image: MadeFile<'_>,
@@ -141,8 +140,7 @@ fn run_mkfs<R: ImageFiles + Clock + Eprint + AllocGlobal>(
     }
 }
 
-/// Makes a volume of the seventh edition out of the one in the file `old`, saves it in a file, and answers
-/// how it ends.
+/// Makes a volume of the seventh edition from the one in the file `old`, saves it in a file, and returns how the run ends.
 fn run_migrate<R: ImageFiles + Clock + Eprint + AllocGlobal>(
     host: &Host<'_, R>,
     old: &str,

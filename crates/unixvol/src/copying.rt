@@ -1,4 +1,4 @@
-//! The commands that copy several files between the host and a volume: what they open, and what they save.
+//! The commands that copy several files between the host and a volume: the files they open and save.
 ghost use Rattle.std.specs.Prelude.{◌≡◌, ◌≢◌, ◌⊎◌, ℕ, All, Bool, IfErr, IfOk, IfSome, List, None, Option, map};
 ghost use Rattle.std.specs.Process.{exit_status};
 ghost use Rattle.command_faults.specs.Streams.{ErrorStream, Hears, still};
@@ -27,11 +27,11 @@ use std::path::Path;
 use std::process::ExitCode;
 use std::rt::Clock;
 
-/// What is told of a name in the folder that a pipe or a socket has.
+/// The message for a name in the folder that belongs to a pipe or a socket.
 const PIPE: &str = "it is a pipe or a socket, which keeps no file";
 
-/// Copies several files between the host and the volume in a file, and answers how the program ends. A fault is one line on
-/// standard error. `errors` writes to standard error too. Nothing goes to `output`, which is standard output.
+/// Copies several files between the host and the volume in a file, and returns the exit code. A fault is one line on standard error,
+/// to which `errors` writes too. Nothing is written to `output`, which is standard output.
 pub fn run_to_end<R: ImageFiles + Clock + Eprint + AllocGlobal, O: Write + Drop, E: Write + Drop>(
     host: &Host<'_, R>,
     output: O,
@@ -49,7 +49,7 @@ pub fn run_to_end<R: ImageFiles + Clock + Eprint + AllocGlobal, O: Write + Drop,
     ExitCode::from(finish(host, output, ending.status))
 }
 
-/// Copies several files, and answers how it ends.
+/// Copies several files, and returns how the run ends.
 fn run<R: ImageFiles + Clock + Eprint + AllocGlobal>(
     host: &Host<'_, R>,
     volume: VolumeFile<'_>,
@@ -70,8 +70,8 @@ fn run<R: ImageFiles + Clock + Eprint + AllocGlobal>(
     }
 }
 
-/// Puts the files at some paths into a directory of the volume in a file, saves the volume, and answers how it ends. Where
-/// something stands at the word that was read as the moment, it may be one of the files: then nothing is opened.
+/// Puts the files at some paths into a directory of the volume in a file, saves the volume, and returns how the run ends. If a file
+/// exists at the word that was read as the time, the word may be meant as one of the files: then nothing is opened.
 fn run_put<R: ImageFiles + Clock + Eprint + AllocGlobal>(
     host: &Host<'_, R>,
     volume: VolumeFile<'_>,
@@ -104,7 +104,7 @@ fn run_put<R: ImageFiles + Clock + Eprint + AllocGlobal>(
             };
         }
     };
-    // The image's file stays open, and so locked, until what is made of it is saved.
+    // The image's file stays open, and so locked, until the result is saved.
     let Begun {
         given: files,
         image,
@@ -120,7 +120,7 @@ fn run_put<R: ImageFiles + Clock + Eprint + AllocGlobal>(
     }
 }
 
-/// The word that was read as the moment, where something stands at it as a path.
+/// Returns the word that was read as the time, if a file exists at it as a path.
 fn moment_file<'a, R: ImageFiles>(rt: &R, now: Moment<'a>) -> Option<&'a str>
     ensures some { IfSome result (IsFileToo R.stands now.entry) }
     ensures none { result ≡ None → IsMomentAlone R.stands now.entry }
@@ -129,8 +129,8 @@ fn moment_file<'a, R: ImageFiles>(rt: &R, now: Moment<'a>) -> Option<&'a str>
     if rt.is_there(word) { Some(word) } else { None }
 }
 
-/// The files at some paths, in their order, each with the last name of its path. Where one can't be read, prints so, and answers the
-/// status.
+/// Reads the files at some paths, in order, each with the last name of its path. If one can't be read, prints the fault and returns
+/// the status.
 fn read_named<'a, R: Files + Eprint + AllocGlobal>(
     host: &Host<'_, R>,
     paths: &[&'a str],
@@ -150,15 +150,15 @@ fn read_named<'a, R: Files + Eprint + AllocGlobal>(
     Ok(files)
 }
 
-/// The last name of a path; none of a path that ends in `..` or has no names.
+/// Returns the last name of a path; empty if the path ends in `..` or has no names.
 fn name_of(path: &str) -> &str
     ensures { result.now ≡ name_of path.now }
 {
     Path::new(path).file_name().unwrap_or("")
 }
 
-/// Reads the files at some paths of the volume in a file, saves each in a folder under its last name once all are read, and answers
-/// how it ends. The file of the volume isn't replaced, whatever its path.
+/// Reads the files at some paths of the volume in a file, then saves each in a folder under its last name, and returns how the run
+/// ends. Never replaces the file of the volume, whatever its path.
 fn run_get<R: ImageFiles + Clock + Eprint + AllocGlobal>(
     host: &Host<'_, R>,
     volume: VolumeFile<'_>,
@@ -187,7 +187,7 @@ fn run_get<R: ImageFiles + Clock + Eprint + AllocGlobal>(
     }
 }
 
-/// Saves the files that were read of a volume in a folder, if they were, and answers the status to end with.
+/// Saves the files that were read from a volume in a folder, if they were, and returns the exit status.
 fn save_read<R: ImageFiles + Clock + Eprint + AllocGlobal>(
     host: &Host<'_, R>,
     folder: &str,
@@ -202,8 +202,8 @@ fn save_read<R: ImageFiles + Clock + Eprint + AllocGlobal>(
     }
 }
 
-/// Saves files of a volume in a folder, each under the last name of its path, and answers the status to end with: `status`, or that
-/// of the first that can't be saved, after which none is.
+/// Saves files of a volume in a folder, each under the last name of its path, and returns the exit status: `status`, or that of the
+/// first file that can't be saved, after which no other is.
 fn save_files<R: ImageFiles + Clock + Eprint + AllocGlobal>(
     host: &Host<'_, R>,
     folder: &str,
@@ -222,8 +222,8 @@ fn save_files<R: ImageFiles + Clock + Eprint + AllocGlobal>(
     status
 }
 
-/// Saves a file of a volume in a folder, under the last name of its path, and answers the status to end with. Where a pipe or a socket has
-/// this name, it is left alone.
+/// Saves a file of a volume in a folder, under the last name of its path, and returns the exit status. A pipe or a socket with this
+/// name is left alone.
 fn save_file_read<R: ImageFiles + Clock + Eprint + AllocGlobal>(
     host: &Host<'_, R>,
     folder: &str,

@@ -1,4 +1,4 @@
-//! What the program prints where something fails, and the statuses of that.
+//! Messages for failures, and their statuses.
 ghost use Rattle.std.specs.Prelude.{◌≡◌, ◌≢◌, ◌⊎◌, ◌≤◌, true};
 ghost use Rattle.std.specs.Io.KnownBytes.{Keeps};
 ghost use Rattle.std.specs.IoError.{error_kind};
@@ -23,10 +23,10 @@ use host_files::ImageFiles;
 use pdp_words::{Sink, write_all};
 use std::io::{self, Write};
 
-/// What the line of a fault calls standard output and standard input.
+/// The name of standard output and standard input in the line of a fault.
 const STREAM: &str = "-";
 
-/// A file, or a stream that the program has from the beginning.
+/// A file, or one of the standard streams.
 #[derive(Clone, Copy, Debug, PartialEq, Eq)]
 pub enum Named<'a> {
     /// The file at a path.
@@ -38,7 +38,7 @@ pub enum Named<'a> {
 }
 
 impl<'a> Named<'a> {
-    /// What the line of a fault calls it.
+    /// Returns its name in the line of a fault.
     fn name(self) -> &'a str {
         match self {
             Named::File(path) => path,
@@ -46,7 +46,7 @@ impl<'a> Named<'a> {
         }
     }
 
-    /// What the second line calls it.
+    /// Returns its name in the second line.
     fn in_words(self) -> &'a str {
         match self {
             Named::File(path) => path,
@@ -56,7 +56,7 @@ impl<'a> Named<'a> {
     }
 }
 
-/// Prints that a file can't be read, and answers the status.
+/// Prints that a file can't be read, and returns the status.
 pub fn explain_unread<R: Eprint + AllocGlobal>(
     host: &Host<'_, R>,
     file: Named<'_>,
@@ -70,7 +70,7 @@ pub fn explain_unread<R: Eprint + AllocGlobal>(
     BAD_FILE
 }
 
-/// Prints that a file can't be written, and answers the status.
+/// Prints that a file can't be written, and returns the status.
 pub fn explain_unwritten<R: Eprint + AllocGlobal>(
     host: &Host<'_, R>,
     file: Named<'_>,
@@ -84,7 +84,7 @@ pub fn explain_unwritten<R: Eprint + AllocGlobal>(
     BAD_FILE
 }
 
-/// Prints that the word which was read as the moment is the path of a file too, and answers the status.
+/// Prints that the word which was read as the time is the path of a file too, and returns the status.
 pub fn explain_moment<R: Eprint>(host: &Host<'_, R>, word: &str) -> u8
     ensures { result ≡ 2 }
 {
@@ -94,12 +94,12 @@ pub fn explain_moment<R: Eprint>(host: &Host<'_, R>, word: &str) -> u8
     BAD_COMMAND_LINE
 }
 
-/// Why a device failed: its last error, if that is known.
+/// Returns the reason why a device failed: its last error, if that is known.
 pub fn reason_of(error: Option<io::Error>) -> io::Error {
     error.unwrap_or(io::Error::from(io::ErrorKind::Other))
 }
 
-/// Prints the second line of a file that failed, if it is wanted.
+/// Prints the second line for a file that failed, if it is wanted.
 fn tell_why<R: Eprint + AllocGlobal>(host: &Host<'_, R>, file: Named<'_>, why: io::Error) {
     if !host.explains {
         return;
@@ -109,7 +109,7 @@ fn tell_why<R: Eprint + AllocGlobal>(host: &Host<'_, R>, file: Named<'_>, why: i
     }
 }
 
-/// Prints the line of a fault, if a run met one, and its second line, if that is wanted.
+/// Prints the line of a fault, if a run had one, and its second line, if that is wanted.
 pub fn tell_fault<R: ImageFiles + Eprint + AllocGlobal, E: Sink>(
     host: &Host<'_, R>,
     errors: &mut E,
@@ -123,8 +123,8 @@ pub fn tell_fault<R: ImageFiles + Eprint + AllocGlobal, E: Sink>(
     explain(host, fault, output, subject);
 }
 
-/// Prints the second line of a run, if it is wanted: the system's error, if standard output failed, or else what the fault
-/// means. A fault that says in words what is wrong has none, and if there is no memory for it, it is left out.
+/// Prints the second line of a run, if it is wanted: the system's error if standard output failed, else the meaning of the fault. A
+/// fault in words has no second line; without memory for it, it is left out.
 fn explain<R: ImageFiles + Eprint + AllocGlobal>(
     host: &Host<'_, R>,
     fault: &Option<Fault>,
@@ -149,7 +149,7 @@ fn explain<R: ImageFiles + Eprint + AllocGlobal>(
     }
 }
 
-/// The sizes that an image tells which breaks rule 1 or rule 2.
+/// Returns the sizes in an image that breaks rule 1 or rule 2.
 fn sizes_of<R: ImageFiles + AllocGlobal>(
     host: &Host<'_, R>,
     fault: &Fault,
@@ -167,7 +167,7 @@ fn sizes_of<R: ImageFiles + AllocGlobal>(
     }
 }
 
-/// Prints the line of a fault of `cat`, and answers its status. Standard output gets its second line once the run has ended.
+/// Prints the line of a fault of `cat`, and returns its status. The second line for standard output is printed when the run has ended.
 pub fn explain_cat<R: ImageFiles + Eprint + AllocGlobal>(
     host: &Host<'_, R>,
     fault: CatFault,
@@ -175,15 +175,14 @@ pub fn explain_cat<R: ImageFiles + Eprint + AllocGlobal>(
 ) -> u8
     ensures { result ≡ cat_status fault }
 {
-    // Where standard error can't be written either, the status tells.
+    // If standard error can't be written either, only the status reports the fault.
     let line = fault.line();
     let _ = eprint!(host.rt; "{line}");
     explain(host, &fault.as_fault(), None, Some(subject));
     fault.status()
 }
 
-/// Prints the text of a command line that asks for nothing that can be done, or the help that it
-/// asks for, and answers its status.
+/// Prints the text for a wrong command line, or the requested help, and returns its status.
 pub fn explain_command_line<R: Eprint + AllocGlobal, O: Sink>(
     host: &Host<'_, R>,
     output: &mut O,
@@ -215,7 +214,7 @@ pub fn explain_command_line<R: Eprint + AllocGlobal, O: Sink>(
     }
 }
 
-/// Prints the text of a mistake on the command line, in better words if there are any.
+/// Prints the text for a mistake on the command line, reworded if that is better.
 fn tell_mistake<R: Eprint + AllocGlobal>(host: &Host<'_, R>, error: &clap::Error) {
     let _ = match reworded(host.rt.alloc(), host.words, error) {
         Ok(Some(better)) => host.rt.eprint(&better),
@@ -223,7 +222,7 @@ fn tell_mistake<R: Eprint + AllocGlobal>(host: &Host<'_, R>, error: &clap::Error
     };
 }
 
-/// Prints that standard output can't be written, and answers the status. Its second line comes once the run has ended.
+/// Prints that standard output can't be written, and returns the status. Its second line is printed when the run has ended.
 fn explain_unshown<R: Eprint>(host: &Host<'_, R>) -> u8
     ensures { result ≡ 3 }
 {
@@ -231,7 +230,7 @@ fn explain_unshown<R: Eprint>(host: &Host<'_, R>) -> u8
     BAD_FILE
 }
 
-/// Sees to what standard output may have kept back, and answers the status of a run that would end with `status`.
+/// Flushes standard output after a run with status 0, and returns the exit status.
 pub fn finish<R: Eprint + AllocGlobal, W: Write + Drop>(
     host: &Host<'_, R>,
     output: W,
@@ -245,7 +244,7 @@ pub fn finish<R: Eprint + AllocGlobal, W: Write + Drop>(
     status
 }
 
-/// As [`finish`] does, of a run that may have printed something whatever its status is.
+/// Flushes standard output as [`finish`] does, after a run that may have printed something with any status.
 pub fn finish_printed<R: Eprint + AllocGlobal, W: Write + Drop>(
     host: &Host<'_, R>,
     output: W,
@@ -259,7 +258,7 @@ pub fn finish_printed<R: Eprint + AllocGlobal, W: Write + Drop>(
     status
 }
 
-/// Writes what standard output has kept back, and answers `status`, or that of a failure.
+/// Flushes standard output, and returns `status`, or that of a failure.
 fn flush<R: Eprint + AllocGlobal, W: Write + Drop>(
     host: &Host<'_, R>,
     mut output: W,
@@ -273,8 +272,8 @@ fn flush<R: Eprint + AllocGlobal, W: Write + Drop>(
     }
 }
 
-/// Prints why the words of the command line can't be had, and answers the status. `place` is that of the word that isn't UTF-8, if
-/// it is known: 1 is the first word after the program's name.
+/// Prints why the words of the command line can't be read, and returns the status. `place` is the number of the word that isn't UTF-8,
+/// if it is known: 1 is the first word after the program's name.
 pub fn explain_words(rt: &impl Eprint, error: &io::Error, place: Option<usize>) -> u8
     ensures memory { error_kind error.now ≡ io_kinds.OutOfMemory → result ≡ 4 }
     ensures mistake { error_kind error.now ≢ io_kinds.OutOfMemory → result ≡ 2 }
@@ -291,10 +290,10 @@ pub fn explain_words(rt: &impl Eprint, error: &io::Error, place: Option<usize>) 
     BAD_COMMAND_LINE
 }
 
-/// The line of want of memory.
+/// The line for out of memory.
 const NO_MEMORY_LINE: &str = "unixvol: 12 NoMemory";
 
-/// Prints that memory ran out, and answers the status.
+/// Prints that memory ran out, and returns the status.
 pub fn explain_no_memory<R: Eprint>(host: &Host<'_, R>) -> u8
     ensures { result ≡ 4 }
 {

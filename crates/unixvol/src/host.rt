@@ -1,14 +1,14 @@
-//! The system that the program runs on, with what the user wants to be told.
+//! The system, and the user's wishes for messages.
 
-/// The system that the program runs on, with what the user wants to be told of faults.
+/// The system that the program runs on, and the user's wishes for messages.
 #[derive(Clone, Copy)]
 pub struct Host<'a, R> {
     /// The system.
     pub rt: &'a R,
-    /// The words of the command line, of which the first is the program's own name.
+    /// The words of the command line, the first of which is the program's own name.
     pub words: &'a [String],
-    /// True if standard error is a terminal, where a user reads what is told.
+    /// True if standard error is a terminal, where a user reads the messages.
     pub is_watched: bool,
-    /// Whether a second line says what the line of a fault means.
+    /// True if a second line explains the line of a fault.
     pub explains: bool,
 }

@@ -1,5 +1,5 @@
-//! The commands that look at an image, sound or not, which may have printed something whatever their status is; and `get`, which prints
-//! all or nothing.
+//! The commands that show part of an image, sound or not, which may print something with any status; and `get`, which prints all or
+//! nothing.
 ghost use Rattle.std.specs.Prelude.{◌≡◌, ◌≤◌, IfErr, IfOk};
 ghost use Rattle.std.specs.Process.{exit_status};
 ghost use Rattle.command_faults.specs.Streams.{ErrorStream, Hears, streams};
@@ -21,10 +21,10 @@ use std::io::Write;
 use std::process::ExitCode;
 use vol_listing::Screen;
 
-/// How many columns a terminal has where COLUMNS doesn't say it.
+/// The width of a terminal if COLUMNS doesn't give it.
 const COLUMNS: u16 = 80;
 
-/// What shows standard output: a terminal, with as many columns as the variable COLUMNS says, or no terminal.
+/// Returns the screen of standard output: a terminal, with the width in the variable COLUMNS, or no terminal.
 pub fn screen<R: Env + AllocGlobal>(rt: &R, is_terminal: bool) -> Screen
     ensures { IsShownBy is_terminal result }
 {
@@ -37,7 +37,7 @@ pub fn screen<R: Env + AllocGlobal>(rt: &R, is_terminal: bool) -> Screen
     }
 }
 
-/// True unless the variable NO_COLOR says something, or TERM says that the terminal is a dumb one.
+/// True unless the variable NO_COLOR is set and not empty, or TERM says that the terminal is a dumb one.
 fn has_colours<R: Env + AllocGlobal>(rt: &R) -> bool {
     let refused = match env::var(rt, "NO_COLOR") {
         Ok(text) => !text.is_empty(),
@@ -54,7 +54,7 @@ pub fn is_variable<R: Env + AllocGlobal>(rt: &R, name: &str, value: &str) -> boo
     }
 }
 
-/// How many columns the variable COLUMNS says that the terminal has; 80 where it says no number, or 0.
+/// Returns the width of the terminal in the variable COLUMNS; 80 if it is no number, or 0.
 fn terminal_width<R: Env + AllocGlobal>(rt: &R) -> u16
     ensures { 1 ≤ result }
 {
@@ -65,8 +65,8 @@ fn terminal_width<R: Env + AllocGlobal>(rt: &R) -> u16
     if columns == 0 { COLUMNS } else { columns }
 }
 
-/// Shows what is asked for of the image in a file, and answers how the program ends. What it prints goes to `output`, which is
-/// standard output, as `screen` shows it; a fault is one line on standard error. `errors` writes to standard error too.
+/// Shows part of the image in a file, and returns the exit code. Output is written to `output`, which is standard output, as `screen`
+/// shows it; a fault is one line on standard error, to which `errors` writes too.
 pub fn run_to_end<R: ImageFiles + Eprint + AllocGlobal, O: Write + Drop, E: Write + Drop>(
     host: &Host<'_, R>,
     screen: Screen,
@@ -92,7 +92,7 @@ pub fn run_to_end<R: ImageFiles + Eprint + AllocGlobal, O: Write + Drop, E: Writ
     ExitCode::from(finish_printed(host, output.into_inner().into_inner(), ending.status))
 }
 
-/// Shows what is asked for of the image in a file, and answers how it ends, if [`finish_printed`] goes well.
+/// Shows part of the image in a file, and returns how the run ends if [`finish_printed`] succeeds.
 fn run<R: ImageFiles + Eprint + AllocGlobal, O: Sink>(
     host: &Host<'_, R>,
     screen: Screen,
@@ -117,7 +117,7 @@ fn run<R: ImageFiles + Eprint + AllocGlobal, O: Sink>(
     perform(host.rt.alloc(), volume.edition, image, look, screen, output)
 }
 
-/// The image that is looked at. Where it can't be read, prints so, and answers the status.
+/// Reads the image to show. If it can't be read, prints the fault and returns the status.
 fn read_seen<R: ImageFiles + Eprint + AllocGlobal>(
     host: &Host<'_, R>,
     volume: VolumeFile<'_>,
@@ -136,7 +136,7 @@ fn read_seen<R: ImageFiles + Eprint + AllocGlobal>(
     }
 }
 
-/// Prints the file at a path of the volume in a file, and answers how it ends.
+/// Prints the file at a path of the volume in a file, and returns how the run ends.
 pub fn run_get<R: ImageFiles + Eprint + AllocGlobal, O: Sink>(
     host: &Host<'_, R>,
     output: &mut O,

@@ -24,9 +24,9 @@ use std::process::ExitCode;
 use std::rt::Clock;
 use std::time::{SystemTime, UNIX_EPOCH};
 
-/// Reads the words of the command line, and goes on in one of six functions: only what several threads do may wait, what looks at an
-/// image may print something and fail, only a change and a server read standard input, and only what copies files of a volume to the
-/// host saves several files.
+/// Reads the words of the command line, and continues in one of six functions, so that each has only the rights it needs: only
+/// commands with several threads may wait, only those that show part of an image may print something and fail, only a change and a
+/// server read standard input, and only those that copy files to the host save several files.
 fn main(rt: HostRuntime) -> ExitCode {
     let words = match words::words(&rt) {
         Ok(words) => words,
@@ -75,8 +75,8 @@ fn main(rt: HostRuntime) -> ExitCode {
     }
 }
 
-/// The moment of the clock, in seconds since the beginning of 1970. `None` where the clock can't be read, or tells a moment
-/// before 1970 or after 2106.
+/// Returns the clock's time, in seconds since the beginning of 1970, or `None` if the clock can't be read, or is before 1970 or after
+/// 2106.
 fn moment<R: Clock>(rt: &R) -> Option<u32> {
     let now = SystemTime::now(rt).ok()?;
     let since = now.duration_since(UNIX_EPOCH).ok()?;

@@ -1,4 +1,4 @@
-//! What faults mean, in words.
+//! The meanings of faults, in words.
 
 use crate::sizes::Sizes;
 use crate::subject::{About, Subject};
@@ -9,14 +9,14 @@ use std::alloc::{AllocError, Global};
 use vol_dir::Refusal;
 use vol_findings::{Rule, edition_number};
 
-/// What want of memory means.
+/// The meaning of NoMemory.
 pub const NO_MEMORY: &str = "there was too little memory for this";
 
-/// What BadId means.
+/// The meaning of BadId.
 const BAD_ID: &str =
     "the user or the group is above the edition's highest, 255 in the sixth and 32767 in the seventh";
 
-/// What is said of an export that wrote no byte.
+/// The text for an export that wrote no byte.
 const NOTHING_EXPORTED: &str = "; nothing is exported";
 
 /// The rules of soundness, in the order of their numbers.
@@ -35,8 +35,8 @@ static RULES: [Rule; 12] = [
     Rule::Links,
 ];
 
-/// What a fault means, and what it is about; `sizes` are those that the image tells, if they are known. `None` of one that says in words what is wrong, as those of `export` and
-/// `import` do of entries and members.
+/// Returns the meaning of a fault, with the subject of the command; `sizes` are those in the image, if they are known. Returns `None`
+/// for a fault in words, as `export` and `import` have for entries and members.
 pub fn meaning_of(
     alloc: Global,
     fault: &Fault,
@@ -70,12 +70,12 @@ pub fn meaning_of(
     }
 }
 
-/// The second line of a fault, without the program's name: what it is about, and what it means.
+/// Returns the second line of a fault, without the program's name: its subject and its meaning.
 fn meaning(alloc: Global, about: String, words: &str) -> Result<Option<String>, AllocError> {
     Ok(Some(format!(in alloc; "{about}: {words}")?))
 }
 
-/// What it means that an image breaks a rule.
+/// Returns the meaning of a broken rule.
 fn rule_meaning(
     alloc: Global,
     rule: Option<u8>,
@@ -100,7 +100,7 @@ fn rule_meaning(
     Ok(Some(text))
 }
 
-/// What an image that breaks rule 1 or rule 2 tells of its sizes, and of which edition it may be.
+/// Returns the sizes in an image that breaks rule 1 or rule 2, and the edition that it may be of.
 fn sizes_meaning(alloc: Global, rule: Rule, sizes: Option<Sizes>) -> Result<String, AllocError> {
     let mut text = String::new(alloc);
     let Some(sizes) = sizes else {
@@ -120,13 +120,13 @@ fn sizes_meaning(alloc: Global, rule: Rule, sizes: Option<Sizes>) -> Result<Stri
     Ok(text)
 }
 
-/// The rule of a number.
+/// Returns the rule with a number.
 fn rule_of(number: Option<u8>) -> Option<Rule> {
     let number = number?;
     RULES.iter().copied().find(|rule| rule.number() == number)
 }
 
-/// What it means that a line of a script can't be read.
+/// Returns the meaning of a script's line that can't be read.
 fn script_meaning(
     alloc: Global,
     script: u64,
@@ -147,13 +147,13 @@ fn script_meaning(
     Ok(Some(text))
 }
 
-/// The script of a number, of which the first is 1.
+/// Returns the script with a number, counted from 1.
 fn script_at<'a>(scripts: &'a [&'a str], number: u64) -> Option<&'a str> {
     let place = usize::try_from(number.checked_sub(1)?).ok()?;
     scripts.get(place).copied()
 }
 
-/// What a refusal means that is about a member or a file, which the line names itself.
+/// Returns the meaning of a refusal for a member or a file that the first line names.
 fn named_meaning(
     alloc: Global,
     refusal: Refusal,
@@ -167,7 +167,7 @@ fn named_meaning(
     Ok(Some(format!(in alloc; "{named}: {words}")?))
 }
 
-/// What a refusal means, and what it is about.
+/// Returns the meaning of a refusal, with the subject of the command.
 fn refusal_meaning(
     alloc: Global,
     refusal: Refusal,
@@ -187,7 +187,7 @@ fn refusal_meaning(
     }
 }
 
-/// What a command does its work on, as the second line names it.
+/// Returns the subject of a command, as the second line names it.
 fn about_in(alloc: Global, subject: Subject<'_>) -> Result<String, AllocError> {
     match subject.about {
         About::Image | About::Scripts(_) => shown(alloc, subject.image),
@@ -202,7 +202,8 @@ fn about_in(alloc: Global, subject: Subject<'_>) -> Result<String, AllocError> {
     }
 }
 
-/// A word of the command line as a terminal can show it: as it is, or with all its odd bytes escaped where it has control characters.
+/// Returns a word of the command line as a terminal can show it: unchanged, or with all unprintable bytes escaped if it has control
+/// characters.
 pub fn shown(alloc: Global, word: &str) -> Result<String, AllocError> {
     let mut text = String::new(alloc);
     if !word.chars().any(|character| character.is_control()) {
@@ -211,14 +212,14 @@ pub fn shown(alloc: Global, word: &str) -> Result<String, AllocError> {
     }
     let mut bytes = Vec::new(alloc);
     push_escaped(&mut bytes, word.as_bytes())?;
-    // What is escaped is ASCII.
+    // Escaped text is ASCII.
     if let Ok(escaped) = str::from_utf8(&bytes) {
         text.push_str(escaped)?;
     }
     Ok(text)
 }
 
-/// What a refusal means for a command, in words.
+/// Returns the meaning of a refusal for a command, in words.
 fn words_of(refusal: Refusal, verb: Verb) -> &'static str {
     match refusal {
         Refusal::NotOwner => "only its owner and user 0 may do this",
@@ -239,7 +240,7 @@ fn words_of(refusal: Refusal, verb: Verb) -> &'static str {
     }
 }
 
-/// What NoEntry means for a command.
+/// Returns the meaning of NoEntry for a command.
 fn no_entry(verb: Verb) -> &'static str {
     match verb {
         Verb::Cat => "there is no i-node of this number, or it is free",
@@ -257,7 +258,7 @@ fn no_entry(verb: Verb) -> &'static str {
     }
 }
 
-/// What Exists means for a command.
+/// Returns the meaning of Exists for a command.
 fn exists(verb: Verb) -> &'static str {
     match verb {
         Verb::Ln => "the second name is there already",
@@ -267,7 +268,7 @@ fn exists(verb: Verb) -> &'static str {
     }
 }
 
-/// What NotDirectory means for a command.
+/// Returns the meaning of NotDirectory for a command.
 fn not_directory(verb: Verb) -> &'static str {
     match verb {
         Verb::Rmdir | Verb::Export | Verb::Import => {
@@ -281,7 +282,7 @@ fn not_directory(verb: Verb) -> &'static str {
     }
 }
 
-/// What IsDirectory means for a command.
+/// Returns the meaning of IsDirectory for a command.
 fn is_directory(verb: Verb) -> &'static str {
     match verb {
         Verb::Get => "it is a directory, whose names `unixvol ls` lists",
@@ -294,7 +295,7 @@ fn is_directory(verb: Verb) -> &'static str {
     }
 }
 
-/// What Invalid means for a command.
+/// Returns the meaning of Invalid for a command.
 fn invalid(verb: Verb) -> &'static str {
     match verb {
         Verb::Import => "its path, or that of the file that it is a link to, has a zero byte",
@@ -302,7 +303,7 @@ fn invalid(verb: Verb) -> &'static str {
     }
 }
 
-/// What TooBig means for a command.
+/// Returns the meaning of TooBig for a command.
 fn too_big(verb: Verb) -> &'static str {
     match verb {
         Verb::Put | Verb::Import => "the edition has no file, or no directory, of that size",
@@ -310,7 +311,7 @@ fn too_big(verb: Verb) -> &'static str {
     }
 }
 
-/// What NoSpace means for a command.
+/// Returns the meaning of NoSpace for a command.
 fn no_space(verb: Verb) -> &'static str {
     match verb {
         Verb::Migrate => "the files need more blocks than the new volume has for them",
@@ -318,7 +319,7 @@ fn no_space(verb: Verb) -> &'static str {
     }
 }
 
-/// What TooManyLinks means for a command.
+/// Returns the meaning of TooManyLinks for a command.
 fn too_many_links(verb: Verb) -> &'static str {
     match verb {
         Verb::Ln | Verb::Mv => "the file has as many names as the edition lets it have",
@@ -329,7 +330,7 @@ fn too_many_links(verb: Verb) -> &'static str {
     }
 }
 
-/// What NotRegular means for a command.
+/// Returns the meaning of NotRegular for a command.
 fn not_regular(verb: Verb) -> &'static str {
     match verb {
         Verb::Cat => "it is a special file, or its mode is none of the edition's",
@@ -337,7 +338,7 @@ fn not_regular(verb: Verb) -> &'static str {
     }
 }
 
-/// What NoInode means for a command.
+/// Returns the meaning of NoInode for a command.
 fn no_inode(verb: Verb) -> &'static str {
     match verb {
         Verb::Migrate => "the i-list of the new volume has no room for the highest i-number",

@@ -1,4 +1,4 @@
-//! Files that are read to their ends, or as far as the volume or the archive in them goes.
+//! Reads files to their ends, or up to the end of the volume or the archive in them.
 ghost use Rattle.std.specs.Prelude.{◌≡◌, ◌⊎◌, false, true, All, Err, IfErr, IfOk, IsErrOf, Ok, OnErr, length};
 ghost use Rattle.pdp_words.specs.Devices.{LosesFront};
 ghost use Rattle.host_files.specs.Opening.{IsOpened};
@@ -18,22 +18,22 @@ use std::io::{self, Read};
 use std::rt::Clock;
 use vol_layout::Edition;
 
-/// The reason for a file that has more blocks than any volume of its edition, if its super-block says so too.
+/// The message for a file that has more blocks than any volume of its edition, according to its super-block too.
 const ENDLESS: &str = "it has more blocks than any volume, and its super-block says so";
 
-/// The reason for an archive that has more bytes than it may.
+/// The message for an archive that has more bytes than it may.
 const LONG: &str = "its archive has more bytes than an image of this size could take";
 
 /// A file that was read.
 #[derive(Drop)]
 pub struct ReadFile<F> {
-    /// What it gave.
+    /// Its bytes.
     pub bytes: Vec<u8>,
-    /// The file, which is open still.
+    /// The file, still open.
     pub file: F,
 }
 
-/// The bytes of a file, read to its end. Where it can't be read, prints so, and answers the status.
+/// Reads a file to its end. If it can't be read, prints the fault and returns the status.
 pub fn read_file<R: Files + Eprint + AllocGlobal>(
     host: &Host<'_, R>,
     path: &str,
@@ -44,7 +44,7 @@ pub fn read_file<R: Files + Eprint + AllocGlobal>(
     read_so_far(host, UpTo::End, path)
 }
 
-/// The image of the volume in a file. Where it can't be read, prints so, and answers the status.
+/// Reads the image of the volume in a file. If it can't be read, prints the fault and returns the status.
 pub fn read_volume<R: Files + Eprint + AllocGlobal>(
     host: &Host<'_, R>,
     volume: VolumeFile<'_>,
@@ -55,8 +55,8 @@ pub fn read_volume<R: Files + Eprint + AllocGlobal>(
     read_so_far(host, UpTo::Volume(volume.edition), volume.image)
 }
 
-/// The image that `check` reads: all of a regular file, whose volume may be one of the other edition, else the image of the volume. Where
-/// it can't be read, prints so, and answers the status.
+/// Reads the image for `check`: the whole of a regular file, whose volume may be of the other edition; otherwise the image of the
+/// volume. If it can't be read, prints the fault and returns the status.
 pub fn read_checked<R: ImageFiles + Eprint + AllocGlobal>(
     host: &Host<'_, R>,
     volume: VolumeFile<'_>,
@@ -74,7 +74,7 @@ pub fn read_checked<R: ImageFiles + Eprint + AllocGlobal>(
     }
 }
 
-/// The bytes of a file, read up to `up_to`. Where it can't be read, prints so, and answers the status.
+/// Reads a file up to `up_to`. If it can't be read, prints the fault and returns the status.
 fn read_so_far<R: Files + Eprint + AllocGlobal>(
     host: &Host<'_, R>,
     up_to: UpTo,
@@ -90,7 +90,7 @@ fn read_so_far<R: Files + Eprint + AllocGlobal>(
     }
 }
 
-/// The bytes of several files, in the order of their paths. Where one can't be read, prints so, and answers the status.
+/// Reads several files, in the order of their paths. If one can't be read, prints the fault and returns the status.
 pub fn read_files<R: Files + Eprint + AllocGlobal>(
     host: &Host<'_, R>,
     paths: &[&str],
@@ -109,7 +109,8 @@ pub fn read_files<R: Files + Eprint + AllocGlobal>(
     Ok(files)
 }
 
-/// The image of the volume in a file, and the file's stamp. Where it can't be read, prints so, and answers the status.
+/// Reads the image of the volume in a file, and returns it with the file's stamp. If it can't be read, prints the fault and returns
+/// the status.
 pub fn read_stamped<R: ImageFiles + Eprint + AllocGlobal>(
     host: &Host<'_, R>,
     edition: Edition,
@@ -128,12 +129,12 @@ pub fn read_stamped<R: ImageFiles + Eprint + AllocGlobal>(
     }
 }
 
-/// What a command has once it has begun that changes an image.
+/// The state of a command that changes an image, once it has begun.
 #[derive(Drop)]
 pub struct Begun<F, G> {
-    /// What it is given beside the image.
+    /// The bytes that it needs besides the image.
     pub given: G,
-    /// The image, with what is behind its volume, where it is a regular file.
+    /// The image; of a regular file, with the bytes after its volume.
     pub image: Vec<u8>,
     /// The stamp of the image's file before it was read.
     pub stamp: Stamp,
@@ -141,9 +142,9 @@ pub struct Begun<F, G> {
     pub locked: F,
 }
 
-/// Begins a command that changes the volume in a file: reads what it is given, by `read_given`, which may wait, and only then locks the
-/// image and reads it. Before that it looks whether the image can be opened. Where something can't be read, or the image isn't to be
-/// changed, prints so, and answers the status.
+/// Begins a command that changes the volume in a file: reads the other bytes that it needs, with `read_given`, which may wait, and
+/// only then locks the image and reads it. Before all that it checks that the image can be opened. If something can't be read, or the
+/// image may not be changed, prints the fault and returns the status.
 pub fn begin<
     R: ImageFiles + Clock + Eprint + AllocGlobal,
     G: Drop,
@@ -168,8 +169,8 @@ pub fn begin<
     })
 }
 
-/// The image that a command is to change, and its stamp. Where it can't be read, or isn't to be changed, prints so,
-/// and answers the status.
+/// Reads the image to change, and returns it with its stamp. If it can't be read, or may not be changed, prints the fault and returns
+/// the status.
 fn read_image<R: ImageFiles + Clock + Eprint + AllocGlobal>(
     host: &Host<'_, R>,
     volume: VolumeFile<'_>,
@@ -187,7 +188,7 @@ fn read_image<R: ImageFiles + Clock + Eprint + AllocGlobal>(
     }
 }
 
-/// Prints that the file of an image can't be read, or isn't to be changed, and answers the status.
+/// Prints that the file of an image can't be read, or may not be changed, and returns the status.
 fn explain_unopened<R: Eprint + AllocGlobal>(
     host: &Host<'_, R>,
     named: Named<'_>,
@@ -201,7 +202,7 @@ fn explain_unopened<R: Eprint + AllocGlobal>(
     }
 }
 
-/// Reads an open file up to `up_to`. Where it can't be read, prints so, and answers the status.
+/// Reads an open file up to `up_to`. If it can't be read, prints the fault and returns the status.
 pub fn read_open<R: Eprint + AllocGlobal, F: Read + Drop>(
     host: &Host<'_, R>,
     named: Named<'_>,
@@ -219,8 +220,8 @@ pub fn read_open<R: Eprint + AllocGlobal, F: Read + Drop>(
     })
 }
 
-/// Reads a source up to `up_to`. Where it can't be read, prints so, and answers the status: that of a file only where
-/// the source failed or is past what it can have, that of memory only where it didn't fail.
+/// Reads a source up to `up_to`. If it can't be read, prints the fault and returns the status: that of a file only if the source
+/// failed or is longer than it may be, that of memory only if it didn't fail.
 fn read_source<R: Eprint + AllocGlobal, S: Source>(
     host: &Host<'_, R>,
     named: Named<'_>,
@@ -245,7 +246,7 @@ fn read_source<R: Eprint + AllocGlobal, S: Source>(
     }
 }
 
-/// The reason for a file that is past what it can have.
+/// Returns the message for a file that is longer than it may be.
 fn past(up_to: UpTo) -> &'static str {
     match up_to {
         UpTo::Archive(_) => LONG,

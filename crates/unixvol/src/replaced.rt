@@ -1,4 +1,4 @@
-//! What a file held that is replaced.
+//! The contents of a file that is replaced.
 ghost use Rattle.std.specs.Prelude.{◌≤◌};
 ghost use Rattle.vol_layout.specs.Geometry.{Fits};
 
@@ -14,28 +14,28 @@ use vol_layout::i_list::kind;
 use vol_layout::{Edition, Geometry};
 use vol_volume::judge;
 
-/// What a file held.
+/// The contents of a file.
 #[derive(Clone, Copy)]
 pub enum Held {
     /// A volume.
     Volume(HeldVolume),
-    /// So many bytes that are no volume.
+    /// This number of bytes that aren't a volume.
     Bytes(usize),
 }
 
-/// A volume that a file held.
+/// A volume in a file.
 #[derive(Clone, Copy)]
 pub struct HeldVolume {
-    /// The edition of which it is.
+    /// Its edition.
     edition: Edition,
     /// True if all twelve rules hold.
     is_sound: bool,
-    /// How many regular files it has.
+    /// The number of its regular files.
     files: u16,
 }
 
-/// What the regular file at a path holds, for a user who is told of it once it is replaced. `None` if nobody reads what is told, if there is
-/// no such file, or if it can't be read.
+/// Returns the contents of the regular file at a path, for a message once it is replaced. Returns `None` if nobody reads the message,
+/// if there is no such file, or if it can't be read.
 ///
 /// Reads the file, and takes memory for it and for judging whether a volume is sound.
 pub fn held_at<R: ImageFiles + AllocGlobal>(host: &Host<'_, R>, path: &str) -> Option<Held> {
@@ -51,7 +51,7 @@ pub fn held_at<R: ImageFiles + AllocGlobal>(host: &Host<'_, R>, path: &str) -> O
     held_in(host, &image).ok()
 }
 
-/// What some bytes are: of volumes of both editions a sound one first.
+/// Returns what some bytes hold; if they are volumes of both editions, prefers a sound one.
 fn held_in<R: AllocGlobal>(host: &Host<'_, R>, image: &Image) -> Result<Held, AllocError> {
     let sixth = volume_in(host, Edition::V6, image)?;
     let seventh = volume_in(host, Edition::V7, image)?;
@@ -64,13 +64,13 @@ fn held_in<R: AllocGlobal>(host: &Host<'_, R>, image: &Image) -> Result<Held, Al
 }
 
 impl HeldVolume {
-    /// This volume, or another one that is sound.
+    /// Returns the other volume if that is sound, else this one.
     fn or_sound(self, other: HeldVolume) -> HeldVolume {
         if other.is_sound { other } else { self }
     }
 }
 
-/// The volume of an edition that some bytes are, if rules 1 and 2 hold for it.
+/// Returns the volume of an edition in some bytes, if rules 1 and 2 hold for it.
 fn volume_in<R: AllocGlobal>(
     host: &Host<'_, R>,
     edition: Edition,
@@ -88,7 +88,7 @@ fn volume_in<R: AllocGlobal>(
     }))
 }
 
-/// How many regular files a volume has.
+/// Returns the number of regular files in a volume.
 fn file_count(image: &Image, geometry: &Geometry) -> u16
     requires { Fits geometry.now image.now }
     ensures { result ≤ geometry.now.last_inode }
@@ -111,7 +111,7 @@ fn is_file(image: &Image, geometry: &Geometry, i: u16) -> bool
     matches!(kind(image, geometry, i), vol_layout::Kind::Regular)
 }
 
-/// Prints what a file held that was replaced, if the status says that it was, and if that is known.
+/// Prints the old contents of a file that was replaced, if the status says that it was, and if they are known.
 pub fn tell_replaced<R: Eprint + AllocGlobal>(
     host: &Host<'_, R>,
     path: &str,
@@ -123,7 +123,7 @@ pub fn tell_replaced<R: Eprint + AllocGlobal>(
     }
 }
 
-/// Prints what a file held.
+/// Prints the old contents of a file.
 fn tell_held<R: Eprint + AllocGlobal>(host: &Host<'_, R>, path: &str, held: Held) {
     let Ok(name) = shown(host.rt.alloc(), path) else {
         return;

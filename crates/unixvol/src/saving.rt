@@ -1,4 +1,4 @@
-//! What a command made is saved in its file, and the status after that.
+//! Saves the result of a command in its file, and returns the exit status.
 ghost use Rattle.std.specs.Prelude.{◌≡◌, ◌⊎◌, IfErr, IfSome};
 ghost use Rattle.unixvol.specs.Running.{IsStatusOfFileOrMemory, EndsPlayed, EndsSaved, MadeSaved};
 ghost use Rattle.host_files.specs.Saving.{IsTaken, Saves};
@@ -14,11 +14,11 @@ use host_files::{Content, ImageFiles, Kind, OpenFault, Stamp, open_image, save_f
 use std::io;
 use std::rt::Clock;
 
-/// What is told of a file that holds the volume out of which another file is made.
+/// The message for a file that holds the volume from which another file is made.
 const OLD_VOLUME: &str = "it holds the volume that was read, which is kept";
 
-/// Saves what a command made in the file `image`, if it made anything and the file still has the stamp `read`, and
-/// answers the status to end with.
+/// Saves the result of a command in the file `image`, if there is one and the file still has the stamp `read`, and returns the exit
+/// status.
 pub fn save_answer<R: ImageFiles + Eprint + AllocGlobal>(
     host: &Host<'_, R>,
     image: &str,
@@ -39,8 +39,8 @@ pub fn save_answer<R: ImageFiles + Eprint + AllocGlobal>(
     }
 }
 
-/// Saves the volume on which scripts were played in the file `image`, as [`save_answer`] does. Where standard output failed,
-/// the status to end with is that of this, whatever comes of the saving, and its line is the only one.
+/// Saves the volume on which scripts were played in the file `image`, as [`save_answer`] does. If standard output failed, the exit
+/// status is 3 even if saving fails too, and its line is the only one.
 pub fn save_played<R: ImageFiles + Eprint + AllocGlobal>(
     host: &Host<'_, R>,
     image: &str,
@@ -58,11 +58,11 @@ pub fn save_played<R: ImageFiles + Eprint + AllocGlobal>(
     BAD_FILE
 }
 
-/// What is told of a file that is there and isn't to be replaced.
+/// The message for a file that exists and must not be replaced.
 const THERE: &str = "it is there already, and --new replaces no file";
 
-/// Saves what `mkfs` made in a file, if it made anything, and answers the status to end with. A regular file that is there is locked
-/// meanwhile, if it can be opened.
+/// Saves the result of `mkfs` in a file, if there is one, and returns the exit status. A regular file that exists is locked meanwhile,
+/// if it can be opened.
 pub fn save_made<R: ImageFiles + Clock + Eprint + AllocGlobal>(
     host: &Host<'_, R>,
     file: MadeFile<'_>,
@@ -87,19 +87,19 @@ pub fn save_made<R: ImageFiles + Clock + Eprint + AllocGlobal>(
     saved
 }
 
-/// True if something stands at the path of a file that is to be made anew.
+/// True if something exists at the path of a file that must be new.
 fn is_kept<R: ImageFiles>(host: &Host<'_, R>, file: MadeFile<'_>) -> bool {
     file.is_new && host.rt.is_there(file.path)
 }
 
-/// Prints that something stands at the path of a file that is to be made anew, and answers the status.
+/// Prints that something exists at the path of a file that must be new, and returns the status.
 fn explain_there<R: Eprint + AllocGlobal>(host: &Host<'_, R>, path: &str) -> u8
     ensures { result ≡ 3 }
 {
     explain_unwritten(host, Named::File(path), io::Error::other(THERE))
 }
 
-/// Saves what `migrate` made in a file, if it made anything, as [`save_new`] does, and answers the status to end with.
+/// Saves the result of `migrate` in a file, if there is one, as [`save_new`] does, and returns the exit status.
 pub fn save_migrated<R: ImageFiles + Clock + Eprint + AllocGlobal>(
     host: &Host<'_, R>,
     file: MadeFile<'_>,
@@ -131,9 +131,8 @@ fn save_over<R: ImageFiles + Clock + Eprint + AllocGlobal>(
     saved
 }
 
-/// Saves bytes in the file `path`, and answers the status to end with: `status`, where they are saved. The file with the stamp `old`,
-/// out of which they were made, isn't replaced, whatever its path. A regular file that is there is locked meanwhile, if it can be
-/// opened.
+/// Saves bytes in the file `path`, and returns the exit status: `status` if they are saved. The file with the stamp `old`, from which
+/// they were made, isn't replaced, whatever its path. A regular file that exists is locked meanwhile, if it can be opened.
 pub fn save_new<R: ImageFiles + Clock + Eprint + AllocGlobal>(
     host: &Host<'_, R>,
     path: &str,
@@ -153,7 +152,7 @@ pub fn save_new<R: ImageFiles + Clock + Eprint + AllocGlobal>(
     save(host, path, None, Content::Bytes(bytes), status)
 }
 
-/// Whether the file of a stamp stands at `path`, or at the end of the links that begin there.
+/// True if the file with a stamp is at `path`, or at the end of its symbolic links.
 fn stands_at<R: ImageFiles>(rt: &R, path: &str, stamp: Stamp) -> bool {
     match rt.stamp_at(path) {
         Ok(there) => there.is_of(stamp),
@@ -161,8 +160,8 @@ fn stands_at<R: ImageFiles>(rt: &R, path: &str, stamp: Stamp) -> bool {
     }
 }
 
-/// Locks the regular file that is to be replaced, if there is one that can be opened. Where another program has it
-/// locked for half a minute, prints that it can't be written, and answers the status.
+/// Locks the regular file that will be replaced, if there is one that can be opened. If another program keeps it locked for half a
+/// minute, prints that it can't be written, and returns the status.
 fn lock_replaced<R: ImageFiles + Clock + Eprint + AllocGlobal>(
     host: &Host<'_, R>,
     path: &str,
@@ -176,8 +175,8 @@ fn lock_replaced<R: ImageFiles + Clock + Eprint + AllocGlobal>(
     }
 }
 
-/// Saves a content in the file `path`, if that still has the stamp `read`, where one is given, and answers the status
-/// to end with: `status`, where it is saved.
+/// Saves a content in the file `path`, if that still has the stamp `read`, if one is given, and returns the exit status: `status` if
+/// it is saved.
 fn save<R: ImageFiles + Eprint + AllocGlobal>(
     host: &Host<'_, R>,
     path: &str,

@@ -1,4 +1,4 @@
-//! `serve`, which serves a volume to a kernel until it is unmounted.
+//! `serve` serves a volume to a kernel until it is unmounted.
 ghost use Rattle.std.specs.Prelude.{◌≡◌, ◌⊎◌, IfOk, option_map};
 ghost use Rattle.std.specs.Process.{exit_status};
 ghost use Rattle.command_faults.specs.Streams.{heard, says};
@@ -28,10 +28,10 @@ use vol_serve::{Replies, ReplyWriter, RequestReader, Requests, ServeFault, serve
 /// The error of a read of /dev/fuse once the volume is unmounted (ENODEV).
 const UNMOUNTED: i32 = 19;
 
-/// Serves the volume in a file, and answers how the program ends. Requests come from `input`, which is standard input, each by one
-/// read, and replies go to `output`, which is standard output, each by one write, until the input ends or the system says that the
-/// volume is unmounted. A fault, or the least rule that the image breaks, is one line on standard error. `errors` writes to standard
-/// error too.
+/// Serves the volume in a file, and returns the exit code. Requests come from `input`, which is standard input, one with each read,
+/// and replies are written to `output`, which is standard output, one with each write, until the input ends or the system reports that
+/// the volume is unmounted. A fault, or the first rule that the image breaks, is one line on standard error, to which `errors` writes
+/// too.
 pub fn run_to_end<
     R: ImageFiles + Eprint + AllocGlobal,
     I: Read + Drop,
@@ -48,7 +48,7 @@ pub fn run_to_end<
     ExitCode::from(status_of(host, outcome, input, output))
 }
 
-/// Serves the volume in a file. What is served ends as the inner result says; else the status says why nothing is.
+/// Serves the volume in a file. The inner result is that of serving; the outer error is the status if nothing was served.
 fn run<R: ImageFiles + Eprint + AllocGlobal, Q: Requests, P: Replies, E: Sink>(
     host: &Host<'_, R>,
     requests: &mut Q,
@@ -64,8 +64,8 @@ fn run<R: ImageFiles + Eprint + AllocGlobal, Q: Requests, P: Replies, E: Sink>(
     Ok(serve(host.rt.alloc(), &image, &geometry, requests, replies))
 }
 
-/// The sizes of an image that can be served. Prints the line of the least rule that the image breaks, if it breaks one. If that is
-/// rule 1 or 2, or memory ran out, which is printed too, answers the status.
+/// Returns the geometry of an image that can be served. Prints the line of the first rule that the image breaks, if any. If that is
+/// rule 1 or 2, or memory ran out, which is printed too, returns the status.
 fn measure<R: ImageFiles + Eprint + AllocGlobal, E: Sink>(
     host: &Host<'_, R>,
     errors: &mut E,
@@ -88,7 +88,7 @@ fn measure<R: ImageFiles + Eprint + AllocGlobal, E: Sink>(
     }
 }
 
-/// The fault that an image breaks a rule, if it breaks one.
+/// Returns the fault for a broken rule, if there is one.
 fn broken(least: Option<u8>) -> Option<Fault>
     ensures { result ≡ option_map faults.Unsound least }
 {
@@ -98,7 +98,7 @@ fn broken(least: Option<u8>) -> Option<Fault>
     }
 }
 
-/// The status to end with. `input` is the error that ended the requests, if one did, and `output` that of a reply that couldn't be
+/// Returns the exit status. `input` is the error that ended the requests, if any, and `output` that of a reply that couldn't be
 /// written. Prints that a stream failed, or that memory ran out.
 fn status_of<R: Eprint + AllocGlobal>(
     host: &Host<'_, R>,
@@ -117,7 +117,7 @@ fn status_of<R: Eprint + AllocGlobal>(
     }
 }
 
-/// The status after the last request. If a read failed for another reason than that the volume is unmounted, prints so.
+/// Returns the status after the last request. Prints the fault if a read failed, except because the volume was unmounted.
 fn status_at_end<R: Eprint + AllocGlobal>(host: &Host<'_, R>, input: Option<io::Error>) -> u8
     ensures { (result ≡ 0) ⊎ (result ≡ 3) }
 {

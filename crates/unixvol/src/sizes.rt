@@ -1,4 +1,4 @@
-//! The sizes that the file of an image tells.
+//! The sizes in the file of an image.
 
 use host_files::{ImageFiles, Kind, UpTo, noted_reader, read_up_to};
 use pdp_words::{BLOCK, Image};
@@ -6,23 +6,23 @@ use std::fs;
 use vol_findings::other_edition;
 use vol_layout::{Edition, Geometry, Super};
 
-/// Where the super-block ends.
+/// The end of the super-block.
 const HEAD: usize = 2 * BLOCK;
 
-/// The sizes that the file of an image tells.
+/// The sizes in the file of an image.
 #[derive(Clone, Copy)]
 pub struct Sizes {
-    /// How many whole blocks it has.
+    /// The number of its whole blocks.
     pub blocks: u64,
-    /// How many its super-block says, if it has one.
+    /// The number of blocks that its super-block gives, if it has one.
     pub said: Option<u32>,
     /// The other edition, if rules 1 and 2 hold for it.
     pub other: Option<Edition>,
 }
 
-/// The sizes that a regular file tells, which holds an image of an edition. `None` of another file, and of one that can't be read.
+/// Returns the sizes in a regular file that holds an image of an edition, or `None` for another file, or one that can't be read.
 ///
-/// Reads it up to the last block that its super-block says in the other edition, and takes memory for that.
+/// Reads it up to the last block that its super-block gives in the other edition, and takes memory for that.
 pub fn sizes_in<R: ImageFiles + AllocGlobal>(
     rt: &R,
     path: &str,
@@ -42,7 +42,7 @@ pub fn sizes_in<R: ImageFiles + AllocGlobal>(
     })
 }
 
-/// How many blocks the super-block of an image says, if it has one.
+/// Returns the number of blocks that the super-block of an image gives, if it has one.
 fn said_in(edition: Edition, image: &Image) -> Option<u32> {
     if image.len() < HEAD {
         return None;

@@ -1,4 +1,4 @@
-//! What a command is about.
+//! The subjects of commands.
 
 use command_changes::Change;
 use command_line::{Copying, Invocation, VolumeFile, Work};
@@ -7,27 +7,27 @@ use command_words::Verb;
 use vol_check::Checker;
 use vol_layout::Edition;
 
-/// What a command is about: what the second line of a fault names.
+/// The subject of a command: the file or path named in the second line of a fault.
 #[derive(Clone, Copy)]
 pub struct Subject<'a> {
     /// The command.
     pub verb: Verb,
-    /// The file of the image that it reads, or else of the one that it makes.
+    /// The file of the image that it reads, or else makes.
     pub image: &'a str,
-    /// The edition that this image is taken for.
+    /// The edition assumed for this image.
     pub edition: Edition,
-    /// What it does its work on.
+    /// The part of the image that it works on.
     pub about: About<'a>,
 }
 
-/// What a command does its work on.
+/// The part of an image that a command works on.
 #[derive(Clone, Copy)]
 pub enum About<'a> {
     /// The image as a whole.
     Image,
-    /// What a path leads to; where it is empty, the root.
+    /// The file or directory at a path; the root if the path is empty.
     Path(&'a str),
-    /// A file by its path, and a new name by its own.
+    /// A file by its path, and a new name by its path.
     Names { from: &'a str, to: &'a str },
     /// An i-node by its number.
     Inode(u16),
@@ -36,7 +36,7 @@ pub enum About<'a> {
 }
 
 impl<'a> Subject<'a> {
-    /// What was read of the command line is about this, as [`Subject::of_plain`] tells it.
+    /// Returns the subject of the command line that was read, as [`Subject::of_plain`] does.
     pub fn of_read<E>(read: &Result<Invocation<'a>, E>) -> Option<Subject<'a>> {
         match read {
             Ok(invocation) => Subject::of_plain(invocation),
@@ -44,8 +44,8 @@ impl<'a> Subject<'a> {
         }
     }
 
-    /// The commands that one thread does and that print all or nothing are about this; `None` of the others, and of `cat`, which
-    /// tells its faults itself.
+    /// Returns the subject of a command that one thread runs and that prints all or nothing; `None` for the others, and for `cat`,
+    /// which prints its faults itself.
     fn of_plain(invocation: &Invocation<'a>) -> Option<Subject<'a>> {
         match invocation {
             Invocation::Get { volume, path } => {
@@ -67,7 +67,7 @@ impl<'a> Subject<'a> {
         }
     }
 
-    /// A command on the volume in a file is about this.
+    /// Returns the subject of a command on the volume in a file.
     fn new(volume: VolumeFile<'a>, verb: Verb, about: About<'a>) -> Subject<'a> {
         Subject {
             verb,
@@ -77,12 +77,12 @@ impl<'a> Subject<'a> {
         }
     }
 
-    /// The body of an i-node of the volume in a file is about this.
+    /// Returns the subject of `cat`.
     pub fn of_cat(volume: VolumeFile<'a>, ino: u16) -> Subject<'a> {
         Subject::new(volume, Verb::Cat, About::Inode(ino))
     }
 
-    /// A look at the image in a file is about this.
+    /// Returns the subject of a command that shows part of the image in a file.
     pub fn of_look(volume: VolumeFile<'a>, look: Look<'a>) -> Subject<'a> {
         let (verb, about) = match look {
             Look::Export { path } => (Verb::Export, About::Path(path)),
@@ -95,12 +95,12 @@ impl<'a> Subject<'a> {
         Subject::new(volume, verb, about)
     }
 
-    /// The serving of the volume in a file is about this.
+    /// Returns the subject of `serve`.
     pub fn of_serve(volume: VolumeFile<'a>) -> Subject<'a> {
         Subject::new(volume, Verb::Serve, About::Image)
     }
 
-    /// A change of the volume in a file is about this.
+    /// Returns the subject of a change of the volume in a file.
     pub fn of_change(volume: VolumeFile<'a>, change: Change<'a>) -> Subject<'a> {
         let (verb, about) = match change {
             Change::Put { path, .. } => (Verb::Put, About::Path(path)),
@@ -120,7 +120,7 @@ impl<'a> Subject<'a> {
         Subject::new(volume, verb, about)
     }
 
-    /// The copying of several files is about this; a line that is about one of them names it itself.
+    /// Returns the subject of copying several files; a line for one of them names that file itself.
     pub fn of_copying(volume: VolumeFile<'a>, copying: &Copying<'a>) -> Subject<'a> {
         let (verb, about) = match copying {
             Copying::Put { directory, .. } => (Verb::Put, About::Path(directory)),
@@ -129,7 +129,7 @@ impl<'a> Subject<'a> {
         Subject::new(volume, verb, about)
     }
 
-    /// What several threads do with the volume in a file is about this.
+    /// Returns the subject of work with several threads.
     pub fn of_work(volume: VolumeFile<'a>, work: &'a Work<'a>) -> Subject<'a> {
         let (verb, about) = match work {
             Work::Check { checker, .. } => (verb_of(*checker), About::Image),
@@ -139,7 +139,7 @@ impl<'a> Subject<'a> {
     }
 }
 
-/// The command of a checker.
+/// Returns the command of a checker.
 fn verb_of(checker: Checker) -> Verb {
     match checker {
         Checker::Blocks => Verb::Icheck,

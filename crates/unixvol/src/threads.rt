@@ -1,4 +1,4 @@
-//! The commands of the program that several threads do. What is promised of them is promised if they return.
+//! The commands that several threads run. Their contracts hold if they return.
 ghost use Rattle.std.specs.Prelude.{◌≡◌, ◌⊎◌, ◌≤◌, All, IfErr, IfOk, length};
 ghost use Rattle.std.specs.Process.{exit_status};
 ghost use Rattle.command_words.specs.Asking.{IsWorkable};
@@ -24,9 +24,8 @@ use std::thread::Threads;
 use vol_check::{Checker, MOST_WORKERS, Open};
 use vol_listing::Screen;
 
-/// Does with the volume in a file what several threads are asked for, and answers how the program ends. What it prints goes to
-/// `output`, which is standard output, as `screen` shows it; a fault is one line on standard error. `errors` writes to standard
-/// error too.
+/// Runs a command with several threads on the volume in a file, and returns the exit code. Output is written to `output`, which is
+/// standard output, as `screen` shows it; a fault is one line on standard error, to which `errors` writes too.
 pub fn run_to_end<
     R: ImageFiles + Clock + Eprint + AllocGlobal + Threads + Wait + Sync,
     O: Write + Drop,
@@ -57,8 +56,7 @@ pub fn run_to_end<
     ExitCode::from(finish_printed(host, output.into_inner().into_inner(), ending.status))
 }
 
-/// Does with the volume in a file what several threads are asked for, and answers how it ends, if
-/// [`finish_printed`] goes well.
+/// Runs a command with several threads on the volume in a file, and returns how the run ends if [`finish_printed`] succeeds.
 fn run<R: ImageFiles + Clock + Eprint + AllocGlobal + Threads + Wait + Sync, O: Sink>(
     host: &Host<'_, R>,
     screen: Screen,
@@ -80,7 +78,7 @@ fn run<R: ImageFiles + Clock + Eprint + AllocGlobal + Threads + Wait + Sync, O: 
     }
 }
 
-/// Prints what a checker finds in the volume in a file, by so many threads, and answers how it ends.
+/// Prints a checker's findings on the volume in a file, found by `workers` threads, and returns how the run ends.
 fn run_check<R: ImageFiles + Eprint + AllocGlobal + Threads + Wait + Sync, O: Sink>(
     host: &Host<'_, R>,
     screen: Screen,
@@ -115,8 +113,8 @@ fn run_check<R: ImageFiles + Eprint + AllocGlobal + Threads + Wait + Sync, O: Si
     )
 }
 
-/// Plays the scripts in some files on the volume in a file, each by a thread of its own, saves the volume, and answers
-/// how it ends.
+/// Plays the scripts in some files on the volume in a file, each in a thread of its own, saves the volume, and returns how the run
+/// ends.
 fn run_play<R: ImageFiles + Clock + Eprint + AllocGlobal + Threads + Wait + Sync, O: Sink>(
     host: &Host<'_, R>,
     output: &mut O,
@@ -142,7 +140,7 @@ fn run_play<R: ImageFiles + Clock + Eprint + AllocGlobal + Threads + Wait + Sync
             };
         }
     };
-    // The image's file stays open, and so locked, until what is made of it is saved.
+    // The image's file stays open, and so locked, until the result is saved.
     let Begun {
         given: files,
         image,

@@ -1,17 +1,17 @@
-//! The words of the command line, as the system gives them.
+//! The words of the command line, from the system.
 
 use std::alloc::{AllocError, Global};
 use std::env::{self, Env, FillError};
 use std::io;
 
-/// The words of the command line, of which the first is the program's own name. The error is `OutOfMemory` where an allocation
-/// was refused, and `InvalidData` where a word isn't UTF-8.
+/// Returns the words of the command line, the first of which is the program's own name. The error is `OutOfMemory` if an allocation
+/// was refused, and `InvalidData` if a word isn't UTF-8.
 pub fn words<R: Env + AllocGlobal>(rt: &R) -> io::Result<Vec<String>> {
     Ok(env::args(rt)?.collect(rt.alloc())?)
 }
 
-/// The place of the first word that isn't UTF-8, where the program's own name has place 0. `None` where there is none, or
-/// memory ran out.
+/// Returns the number of the first word that isn't UTF-8, where the program's own name has number 0. Returns `None` if all are,
+/// or memory ran out.
 pub fn place_of_no_text<R: Env + AllocGlobal>(rt: &R) -> Option<usize> {
     for place in 0..usize::MAX {
         match is_text(rt, rt.alloc(), place) {
@@ -23,10 +23,10 @@ pub fn place_of_no_text<R: Env + AllocGlobal>(rt: &R) -> Option<usize> {
     None
 }
 
-/// Bytes of the first buffer that a word is read into.
+/// The size in bytes of the first buffer into which a word is read.
 const ROOM: usize = 256;
 
-/// Whether the word at a place is UTF-8. `None` where there is no word.
+/// True if the word with a number is UTF-8. Returns `None` if there is no such word.
 fn is_text<R: Env>(rt: &R, alloc: Global, place: usize) -> Result<Option<bool>, AllocError> {
     let mut room = ROOM;
     for _ in 0..usize::BITS {

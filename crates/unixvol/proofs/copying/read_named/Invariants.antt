@@ -4,7 +4,7 @@ use Rattle.unixvol.specs.Copying.{name_of}
 use Rattle.unixvol.specs.Running.{GaveBytes}
 use Rattle.unixvol.proofs.copying.read_named.Given as goal
 
--- files gave the bytes that were read so far, and these have the names of the paths so far
+-- files gave the bytes read so far, and these have the names of the paths so far
 abbrev pub invariant-files : goal.invariant-files
 invariant-files g l =
     All (λ (file : NewFile). GaveBytes g.R.File.Read.remaining file.bytes.items) l.files.items

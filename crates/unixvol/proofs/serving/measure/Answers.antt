@@ -1,4 +1,4 @@
--- What is told of an image that is measured.
+-- The report on an image that is measured.
 use Rattle.std.proofs.Common.{inl, inr, refl, ap, subst}
 use Rattle.command_faults.specs.Faults.{line_after}
 use Rattle.command_faults.specs.Streams.{heard, says}

@@ -14,7 +14,7 @@ use Rattle.vol_volume.specs.Volume.{reads_as}
 use Rattle.vol_volume.proofs.FreeNumbers.{number_free}
 use Rattle.vol_volume.proofs.StandingImages.{stands}
 
--- a free number of a sound image, with the geometry that is its own
+-- a free number of a sound image, with its own geometry
 free_in_sound : (edition : Edition) (image : List ℕ) (i : ℕ) → IsSound edition image → Fits (geometry_of edition image) image
     → IsFreeNumber (geometry_of edition image) image i → is_free_number (tree (geometry_of edition image) image) i ≡ true
 free_in_sound edition image i sound fits free =

@@ -1,4 +1,4 @@
-// What a volume replies of a node, with all its times.
+// The reply to a Stat, with all its times.
 use crate::fixtures::{NOW, Piece, edited, new_volume, stat};
 use std::alloc::Global;
 use std::process::Abort;
@@ -6,10 +6,10 @@ use vol_dir::Cred;
 use vol_layout::{Edition, Kind};
 use vol_volume::{Stat, Volume};
 
-/// What a file puts into a new volume of the sixth edition with 20 blocks: i-node 2 is a file `-` of the root's, with
-/// the bytes `hello`, that only its owner 3 may read.
+/// The pieces that put a file into a new volume of the sixth edition with 20 blocks: i-node 2 is the root's file `-`, with
+/// the bytes `hello`, which only its owner 3 may read.
 static FILE: [Piece; 6] = [
-    // The top of the free list goes.
+    // The top of the free list is removed.
     (516, b"\x0F"),
     // The root's size, 48.
     (1030, b"\x30"),
@@ -22,7 +22,7 @@ static FILE: [Piece; 6] = [
     (2560, b"hello"),
 ];
 
-/// This is what a user is told of a node.
+/// Checks a node's attributes as a user sees them.
 fn check_told(rt: &impl Abort, alloc: Global, volume: &Volume, path: &[u8], wanted: &Stat) {
     let found = stat(rt, alloc, volume, Cred { uid: 7, gid: 7 }, path);
     assert_eq!(rt; found, *wanted);

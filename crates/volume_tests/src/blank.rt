@@ -1,4 +1,4 @@
-// What is written of a new volume is what `mkfs` makes.
+// The bytes written of a new volume are those that `mkfs` makes.
 use crate::fixtures::NOW;
 use pdp_words::IntoWrite;
 use pdp_words::testing::ScriptedWriter;
@@ -7,7 +7,7 @@ use std::process::Abort;
 use vol_layout::Edition;
 use vol_volume::{BlankVolume, NewVolume, mkfs};
 
-/// Sizes around those at which an array of either edition is full, and a buffer.
+/// Sizes around those that fill an array of either edition, or a buffer.
 static SIZES: [(u32, u16); 12] = [
     (4, 1),
     (5, 1),
@@ -44,7 +44,7 @@ fn what_is_written_is_what_mkfs_makes(rt: HostRuntime) {
     }
 }
 
-/// What is written of a new volume.
+/// Returns the bytes written of a new volume.
 fn written(rt: &impl Abort, alloc: Global, volume: NewVolume) -> Vec<u8> {
     let blank = BlankVolume::new(alloc, volume).expect(rt, "a blank volume");
     let mut sink = IntoWrite::new(ScriptedWriter::new(alloc, 50_000));

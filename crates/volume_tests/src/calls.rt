@@ -1,4 +1,5 @@
-// Journals: they are made again, by calls and by records, and cut. A record may have another free i-number than its call would take.
+// Journals that are replayed, by calls and by records, and cut. A record may have another free i-number than its call would
+// take.
 ghost use Rattle.std.specs.Prelude.{◌≡◌, true};
 ghost use Rattle.vol_volume.specs.Journal.{MayAnswer, MayFollow};
 ghost use Rattle.vol_volume.specs.Verdict.{is_free_number};
@@ -13,10 +14,10 @@ use vol_layout::{Edition, Geometry};
 use vol_volume::Done::{Made, Plain};
 use vol_volume::{Call, Done, Record, Volume};
 
-/// The moment of the calls, which stands on the disk as 02 01 04 03.
+/// The time of the calls, which is 02 01 04 03 on the disk.
 const LATER: u32 = 0x0102_0304;
 
-/// A call, without its user and moment.
+/// A call, without its user and time.
 #[derive(Clone, Copy, Debug)]
 enum Asked<'a> {
     /// Makes a file with these permission bits.
@@ -153,7 +154,7 @@ fn call_of(rt: &impl Abort, alloc: Global, asked: Asked) -> Call {
     }
 }
 
-/// Makes a call, and returns its answer or its refusal.
+/// Makes a call, and returns its result or its refusal.
 fn make(
     rt: &impl Abort,
     alloc: Global,
@@ -184,8 +185,8 @@ fn a_journal_is_made_again_and_can_be_cut_anywhere(rt: HostRuntime) {
     }
 }
 
-/// Makes the run on a new volume and cuts the journal after `count` calls: the image has these bytes at the end, and
-/// the rest of the journal, made again on the base, leaves them too.
+/// Makes the run on a new volume and cuts the journal after `count` calls. Checks that the image has these bytes at the end,
+/// and again after the rest of the journal is replayed on the base.
 fn check_cut(rt: &impl Abort, alloc: Global, edition: Edition, count: usize, wanted: &[u8]) {
     let mut volume = new_volume(rt, alloc, edition, 20, 2);
     let front = RUN.get(..count).expect(rt, "the calls before the cut");
@@ -205,7 +206,7 @@ fn check_cut(rt: &impl Abort, alloc: Global, edition: Edition, count: usize, wan
     check_redone(rt, alloc, &volume);
 }
 
-/// Makes the calls of a journal again on its base: they give the same answers and the same image.
+/// Replays the calls of a journal on its base, and checks that they give the same results and the same image.
 fn check_called(rt: &impl Abort, alloc: Global, volume: &Volume) {
     let mut called = base_of(rt, alloc, volume);
     for record in volume.journal() {
@@ -215,7 +216,7 @@ fn check_called(rt: &impl Abort, alloc: Global, volume: &Volume) {
     check_whole(rt, called.image().as_bytes(), volume.image().as_bytes());
 }
 
-/// Makes the records of a journal again on its base: they give the same image.
+/// Replays the records of a journal on its base, and checks that they give the same image.
 fn check_redone(rt: &impl Abort, alloc: Global, volume: &Volume) {
     let mut redone = base_of(rt, alloc, volume);
     for record in volume.journal() {
@@ -231,7 +232,7 @@ fn base_of(rt: &impl Abort, alloc: Global, volume: &Volume) -> Volume {
     mount(rt, alloc, volume.edition(), bytes)
 }
 
-/// Makes a call with a recorded answer, after a check that the call may have it.
+/// Makes a call with a recorded result, after checking that the call may have it.
 fn redo(rt: &impl Abort, alloc: Global, volume: &mut Volume, call: Call, done: Done) {
     match volume.foresee(&call) {
         Ok(foreseen) => {
@@ -242,7 +243,7 @@ fn redo(rt: &impl Abort, alloc: Global, volume: &mut Volume, call: Call, done: D
     }
 }
 
-/// Returns true if a call that may have the answer `foreseen` may also have `done`.
+/// True if a call that may have the result `foreseen` may also have `done`.
 fn may_answer(volume: &Volume, call: &Call, foreseen: Done, done: Done) -> bool
     requires { MayAnswer (reads_as volume.now.edition volume.now.image) call.now foreseen }
     ensures { result ≡ true → MayAnswer (reads_as volume.now.edition volume.now.image) call.now done }
@@ -253,7 +254,7 @@ fn may_answer(volume: &Volume, call: &Call, foreseen: Done, done: Done) -> bool
     }
 }
 
-/// Returns true if an i-number is above the root's and free.
+/// True if an i-number is above the root's and free.
 fn is_free(volume: &Volume, number: u16) -> bool
     ensures { result ≡ true → is_free_number (reads_as volume.now.edition volume.now.image).tree number ≡ true }
 {

@@ -1,4 +1,4 @@
-// Changes that no command of the program asks for.
+// Changes that no command of the program makes.
 use crate::fixtures::{Piece, check_bytes, check_whole, new_bytes, put};
 use command_changes::{Change, do_change};
 use pdp_words::IntoWrite;
@@ -7,14 +7,16 @@ use std::alloc::Global;
 use std::process::Abort;
 use vol_layout::Edition;
 
-/// The entry and the i-node of an empty file `hello` in the root of a new volume of the sixth edition, which is then longer.
+/// The entry and the i-node of an empty file `hello` in the root of a new volume of the sixth edition, and the root's longer
+/// size.
 static PIECES: [Piece; 3] = [
     (1030, b"\x30"),
     (1056, b"\xA4\x81\x01"),
     (2080, b"\x02\x00hello"),
 ];
 
-/// Makes a change of the volume that has the file, and compares what it writes to standard error and the volume that is to be saved, if one is.
+/// Makes a change of the volume with the file, and checks the line on standard error and the volume to save, if there is
+/// one.
 fn check(rt: &impl Abort, alloc: Global, change: Change<'_>, line: &[u8], mode: Option<&[u8]>) {
     let mut image = new_bytes(rt, alloc, Edition::V6, 20, 2);
     for (at, piece) in &PIECES {

@@ -1,4 +1,4 @@
-//! Lists of files that a command line can't give: of no file, and of two of one name.
+//! Lists of files that a command line can't give: an empty one, and one with the same name twice.
 use crate::trees::{EDITIONS, NOW, grown};
 use command_changes::{NewFile, put_all};
 use command_reads::get_all;
@@ -8,12 +8,13 @@ use std::alloc::Global;
 use std::process::Abort;
 use vol_layout::Edition;
 
-/// A writer that has taken nothing.
+/// Returns a writer that has taken nothing.
 fn writer(alloc: Global) -> IntoWrite<ScriptedWriter> {
     IntoWrite::new(ScriptedWriter::new(alloc, 100))
 }
 
-/// Files of these names are not put into the root of an image, by an empty path, and why is told.
+/// Checks that files with these names can't be put into the root of an image, given as the empty path, and checks the
+/// message.
 fn check_not_put(
     rt: &impl Abort,
     alloc: Global,
@@ -62,7 +63,7 @@ fn files_are_not_put(rt: HostRuntime) {
     check_not_put(&rt, alloc, Edition::V6, Vec::new(alloc), &[], told);
 }
 
-/// Each of some paths is read, and has the bytes of the file to be kept.
+/// Checks that each of some paths is read, and has the bytes of the file to keep.
 fn check_read(rt: &impl Abort, alloc: Global, edition: Edition, paths: &[&str]) {
     let image = grown(rt, alloc, edition).unmount();
     let mut errors = writer(alloc);

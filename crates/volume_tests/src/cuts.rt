@@ -1,4 +1,4 @@
-// A volume that is cut to each length.
+// A volume that is truncated to each length.
 use crate::fixtures::{copied, new_bytes};
 use std::alloc::Global;
 use std::process::Abort;
@@ -17,7 +17,7 @@ fn a_volume_is_mounted_whole_or_not_at_all(rt: HostRuntime) {
     assert!(rt; Volume::mount(alloc, Edition::V6, whole).is_ok());
 }
 
-/// Mounting some bytes is refused for the first rule, and the same bytes come back.
+/// Checks that mounting some bytes is refused for the first rule, and that the same bytes are handed back.
 fn check_refused(rt: &impl Abort, alloc: Global, bytes: &[u8]) {
     let len = bytes.len();
     match Volume::mount(alloc, Edition::V6, copied(rt, alloc, bytes)) {

@@ -1,4 +1,4 @@
-// Numbers as they stand on the disk, and devices that go wrong at each of their calls.
+// Numbers as they are on the disk, and devices that fail at each of their calls.
 ghost use Rattle.std.specs.Prelude.{◌<◌};
 
 use crate::fixtures::{Piece, check_whole, with_pieces};
@@ -14,7 +14,7 @@ use std::io::{ErrorKind, Write};
 use std::process::Abort;
 use vol_layout::Edition;
 
-/// So many bytes, which come again after 251.
+/// Returns `len` bytes, which repeat after 251.
 fn sample(rt: &impl Abort, alloc: Global, len: usize) -> Vec<u8> {
     let mut bytes = Vec::new(alloc);
     for n in 0..len {
@@ -39,10 +39,10 @@ fn numbers_stand_in_the_order_of_the_pdp_11(rt: HostRuntime) {
     );
 }
 
-/// Bytes in the run that the devices below move.
+/// The number of bytes that the devices below move.
 const RUN: usize = 2000;
 
-/// The mishaps of a writer after which nothing is written any more.
+/// The faults of a writer after which nothing more is written.
 const MISHAPS: [WriteMishap; 2] = [WriteMishap::Error(ErrorKind::Other), WriteMishap::TakesNone];
 
 #[test]
@@ -53,8 +53,8 @@ fn a_load_fails_exactly_where_a_read_does(rt: HostRuntime) {
     }
 }
 
-/// Loads `bytes`, once for each read that can fail, the last of which says that there are no more, and twice more, where
-/// that read never comes.
+/// Loads `bytes`, once for each read that can fail, the last of which finds the end, and twice more with a failure after
+/// that.
 fn check_loads(rt: &impl Abort, alloc: Global, bytes: &[u8], piece: usize)
     requires { 0 < piece }
 {
@@ -72,7 +72,7 @@ fn check_loads(rt: &impl Abort, alloc: Global, bytes: &[u8], piece: usize)
     }
 }
 
-/// A source has failed or not, and these bytes are left in it.
+/// Checks whether a source has failed, and that these bytes are left in it.
 fn check_source(
     rt: &impl Abort,
     source: FromRead<ScriptedReader>,
@@ -94,7 +94,7 @@ fn a_save_fails_exactly_where_a_write_does(rt: HostRuntime) {
     }
 }
 
-/// Saves `image`, once for each write that can go wrong, and twice more, where that write never comes.
+/// Saves `image`, once for each write that can fail, and twice more with a failure after the last.
 fn check_saves(rt: &impl Abort, alloc: Global, image: &Image, piece: usize, mishap: WriteMishap)
     requires { 0 < piece }
 {
@@ -114,7 +114,7 @@ fn check_saves(rt: &impl Abort, alloc: Global, image: &Image, piece: usize, mish
     }
 }
 
-/// A sink has failed or not, and has taken these bytes.
+/// Checks whether a sink has failed, and that it has taken these bytes.
 fn check_sink(
     rt: &impl Abort,
     sink: IntoWrite<ScriptedWriter>,
@@ -159,7 +159,7 @@ fn reads_of_no_byte_and_of_one_do_their_work(rt: HostRuntime) {
     check_source(&rt, source, false, &[6], &"after two reads");
 }
 
-/// A read into room for so many bytes gives these.
+/// Checks that a read into a buffer of N bytes gives these.
 fn check_read<const N: usize>(rt: &impl Abort, source: &mut impl Source, wanted: &[u8; N]) {
     let mut bytes = [0; N];
     let count = source.read(&mut bytes).expect(rt, "a read");
@@ -198,15 +198,15 @@ static SIXTH: [Piece; 3] = [
     (1536, b"hello"),
 ];
 
-/// The same, where the file has 515 zeros more.
+/// The same, with 515 zeros more in the file.
 static LONGER: [Piece; 3] = [
     (512, b"\x01\x00\x05\x00"),
     (1024, b"\xA4\x81\x01\x00\x00\x00\x08\x02\x03\x00"),
     (1536, b"hello"),
 ];
 
-/// Runs `cat` of i-node 1 with a reader and a writer, and compares its answer, whether a read and a write failed, and
-/// what the writer took.
+/// Runs `cat` of i-node 1 with a reader and a writer, and checks its result, whether a read and a write failed, and the
+/// bytes that the writer took.
 fn check_cat(
     rt: &impl Abort,
     alloc: Global,
@@ -234,7 +234,7 @@ fn a_read_that_fails_is_the_devices(rt: HostRuntime) {
     }
 }
 
-/// Prints file 1, as `check_loads` loads it.
+/// Prints file 1 as `check_loads` loads it.
 fn check_reads(rt: &impl Abort, alloc: Global, bytes: &[u8], piece: usize)
     requires { 0 < piece }
 {
@@ -264,7 +264,7 @@ fn a_write_that_fails_counts_what_was_taken(rt: HostRuntime) {
     }
 }
 
-/// Prints file 1, as `check_saves` saves an image.
+/// Prints file 1 as `check_saves` saves an image.
 fn check_writes(
     rt: &impl Abort,
     alloc: Global,

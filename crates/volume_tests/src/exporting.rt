@@ -11,8 +11,8 @@ use vol_dir::Refusal;
 use vol_inspect::lost_inodes;
 use vol_layout::{Edition, Geometry};
 
-/// A volume of the seventh edition, of ten blocks. Four are before the data: i-node 2 is the root. It has files, directories, a further name
-/// and special files; no directory has `.` or `..`.
+/// A volume of the seventh edition, of ten blocks, four of them before the data. I-node 2 is the root. It has files,
+/// directories, a further name and special files; no directory has `.` or `..`.
 static TREE: [Piece; 25] = [
     (512, b"\x04\0\0\0\x0a\0"),
     (1088, b"\xff\x41\x02\0\0\0\0\0\0\0\x60\0\0\x04\0"),
@@ -41,12 +41,12 @@ static TREE: [Piece; 25] = [
     (4608, b"\x0b\0p23456789abcde"),
 ];
 
-/// An image, zeros but for some pieces.
+/// Returns an image of zeros with some pieces.
 fn image_of(rt: &impl Abort, alloc: Global, len: usize, pieces: &[Piece]) -> Image {
     Image::from_bytes(with_pieces(rt, alloc, len, pieces))
 }
 
-/// Exports the tree to a writer. Returns whether the output failed, and what the writer took.
+/// Exports the tree to a writer. Returns whether the output failed, and the bytes that the writer took.
 fn export_to(
     rt: &impl Abort,
     alloc: Global,
@@ -74,7 +74,7 @@ fn a_writer_that_fails_has_a_front(rt: HostRuntime) {
     }
 }
 
-/// A write goes wrong: what went out is a front of the archive.
+/// Checks that a failed write leaves a prefix of the archive.
 fn check_failing(rt: &impl Abort, alloc: Global, image: &Image, wanted: &[u8], at: u64) {
     let kind = WriteMishap::Error(ErrorKind::BrokenPipe);
     let writer = ScriptedWriter::new(alloc, 300).failing_at(at, kind);

@@ -1,4 +1,4 @@
-//! What the tests of several modules put into bytes, and compare; volumes on which they begin, and their users.
+//! The pieces and checks that several test modules share; their volumes and users.
 ghost use Rattle.std.specs.Prelude.{◌≡◌};
 ghost use Rattle.vol_volume.specs.Volume.{mounted};
 
@@ -9,64 +9,64 @@ use vol_dir::Cred;
 use vol_layout::Edition;
 use vol_volume::{Bytes, Query, Reply, Stat, Volume, mkfs};
 
-/// Bytes that stand at a place.
+/// Bytes at an offset.
 pub(crate) type Piece = (usize, &'static [u8]);
 
-/// The moment of the worked volumes, which stands on the disk as 0B 0A 0D 0C.
+/// The time of the worked volumes, which is 0B 0A 0D 0C on the disk.
 pub(crate) const NOW: u32 = 0x0A0B_0C0D;
 
-/// So many of one byte.
+/// Returns `len` bytes of one value.
 pub(crate) fn filled(rt: &impl Abort, alloc: Global, len: usize, byte: u8) -> Vec<u8> {
     vec![in alloc; byte; len].expect(rt, "memory for the bytes")
 }
 
-/// Puts bytes at a place, where there is room.
+/// Puts bytes at an offset, if they fit.
 pub(crate) fn put(bytes: &mut [u8], at: usize, piece: &[u8]) {
     if at.saturating_add(piece.len()) <= bytes.len() {
         put_bytes(bytes, at, piece);
     }
 }
 
-/// Puts pieces at their places, where there is room.
+/// Puts pieces at their offsets, if they fit.
 pub(crate) fn put_all(bytes: &mut [u8], pieces: &[Piece]) {
     for (at, piece) in pieces {
         put(bytes, *at, piece);
     }
 }
 
-/// `len` zeros, into which pieces are put.
+/// Returns `len` zeros with some pieces.
 pub(crate) fn with_pieces(rt: &impl Abort, alloc: Global, len: usize, pieces: &[Piece]) -> Vec<u8> {
     let mut bytes = filled(rt, alloc, len, 0);
     put_all(&mut bytes, pieces);
     bytes
 }
 
-/// A copy of some bytes.
+/// Returns a copy of some bytes.
 pub(crate) fn copied(rt: &impl Abort, alloc: Global, bytes: &[u8]) -> Vec<u8>
     ensures { result.items ≡ bytes.now }
 {
     Vec::from_slice(alloc, bytes).expect(rt, "memory for the bytes")
 }
 
-/// A path, or bytes that are written.
+/// Returns a path, or bytes to write.
 pub(crate) fn bytes_of(rt: &impl Abort, alloc: Global, bytes: &[u8]) -> Bytes
     ensures { result ≡ bytes.now }
 {
     Bytes::from_vec(copied(rt, alloc, bytes))
 }
 
-/// Bytes have these at a place.
+/// Checks the bytes at an offset.
 pub(crate) fn check_bytes(rt: &impl Abort, bytes: &[u8], place: usize, wanted: &[u8]) {
     let found = bytes.get(place..place.saturating_add(wanted.len()));
     assert_eq!(rt; found, Some(wanted), "from byte {place}");
 }
 
-/// Bytes are these, from the first to the last.
+/// Checks all bytes.
 pub(crate) fn check_whole(rt: &impl Abort, found: &[u8], wanted: &[u8]) {
     assert_eq!(rt; found, wanted);
 }
 
-/// The bytes of a new volume of user 0 and group 0.
+/// Returns the bytes of a new volume of user 0 and group 0.
 pub(crate) fn new_bytes(
     rt: &impl Abort,
     alloc: Global,
@@ -78,7 +78,7 @@ pub(crate) fn new_bytes(
     made.expect(rt, "a new volume")
 }
 
-/// A new volume of user 0 and group 0.
+/// Returns a new volume of user 0 and group 0.
 pub(crate) fn new_volume(
     rt: &impl Abort,
     alloc: Global,
@@ -100,7 +100,7 @@ pub(crate) fn mount(rt: &impl Abort, alloc: Global, edition: Edition, bytes: Vec
     }
 }
 
-/// Mounts a volume's image, in which other bytes are put.
+/// Mounts a volume's image after some pieces were put into it.
 pub(crate) fn edited(rt: &impl Abort, alloc: Global, volume: Volume, pieces: &[Piece]) -> Volume {
     let edition = volume.edition();
     let mut bytes = volume.unmount();
@@ -108,7 +108,7 @@ pub(crate) fn edited(rt: &impl Abort, alloc: Global, volume: Volume, pieces: &[P
     mount(rt, alloc, edition, bytes)
 }
 
-/// What a user is told of a node.
+/// Returns a node's attributes as a user sees them.
 pub(crate) fn stat(
     rt: &impl Abort,
     alloc: Global,

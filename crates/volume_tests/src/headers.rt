@@ -1,5 +1,5 @@
-//! Headers of GNU tar 1.34 whose fields no command shows: `tar --owner=3 --group=5 --mtime=@1000000000 -b1 -cf`, with `--format=ustar`
-//! and `--format=gnu`. `tests/archives.sh` imports others.
+//! Headers of GNU tar 1.34 with fields that no command shows, from `tar --owner=3 --group=5 --mtime=@1000000000 -b1 -cf`
+//! with `--format=ustar` and `--format=gnu`. `tests/archives.sh` imports others.
 use crate::fixtures::{Piece, put_all};
 use std::alloc::Global;
 use std::process::Abort;
@@ -77,7 +77,7 @@ static GNU_LARGE: [Piece; 5] = [
 /// The magic and the version of GNU tar.
 const GNU_MAGIC: Piece = (257, b"ustar  \x00");
 
-/// A header that is read.
+/// Checks a header that is read.
 fn check_read(
     rt: &impl Abort,
     alloc: Global,
@@ -95,7 +95,7 @@ fn check_read(
     assert!(rt; !is_zeros(&block));
 }
 
-/// The header of a member of user 3 and group 5.
+/// Returns the header of a member of user 3 and group 5.
 fn header(flag: TypeFlag, permissions: u64) -> ReadHeader {
     ReadHeader {
         flag,

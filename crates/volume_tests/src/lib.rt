@@ -1,5 +1,5 @@
-//! Tests of all crates, by their public functions: worked values of the formats, borders, journals made again, and
-//! what no contract says.
+//! Tests of all crates through their public functions: worked values of the formats, border cases, replayed journals, and
+//! facts that no contract states.
 #![tactic(auto)]
 
 #[cfg(test)]

@@ -1,4 +1,4 @@
-//! A volume of the other edition, and what each fault is called.
+//! A volume of the other edition, and the name of each fault.
 use vol_layout::Edition;
 use vol_migrate::{MigrateFault, migrate};
 use vol_volume::{Volume, mkfs};
@@ -10,7 +10,7 @@ fn another_edition(rt: HostRuntime) {
     let Ok(seventh) = Volume::mount(alloc, Edition::V7, bytes) else {
         panic!(&rt; "a new volume is mounted");
     };
-    // This is asked before the sizes, which are no volume's.
+    // This is checked before the sizes, which can't be a volume's.
     let found = migrate(alloc, &seventh, 7, 5, 1);
     assert_eq!(&rt; found.err(), Some(MigrateFault::Invalid));
 }

@@ -1,4 +1,4 @@
-//! The calls that take a tree away, in their order, and the one that is refused.
+//! The calls that remove a tree, in order, and the one that is refused.
 use crate::trees::{EDITIONS, NOW, grown};
 use std::alloc::Global;
 use std::process::Abort;
@@ -6,10 +6,10 @@ use vol_dir::{Cred, Refusal};
 use vol_removal::{RemovalFault, removal, remove_all};
 use vol_volume::{Call, Volume};
 
-/// A call as these tests tell it: whether it is an Rmdir, and its path.
+/// A call as these tests see it: true for an Rmdir, and its path.
 type Told<'a> = (bool, &'a [u8]);
 
-/// What a call is told as, who calls, and when.
+/// Returns a call as the tests see it, with its user and its time.
 fn told(call: &Call) -> Option<(Told<'_>, Cred, u32)> {
     match call {
         Call::Rmdir { cred, now, path } => Some(((true, path.as_slice()), *cred, *now)),
@@ -18,7 +18,7 @@ fn told(call: &Call) -> Option<(Told<'_>, Cred, u32)> {
     }
 }
 
-/// The calls for a path are these.
+/// Checks the calls for a path.
 fn check_calls(rt: &impl Abort, alloc: Global, volume: &Volume, path: &[u8], all: &[Told<'_>]) {
     let calls = removal(alloc, volume, path, NOW).expect(rt, "calls");
     assert_eq!(rt; calls.len(), all.len());
@@ -49,7 +49,7 @@ fn a_directory_goes_after_all_that_is_in_it(rt: HostRuntime) {
     }
 }
 
-/// Paths that lead to nothing, and why.
+/// Paths that lead nowhere, with their refusals.
 static MISSING: [(&'static [u8], Refusal); 4] = [
     (b"/none", Refusal::NoEntry),
     (b"/keep/none/x", Refusal::NoEntry),
@@ -57,7 +57,8 @@ static MISSING: [(&'static [u8], Refusal); 4] = [
     (b"/keep\0", Refusal::Invalid),
 ];
 
-/// Paths whose Rmdir is refused, and why. By then all that is below them is gone, and so is `/keep` below `/keep/..`.
+/// Paths whose Rmdir is refused, with the refusals. By then everything below them is removed, and so is `/keep` below
+/// `/keep/..`.
 static REFUSED: [(&'static [u8], Refusal); 4] = [
     (b"", Refusal::Invalid),
     (b"/", Refusal::Invalid),

@@ -1,4 +1,4 @@
-// The words of refusals and faults.
+// The texts of refusals and faults.
 use pdp_words::{LoadFault, SaveFault};
 use std::alloc::Global;
 use std::fmt::Display;
@@ -51,7 +51,7 @@ fn faults_have_their_words(rt: HostRuntime) {
     check(&rt, alloc, &fault, "the device failed after 513 bytes");
 }
 
-/// A refusal or a fault is shown by these words.
+/// Checks the text of a refusal or a fault.
 fn check(rt: &impl Abort, alloc: Global, fault: &impl Display, words: &str) {
     let shown = format!(in alloc; "{fault}").expect(rt, "memory for the words");
     assert_eq!(rt; shown.as_str(), words);

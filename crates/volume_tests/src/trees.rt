@@ -9,18 +9,18 @@ use vol_volume::{Call, Volume, mkfs};
 /// The editions.
 pub(crate) const EDITIONS: [Edition; 2] = [Edition::V6, Edition::V7];
 
-/// When the trees are changed.
+/// The time at which the trees are changed.
 pub(crate) const NOW: u32 = 2000;
 
-/// When they are made.
+/// The time at which they are made.
 const MADE: u32 = 1000;
 
-/// What a call makes.
+/// A step that makes part of a tree.
 #[derive(Clone, Copy)]
 enum Step {
-    /// A directory that its owner alone may search.
+    /// A directory that only its owner may search.
     Mkdir(&'static [u8]),
-    /// The same, of another user.
+    /// The same directory, given to another user.
     Chown(&'static [u8]),
     /// A file without bytes.
     Create(&'static [u8]),
@@ -47,7 +47,7 @@ static STEPS: [Step; 13] = [
     Step::Link(b"/d/z", b"/d/a"),
 ];
 
-/// The call of a step.
+/// Returns the call of a step.
 fn call_of(rt: &impl Abort, alloc: Global, step: Step) -> Call {
     let (cred, now) = (Cred::ROOT, MADE);
     match step {
@@ -86,7 +86,7 @@ fn call_of(rt: &impl Abort, alloc: Global, step: Step) -> Call {
     }
 }
 
-/// A volume with the trees, mounted.
+/// Returns a mounted volume with the trees.
 pub(crate) fn grown(rt: &impl Abort, alloc: Global, edition: Edition) -> Volume {
     let bytes = mkfs(alloc, edition, 40, 2, 0, 0, MADE).expect(rt, "a new volume");
     let mut volume = mount(rt, alloc, edition, bytes);

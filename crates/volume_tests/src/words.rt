@@ -1,4 +1,5 @@
-// What no run of the program shows of the words of a command line: numbers of threads, and moments where the clock tells another one or none.
+// Words of a command line that no run of the program shows: numbers of threads, and times when the clock gives another time
+// or none.
 use command_changes::Change;
 use command_line::{Invocation, VolumeFile, Work, asks_to_explain, read};
 use std::alloc::{AllocError, Global};
@@ -12,7 +13,7 @@ const VOLUME: VolumeFile<'static> = VolumeFile {
     image: "disk",
 };
 
-/// The words of commands that are read where the clock tells nothing.
+/// The words of commands that are read although the clock gives no time.
 static WITHOUT_CLOCK: [&[&str]; 22] = [
     &["get", "7", "disk", "/d/f"],
     &["get", "7", "disk", "-o", "out", "/d/f"],
@@ -38,7 +39,7 @@ static WITHOUT_CLOCK: [&[&str]; 22] = [
     &["mkfs", "7", "disk", "65536", "65535", "1", "02", "3"],
 ];
 
-/// The words of `rm`, what the clock tells, and the moment that is meant.
+/// The words of `rm`, the clock's time, and the time that is meant.
 type Meant = (&'static [&'static str], Option<u32>, u32);
 
 static MOMENTS: [Meant; 6] = [
@@ -62,13 +63,13 @@ static MOMENTS: [Meant; 6] = [
     (&["rm", "7", "disk", "/f"], Some(0), 0),
 ];
 
-/// Words that want a moment where none is given.
+/// Words that need a time, when none is given.
 static NO_MOMENTS: [&[&str]; 2] = [
     &["rm", "7", "disk", "/f"],
     &["put", "7", "disk", "-t", "/d", "a", "b"],
 ];
 
-/// The words of a checker, and what they ask for.
+/// The words of a checker's command, with the checker and the number of threads.
 type Checked = (&'static [&'static str], Checker, usize);
 
 static CHECKERS: [Checked; 9] = [
@@ -83,7 +84,7 @@ static CHECKERS: [Checked; 9] = [
     (&["ncheck", "7", "disk", "7"], Checker::Names, 7),
 ];
 
-/// The words of a command line.
+/// Returns the words of a command line.
 fn words(alloc: Global, rest: &[&str]) -> Result<Vec<String>, AllocError> {
     let mut words = vec![in alloc]?;
     words.push("unixvol".to_string(alloc)?)?;
@@ -93,7 +94,7 @@ fn words(alloc: Global, rest: &[&str]) -> Result<Vec<String>, AllocError> {
     Ok(words)
 }
 
-/// What is read of the words of a command line, where the clock tells this.
+/// Checks how the words of a command line are read when the clock gives this time.
 fn check(
     rt: &impl Abort,
     alloc: Global,

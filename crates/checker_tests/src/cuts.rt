@@ -1,10 +1,10 @@
-// Images that are cut short: whatever the checker, the report has the rule that they break alone.
+// Images that are truncated: for every checker, the report has only the rule that they break.
 use crate::fixtures::{SIXTH, check_report, image_of};
 use pdp_words::Image;
 use vol_check::{Open, dcheck, icheck, ncheck};
 use vol_layout::Edition;
 
-/// The first bytes of an image.
+/// Returns the first bytes of an image.
 fn cut(image: Image, len: usize) -> Image {
     let mut bytes = image.into_bytes();
     bytes.truncate(len);

@@ -8,7 +8,7 @@ use vol_layout::Edition;
 use vol_mkfs::mkfs::mkfs;
 use vol_reports::Report;
 
-/// An image: what `mkfs` makes with two blocks of i-nodes, and bytes that are put in places.
+/// An image: the one that `mkfs` makes with two blocks of i-nodes, with some bytes changed.
 #[derive(Clone, Copy)]
 pub(crate) struct Made {
     pub edition: Edition,
@@ -29,7 +29,7 @@ pub(crate) const SEVENTH: Made = Made {
     pieces: &[],
 };
 
-/// Images, the reports of them, and whether these tell of faults.
+/// Images with their reports, and whether these have faults.
 pub(crate) static REPORTS: [(Made, Checker, &[u8], bool); 18] = [
     // A new volume of the sixth edition.
     (
@@ -45,7 +45,7 @@ pub(crate) static REPORTS: [(Made, Checker, &[u8], bool); 18] = [
         b"files 0\ndirectories 1\nspecial 0\nodd 0\nused 1\nfree 95\nmissing 0\n",
         false,
     ),
-    // The chain block of the free list leads to itself.
+    // The chain block of the free list names itself.
     (
         Made {
             pieces: &[(25602, &[0, 0, 50, 0])],
@@ -93,7 +93,7 @@ pub(crate) static REPORTS: [(Made, Checker, &[u8], bool); 18] = [
         b"lost 5\nlost 6\nlost 7\nlost 8\nlost 9\nlost 10\nlost 11\nlost 12\nlost 13\nlost 14\nlost 15\nlost 16\nlost 17\nlost 18\nlost 19\nfree toomany 101\nfiles 0\ndirectories 1\nspecial 0\nodd 0\nused 1\nfree 0\nmissing 15\n",
         true,
     ),
-    // The root's only block is none of the volume's.
+    // The root's only block is outside the volume.
     (
         Made {
             pieces: &[(1032, &[20])],
@@ -125,7 +125,7 @@ pub(crate) static REPORTS: [(Made, Checker, &[u8], bool); 18] = [
         b"1 2 5\n",
         true,
     ),
-    // The root's only block is none of the volume's.
+    // The root's only block is outside the volume.
     (
         Made {
             pieces: &[(1032, &[20])],
@@ -155,7 +155,7 @@ pub(crate) static REPORTS: [(Made, Checker, &[u8], bool); 18] = [
         b"",
         false,
     ),
-    // Another i-number may not.
+    // Another i-number must have some.
     (
         Made {
             pieces: &[(1152, &[0x00, 0x80])],
@@ -165,7 +165,7 @@ pub(crate) static REPORTS: [(Made, Checker, &[u8], bool); 18] = [
         b"3 0 0\n",
         true,
     ),
-    // A new volume, whose root has `.` and `..` alone.
+    // A new volume, whose root contains only `.` and `..`.
     (Made { ..SIXTH }, Checker::Names, b"", false),
     // A file in a directory.
     (
@@ -207,7 +207,7 @@ pub(crate) static REPORTS: [(Made, Checker, &[u8], bool); 18] = [
         b"31 .../y/x/y\n32 .../x/y/x\n",
         true,
     ),
-    // The root's only block is none of the volume's.
+    // The root's only block is outside the volume.
     (
         Made {
             pieces: &[(1032, &[20])],
@@ -220,7 +220,7 @@ pub(crate) static REPORTS: [(Made, Checker, &[u8], bool); 18] = [
 ];
 
 /// A volume of the seventh edition with file 16 under `/f` and 2,100 further names, and directories 15 under `/d` and 14
-/// under `/d/e`. The root takes blocks 4 to 69, and block 70 names those from 14 on; neither is here.
+/// under `/d/e`. The root has blocks 4 to 69, of which block 70 names those from 14 on; both are filled in elsewhere.
 const LARGE: Made = Made {
     edition: Edition::V7,
     blocks: 300,
@@ -244,13 +244,13 @@ const LARGE: Made = Made {
     ],
 };
 
-/// How many names the file of the large directory has besides `/f`.
+/// The number of names that the file in the large directory has besides `/f`.
 const NAMES: u32 = 2100;
 
-/// Where the large directory has the last of these.
+/// The offset of the last of these in the large directory.
 pub(crate) const LAST_NAME: usize = 35_696;
 
-/// These bytes with others put in a place.
+/// Returns bytes with others put at an offset.
 pub(crate) fn put(mut bytes: Vec<u8>, at: usize, piece: &[u8]) -> Vec<u8> {
     if at.saturating_add(piece.len()) <= bytes.len() {
         put_bytes(&mut bytes, at, piece);
@@ -258,7 +258,7 @@ pub(crate) fn put(mut bytes: Vec<u8>, at: usize, piece: &[u8]) -> Vec<u8> {
     bytes
 }
 
-/// The bytes of an image.
+/// Returns the bytes of an image.
 fn bytes_of(rt: &impl Abort, alloc: Global, made: &Made) -> Vec<u8> {
     let mut bytes = mkfs(alloc, made.edition, made.blocks, 2, 0, 0, 0x0A0B_0C0D).expect(
         rt,
@@ -270,12 +270,12 @@ fn bytes_of(rt: &impl Abort, alloc: Global, made: &Made) -> Vec<u8> {
     bytes
 }
 
-/// The image.
+/// Returns the image.
 pub(crate) fn image_of(rt: &impl Abort, alloc: Global, made: &Made) -> Image {
     Image::from_bytes(bytes_of(rt, alloc, made))
 }
 
-/// The image of a directory of 66 logical blocks, which is more than one piece.
+/// Returns the image with a directory of 66 logical blocks, which is more than one piece.
 pub(crate) fn large_image(rt: &impl Abort, alloc: Global) -> Image {
     let bytes = bytes_of(rt, alloc, &LARGE);
     let bytes = put(bytes, 4 * 512, &large_slots(rt, alloc));
@@ -283,7 +283,7 @@ pub(crate) fn large_image(rt: &impl Abort, alloc: Global) -> Image {
     Image::from_bytes(bytes)
 }
 
-/// The slots of the large directory.
+/// Returns the slots of the large directory.
 fn large_slots(rt: &impl Abort, alloc: Global) -> Vec<u8> {
     let mut slots = Vec::new(alloc);
     push(rt, &mut slots, b"\x02\0.\0\0\0\0\0\0\0\0\0\0\0\0\0");
@@ -298,7 +298,7 @@ fn large_slots(rt: &impl Abort, alloc: Global) -> Vec<u8> {
     slots
 }
 
-/// The numbers of the blocks that block 70 names.
+/// Returns the numbers of the blocks that block 70 names.
 fn large_addresses(rt: &impl Abort, alloc: Global) -> Vec<u8> {
     let mut addresses = Vec::new(alloc);
     for block in 14..70u8 {
@@ -307,7 +307,7 @@ fn large_addresses(rt: &impl Abort, alloc: Global) -> Vec<u8> {
     addresses
 }
 
-/// The text of the name report of the large image, where the last name is that of `/d`.
+/// Returns the text of the name report on the large image, whose last name is that of `/d`.
 pub(crate) fn names_text(rt: &impl Abort, alloc: Global) -> Vec<u8> {
     let mut text = Vec::new(alloc);
     push(rt, &mut text, b"14 /d/e\n15 /d\n15 /n2100\n16 /f\n");
@@ -325,13 +325,13 @@ fn push(rt: &impl Abort, text: &mut Vec<u8>, bytes: &[u8]) {
         .expect(rt, "memory for the text");
 }
 
-/// The four digits of a number.
+/// Returns the four digits of a number.
 fn digits(number: u32) -> [u8; 4] {
     let digit = |scale: u32| b'0' + (number / scale % 10) as u8;
     [digit(1000), digit(100), digit(10), digit(1)]
 }
 
-/// A report has this text, by which it tells of faults or doesn't.
+/// Checks the text of a report, and whether it has faults.
 pub(crate) fn check_report(
     rt: &impl Abort,
     alloc: Global,

@@ -1,4 +1,4 @@
-// Gates: four workers that are at work at the same time, and each piece between two calls.
+// Gates: four workers that work at the same time, and each piece between two calls.
 use crate::fixtures::{SIXTH, check_report, image_of};
 use std::sync::atomic::{AtomicU64, Ordering};
 use vol_check::testing::Meeting;
@@ -15,17 +15,17 @@ fn four_workers_meet_before_their_first_pieces(rt: HostRuntime) {
     check_report(&rt, alloc, report, (wanted, false));
 }
 
-/// How many calls are counted from this bit on; the bits below stand for the pieces.
+/// The unit in which calls are counted; the bits below represent the pieces.
 const CALLS: u64 = 1 << 40;
 
-/// Counts the calls, and the pieces that they are for.
+/// Counts the calls, and their pieces.
 #[derive(Drop)]
 struct Counting {
     before: AtomicU64,
     after: AtomicU64,
 }
 
-/// One call, for this piece.
+/// Returns the count of one call, for this piece.
 fn one_call(piece: u64) -> u64 {
     if piece < 40 {
         CALLS + (1 << piece)

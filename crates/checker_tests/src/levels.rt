@@ -1,4 +1,4 @@
-// Files whose indirect blocks lead to one another: icheck counts what is found by going from place to place.
+// Files whose indirect blocks name one another: icheck's counts are compared with those of a walk from block to block.
 use crate::fixtures::{Made, SEVENTH, image_of, put};
 use pdp_words::Image;
 use vol_check::{Open, icheck};
@@ -14,26 +14,26 @@ const DEEP: Made = Made {
     ..SEVENTH
 };
 
-/// The blocks that lead to one another.
+/// The blocks that name one another.
 const FIRST: u32 = 60;
 
 const END: u32 = 68;
 
-/// How they do.
+/// The way in which they do.
 #[derive(Clone, Copy, Debug)]
 enum Pattern {
     /// Each names itself.
     Ring,
     /// Each names the next.
     Tree,
-    /// Each names several of them, numbers of no data block, and 0.
+    /// Each names several of them, numbers outside the data zone, and 0.
     Fan,
 }
 
 static PATTERNS: [Pattern; 3] = [Pattern::Ring, Pattern::Tree, Pattern::Fan];
 
 impl Pattern {
-    /// The number in an entry of a block.
+    /// Returns the number in an entry of a block.
     fn number(self, block: u32, entry: u32) -> u32 {
         match self {
             Pattern::Ring => block,
@@ -45,7 +45,8 @@ impl Pattern {
     }
 }
 
-/// How many places name each block of the volume, how many name no data block, and the least of those numbers.
+/// Counts of the places that name each block of the volume, of those that name no data block, and the least of their
+/// numbers.
 #[derive(Debug, PartialEq, Eq, Drop)]
 struct Counts {
     places: [u64; 100],
@@ -81,7 +82,7 @@ impl Counts {
         }
     }
 
-    /// What a report has.
+    /// Returns the counts in a report.
     fn of(report: &Report) -> Counts {
         let mut counts = Counts::none();
         for line in report.lines() {

@@ -1,12 +1,12 @@
-// A directory whose logical blocks lead by shared indirect blocks to four blocks of entries: dcheck counts what is found by going from
-// slot to slot.
+// A directory whose logical blocks lead through shared indirect blocks to four blocks of entries: dcheck's counts are
+// compared with those of a walk from slot to slot.
 use crate::fixtures::{Made, SEVENTH, image_of, put};
 use pdp_words::Image;
 use vol_check::{Open, dcheck, ncheck};
 use vol_layout::Edition;
 use vol_reports::{Line, Report};
 
-/// I-number 3 is a directory of 527 logical blocks and seven slots, and has an indirect and a doubly indirect block.
+/// I-number 3 is a directory of 527 logical blocks and seven slots, with an indirect and a doubly indirect block.
 const SHARED: Made = Made {
     pieces: &[
         (1152, &[0xED, 0x41, 1]),
@@ -23,7 +23,7 @@ const SLOTS: u32 = 527 * 32 + 7;
 /// The numbers at its first ten addresses.
 static FIRST: [u32; 10] = [70, 71, 0, 200, 70, 72, 72, 0, 73, 70];
 
-/// The number in an entry of indirect block 60 or 62.
+/// Returns the number in an entry of indirect block 60 or 62.
 fn entry(block: u32, j: u32) -> u32 {
     match j {
         j if j % 11 == 0 => 0,
@@ -32,7 +32,7 @@ fn entry(block: u32, j: u32) -> u32 {
     }
 }
 
-/// The number of the block that holds a logical block.
+/// Returns the number of the block that holds a logical block.
 fn number(b: u32) -> u32 {
     match b {
         b if b < 10 => FIRST[b as usize],
@@ -41,7 +41,7 @@ fn number(b: u32) -> u32 {
     }
 }
 
-/// The i-number in a slot of a block; 0 where the block has no entries.
+/// Returns the i-number in a slot of a block; 0 if the block has no entries.
 fn inode(block: u32, slot: u32) -> u32 {
     match block {
         70..=73 => slot.wrapping_mul(slot).wrapping_add(block) % 20,
@@ -49,7 +49,7 @@ fn inode(block: u32, slot: u32) -> u32 {
     }
 }
 
-/// How many entries each i-number has, by the lines of a report.
+/// Returns the number of entries of each i-number, from the lines of a report.
 fn counts_of(report: &Report) -> [u64; 17] {
     let mut counts = [0; 17];
     for line in report.lines() {

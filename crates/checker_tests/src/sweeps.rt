@@ -1,5 +1,5 @@
-// Sweeps whose seats are stepped by hand: what a step answers, and that the report hangs on the image that was stepped on,
-// not on who did which piece.
+// Sweeps whose seats are stepped by hand: the result of each step, and that the report depends on the image that was stepped
+// on, not on which seat took which piece.
 ghost use Rattle.std.specs.Prelude.{◌≡◌, ◌≤◌, ◌<◌, All, length, vec_len};
 ghost use Rattle.vol_check.specs.Layouts.{IsFor, IsSeatIn, HasSwept, HasSameHead, seat_count};
 ghost use Rattle.vol_check.specs.Stepping.{Ran};
@@ -21,19 +21,19 @@ use vol_reports::Report;
 /// More pieces than any of the sweeps has.
 const ENOUGH: u64 = 40_000;
 
-/// How the pieces of a sweep are divided.
+/// The division of a sweep's pieces among seats and threads.
 #[derive(Clone, Copy, Debug)]
 enum Division {
-    /// One seat does them all.
+    /// One seat takes them all.
     OneSeat,
-    /// As many seats as there may be take turns.
+    /// As many seats as possible take turns.
     Turns,
     /// Seven threads have a seat each.
     SevenThreads,
 }
 
 impl Division {
-    /// How many seats there are.
+    /// Returns the number of seats.
     fn seats(self) -> usize
         ensures first { 1 ≤ result }
         ensures last { result ≤ MOST_WORKERS }
@@ -45,7 +45,7 @@ impl Division {
         }
     }
 
-    /// How many threads there are.
+    /// Returns the number of threads.
     fn threads(self) -> usize
         ensures { 0 < result }
     {
@@ -58,8 +58,8 @@ impl Division {
 
 static DIVISIONS: [Division; 3] = [Division::OneSeat, Division::Turns, Division::SevenThreads];
 
-/// Images, and how many pieces these have for a checker: the free list and each i-number, or for the entries and the names each
-/// i-number, and each 64 logical blocks begun of a large directory.
+/// Images with the number of their pieces for a checker: the free list and each i-number, or for the entries and the names
+/// each i-number, and each 64 logical blocks begun of a large directory.
 static COUNTS: [(Made, Checker, u64); 8] = [
     (Made { ..SIXTH }, Checker::Blocks, 33),
     (Made { ..SIXTH }, Checker::Entries, 32),
@@ -75,7 +75,7 @@ static COUNTS: [(Made, Checker, u64); 8] = [
         Checker::Entries,
         33_042,
     ),
-    // Images without geometry have no pieces.
+    // Images without a geometry have no pieces.
     (
         Made {
             pieces: &[(512, &[18, 0])],
@@ -98,17 +98,17 @@ static COUNTS: [(Made, Checker, u64); 8] = [
 struct Elsewhere {
     /// The image that it is made for.
     made: Made,
-    /// Where the other image has other bytes, in its data zone, and which.
+    /// The offset in the data zone where the other image differs, and its bytes there.
     at: usize,
     piece: &'static [u8],
     checker: Checker,
-    /// The report of the other image, and whether it tells of faults.
+    /// The report on the other image, and whether it has faults.
     text: &'static [u8],
     faults: bool,
 }
 
 static ELSEWHERE: [Elsewhere; 3] = [
-    // The chain block of the free list leads to itself.
+    // The chain block of the free list names itself.
     Elsewhere {
         made: Made { ..SEVENTH },
         at: 25602,
@@ -137,8 +137,7 @@ static ELSEWHERE: [Elsewhere; 3] = [
     },
 ];
 
-/// Steps a seat until it is answered that no piece is left, and answers how many it was answered, which are numbered
-/// from 0 on.
+/// Steps a seat until no piece is left, and returns the number of pieces, which must be numbered from 0 on.
 fn pieces_in_order(
     rt: &impl Abort,
     alloc: Global,
@@ -160,7 +159,7 @@ fn pieces_in_order(
     panic!(rt; "a sweep doesn't end")
 }
 
-/// Steps a seat until it is answered that no piece is left.
+/// Steps a seat until no piece is left.
 fn run(rt: &impl Abort, alloc: Global, sweep: &Sweep, image: &Image, seat: &mut CheckSeat)
     requires layout { IsFor sweep.now image.now }
     requires work { IsAtWork sweep.now image.now seat.old }
@@ -175,7 +174,7 @@ fn run(rt: &impl Abort, alloc: Global, sweep: &Sweep, image: &Image, seat: &mut 
     panic!(rt; "a sweep doesn't end")
 }
 
-/// Each seat does one piece, on so many threads.
+/// Takes one piece with each seat, on `threads` threads.
 fn take_turn<R: Threads + Sync>(
     rt: &R,
     alloc: Global,
@@ -199,7 +198,7 @@ fn take_turn<R: Threads + Sync>(
     thread::for_each_mut(rt, seats, threads, &step);
 }
 
-/// Each seat does pieces until none is left, on so many threads.
+/// Takes pieces with each seat until none is left, on `threads` threads.
 fn run_all<R: Threads + Abort + Sync>(
     rt: &R,
     alloc: Global,
@@ -221,7 +220,7 @@ fn run_all<R: Threads + Abort + Sync>(
     thread::for_each_mut(rt, seats, threads, &run);
 }
 
-/// Each seat does two single pieces, and then the rest, on so many threads.
+/// Takes two single pieces with each seat, and then the rest, on `threads` threads.
 fn work<R: Threads + Abort + Sync>(
     rt: &R,
     alloc: Global,
@@ -241,7 +240,7 @@ fn work<R: Threads + Abort + Sync>(
     run_all(rt, alloc, sweep, image, seats, threads);
 }
 
-/// The report of a sweep on an image, by these seats on so many threads.
+/// Returns the report of a sweep on an image, by these seats on `threads` threads.
 fn swept<R: Threads + Abort + Sync>(
     rt: &R,
     alloc: Global,
@@ -260,8 +259,8 @@ fn swept<R: Threads + Abort + Sync>(
     sweep.finish(alloc, seats)
 }
 
-/// The report of a sweep that was made for one image and steps on another, which has the same length and the same bytes before
-/// the data zone.
+/// Returns the report of a sweep that was made for one image and steps on another, which has the same length and the same
+/// bytes before the data zone.
 fn report_of<R: Threads + Abort + Sync>(
     rt: &R,
     alloc: Global,
@@ -277,7 +276,7 @@ fn report_of<R: Threads + Abort + Sync>(
     swept(rt, alloc, sweep, image, seats, division.threads())
 }
 
-/// The report of a sweep that steps on the image that it was made for.
+/// Returns the report of a sweep that steps on the image that it was made for.
 fn own_report<R: Threads + Abort + Sync>(
     rt: &R,
     alloc: Global,
@@ -289,7 +288,7 @@ fn own_report<R: Threads + Abort + Sync>(
     report_of(rt, alloc, edition, image, image, checker, division)
 }
 
-/// A copy of an image with bytes put at a place in its data zone.
+/// Returns a copy of an image with bytes put at an offset in its data zone.
 fn with_data(
     rt: &impl Abort,
     alloc: Global,
@@ -310,7 +309,7 @@ fn with_data(
     Image::from_bytes(bytes)
 }
 
-/// How many pieces one seat is answered in a sweep of its own.
+/// Returns the number of pieces that one seat takes in a sweep of its own.
 fn count_pieces(
     rt: &impl Abort,
     alloc: Global,

@@ -5,7 +5,7 @@ use crate::fixtures::{Made, SIXTH, image_of};
 use vol_file::read_range;
 use vol_layout::Geometry;
 
-/// A file, i-number 32, of one block; in its size of four blocks the others are holes, but the third, which its i-node names.
+/// A file, i-number 32, with a size of four blocks: the first and the third are in its i-node, the others are holes.
 const WITH_HOLES: Made = Made {
     pieces: &[
         (2016, &[0xA4, 0x81, 1, 0, 0, 0, 0, 8, 5]),
@@ -23,7 +23,7 @@ fn the_blocks_of_a_file_are_visited_in_their_order(rt: HostRuntime) {
         panic!(rt; "an image without geometry");
     };
     assert!(rt; geometry.last_inode >= 32);
-    // The first bytes of the blocks met, each behind those before, and how many bytes all blocks have.
+    // The first bytes of the visited blocks, one after another, and the number of bytes in all blocks.
     let mut firsts = 0_u32;
     let mut bytes = 0_usize;
     let visit = |block: &[u8]|

@@ -1,4 +1,4 @@
-//! Receipts that agree with the journal, that don't, and that speak of what was cut.
+//! Receipts that agree with the journal, receipts that don't, and receipts whose records were cut.
 ghost use Rattle.std.specs.Prelude.{◌≡◌, IfOk};
 
 use crate::fixtures::{create, list, new_volume, read, stat};
@@ -13,12 +13,12 @@ use vol_receipts::{
 };
 use vol_volume::{Bytes, Call, Done, Listing, Query, Reply, Volume};
 
-/// A new volume of the seventh edition.
+/// Returns a new volume of the seventh edition.
 fn seventh(rt: &impl Abort, alloc: Global) -> Volume {
     new_volume(rt, alloc, Edition::V7)
 }
 
-/// The receipt of a call that makes an empty file.
+/// Returns the receipt of a call that makes an empty file.
 fn created(
     rt: &impl Abort,
     alloc: Global,
@@ -30,19 +30,19 @@ fn created(
     change(volume, alloc, call, asked).map_err(|(error, _)| error)
 }
 
-/// A copy of a call.
+/// Returns a copy of a call.
 fn copy_of(call: &Call) -> Result<Call, AllocError>
     ensures { IfOk result (λ copy. copy ≡ call.now) }
 {
     call.clone()
 }
 
-/// The receipt of a query.
+/// Returns the receipt of a query.
 fn asked(alloc: Global, volume: &Volume, query: Query) -> Result<Receipt, AllocError> {
     reply(volume, alloc, query).map_err(|(error, _)| error)
 }
 
-/// Whether a receipt agrees is answered so.
+/// Checks whether a receipt is confirmed.
 fn check(
     rt: &impl Abort,
     alloc: Global,
@@ -53,7 +53,7 @@ fn check(
     assert_eq!(rt; confirm(volume, alloc, receipt), wanted, "{receipt:?}");
 }
 
-/// Whether a receipt that no volume gave agrees is answered so.
+/// Checks whether a receipt that no volume gave is confirmed.
 fn check_forged(
     rt: &impl Abort,
     alloc: Global,
@@ -67,13 +67,14 @@ fn check_forged(
     check(rt, alloc, volume, &receipt, Ok(wanted));
 }
 
-/// A receipt has this number and this outcome.
+/// Checks the number and the outcome of a receipt.
 fn check_told(rt: &impl Abort, receipt: Option<&Receipt>, at: u64, outcome: Outcome) {
     assert_eq!(rt; receipt.map(|receipt| receipt.at), Some(at));
     assert_eq!(rt; receipt.map(|receipt| &receipt.outcome), Some(&outcome));
 }
 
-/// A receipt of each kind: a call that is accepted, the same call refused, a query refused, and three answered.
+/// Returns a receipt of each kind: a call that is accepted, the same call refused, a query refused, and three
+/// answered.
 fn each_kind(
     rt: &impl Abort,
     alloc: Global,
@@ -89,7 +90,7 @@ fn each_kind(
     Ok(receipts)
 }
 
-/// Each kind of receipt, as a volume gives it: what it holds, and that it agrees, also when more calls were made.
+/// Each kind of receipt that a volume gives: its contents, and that it agrees, also after more calls.
 #[test]
 fn each_kind_agrees(rt: HostRuntime) -> Result<(), Fail> {
     let alloc = rt.alloc();
@@ -108,7 +109,7 @@ fn each_kind_agrees(rt: HostRuntime) -> Result<(), Fail> {
     Ok(())
 }
 
-/// A volume that made `/a` as number 16, and then `/b` as number 15.
+/// Returns a volume that made `/a` as number 16, and then `/b` as number 15.
 fn with_two(rt: &impl Abort, alloc: Global) -> Result<Volume, AllocError> {
     let mut volume = seventh(rt, alloc);
     let _ = created(rt, alloc, &mut volume, b"/a")?;
@@ -116,7 +117,7 @@ fn with_two(rt: &impl Abort, alloc: Global) -> Result<Volume, AllocError> {
     Ok(volume)
 }
 
-/// Refusals that no volume gave: each holds of the tree which the records before its number make, and of no other.
+/// Refusals that no volume gave: each is right in the state after the records before its number, and in no other.
 #[test]
 fn refusals_hold_at_their_numbers(rt: HostRuntime) -> Result<(), Fail> {
     let alloc = rt.alloc();
@@ -137,8 +138,8 @@ fn refusals_hold_at_their_numbers(rt: HostRuntime) -> Result<(), Fail> {
     Ok(())
 }
 
-/// Accepted calls that the journal has, and some that it hasn't: at another number, with another answer, or of another
-/// path.
+/// Accepted calls that the journal has, and some that it doesn't have: at another number, with another result, or
+/// with another path.
 #[test]
 fn accepted_calls_are_their_records(rt: HostRuntime) -> Result<(), Fail> {
     let alloc = rt.alloc();
@@ -166,8 +167,8 @@ fn accepted_calls_are_their_records(rt: HostRuntime) -> Result<(), Fail> {
     Ok(())
 }
 
-/// Outcomes that nothing has: a call that is answered as a query, a query that is accepted, and a refusal for want of
-/// memory.
+/// Outcomes that are impossible: a call that is answered as a query, a query that is accepted, and a refusal for lack
+/// of memory.
 #[test]
 fn no_volume_answers_so(rt: HostRuntime) -> Result<(), Fail> {
     let alloc = rt.alloc();
@@ -199,7 +200,7 @@ fn no_volume_answers_so(rt: HostRuntime) -> Result<(), Fail> {
     Ok(())
 }
 
-/// Of two volumes each confirms its own receipt, and not that of the other.
+/// Each of two volumes confirms its own receipt, and not that of the other.
 #[test]
 fn each_volume_confirms_its_own(rt: HostRuntime) -> Result<(), Fail> {
     let alloc = rt.alloc();
@@ -214,8 +215,8 @@ fn each_volume_confirms_its_own(rt: HostRuntime) -> Result<(), Fail> {
     Ok(())
 }
 
-/// Receipts of a volume whose journal is cut after one record, the last first: two from after the cut, one from just
-/// before it, and two that lie below it.
+/// Returns receipts of a volume whose journal is cut after one record, the last first: two from after the cut, one
+/// from just before it, and two from below it.
 fn around_a_cut(
     rt: &impl Abort,
     alloc: Global,
@@ -232,7 +233,7 @@ fn around_a_cut(
     Ok(receipts)
 }
 
-/// Where the journal was cut, the receipts from its first number on agree as before, and what lies below is gone; one by
+/// After a cut, the receipts from the journal's first number on agree as before, and the others count as cut; one by
 /// one, and all at once, out of order.
 #[test]
 fn what_is_cut_is_gone(rt: HostRuntime) -> Result<(), Fail> {

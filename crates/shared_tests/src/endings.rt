@@ -1,4 +1,4 @@
-//! What a play prints and answers of steps that the program's tests don't bring about.
+//! The report and the result of a play, for steps that the program's tests don't cause.
 use crate::fixtures::{sixth, stream, taken};
 use command_faults::answer::tell;
 use pdp_words::IntoWrite;
@@ -9,8 +9,8 @@ use std::process::Abort;
 use std::rt::HostRuntime;
 use vol_scripts::{Played, ScriptsFault, finish, refuse};
 
-/// Ends a play of one script, with this output. Checks what is printed, the line on standard error and the status; the
-/// image is to be saved.
+/// Ends a play of one script, with this output. Checks the report, the line on standard error and the status; the
+/// image is always to be saved.
 fn check_ended(
     rt: &impl Abort,
     alloc: Global,
@@ -31,7 +31,7 @@ fn check_ended(
     assert!(rt; answer.image.is_some());
 }
 
-/// What came of one step for which there was no memory.
+/// Returns the results of a script with one step for which there was no memory.
 fn without_memory(rt: &impl Abort, alloc: Global) -> Vec<Played> {
     let mut played = Vec::new(alloc);
     assert!(rt; played.push(Played::NoMemory).is_ok());

@@ -1,4 +1,4 @@
-//! Volumes, what is asked of them, their sessions, and what is wanted of receipts.
+//! Volumes, calls and queries, sessions, and checks of receipts.
 ghost use Rattle.std.specs.Prelude.{◌≡◌, None};
 
 use pdp_words::IntoWrite;
@@ -11,29 +11,29 @@ use vol_layout::Edition;
 use vol_shared::{Closed, Outcome, Receipt, Session, Shared};
 use vol_volume::{Bytes, Call, Query, Volume, mkfs};
 
-/// The moment of the new volumes.
+/// The time of the new volumes.
 const MADE: u32 = 0x0A0B_0C0D;
 
-/// The moment of the calls.
+/// The time of the calls.
 const LATER: u32 = 0x0102_0304;
 
-/// Some bytes.
+/// Returns a copy of some bytes.
 pub(crate) fn copied(rt: &impl Abort, alloc: Global, bytes: &[u8]) -> Vec<u8> {
     Vec::from_slice(alloc, bytes).expect(rt, "memory for the bytes")
 }
 
-/// A path, or bytes that are written.
+/// Returns a path, or bytes to write.
 pub(crate) fn bytes_of(rt: &impl Abort, alloc: Global, bytes: &[u8]) -> Bytes {
     Bytes::from_vec(copied(rt, alloc, bytes))
 }
 
-/// The bytes of a new volume of 100 blocks. The sixth edition has 32 i-nodes then, and the seventh 16; the last is given
-/// out first.
+/// Returns the bytes of a new volume of 100 blocks. It has 32 i-nodes in the sixth edition, and 16 in the seventh;
+/// the last is allocated first.
 pub(crate) fn new_bytes(rt: &impl Abort, alloc: Global, edition: Edition) -> Vec<u8> {
     mkfs(alloc, edition, 100, 2, 0, 0, MADE).expect(rt, "a new volume")
 }
 
-/// Such a volume, mounted.
+/// Returns such a volume, mounted.
 pub(crate) fn new_volume(rt: &impl Abort, alloc: Global, edition: Edition) -> Volume {
     match Volume::mount(alloc, edition, new_bytes(rt, alloc, edition)) {
         Ok(volume) => volume,
@@ -41,7 +41,7 @@ pub(crate) fn new_volume(rt: &impl Abort, alloc: Global, edition: Edition) -> Vo
     }
 }
 
-/// A call that makes an empty file.
+/// Returns a call that makes an empty file.
 pub(crate) fn create(rt: &impl Abort, alloc: Global, path: &[u8]) -> Call {
     Call::Create {
         cred: Cred::ROOT,
@@ -51,7 +51,7 @@ pub(crate) fn create(rt: &impl Abort, alloc: Global, path: &[u8]) -> Call {
     }
 }
 
-/// A call that gives a node other permission bits.
+/// Returns a call that changes a node's permission bits.
 pub(crate) fn chmod(rt: &impl Abort, alloc: Global, path: &[u8], perm: u16) -> Call {
     Call::Chmod {
         cred: Cred::ROOT,
@@ -61,7 +61,7 @@ pub(crate) fn chmod(rt: &impl Abort, alloc: Global, path: &[u8], perm: u16) -> C
     }
 }
 
-/// A call that writes one byte.
+/// Returns a call that writes one byte.
 pub(crate) fn write(rt: &impl Abort, alloc: Global, path: &[u8], offset: u32) -> Call {
     Call::Write {
         cred: Cred::ROOT,
@@ -72,7 +72,7 @@ pub(crate) fn write(rt: &impl Abort, alloc: Global, path: &[u8], offset: u32) ->
     }
 }
 
-/// A query for the first bytes of a file, at most 512.
+/// Returns a query for the first bytes of a file, at most 512.
 pub(crate) fn read(rt: &impl Abort, alloc: Global, path: &[u8]) -> Query {
     Query::Read {
         cred: Cred::ROOT,
@@ -82,7 +82,7 @@ pub(crate) fn read(rt: &impl Abort, alloc: Global, path: &[u8]) -> Query {
     }
 }
 
-/// A query for the names in a directory.
+/// Returns a query for the names in a directory.
 pub(crate) fn list(rt: &impl Abort, alloc: Global, path: &[u8]) -> Query {
     Query::List {
         cred: Cred::ROOT,
@@ -90,7 +90,7 @@ pub(crate) fn list(rt: &impl Abort, alloc: Global, path: &[u8]) -> Query {
     }
 }
 
-/// A query for what a node is.
+/// Returns a query for a node's attributes.
 pub(crate) fn stat(rt: &impl Abort, alloc: Global, path: &[u8]) -> Query {
     Query::Stat {
         cred: Cred::ROOT,
@@ -98,7 +98,7 @@ pub(crate) fn stat(rt: &impl Abort, alloc: Global, path: &[u8]) -> Query {
     }
 }
 
-/// A new volume of the sixth edition.
+/// Returns a new volume of the sixth edition.
 pub(crate) fn sixth(rt: &impl Abort, alloc: Global) -> Volume {
     new_volume(rt, alloc, Edition::V6)
 }
@@ -118,7 +118,7 @@ pub(crate) fn open_two(rt: &impl Abort, alloc: Global, volume: Volume) -> (Share
     (shared, first, second)
 }
 
-/// Ends a volume with two sessions.
+/// Closes a volume with two sessions.
 pub(crate) fn close_two(
     rt: &impl Abort,
     alloc: Global,
@@ -152,7 +152,7 @@ pub(crate) fn make<R: Wait + Abort>(
     receipt.expect(rt, "memory for a call")
 }
 
-/// Asks a query of a shared volume.
+/// Runs a query on a shared volume.
 pub(crate) fn ask<R: Wait + Abort>(
     rt: &R,
     alloc: Global,
@@ -167,13 +167,13 @@ pub(crate) fn ask<R: Wait + Abort>(
     receipt.expect(rt, "memory for a query")
 }
 
-/// The receipt has this number and outcome.
+/// Checks the number and the outcome of a receipt.
 pub(crate) fn check(rt: &impl Abort, receipt: &Receipt, at: u64, outcome: Outcome) {
     assert_eq!(rt; receipt.at, at);
     assert_eq!(rt; receipt.outcome, outcome);
 }
 
-/// Of some receipts so many agree with the journal, and of so many what they speak of was cut.
+/// Checks how many of some receipts agree with the journal, and how many have records that were cut.
 pub(crate) fn check_all(
     rt: &impl Abort,
     alloc: Global,
@@ -187,12 +187,12 @@ pub(crate) fn check_all(
     assert_eq!(rt; [confirmed.agree, confirmed.gone], [agree, gone]);
 }
 
-/// A stream that takes all bytes.
+/// Returns a stream that takes all bytes.
 pub(crate) fn stream(alloc: Global) -> IntoWrite<ScriptedWriter> {
     IntoWrite::new(ScriptedWriter::new(alloc, 4096))
 }
 
-/// What went to a stream.
+/// Returns the bytes that a stream took.
 pub(crate) fn taken(stream: IntoWrite<ScriptedWriter>) -> Vec<u8> {
     stream.into_inner().taken
 }

@@ -1,4 +1,4 @@
-//! The log, which has no bytes: a test sees that its owner always gets what it appends with.
+//! The log, which has no size at run time: a test sees that its owner always gets the right to append.
 ghost use Rattle.std.specs.Prelude.{◌≡◌};
 
 use crate::fixtures::{create, new_volume};
@@ -7,7 +7,7 @@ use vol_layout::Edition;
 use vol_views::Ledger;
 use vol_volume::{Done, Record};
 
-/// Whether a record was appended.
+/// Appends a record; false if the ledger gave no right to.
 fn append(ledger: &mut Ledger, entry: &Record) -> bool
     ensures { ledger.new.book ≡ ledger.old.book }
 {

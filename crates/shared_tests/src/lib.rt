@@ -1,5 +1,5 @@
-//! Tests of volumes that threads share, by their public functions: receipts, cuts of the journal, views and what they
-//! stand on, threads that wait for one another, and what a play prints that no program can show.
+//! Tests of volumes that threads share, through their public functions: receipts, cuts of the journal, views and the
+//! parts that they use, threads that wait for one another, and reports of a play that no program can show.
 #![tactic(auto)]
 
 #[cfg(test)]

@@ -1,4 +1,4 @@
-//! Scripts that are played by threads at the same time.
+//! Scripts that threads play at the same time.
 use crate::fixtures::{copied, new_bytes, stream, taken};
 use std::rt::HostRuntime;
 use std::thread;
@@ -10,16 +10,16 @@ use vol_play::play;
 /// A script that makes a file.
 const CREATE: &[u8] = b"5 0 0 create /a 644\n";
 
-/// What is printed where the first of two scripts makes that file.
+/// The report if the first of two scripts makes that file.
 const FIRST: &[u8] = b"1.1 ok 32\n2.1 17 Exists\nrecords 1\nconfirmed 2\n";
 
-/// What is printed where the second does.
+/// The report if the second does.
 const SECOND: &[u8] = b"1.1 17 Exists\n2.1 ok 32\nrecords 1\nconfirmed 2\n";
 
-/// Turns for which one of two scripts is held.
+/// The number of turns for which one of two scripts is held.
 const TURNS: u32 = 20_000_000;
 
-/// Holds two scripts until both are before the gate, and then one until the other is done.
+/// Holds two scripts until both are at the gate, and then one until the other is done.
 #[derive(Drop)]
 struct Holding {
     meeting: Meeting,
@@ -47,7 +47,7 @@ impl Gate for Holding {
 
 #[test]
 fn two_scripts_have_threads_and_no_line_is_played_before_its_gate(rt: HostRuntime) {
-    // A script that began before its gate would make the file in one order in both.
+    // If a script began before its gate, both runs would make the file in the same order.
     for (held, text) in [(0, SECOND), (1, FIRST)] {
         let alloc = rt.alloc();
         let gate = Holding {

@@ -1,4 +1,4 @@
-//! What is published, and who reads it.
+//! The published version and its readers.
 ghost use Rattle.std.specs.Prelude.{◌≡◌};
 ghost use Rattle.vol_views.specs.LogRule.{first_log};
 
@@ -27,7 +27,7 @@ fn publish_first<R: Wait>(rt: &R, volume: &Volume, publisher: Publisher, call: C
     publisher.publish(rt, permit, Record { call, done })
 }
 
-/// After how many records a subscriber answers a query, and whether it was not refused.
+/// Returns the number of records that a subscriber's answer reflects, and whether the query was accepted.
 fn look(subscriber: Subscriber, alloc: Global, query: &Query) -> Option<(u64, bool)> {
     match subscriber.ask(alloc, query) {
         Ok((_subscriber, answered)) => Some((answered.at, answered.reply.is_ok())),
@@ -41,7 +41,7 @@ fn a_subscriber_sees_what_is_published(rt: HostRuntime) -> Result<(), Fail> {
     let volume = new_volume(&rt, alloc, Edition::V6);
     let call = create(&rt, alloc, b"/a");
     let query = stat(&rt, alloc, b"/a");
-    // The publisher is ended on each path from here on.
+    // From here on each path ends the publisher.
     let mut publisher = Publisher::open(&rt, alloc, &volume, 2)?;
     let early = publisher.subscriber();
     let publisher = publish_first(&rt, &volume, publisher, call);

@@ -10,13 +10,13 @@ use std::thread;
 use std::thread::Threads;
 use vol_shared::{Closed, Outcome, Receipt, Session, Shared};
 
-/// How often a thread looks whether another was there.
+/// The number of times a thread looks for the other's file.
 const TURNS: u32 = 20_000_000;
 
-/// The files of two threads: each makes the first of its own, and waits for the second.
+/// The files of a thread: it makes the first, and waits for the second.
 type Task = (&'static [u8], &'static [u8]);
 
-/// Does a task, and answers its receipts.
+/// Does a task, and returns its receipts.
 fn perform<R: Wait + Abort>(
     rt: &R,
     alloc: Global,
@@ -35,7 +35,7 @@ fn perform<R: Wait + Abort>(
     (session, receipts)
 }
 
-/// Looks for a file until it is there.
+/// Queries a file until it exists.
 fn wait_for<R: Wait + Abort>(
     rt: &R,
     alloc: Global,
@@ -59,7 +59,7 @@ fn wait_for<R: Wait + Abort>(
     panic!(rt; "the other thread was never there")
 }
 
-/// Two threads with a session each, and what they were answered.
+/// Runs two threads with a session each, and returns their receipts.
 fn run_two<R: Threads + Wait + Abort + Sync>(
     rt: &R,
     alloc: Global,
@@ -82,7 +82,7 @@ fn run_two<R: Threads + Wait + Abort + Sync>(
     (close_two(rt, alloc, shared, first, second), mine, theirs)
 }
 
-/// Each receipt is confirmed.
+/// Checks that each receipt is confirmed.
 fn check_confirmed(rt: &impl Abort, alloc: Global, closed: &Closed, receipts: &[Receipt]) {
     check_all(rt, alloc, closed, receipts, receipts.len() as u64, 0);
 }

@@ -23,7 +23,7 @@ fn make_on_both(
     Ok(())
 }
 
-/// Whether a version answers a query as a volume does.
+/// True if a version answers a query as a volume does.
 fn answers_alike(alloc: Global, volume: &Volume, version: &Version, query: &Query) -> bool {
     version.ask(alloc, query) == volume.ask(alloc, query)
 }
@@ -53,7 +53,7 @@ fn a_version_answers_as_the_volume(rt: HostRuntime) -> Result<(), Fail> {
     Ok(())
 }
 
-/// Whether the record of a new file with an answer is applied.
+/// True if the record of a new file with this result is applied.
 fn applies(rt: &impl Abort, alloc: Global, version: &mut Version, done: Done) -> bool {
     let call = create(rt, alloc, b"/f");
     version.apply(&Record { call, done })
@@ -65,7 +65,7 @@ fn a_record_that_may_not_come_next_changes_nothing(rt: HostRuntime) -> Result<()
     let volume = new_volume(&rt, alloc, Edition::V7);
     let mut version = Version::new(alloc, &volume)?;
     let query = list(&rt, alloc, b"/");
-    // Node 2 is the root, there are 16 nodes, and a new file answers its number.
+    // Node 2 is the root, there are 16 nodes, and the result of a new file is its number.
     assert!(rt; !applies(&rt, alloc, &mut version, Done::Made(2)));
     assert!(rt; !applies(&rt, alloc, &mut version, Done::Made(17)));
     assert!(rt; !applies(&rt, alloc, &mut version, Done::Plain));

@@ -1,4 +1,4 @@
-//! Views beside sessions: what they answer, how far they have come, and that their receipts are confirmed.
+//! Views beside sessions: their answers, their progress, and that their receipts are confirmed.
 ghost use Rattle.std.specs.Prelude.{◌≡◌, Some};
 
 use crate::fixtures::{bytes_of, check, check_all, create, list, make, read, sixth, stat, write};
@@ -25,7 +25,7 @@ fn open_one<R: Wait + Abort>(rt: &R, alloc: Global, volume: Volume) -> (Shared, 
     }
 }
 
-/// Ends a volume with one session and one view.
+/// Closes a volume with one session and one view.
 fn close_one<R: Wait + Abort>(
     rt: &R,
     alloc: Global,
@@ -44,7 +44,7 @@ fn close_one<R: Wait + Abort>(
     shared.close_with(rt, sessions, views)
 }
 
-/// What a view answers.
+/// Returns a view's receipt for a query.
 fn look(rt: &impl Abort, alloc: Global, view: &mut View, query: Query) -> Receipt
     ensures { view.new.book ≡ view.old.book }
 {
@@ -54,7 +54,7 @@ fn look(rt: &impl Abort, alloc: Global, view: &mut View, query: Query) -> Receip
     }
 }
 
-/// The i-number that was answered.
+/// Returns the i-number in a reply.
 fn number_of(rt: &impl Abort, receipt: &Receipt) -> u16 {
     match &receipt.outcome {
         Outcome::Answered(Reply::Stat(status)) => status.number,
@@ -62,7 +62,7 @@ fn number_of(rt: &impl Abort, receipt: &Receipt) -> u16 {
     }
 }
 
-/// These names were answered.
+/// Checks the names in a reply.
 fn check_names(rt: &impl Abort, alloc: Global, receipt: &Receipt, names: &[(&[u8], u16)]) {
     let Outcome::Answered(Reply::Names(listing)) = &receipt.outcome else {
         panic!(rt; "no names were answered")
@@ -74,7 +74,7 @@ fn check_names(rt: &impl Abort, alloc: Global, receipt: &Receipt, names: &[(&[u8
     }
 }
 
-/// These bytes were answered.
+/// Checks the bytes in a reply.
 fn check_bytes(rt: &impl Abort, receipt: &Receipt, bytes: Bytes) {
     assert_eq!(rt; receipt.outcome, Outcome::Answered(Reply::Bytes(bytes)));
 }

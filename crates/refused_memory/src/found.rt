@@ -1,34 +1,34 @@
-//! What was found.
+//! The broken promises that a run found.
 
 use pdp_words::{Sink, write_all};
 
-/// How many promises were broken.
+/// The number of broken promises.
 #[derive(Clone, Copy, Debug, Default, PartialEq, Eq)]
 pub struct Found {
     pub broken: u8,
 }
 
 impl Found {
-    /// A promise was broken.
+    /// Counts a broken promise.
     pub fn breaks(&mut self) {
         self.broken = self.broken.saturating_add(1);
     }
 
-    /// A promise, which may be broken.
+    /// Counts a promise as broken unless it was kept.
     pub fn wants(&mut self, kept: bool) {
         if !kept {
             self.breaks();
         }
     }
 
-    /// Prints the number, without memory. Whether it went out.
+    /// Prints the number, without taking memory. True if it was printed.
     pub fn print<O: Sink>(&self, output: &mut O) -> bool {
         write_all(output, &digits(self.broken)).is_ok()
             && write_all(output, b" promises broken\n").is_ok()
     }
 }
 
-/// Three decimal digits.
+/// Returns three decimal digits.
 fn digits(number: u8) -> [u8; 3] {
     [
         b'0' + number / 100,

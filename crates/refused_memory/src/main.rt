@@ -1,10 +1,11 @@
-//! Makes one run over the libraries, of which any one allocation may be refused, and looks at what a refusal leaves.
+//! Runs part of the libraries while any one allocation may be refused, and checks the state after a refusal.
 //!
 //! refused_memory volume|sessions|views
 //!
-//! Does the run's steps one after another. A step that finds no memory is to leave all as before, which is compared, and is
-//! done once more. Prints how many promises were broken; so its output is the same whichever allocation is refused. The status
-//! is 1 where the words can't be read or the number can't be printed. `tests/refused.sh` refuses each allocation in turn.
+//! Runs the steps one after another. A step that runs out of memory must leave everything unchanged, which is checked, and
+//! is then repeated. Prints the number of broken promises, so the output is the same whichever allocation is refused. The
+//! status is 1 if the words can't be read or the number can't be printed. `tests/refused.sh` refuses each allocation in
+//! turn.
 #![tactic(auto)]
 
 mod found;
@@ -22,7 +23,7 @@ use std::process::ExitCode;
 use std::sync::Wait;
 use std::thread::Threads;
 
-/// Makes the run of this name, as far as it comes. None where a step could not be done.
+/// Does the run with this name, as far as possible. Returns `None` if a step could not be done.
 fn run<R: Threads + Wait + Sync>(
     rt: &R,
     alloc: Global,
@@ -37,13 +38,13 @@ fn run<R: Threads + Wait + Sync>(
     }
 }
 
-/// The word after the program's own name. None where there is none, or no memory for the words.
+/// Returns the word after the program's own name, or `None` if there is none, or no memory for the words.
 fn word<R: Env + AllocGlobal>(rt: &R) -> Option<String> {
     let words = env::args(rt).ok()?.collect::<Vec<String>>(rt.alloc()).ok()?;
     words.into_iter().nth(1)
 }
 
-/// Makes the run that the words ask for, and prints what was found to `output`. Whether it went out.
+/// Does the run that the words name, and prints the broken promises to `output`. True if they were printed.
 fn report<R: Env + AllocGlobal + Threads + Wait + Sync, O: Write + Drop>(
     rt: &R,
     output: O,

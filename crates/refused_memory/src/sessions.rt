@@ -11,37 +11,37 @@ use vol_dir::Refusal;
 use vol_shared::{Closed, ConfirmFault, Outcome, Receipt, Session, Shared};
 use vol_volume::{Call, Done, Query, Reply, Volume};
 
-/// What a session asks: it makes the file `path`, and then queries the first session's file.
+/// The turn of a session: it makes the file `path`, and then queries the first session's file.
 #[derive(Clone, Copy)]
 pub struct Turn {
     pub path: &'static [u8],
-    /// Whether the query reads the file. Else it is a Stat.
+    /// True if the query is a Read; otherwise it is a Stat.
     pub reads: bool,
 }
 
-/// What the first session asks.
+/// The first session's turn.
 pub const FIRST: Turn = Turn {
     path: b"/a",
     reads: true,
 };
 
-/// What the second session asks.
+/// The second session's turn.
 pub const SECOND: Turn = Turn {
     path: b"/b",
     reads: false,
 };
 
-/// The bytes of a volume before and after each of the two calls, as it has them by itself.
+/// The bytes of an unshared volume before the two calls and after each of them.
 pub type Images = [Vec<u8>; 3];
 
-/// The receipts of a session, where there was the memory for them.
+/// The receipts of a session, if there was memory for them.
 #[derive(Drop)]
 pub struct Kept {
     pub called: Option<Receipt>,
     pub asked: Option<Receipt>,
 }
 
-/// Opens a volume with two sessions, of which each makes a call and asks a query, ends it, and confirms all receipts.
+/// Opens a volume with two sessions, each of which makes a call and a query, closes it, and confirms all receipts.
 pub fn share<R: Wait>(rt: &R, alloc: Global, found: &mut Found) -> Option<()> {
     let images = images(alloc, found)?;
     let volume = sixth(alloc, found)?;
@@ -53,7 +53,7 @@ pub fn share<R: Wait>(rt: &R, alloc: Global, found: &mut Found) -> Option<()> {
     confirm_kept(alloc, found, &closed, &others)
 }
 
-/// What the calls of both sessions leave of a volume that nobody shares.
+/// Returns the bytes that the calls of both sessions leave of an unshared volume.
 pub fn images(alloc: Global, found: &mut Found) -> Option<Images> {
     let mut volume = sixth(alloc, found)?;
     let new = copied(alloc, volume.image().as_bytes())?;
@@ -65,7 +65,7 @@ pub fn images(alloc: Global, found: &mut Found) -> Option<Images> {
     Some([new, one, volume.unmount()])
 }
 
-/// Opens a volume, lets two sessions take their turns, and ends it.
+/// Opens a volume, lets two sessions take their turns, and closes it.
 fn played<R: Wait>(
     rt: &R,
     alloc: Global,
@@ -79,7 +79,7 @@ fn played<R: Wait>(
     Some((close_two(shared, room, one, other), kept, others))
 }
 
-/// A session makes its call and asks its query.
+/// Makes a session's call and its query.
 pub fn take<R: Wait>(
     rt: &R,
     alloc: Global,
@@ -107,8 +107,8 @@ pub fn take<R: Wait>(
     Kept { called, asked }
 }
 
-/// The receipts of a session have the numbers and the outcomes that they have after so many records: its call made a file by the
-/// next record, and its query stands after that. How many records there are then.
+/// Checks the numbers and the outcomes of a session's receipts, given after `before` records: its call made a file with the
+/// next record, and its query reflects that. Returns the number of records afterwards.
 pub fn check(found: &mut Found, kept: &Kept, before: u64, made: Done) -> u64 {
     let mut records = before;
     if let Some(receipt) = &kept.called {
@@ -123,8 +123,8 @@ pub fn check(found: &mut Found, kept: &Kept, before: u64, made: Done) -> u64 {
     records
 }
 
-/// Whether an outcome is that of a query, after so many records, for the bytes of the first session's file, which is empty, or
-/// for what that is.
+/// True if this is the outcome of a query after `records` records, for the bytes or the attributes of the first session's
+/// file, which is empty.
 pub fn is_answered(outcome: &Outcome, records: u64) -> bool {
     match outcome {
         Outcome::Answered(Reply::Bytes(bytes)) => records > 0 && bytes.as_slice().is_empty(),
@@ -134,7 +134,7 @@ pub fn is_answered(outcome: &Outcome, records: u64) -> bool {
     }
 }
 
-/// A volume has so many records, and the bytes that these leave.
+/// Checks that a volume has this number of records, and the bytes that these leave.
 pub fn check_closed(found: &mut Found, closed: &Closed, records: u64, images: &Images) {
     found.wants(closed.accepted() == records);
     found.wants(closed.volume().journal().len() as u64 == records);
@@ -144,13 +144,13 @@ pub fn check_closed(found: &mut Found, closed: &Closed, records: u64, images: &I
     }
 }
 
-/// Confirms the receipts of a session. None where one isn't there.
+/// Confirms the receipts of a session. Returns `None` if one is missing.
 pub fn confirm_kept(alloc: Global, found: &mut Found, closed: &Closed, kept: &Kept) -> Option<()> {
     confirm(alloc, found, closed, kept.called.as_ref()?)?;
     confirm(alloc, found, closed, kept.asked.as_ref()?)
 }
 
-/// Opens a volume with two sessions. Where there is no memory the same volume comes back.
+/// Opens a volume with two sessions. If memory runs out, the same volume must be handed back.
 fn open_two(alloc: Global, found: &mut Found, volume: Volume) -> Option<(Shared, Session, Session)>
     ensures first { IfSome result (λ opened. opened.1.of ≡ opened.0.of) }
     ensures second { IfSome result (λ opened. opened.2.of ≡ opened.0.of) }
@@ -168,7 +168,7 @@ fn open_two(alloc: Global, found: &mut Found, volume: Volume) -> Option<(Shared,
     }
 }
 
-/// A volume with two sessions.
+/// Opens a volume with two sessions, or hands it back.
 fn opened(alloc: Global, volume: Volume) -> Result<(Shared, Session, Session), Volume>
     ensures first { IfOk result (λ opened. opened.1.of ≡ opened.0.of) }
     ensures second { IfOk result (λ opened. opened.2.of ≡ opened.0.of) }
@@ -184,21 +184,21 @@ fn opened(alloc: Global, volume: Volume) -> Result<(Shared, Session, Session), V
     }
 }
 
-/// The two sessions of a volume that was just opened.
+/// Returns the two sessions of a volume that was just opened.
 pub fn two(shared: &Shared, mut sessions: Vec<Session>) -> (Session, Session)
     requires count { length sessions.items ≡ 2 }
     requires fresh { All (λ s. s ≡ new_session shared.now.of (next_number shared.now.stored)) sessions.items }
     ensures first { result.0.of ≡ shared.now.of }
     ensures second { result.1.of ≡ shared.now.of }
 {
-    // Which volume it is only the proof reads.
+    // Only the proof reads the volume.
     let _ = shared;
     let second = sessions.take_last();
     let first = sessions.take_last();
     (first, second)
 }
 
-/// Makes a call by a session. Where there is no memory the same call comes back.
+/// Makes a session's call. If memory runs out, the same call must be handed back.
 fn call<R: Wait>(
     rt: &R,
     alloc: Global,
@@ -220,7 +220,7 @@ fn call<R: Wait>(
     }
 }
 
-/// Asks a query by a session. Where there is no memory the query comes back.
+/// Runs a session's query. If memory runs out, the query must be handed back.
 fn ask<R: Wait>(
     rt: &R,
     alloc: Global,
@@ -241,7 +241,7 @@ fn ask<R: Wait>(
     }
 }
 
-/// Ends a volume with two sessions, for which there is room.
+/// Closes a volume with two sessions, using room that was taken before.
 fn close_two(shared: Shared, mut room: Vec<Session>, first: Session, second: Session) -> Closed
     requires room { 2 ≤ vec_capacity room }
     requires empty { vec_len room ≡ 0 }

@@ -1,4 +1,4 @@
-//! The steps that several runs make. Each is tried twice: one allocation alone is refused.
+//! Steps that several runs share. Each is tried twice, since only one allocation is refused.
 ghost use Rattle.std.specs.Prelude.{◌≡◌, ◌≤◌, IfSome, vec_len, vec_capacity};
 
 use crate::found::Found;
@@ -7,10 +7,10 @@ use vol_dir::{Cred, Refusal};
 use vol_layout::Edition;
 use vol_volume::{Bytes, Call, Done, MkfsFault, MountFault, Query, Reply, Volume, mkfs};
 
-/// The moment of all that is made.
+/// The time of all calls.
 pub const NOW: u32 = 0x0A0B_0C0D;
 
-/// A copy of some bytes.
+/// Returns a copy of some bytes.
 pub fn copied(alloc: Global, bytes: &[u8]) -> Option<Vec<u8>> {
     if let Ok(copy) = Vec::from_slice(alloc, bytes) {
         return Some(copy);
@@ -18,7 +18,7 @@ pub fn copied(alloc: Global, bytes: &[u8]) -> Option<Vec<u8>> {
     Vec::from_slice(alloc, bytes).ok()
 }
 
-/// Room for so many values.
+/// Returns a list with room for `count` values.
 pub fn room<T: Drop>(alloc: Global, count: usize) -> Option<Vec<T>>
     ensures { IfSome result (λ room. (vec_len room ≡ 0) × (count ≤ vec_capacity room)) }
 {
@@ -28,12 +28,12 @@ pub fn room<T: Drop>(alloc: Global, count: usize) -> Option<Vec<T>>
     Vec::with_capacity(alloc, count).ok()
 }
 
-/// A path, or bytes that are written.
+/// Returns a path, or bytes to write.
 pub fn bytes_of(alloc: Global, bytes: &[u8]) -> Option<Bytes> {
     Some(Bytes::from_vec(copied(alloc, bytes)?))
 }
 
-/// A copy of a call.
+/// Returns a copy of a call.
 pub fn copy_of(call: &Call) -> Option<Call> {
     if let Ok(copy) = call.clone() {
         return Some(copy);
@@ -41,7 +41,7 @@ pub fn copy_of(call: &Call) -> Option<Call> {
     call.clone().ok()
 }
 
-/// The bytes of a new volume, with an i-list of two blocks.
+/// Returns the bytes of a new volume, with an i-list of two blocks.
 pub fn made(alloc: Global, found: &mut Found, edition: Edition, blocks: u32) -> Option<Vec<u8>> {
     match mkfs(alloc, edition, blocks, 2, 0, 0, NOW) {
         Ok(bytes) => return Some(bytes),
@@ -50,7 +50,7 @@ pub fn made(alloc: Global, found: &mut Found, edition: Edition, blocks: u32) -> 
     mkfs(alloc, edition, blocks, 2, 0, 0, NOW).ok()
 }
 
-/// Mounts some bytes. Where there is no memory the same bytes come back.
+/// Mounts some bytes. If memory runs out, the same bytes must be handed back.
 pub fn mounted(
     alloc: Global,
     found: &mut Found,
@@ -67,7 +67,7 @@ pub fn mounted(
     }
 }
 
-/// Makes a call. Where there is no memory, image and journal stay, and the same call comes back.
+/// Makes a call. If memory runs out, the image and the journal must stay, and the same call must be handed back.
 pub fn called(alloc: Global, found: &mut Found, volume: &mut Volume, call: Call) -> Option<Done> {
     let before = copied(alloc, volume.image().as_bytes())?;
     let asked = copy_of(&call)?;
@@ -83,14 +83,14 @@ pub fn called(alloc: Global, found: &mut Found, volume: &mut Volume, call: Call)
     }
 }
 
-/// Whether a query may find no memory.
+/// A query's need for memory.
 #[derive(Clone, Copy, Debug, PartialEq, Eq)]
 pub enum Wants {
     Memory,
     NoMemory,
 }
 
-/// Asks a query. Only one that wants memory may find none.
+/// Runs a query. Only one that takes memory may run out of it.
 pub fn asked(
     alloc: Global,
     found: &mut Found,
@@ -107,13 +107,13 @@ pub fn asked(
     }
 }
 
-/// A new volume of the sixth edition of 20 blocks, mounted.
+/// Returns a new volume of the sixth edition of 20 blocks, mounted.
 pub fn sixth(alloc: Global, found: &mut Found) -> Option<Volume> {
     let bytes = made(alloc, found, Edition::V6, 20)?;
     mounted(alloc, found, Edition::V6, bytes)
 }
 
-/// The call that makes a file.
+/// Returns the call that makes a file.
 pub fn create(alloc: Global, path: &[u8]) -> Option<Call> {
     Some(Call::Create {
         cred: Cred::ROOT,
@@ -123,7 +123,7 @@ pub fn create(alloc: Global, path: &[u8]) -> Option<Call> {
     })
 }
 
-/// The call that writes some bytes from the beginning of a file on.
+/// Returns the call that writes some bytes at the beginning of a file.
 pub fn write(alloc: Global, path: &[u8], bytes: &[u8]) -> Option<Call> {
     Some(Call::Write {
         cred: Cred::ROOT,
@@ -134,7 +134,7 @@ pub fn write(alloc: Global, path: &[u8], bytes: &[u8]) -> Option<Call> {
     })
 }
 
-/// The query for the first 1,024 bytes of a file.
+/// Returns the query for the first 1,024 bytes of a file.
 pub fn read(alloc: Global, path: &[u8]) -> Option<Query> {
     Some(Query::Read {
         cred: Cred::ROOT,
@@ -144,7 +144,7 @@ pub fn read(alloc: Global, path: &[u8]) -> Option<Query> {
     })
 }
 
-/// The query for the names in a directory.
+/// Returns the query for the names in a directory.
 pub fn list(alloc: Global, path: &[u8]) -> Option<Query> {
     Some(Query::List {
         cred: Cred::ROOT,
@@ -152,7 +152,7 @@ pub fn list(alloc: Global, path: &[u8]) -> Option<Query> {
     })
 }
 
-/// The query for what a node is.
+/// Returns the query for a node's attributes.
 pub fn stat(alloc: Global, path: &[u8]) -> Option<Query> {
     Some(Query::Stat {
         cred: Cred::ROOT,

@@ -11,7 +11,7 @@ use std::sync::Wait;
 use vol_shared::{Closed, OpenFault, Outcome, Receipt, Session, Shared, View, ViewFault};
 use vol_volume::{Done, Query, Reply, Volume};
 
-/// What came of it, where there was the memory.
+/// The receipts of a run, if there was memory for them.
 #[derive(Drop)]
 struct Answers {
     first: Kept,
@@ -32,7 +32,7 @@ struct Watched {
     ghost counts: { (shared.sessions ≡ 2) × (shared.views ≡ 1) },
 }
 
-/// Room for the sessions and the view when the volume is ended.
+/// Room for the sessions and the view when the volume is closed.
 #[derive(Drop)]
 struct Rooms {
     sessions: Vec<Session>,
@@ -41,8 +41,8 @@ struct Rooms {
     ghost enough: { (2 ≤ vec_capacity sessions) × (1 ≤ vec_capacity views) },
 }
 
-/// Opens a volume with two sessions and a view. Each session makes a call and asks a query; the view learns of each, and asks a
-/// query after it. Ends the volume, and confirms all receipts.
+/// Opens a volume with two sessions and a view. Each session makes a call and a query; the view learns from each, and then
+/// makes a query. Closes the volume, and confirms all receipts.
 pub fn watch<R: Wait>(rt: &R, alloc: Global, found: &mut Found) -> Option<()> {
     let images = images(alloc, found)?;
     let status = stat(alloc, FIRST.path)?;
@@ -56,7 +56,7 @@ pub fn watch<R: Wait>(rt: &R, alloc: Global, found: &mut Found) -> Option<()> {
     confirm_all(alloc, found, &closed, &answers)
 }
 
-/// Opens a volume, asks what is to be asked, and ends it.
+/// Opens a volume, makes the calls and queries, and closes it.
 fn played<R: Wait>(
     rt: &R,
     alloc: Global,
@@ -96,7 +96,7 @@ fn played<R: Wait>(
     Some((close_all(rt, rooms, watched), answers))
 }
 
-/// Opens a volume with two sessions and a view. Where there is no memory the same volume comes back.
+/// Opens a volume with two sessions and a view. If memory runs out, the same volume must be handed back.
 fn open_all<R: Wait>(rt: &R, alloc: Global, found: &mut Found, volume: Volume) -> Option<Watched> {
     let before = copied(alloc, volume.image().as_bytes())?;
     match opened(rt, alloc, volume) {
@@ -110,7 +110,7 @@ fn open_all<R: Wait>(rt: &R, alloc: Global, found: &mut Found, volume: Volume) -
     }
 }
 
-/// A volume with two sessions and a view.
+/// Opens a volume with two sessions and a view.
 fn opened<R: Wait>(rt: &R, alloc: Global, volume: Volume) -> Result<Watched, (OpenFault, Volume)> {
     let (shared, sessions, mut views) = Shared::open_with(rt, alloc, volume, 2, 1)?;
     let (first, second) = two(&shared, sessions);
@@ -123,7 +123,7 @@ fn opened<R: Wait>(rt: &R, alloc: Global, volume: Volume) -> Result<Watched, (Op
     })
 }
 
-/// Asks a query by a view. Where there is no memory the query comes back. Only one that wants memory may find none.
+/// Runs a view's query. If memory runs out, the query must be handed back. Only one that takes memory may run out of it.
 fn look(alloc: Global, found: &mut Found, view: &mut View, query: Query) -> Option<Receipt>
     ensures { view.new.book ≡ view.old.book }
 {
@@ -137,7 +137,7 @@ fn look(alloc: Global, found: &mut Found, view: &mut View, query: Query) -> Opti
     }
 }
 
-/// Ends a volume with its sessions and its view.
+/// Closes a volume with its sessions and its view.
 fn close_all<R: Wait>(rt: &R, rooms: Rooms, watched: Watched) -> Closed {
     let Rooms {
         mut sessions,
@@ -155,7 +155,8 @@ fn close_all<R: Wait>(rt: &R, rooms: Rooms, watched: Watched) -> Closed {
     shared.close_with(rt, sessions, views)
 }
 
-/// The view's receipts stand after the records that it learnt of: so many for the first, and so many for the second.
+/// Checks that the view's receipts reflect the records that it learned of: `before` for the first, and `after` for the
+/// second.
 fn check_seen(found: &mut Found, answers: &Answers, before: u64, after: u64) {
     match &answers.status {
         Some(receipt) => {
@@ -170,7 +171,7 @@ fn check_seen(found: &mut Found, answers: &Answers, before: u64, after: u64) {
     }
 }
 
-/// Whether an outcome is the names in the root after so many records: one for each, beside `.` and `..`.
+/// True if an outcome has the names in the root after `records` records: one for each, besides `.` and `..`.
 fn is_listed(outcome: &Outcome, records: u64) -> bool {
     match outcome {
         Outcome::Answered(Reply::Names(listing)) => {
@@ -180,7 +181,7 @@ fn is_listed(outcome: &Outcome, records: u64) -> bool {
     }
 }
 
-/// Confirms all receipts. None where one isn't there.
+/// Confirms all receipts. Returns `None` if one is missing.
 fn confirm_all(alloc: Global, found: &mut Found, closed: &Closed, answers: &Answers) -> Option<()> {
     confirm_kept(alloc, found, closed, &answers.first)?;
     confirm(alloc, found, closed, answers.status.as_ref()?)?;

@@ -5,7 +5,7 @@ use crate::steps::{Wants, asked, called, create, list, read, sixth, stat, write}
 use std::alloc::Global;
 use vol_volume::{Done, Reply, Volume};
 
-/// Changes a volume and asks of it, twice, and compares the bytes that both leave.
+/// Changes and queries a volume, twice, and compares the bytes that both runs leave.
 pub fn change(alloc: Global, found: &mut Found) -> Option<()> {
     let first = changed(alloc, found)?;
     let second = changed(alloc, found)?;
@@ -30,7 +30,7 @@ fn changed(alloc: Global, found: &mut Found) -> Option<Vec<u8>> {
     Some(volume.unmount())
 }
 
-/// Asks each of the queries of a volume whose root has the file `a` of 600 bytes.
+/// Makes each query on a volume whose root has the file `a` of 600 bytes.
 fn ask_each(alloc: Global, found: &mut Found, volume: &Volume) -> Option<()> {
     let query = read(alloc, b"/a")?;
     match asked(alloc, found, volume, &query, Wants::Memory)? {

@@ -1,5 +1,5 @@
-//! A program over `unix_volumes`: makes a volume, mounts it and makes three calls; shares it by two sessions and a view, and confirms
-//! their receipts; checks the image, and prints what came of it all. Ends with status 1 if anything is refused.
+//! A program that uses `unix_volumes`. It makes a volume, mounts it and makes three calls; shares it between two sessions and a
+//! view, and confirms their receipts; checks the image, and prints the results. Ends with status 1 if anything is refused.
 #![tactic(auto)]
 
 ghost use Rattle.std.specs.Prelude.{◌≡◌, ◌≤◌, Some, length, All};
@@ -12,10 +12,10 @@ use unix_volumes::{
     Bytes, Call, Closed, Cred, Edition, Open, Query, Receipt, Shared, Volume, icheck, judge, mkfs,
 };
 
-/// The moment of all calls, in seconds since the beginning of 1970: the 10th of January 1979.
+/// The time of all calls, in seconds since the beginning of 1970: the 10th of January 1979.
 const NOW: u32 = 284_774_400;
 
-/// The file that is made.
+/// The path of the file.
 const HELLO: &[u8] = b"/home/hello";
 
 fn main(rt: HostRuntime) -> ExitCode {
@@ -25,7 +25,7 @@ fn main(rt: HostRuntime) -> ExitCode {
     }
 }
 
-/// Does all of it. `None` if anything is refused.
+/// Runs all steps. Returns `None` if anything is refused.
 fn run<R: AllocGlobal + Print + Threads + Wait + Sync>(rt: &R) -> Option<()> {
     let alloc = rt.alloc();
     let image = mkfs(alloc, Edition::V7, 100, 2, 0, 0, NOW).ok()?;
@@ -74,7 +74,7 @@ fn make_hello(alloc: Global, volume: &mut Volume) -> Option<()> {
     Some(())
 }
 
-/// The query what the file is.
+/// Returns a query for the file's attributes.
 fn stat(alloc: Global) -> Option<Query> {
     Some(Query::Stat {
         cred: Cred::ROOT,
@@ -82,8 +82,8 @@ fn stat(alloc: Global) -> Option<Query> {
     })
 }
 
-/// Shares a volume by two sessions and a view: the first session gives the file away, and then the second and the view ask what it
-/// is. Each receipt is `None` if memory ran out.
+/// Shares a volume between two sessions and a view: the first session changes the file's owner, and then the second session and
+/// the view query its attributes. A receipt is `None` if memory ran out.
 fn share<R: Wait>(rt: &R, alloc: Global, volume: Volume) -> Option<(Closed, [Option<Receipt>; 3])> {
     let chown = Call::Chown {
         cred: Cred::ROOT,

@@ -1,4 +1,4 @@
-//! The volume with its file, and many queries and calls one after the other.
+//! A volume with one file, and many queries and calls on it.
 ghost use Rattle.std.specs.Prelude.{◌≡◌, Some};
 
 use crate::volume::new_volume;
@@ -9,13 +9,13 @@ use vol_dir::Cred;
 use vol_shared::{Outcome, Receipt, Session, Shared, View};
 use vol_volume::{Bytes, Call, Query, Volume};
 
-/// The file.
+/// The path of the file.
 const FILE: &[u8] = b"/file";
 
-/// After how many calls a session that writes without pause cuts the journal, and looks whether it is to end.
+/// The number of calls after which a session that writes without pause cuts the journal, and checks whether to stop.
 const UNCUT: u64 = 100;
 
-/// A new volume of so many blocks, with the file.
+/// Returns a new volume of `blocks` blocks, with the file.
 pub(crate) fn new_volume_with_file(alloc: Global, blocks: u32) -> Option<Volume> {
     let mut volume = new_volume(alloc, blocks, 10)?;
     let create = Call::Create {
@@ -28,7 +28,7 @@ pub(crate) fn new_volume_with_file(alloc: Global, blocks: u32) -> Option<Volume>
     Some(volume)
 }
 
-/// The query for what the file is.
+/// Returns the query for the file's attributes.
 fn stat(alloc: Global) -> Option<Query> {
     Some(Query::Stat {
         cred: Cred::ROOT,
@@ -36,7 +36,7 @@ fn stat(alloc: Global) -> Option<Query> {
     })
 }
 
-/// The call that writes so many bytes, from the file's first byte on.
+/// Returns the call that writes `length` bytes at the beginning of the file.
 fn write(alloc: Global, length: u32) -> Option<Call> {
     let bytes = vec![in alloc; 7u8; length as usize].ok()?;
     Some(Call::Write {
@@ -48,7 +48,7 @@ fn write(alloc: Global, length: u32) -> Option<Call> {
     })
 }
 
-/// Nothing where a receipt speaks of a refusal.
+/// Returns `None` if a receipt is that of a refusal.
 fn accepted(receipt: Receipt) -> Option<()> {
     match receipt.outcome {
         Outcome::Accepted(_) | Outcome::Answered(_) => Some(()),
@@ -56,13 +56,13 @@ fn accepted(receipt: Receipt) -> Option<()> {
     }
 }
 
-/// A view asks what the file is, so many times, and answers how many times that is. None where memory ran out or a query is
-/// refused.
+/// Queries the file's attributes `count` times with a view, and returns that number, or `None` if memory ran out or a query
+/// was refused.
 pub(crate) fn ask_view(alloc: Global, shared: &Shared, view: &mut View, count: u64) -> Option<u64>
     requires { shared.now.of.book ≡ Some view.old.book }
     ensures { shared.now.of.book ≡ Some view.new.book }
 {
-    // Which volume it is only the contract reads.
+    // Only the contract reads the volume.
     let _ = shared;
     for _ in 0..count {
         let query = stat(alloc)?;
@@ -71,7 +71,7 @@ pub(crate) fn ask_view(alloc: Global, shared: &Shared, view: &mut View, count: u
     Some(count)
 }
 
-/// A session asks what the file is, as a view does.
+/// Queries the file's attributes with a session, as `ask_view` does with a view.
 pub(crate) fn ask_session<R: Wait>(
     rt: &R,
     alloc: Global,
@@ -89,8 +89,8 @@ pub(crate) fn ask_session<R: Wait>(
     Some(count)
 }
 
-/// A session writes so many bytes of the file, so many times, and answers how many times that is. None where memory ran out
-/// or a call is refused.
+/// Writes `length` bytes of the file `count` times with a session, and returns that number, or `None` if memory ran out or a
+/// call was refused.
 pub(crate) fn call_session<R: Wait>(
     rt: &R,
     alloc: Global,
@@ -109,7 +109,8 @@ pub(crate) fn call_session<R: Wait>(
     Some(count)
 }
 
-/// A session writes so many bytes of the file until it is told to end. None where memory ran out or a call is refused.
+/// Writes `length` bytes of the file with a session until it is told to stop. Returns `None` if memory ran out or a call was
+/// refused.
 pub(crate) fn write_on<R: Wait>(
     rt: &R,
     alloc: Global,

@@ -2,15 +2,15 @@
 //!
 //! calls DIRECTORIES NAMES create|write [image]
 //!
-//! Makes a volume of the seventh edition of 16,000 blocks, in it so many directories, and in each so many empty files. With
-//! `write` it then writes one byte into each of them. Prints how many calls were accepted or, with a further word, the bytes of
+//! Makes a volume of the seventh edition of 16,000 blocks, with DIRECTORIES directories and NAMES empty files in each. With
+//! `write` it then writes one byte into each file. Prints the number of accepted calls or, with a further word, the bytes of
 //! the volume.
 use crate::volume::new_volume;
 use std::alloc::Global;
 use vol_dir::Cred;
 use vol_volume::{Bytes, Call, Volume};
 
-/// What is made.
+/// The directories and files to make.
 #[derive(Clone, Copy)]
 pub(crate) struct Task {
     directories: u32,
@@ -20,7 +20,7 @@ pub(crate) struct Task {
 }
 
 impl Task {
-    /// The task that these words ask for, of which the first is its name.
+    /// Reads a task from words, the first of which is its name.
     pub(crate) fn read(words: &[String]) -> Option<Task> {
         Some(Task {
             directories: words.get(1)?.as_str().parse::<u32>().ok()?,
@@ -30,7 +30,7 @@ impl Task {
         })
     }
 
-    /// Makes the calls on a new volume, and returns what is printed. None if a call is refused.
+    /// Makes the calls on a new volume, and returns the output, or `None` if a call is refused.
     pub(crate) fn run(self, alloc: Global) -> Option<Vec<u8>> {
         let mut volume = new_volume(alloc, 16_000, 1_300)?;
         self.make_calls(alloc, &mut volume)?;
@@ -41,7 +41,7 @@ impl Task {
         Some(line.into_bytes())
     }
 
-    /// Makes the calls on a volume. None where one is refused.
+    /// Makes the calls on a volume. Returns `None` if one is refused.
     fn make_calls(self, alloc: Global, volume: &mut Volume) -> Option<()> {
         for d in 0..self.directories {
             accept(alloc, volume, mkdir(alloc, d)?)?;
@@ -66,7 +66,7 @@ impl Task {
     }
 }
 
-/// The call that makes directory number `d`.
+/// Returns the call that makes directory number `d`.
 fn mkdir(alloc: Global, d: u32) -> Option<Call> {
     let path = format!(in alloc; "/d{d}").ok()?;
     Some(Call::Mkdir {
@@ -77,7 +77,7 @@ fn mkdir(alloc: Global, d: u32) -> Option<Call> {
     })
 }
 
-/// The call that makes file number `n` of a directory.
+/// Returns the call that makes file number `n` of a directory.
 fn create(alloc: Global, d: u32, n: u32) -> Option<Call> {
     Some(Call::Create {
         cred: Cred::ROOT,
@@ -87,7 +87,7 @@ fn create(alloc: Global, d: u32, n: u32) -> Option<Call> {
     })
 }
 
-/// The call that writes a byte into file number `n` of a directory.
+/// Returns the call that writes a byte into file number `n` of a directory.
 fn write(alloc: Global, d: u32, n: u32) -> Option<Call> {
     Some(Call::Write {
         cred: Cred::ROOT,
@@ -98,13 +98,13 @@ fn write(alloc: Global, d: u32, n: u32) -> Option<Call> {
     })
 }
 
-/// The path of file number `n` of a directory.
+/// Returns the path of file number `n` of a directory.
 fn file_path(alloc: Global, d: u32, n: u32) -> Option<Bytes> {
     let path = format!(in alloc; "/d{d}/f{n}").ok()?;
     Some(Bytes::from_vec(path.into_bytes()))
 }
 
-/// Makes a call. None where it is refused.
+/// Makes a call. Returns `None` if it is refused.
 fn accept(alloc: Global, volume: &mut Volume, call: Call) -> Option<()> {
     volume.call(alloc, call).ok()?;
     Some(())

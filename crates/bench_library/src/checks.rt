@@ -2,8 +2,8 @@
 //!
 //! checks 6|7 icheck|dcheck|ncheck WORKERS TIMES < IMAGE
 //!
-//! Checks the image on standard input so many times, by so many threads, 1 to 64, and prints how many lines the reports
-//! have together.
+//! Checks the image on standard input TIMES times, with WORKERS threads, 1 to 64, and prints the number of lines in all
+//! reports.
 ghost use Rattle.std.specs.Prelude.{◌≤◌, IfSome};
 
 use pdp_words::Image;
@@ -21,7 +21,7 @@ enum Checker {
     Names,
 }
 
-/// What is checked, and how.
+/// The checks to run.
 #[derive(Clone, Copy)]
 pub(crate) struct Task {
     edition: Edition,
@@ -31,7 +31,7 @@ pub(crate) struct Task {
 }
 
 impl Task {
-    /// The task that these words ask for, of which the first is its name.
+    /// Reads a task from words, the first of which is its name.
     pub(crate) fn read(words: &[String]) -> Option<Task>
         ensures { IfSome result (λ task. (1 ≤ task.workers) × (task.workers ≤ MOST_WORKERS)) }
     {
@@ -59,7 +59,7 @@ impl Task {
         })
     }
 
-    /// Checks an image once, and returns how many lines the report has.
+    /// Checks an image once, and returns the number of lines in the report.
     fn check<R: Threads + Wait + Sync>(self, rt: &R, alloc: Global, image: &Image) -> Option<u64>
         requires first { 1 ≤ self.workers }
         requires last { self.workers ≤ MOST_WORKERS }
@@ -77,7 +77,7 @@ impl Task {
         Some(report.ok()?.lines().len() as u64)
     }
 
-    /// Checks an image so many times, and returns what is printed.
+    /// Checks an image `times` times, and returns the output.
     pub(crate) fn run<R: Threads + Wait + Sync>(
         self,
         rt: &R,

@@ -1,11 +1,11 @@
-//! Runs parts of the library many times on a volume in memory, for the benchmark, which takes the time and the memory of it.
+//! Runs parts of the library many times on a volume in memory, for the benchmark, which measures its time and memory.
 //!
 //! bench_library calls DIRECTORIES NAMES create|write [image]
 //! bench_library checks 6|7 icheck|dcheck|ncheck WORKERS TIMES < IMAGE
 //! bench_library views lock|view|views|calls COUNT VIEWS BLOCKS BYTES
 //!
-//! Further tasks may follow, each after a word `+`. Prints a line for each. Ends with status 1 if a word can't be read, memory
-//! ran out or a call was refused.
+//! Further tasks may follow, each after the word `+`. Prints a line for each. Ends with status 1 if a word can't be read,
+//! memory ran out or a call was refused.
 #![tactic(auto)]
 
 mod asking;
@@ -22,7 +22,7 @@ use std::process::ExitCode;
 use std::sync::Wait;
 use std::thread::Threads;
 
-/// Does a task, of which the first word is the name, and returns what it prints.
+/// Does a task, whose first word is its name, and returns its output.
 fn perform<R: AllocGlobal + Threads + Wait + Sync, I: Read>(
     rt: &R,
     words: &[String],
@@ -41,7 +41,7 @@ fn perform<R: AllocGlobal + Threads + Wait + Sync, I: Read>(
     }
 }
 
-/// Does the tasks that the words ask for, and prints what came of them.
+/// Does the tasks that the words name, and prints their output.
 fn run<R: Env + AllocGlobal + Threads + Wait + Sync, I: Read + Drop, O: Write + Drop>(
     rt: &R,
     input: I,

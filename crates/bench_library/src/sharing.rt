@@ -1,4 +1,4 @@
-//! The volume is shared, each session and view does its part, and the volume is closed.
+//! Shares a volume, runs its sessions and views, and closes it.
 ghost use Rattle.std.specs.Prelude.{◌≡◌, ◌≤◌, ◌<◌, All, Some, length};
 
 use crate::asking::{ask_session, ask_view, call_session, write_on};
@@ -11,7 +11,7 @@ use std::thread::Threads;
 use vol_shared::{MOST_VIEWS, Session, Shared, View};
 use vol_volume::Volume;
 
-/// So many calls by one session of a volume without views.
+/// Makes the task's calls with one session of a volume without views.
 pub(crate) fn share<R: Wait>(rt: &R, alloc: Global, volume: Volume, task: Task) -> Option<u64> {
     let Ok((shared, mut sessions)) = Shared::open(alloc, volume, 1) else {
         return None;
@@ -21,7 +21,7 @@ pub(crate) fn share<R: Wait>(rt: &R, alloc: Global, volume: Volume, task: Task) 
     done
 }
 
-/// A task on a volume with two sessions, and with so many views.
+/// Does a task on a volume with two sessions and `views` views.
 pub(crate) fn share_published<R: Threads + Wait + Sync>(
     rt: &R,
     alloc: Global,
@@ -40,7 +40,7 @@ pub(crate) fn share_published<R: Threads + Wait + Sync>(
     done
 }
 
-/// A task by two sessions and by views, who all come back.
+/// Does a task with two sessions and with views, which are all handed back.
 fn perform<R: Threads + Wait + Sync>(
     rt: &R,
     alloc: Global,
@@ -65,7 +65,7 @@ fn perform<R: Threads + Wait + Sync>(
     }
 }
 
-/// So many calls by the last session.
+/// Makes the task's calls with the last session.
 #[tactic(auto, using(vol_shared::proofs::Fronts::all_pushed, vol_shared::proofs::Lists::all_last, vol_shared::proofs::Lists::all_front))]
 fn call_last<R: Wait>(
     rt: &R,
@@ -85,7 +85,7 @@ fn call_last<R: Wait>(
     done
 }
 
-/// So many queries by the last session but one, while the last writes the file.
+/// Makes the task's queries with the last session but one, while the last writes the file.
 #[tactic(auto, using(vol_shared::proofs::Fronts::all_pushed, vol_shared::proofs::Lists::all_last, vol_shared::proofs::Lists::all_front))]
 fn ask_last<R: Threads + Wait + Sync>(
     rt: &R,
@@ -107,7 +107,7 @@ fn ask_last<R: Threads + Wait + Sync>(
     done
 }
 
-/// So many queries by the last view, if there is one, while the last session writes the file.
+/// Makes the task's queries with the last view, if there is one, while the last session writes the file.
 #[tactic(auto, using(vol_shared::proofs::Fronts::all_pushed, vol_shared::proofs::Lists::all_last, vol_shared::proofs::Lists::all_front))]
 fn watch_last<R: Threads + Wait + Sync>(
     rt: &R,
@@ -136,7 +136,7 @@ fn watch_last<R: Threads + Wait + Sync>(
     done
 }
 
-/// So many queries by one session, while another writes the file.
+/// Makes the task's queries with one session, while another writes the file.
 fn ask_beside<R: Threads + Wait + Sync>(
     rt: &R,
     alloc: Global,
@@ -175,7 +175,7 @@ fn ask_beside<R: Threads + Wait + Sync>(
     (wrote.and(done), asker, writer)
 }
 
-/// So many queries by a view, while a session writes the file.
+/// Makes the task's queries with a view, while a session writes the file.
 fn watch_beside<R: Threads + Wait + Sync>(
     rt: &R,
     alloc: Global,
@@ -214,8 +214,9 @@ fn watch_beside<R: Threads + Wait + Sync>(
     (wrote.and(done), view, writer)
 }
 
-/// So many queries by each fourth view, on a thread of its own. The three views between two of them ask nothing: they keep
-/// these apart, as views are that lie with their threads, so that no thread writes where another reads.
+/// Makes the task's queries with every fourth view, each on a thread of its own. The three views between two of them are
+/// idle: they keep those apart in memory, so that no thread writes where another reads, as if each view were allocated by
+/// its thread.
 fn ask_all<R: Threads + Sync>(
     rt: &R,
     alloc: Global,

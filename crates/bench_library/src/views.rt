@@ -2,12 +2,12 @@
 //!
 //! views lock|view|views|calls COUNT VIEWS BLOCKS BYTES
 //!
-//! Makes a volume of the seventh edition of so many blocks with one file in it, and shares it by two sessions and so many
-//! views, at most 16. With `lock` one session asks so many times what the file is, and with `view` the last view does, while
-//! the other session writes so many bytes of the file without pause until that is done. With `views` so many views, at most
-//! 4, ask so many times each, on threads of their own, and nothing is written. With `calls` one session writes so many bytes
-//! of the file so many times; the volume is opened without views where there are to be none. Prints how many queries were
-//! answered and, with `calls`, how many calls were accepted.
+//! Makes a volume of the seventh edition of BLOCKS blocks with one file in it, and shares it between two sessions and VIEWS
+//! views, at most 16. With `lock` one session queries the file's attributes COUNT times, and with `view` the last view does,
+//! while the other session writes BYTES bytes of the file without pause until that is done. With `views` VIEWS views, at
+//! most 4, make COUNT queries each, on threads of their own, and nothing is written. With `calls` one session writes BYTES
+//! bytes of the file COUNT times; without views the volume is opened without publishing. Prints the number of answered
+//! queries or, with `calls`, of accepted calls.
 use crate::asking::new_volume_with_file;
 use crate::sharing::{share, share_published};
 use std::alloc::Global;
@@ -15,7 +15,7 @@ use std::sync::Wait;
 use std::thread::Threads;
 use vol_shared::MOST_VIEWS;
 
-/// What is asked of the volume, and by whom.
+/// The kind of work on the volume.
 #[derive(Clone, Copy)]
 pub(crate) enum Job {
     /// Queries by a session, while another writes.
@@ -28,7 +28,7 @@ pub(crate) enum Job {
     Calls,
 }
 
-/// What is done with the volume.
+/// The work on the volume.
 #[derive(Clone, Copy)]
 pub(crate) struct Task {
     pub(crate) job: Job,
@@ -39,7 +39,7 @@ pub(crate) struct Task {
 }
 
 impl Task {
-    /// The task that these words ask for, of which the first is its name.
+    /// Reads a task from words, the first of which is its name.
     pub(crate) fn read(words: &[String]) -> Option<Task> {
         let job = match words.get(1)?.as_str() {
             "lock" => Job::Lock,
@@ -57,7 +57,7 @@ impl Task {
         })
     }
 
-    /// Does it with a new volume, and returns what is printed.
+    /// Does the task with a new volume, and returns the output.
     pub(crate) fn run<R: Threads + Wait + Sync>(self, rt: &R, alloc: Global) -> Option<Vec<u8>> {
         let volume = new_volume_with_file(alloc, self.blocks)?;
         let done = match self.job {

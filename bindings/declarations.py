@@ -1,9 +1,9 @@
 #!/usr/bin/env python3
-"""Compares what C, Python and Rust are told of the library with its source, crates/unixvol_c.
+"""Compares the declarations of the library for C, Python and Rust with its source, crates/unixvol_c.
 
-Of each function: that it is declared everywhere, with the same parameters and result, and by the same names in C and
-Rust. Of each struct: the fields, their order and types. Of each number: its name. Python's part wants the shared
-object, since it is read by loading it.
+Each function must be declared everywhere, with the same parameters and result, and with the same names in C and Rust.
+Structs are compared by their fields with order and types, numbers by name. Python's part needs the shared object,
+since it is read by loading it.
 Usage: declarations.py FOLDER, the folder of the built Python package. It ends with 'N passed, N failed'.
 """
 from __future__ import annotations
@@ -16,7 +16,7 @@ from pathlib import Path
 TOP = Path(__file__).resolve().parent.parent
 SOURCE = TOP / "crates/unixvol_c/src"
 
-# What a type of the source is in C. A slice is a pointer and a count, and the allocator is nothing.
+# The types of the source in C. A slice is a pointer and a count, and the allocator is nothing.
 IN_C = {
     "Global": [],
     "i32": ["int32_t"],
@@ -37,10 +37,10 @@ IN_C = {
     "*mut u8": ["void *"],
 }
 
-# What the Rust wrapper writes for a type of C.
+# The types of C in the Rust wrapper.
 IN_RUST = {"*const u8": "const void *", "*mut u8": "void *", "*mut c_void": "void *", "*mut Entry": "unixvol_entry *"}
 
-# What Python writes for a type of C.
+# The types of C in Python.
 IN_PYTHON = {
     ctypes.c_int32: "int32_t",
     ctypes.c_uint8: "uint8_t",
@@ -56,7 +56,7 @@ IN_PYTHON = {
     None: "void",
 }
 
-# What a parameter of the source is called elsewhere.
+# The names of the source's parameters elsewhere.
 NAMES = {"handle": "volume", "perm": "permissions"}
 
 # The parameters of a function, each a type and a name as C writes them; and the type of its result.
@@ -65,12 +65,12 @@ Fields = dict[str, list[tuple[str, str]]]
 
 
 def split(text: str) -> list[tuple[str, str]]:
-    """The names and types of parameters or fields that are written NAME: TYPE."""
+    """Returns the names and types of parameters or fields that are written NAME: TYPE."""
     return [(name.split()[-1], kind.strip()) for name, kind in re.findall(r"([\w ]+):\s*([^,;]+(?:;\s*\d+\])?)", text)]
 
 
 def parameters(taken: str) -> list[str]:
-    """What parameters of the source are in C. A slice is two: `path` and `path_count`, or `into` and `room`."""
+    """Returns the source's parameters in C. A slice becomes two: `path` and `path_count`, or `into` and `room`."""
     found = []
     for name, kind in split(taken):
         name = NAMES.get(name, name)
@@ -80,20 +80,20 @@ def parameters(taken: str) -> list[str]:
 
 
 def kinds(functions: Functions) -> Functions:
-    """The types alone."""
+    """Returns only the types."""
     typed = lambda taken: [re.sub(r"\w+$", "", it).strip() for it in taken]
     return {name: (typed(taken), result) for name, (taken, result) in functions.items()}
 
 
 def fields_of(name: str, text: str) -> list[tuple[str, str]]:
-    """The fields of a struct of the source as C has them, so without ghosts and without what has no bytes."""
+    """Returns the fields of a struct of the source in C: without ghosts and fields of size 0."""
     body = re.search(rf"#\[repr\(C\)\](?:\s*#\[.*?\])*\s*pub struct {name} \{{(.*?)\n\}}", text, re.S)[1]
     fields = split(re.sub(r"///.*|(?:pub )?ghost .*", "", body))
     return [(field, kind) for field, kind in fields if kind != "Global"]
 
 
 def of_source() -> tuple[Functions, Fields, dict[str, int]]:
-    """The exports, structs and numbers of the source, in the words of C."""
+    """Returns the exports, structs and numbers of the source, as C declares them."""
     text = "\n".join(it.read_text() for it in sorted(SOURCE.glob("*.rt")))
     exports = re.findall(r'no_mangle\)\]\s*pub extern "C" fn (\w+)\(([^)]*)\)(?: -> (\w+))?', text)
     functions = {
@@ -103,7 +103,7 @@ def of_source() -> tuple[Functions, Fields, dict[str, int]]:
         called: [(field, IN_C[kind][0]) for field, kind in fields_of(name, text)]
         for called, name in {"unixvol_entry": "Entry", "unixvol_node": "Node", "unixvol_sizes": "About"}.items()
     }
-    # (a handle has what is sealed, which is a pointer)
+    # A handle's sealed volume is a pointer.
     structs["unixvol"] = [
         ("volume", IN_C[fields_of(kind, text)[0][1]][0]) if field == "sealed" else (field, kind)
         for field, kind in fields_of("Handle", text)
@@ -117,7 +117,7 @@ def of_source() -> tuple[Functions, Fields, dict[str, int]]:
 
 
 def of_header() -> tuple[Functions, Fields, dict[str, int]]:
-    """The declarations of unixvol.h."""
+    """Returns the declarations of unixvol.h."""
     text = re.sub(r"/\*.*?\*/", "", (TOP / "bindings/c/unixvol.h").read_text(), flags=re.S)
     functions = {
         name: ([" ".join(it.split()) for it in taken.split(",")], result)
@@ -132,7 +132,7 @@ def of_header() -> tuple[Functions, Fields, dict[str, int]]:
 
 
 def of_rust() -> tuple[Functions, Fields]:
-    """The declarations of the Rust wrapper."""
+    """Returns the declarations of the Rust wrapper."""
     text = re.sub(r"//.*", "", (TOP / "bindings/rust/src/declared.rs").read_text())
     named = lambda kind: IN_RUST.get(kind) or IN_C[kind][0]
     typed = lambda name, kind: f"{named(kind)} {name}".replace("* ", "*")
@@ -150,7 +150,7 @@ def of_rust() -> tuple[Functions, Fields]:
 
 
 def of_python(folder: str) -> tuple[Functions, Fields, dict[str, int]]:
-    """The declarations of the Python package."""
+    """Returns the declarations of the Python package."""
     sys.path.insert(0, folder)
     import unixvol
     from unixvol import _library as library
@@ -174,7 +174,7 @@ def of_python(folder: str) -> tuple[Functions, Fields, dict[str, int]]:
 
 
 def compare(where: str, wanted: dict, found: dict) -> tuple[int, int]:
-    """Compares what one place says with the source, and prints what differs."""
+    """Compares one place's declarations with the source's, and prints the differences."""
     wrong = [name for name in sorted({*wanted, *found}) if wanted.get(name) != found.get(name)]
     for name in wrong:
         print(f"failed: {where}: {name}: {found.get(name)}, wanted {wanted.get(name)}")

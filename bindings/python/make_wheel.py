@@ -1,4 +1,4 @@
-"""Makes a wheel, a zip of the package with the shared object in it, when `pip` asks for one. It needs Python alone.
+"""Makes a wheel, a zip of the package with the shared object in it, when `pip` asks for one. It needs only Python.
 
 It works on the copy that `make library` leaves in bindings/out/python, since the object is there.
 """
@@ -39,6 +39,6 @@ def build_wheel(folder: str, config_settings: object = None, metadata_directory:
 
 
 def record_of(files: dict[str, bytes], itself: str) -> str:
-    """The list of the files, each with its sum and size."""
+    """Returns the list of the files, each with its checksum and size."""
     sums = {path: urlsafe_b64encode(sha256(data).digest()).rstrip(b"=").decode() for path, data in files.items()}
     return "".join(f"{path},sha256={sums[path]},{len(data)}\n" for path, data in files.items()) + f"{itself},,\n"

@@ -1,4 +1,4 @@
-//! Links with libunixvol.a: that of the folder UNIXVOL_LIB, else that of `make library`.
+//! Links with libunixvol.a: the one in the folder UNIXVOL_LIB, else the one that `make library` builds.
 
 use std::path::Path;
 

@@ -1,5 +1,5 @@
 /* inject EDITION IMAGE FILE PATH: puts a file into a pack, as an emulator may while the guest is stopped after a sync.
- * The image is written back in place, and only once the whole change is made and the new bytes were judged sound. */
+ * The image is written back in place, and only after the whole change was made and the new bytes were judged sound. */
 #include "unixvol.h"
 
 #include <stdio.h>
@@ -7,7 +7,7 @@
 #include <string.h>
 #include <time.h>
 
-/* Reads a whole file; the caller frees it. An empty file has a block too. */
+/* Reads a whole file; the caller frees it. An empty file is allocated too. */
 static void *read_file(const char *name, size_t *count)
 {
     FILE *file = fopen(name, "rb");
@@ -25,7 +25,7 @@ static void *read_file(const char *name, size_t *count)
     return bytes;
 }
 
-/* Makes a file with these bytes, for user 0. If any step is refused, no file is left. */
+/* Makes a file with these bytes, for user 0. If a step is refused, no file is left. */
 static int32_t inject(unixvol *volume, const char *path, const void *bytes, size_t count)
 {
     uint32_t now = (uint32_t)time(NULL);

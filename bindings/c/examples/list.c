@@ -1,4 +1,4 @@
-/* list EDITION IMAGE [DIRECTORY]: the names in a directory, with what each is, as an emulator would show a pack. */
+/* list EDITION IMAGE [DIRECTORY]: lists the names in a directory with attributes, as an emulator would show them. */
 #include "unixvol.h"
 
 #include <stdio.h>
@@ -31,7 +31,7 @@ static void *read_file(const char *name, size_t *count)
     return bytes;
 }
 
-/* The names in a directory; the caller frees them. */
+/* Returns the names in a directory; the caller frees them. */
 static unixvol_entry *list(unixvol *volume, const char *path, size_t *count, int32_t *number)
 {
     unixvol_entry *entries = NULL;

@@ -8,7 +8,7 @@
 
 enum { BLOCKS = 400000, LIST_BLOCKS = 2000, FILES = 5000, STATS = 10000 };
 
-/* The milliseconds since some moment. */
+/* Returns the milliseconds since some fixed time. */
 static double now(void)
 {
     struct timespec time;
@@ -16,8 +16,8 @@ static double now(void)
     return (double)time.tv_sec * 1e3 + (double)time.tv_nsec / 1e6;
 }
 
-/* Prints how long a job took since `begin`, and returns the moment at which the next begins; ends the program if it was
- * refused. */
+/* Prints how long a job took since `begin`, and returns the time at which the next begins; ends the program if the job
+ * was refused. */
 static double row(const char *job, double begin, int32_t number)
 {
     double taken = now() - begin;
@@ -29,7 +29,7 @@ static double row(const char *job, double begin, int32_t number)
     return now();
 }
 
-/* The path of a file by its number. */
+/* Makes the path of a file from its number. */
 static size_t path_of(int n, char path[16])
 {
     return (size_t)snprintf(path, 16, "/f%d", n % FILES);
@@ -46,7 +46,7 @@ static int32_t make_files(unixvol *volume)
     return number;
 }
 
-/* Asks what the files are, until it is refused. */
+/* Reads the attributes of the files, until one is refused. */
 static int32_t stat_files(unixvol *volume)
 {
     int32_t number = UNIXVOL_DONE;

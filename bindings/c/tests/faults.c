@@ -1,5 +1,5 @@
-/* Refuses each allocation of each function in turn. A refused one is answered with UNIXVOL_NO_MEMORY; or it could be
- * done without, and then the outcome is that of the run in which none was refused. No byte changes, and none is lost.
+/* Refuses each allocation of each function in turn. The function then returns UNIXVOL_NO_MEMORY, or does without it and
+ * has the same outcome as without a refusal. No byte changes, and none is leaked.
  * Linked with --wrap=malloc, --wrap=realloc and --wrap=free. It ends with 'N passed, N failed'. */
 #include "unixvol.h"
 
@@ -16,7 +16,7 @@ void *__wrap_malloc(size_t size);
 void *__wrap_realloc(void *block, size_t size);
 void __wrap_free(void *block);
 
-/* How many blocks are held, and after how many further allocations one is refused. */
+/* The number of blocks held, and the number of further allocations before one is refused. */
 static long held;
 static long until = NEVER;
 
@@ -45,7 +45,7 @@ void __wrap_free(void *block)
     __real_free(block);
 }
 
-/* What a function handed out, the image after it, and if the handle was open. */
+/* The results of a function, the image after it, and whether the handle was open. */
 typedef struct {
     int32_t number;
     size_t count;
@@ -233,7 +233,7 @@ static void has(const char *name, const char *what, bool holds)
         printf("failed: %s: %s\n", name, what);
 }
 
-/* Opens a handle, calls the function, of which the allocation `refused` is refused, and closes the handle again.
+/* Opens a handle, calls the function while its allocation number `refused` is refused, and closes the handle again.
  * Returns whether an allocation was refused. */
 static bool run(size_t at, long refused, outcome *made)
 {
@@ -254,7 +254,7 @@ static bool run(size_t at, long refused, outcome *made)
     return was_refused;
 }
 
-/* True if nothing was handed out, and the image is as it was. */
+/* True if there are no results, and the image is as it was. */
 static bool is_unchanged(const outcome *made)
 {
     static const outcome none;

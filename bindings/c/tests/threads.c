@@ -1,4 +1,4 @@
-/* Four threads at once, each with a handle of its own; then each handle goes on in the main thread. For helgrind. */
+/* Four threads at once, each with a handle of its own; then the main thread uses each handle. For helgrind. */
 #include "unixvol.h"
 
 #include <pthread.h>

@@ -1,7 +1,7 @@
 """A lesson on the file system of Sixth Edition Unix.
 
-A volume is made and its i-nodes are looked at, byte by byte; files grow, get further names, and are removed; then a bit
-is changed, and the rule that it breaks is found. lesson.txt has all that it prints. Change it, and run it again.
+It makes a volume and shows its i-nodes, byte by byte; files grow, get further names, and are removed; then it changes a
+bit, and finds the rule that this breaks. Its output is in lesson.txt. Change it, and run it again.
 """
 
 import struct
@@ -18,7 +18,7 @@ def show(title: str) -> None:
 
 
 def inode_at(number: int) -> int:
-    """Where an i-node begins. The i-list follows the boot block and the super-block; it has 32 bytes for each."""
+    """Returns the offset of an i-node, of 32 bytes each. The i-list follows the boot block and the super-block."""
     return 2 * BLOCK + 32 * (number - 1)
 
 

@@ -1,4 +1,4 @@
-"""list_all.py EDITION IMAGE: all files of a volume, as `ls -lR` shows them."""
+"""list_all.py EDITION IMAGE: lists all files of a volume, as `ls -lR` does."""
 
 import sys
 

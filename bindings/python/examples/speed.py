@@ -1,4 +1,4 @@
-"""speed.py: the milliseconds of some work on a volume of 200 MB, one line for each job."""
+"""speed.py: prints the milliseconds of some work on a volume of 200 MB, one line for each job."""
 
 import time
 
@@ -8,7 +8,7 @@ FILES = [f"f{n}" for n in range(5000)]
 
 
 def row(job, work):
-    """Prints how long a job took, and returns what it made."""
+    """Prints how long a job took, and returns its result."""
     begin = time.perf_counter()
     made = work()
     print(f"{job:40} {(time.perf_counter() - begin) * 1000:9.1f}")

@@ -8,9 +8,9 @@
         (volume / "etc/motd").write_text("welcome\\n")
         volume.save()
 
-A `Volume` is in memory, and is a sound one after each call; `save` writes its bytes to a file, whole or not at all. Its
-paths are used as those of `pathlib`. What is refused raises an exception that is named for the refusal, has its
-`number`, and is Python's own too, if Python has one of that meaning: `NoEntry` is a `FileNotFoundError`.
+A `Volume` is in memory, and is sound after each call; `save` writes its bytes to a file, whole or not at all. Its paths
+work like those of `pathlib`. A refusal raises an exception that is named for it and has its `number`; it is also
+Python's own, if Python has one with that meaning: `NoEntry` is a `FileNotFoundError`.
 
 Any number of volumes may be used by any number of threads. Each takes two to three and a half times the memory of its
 image.

@@ -1,4 +1,4 @@
-"""What the library raises."""
+"""The exceptions of the library."""
 
 from __future__ import annotations
 
@@ -9,7 +9,7 @@ from ._library import text_of
 
 
 class UnixvolError(Exception):
-    """Any of the exceptions here. `number` is what the library for C returns."""
+    """The base of all exceptions here. `number` is the one that the library for C returns."""
 
     number: int
 
@@ -45,19 +45,19 @@ class NoMemory(Refusal, MemoryError):
 
 
 class Access(Refusal, PermissionError):
-    """The permissions don't grant it."""
+    """The permissions don't allow it."""
 
     number, code = 13, errno.EACCES
 
 
 class Exists(Refusal, FileExistsError):
-    """The name is there already."""
+    """The name exists already."""
 
     number, code = 17, errno.EEXIST
 
 
 class NotDirectory(Refusal, NotADirectoryError):
-    """What is on the way, or wanted, is no directory."""
+    """Something on the way, or the path itself, is no directory."""
 
     number, code = 20, errno.ENOTDIR
 
@@ -69,7 +69,7 @@ class IsDirectory(Refusal, IsADirectoryError):
 
 
 class Invalid(Refusal):
-    """The path holds a zero byte, or the call can't be made of it."""
+    """The path has a zero byte, or the call can't be made for it."""
 
     number, code = 22, errno.EINVAL
 
@@ -117,7 +117,7 @@ class BadId(Refusal):
 
 
 class Unsound(UnixvolError, ValueError):
-    """The bytes are no sound volume. `rule` is the least of the twelve rules that they break."""
+    """The bytes aren't a sound volume. `rule` is the first of the twelve rules that they break."""
 
     def __init__(self, rule: int):
         super().__init__(rule)
@@ -141,7 +141,7 @@ class NoEdition(UnixvolError, ValueError):
 
 
 class Bounds(UnixvolError, ValueError):
-    """The sizes aren't those of a volume."""
+    """No volume can have these sizes."""
 
     number = 303
 
@@ -153,7 +153,7 @@ class TooMany(UnixvolError):
 
 
 class NoReport(UnixvolError, ValueError):
-    """There is no checker of that name."""
+    """No checker has that name."""
 
     number = 305
 
@@ -163,7 +163,7 @@ _OTHERS: dict[int, type[UnixvolError]] = {kind.number: kind for kind in (Closed,
 
 
 def check(number: int, path: str | None = None) -> None:
-    """Raises the exception of a number that isn't 0."""
+    """Raises the exception for a number that isn't 0."""
     if number == 0:
         return
     if number in _REFUSALS:

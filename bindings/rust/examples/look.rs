@@ -1,5 +1,5 @@
-//! look EDITION IMAGE [DIRECTORY]: the names in a directory of a volume, and what each is. The volume is then changed in
-//! memory alone, by a thread, to show that it can be.
+//! look EDITION IMAGE [DIRECTORY]: lists the names in a directory of a volume with their attributes. Then a thread
+//! changes the volume, only in memory, to show that it can.
 
 use std::error::Error;
 use unixvol::{Caller, Volume};

@@ -1,11 +1,12 @@
 #!/usr/bin/env bash
-# Prints what the gate costs: processor and wall minutes by crate and by part, as the processes of the run took them.
+# Prints the cost of the gate: processor and wall minutes by crate and by part, as measured from the processes of the run.
 #
-#   bench/gate.sh             runs the gate with everything from nothing: `rt ci --anew`, or `rt ci` of a toolchain that keeps nothing from run to run
+#   bench/gate.sh             runs the gate with nothing kept: `rt ci --anew`, or `rt ci` of a toolchain that keeps nothing from run to run
 #   bench/gate.sh COMMAND..   runs this command instead (`rt ci`, `rt ci vol_free`)
 #
-# The parts: proof (of a crate), tests (the proof of its test functions), base (the check that its wrong bodies are tried over), bodies (the wrong bodies), build (of a
-# program, by both compilers). What rt itself takes, links and runs is the row `rt`. Times are read every half second: of a process that ends between two readings the rest is missing.
+# The parts: proof (of a crate), tests (the proof of its test functions), base (the check under which its wrong bodies are tried), bodies (the wrong bodies),
+# build (of a program, with both compilers). Running, linking and testing by rt itself is the row `rt`. Times are read every half second: if a process ends
+# between two readings, its last part is missing.
 set -euo pipefail
 cd "$(dirname "$0")/.."
 if ((!$#)); then
@@ -16,7 +17,7 @@ fi
 declare -A cost=() first=() last=() name=() kind=()
 ticks=$(getconf CLK_TCK)
 
-# Reads /proc/PID/stat into `parent`, `session`, `used` (ticks, with those of children that have ended) and `start`.
+# Reads /proc/PID/stat into `parent`, `session`, `used` (ticks, including those of ended children) and `start`.
 read_stat() {
     local line rest
     read -r line 2>/dev/null <"/proc/$1/stat" || return 1
@@ -24,7 +25,7 @@ read_stat() {
     parent=${rest[1]} session=${rest[3]} used=$((rest[11] + rest[12] + rest[13] + rest[14])) start=${rest[19]}
 }
 
-# Sets `crate` and `part` of a process of the prover, by its words.
+# Sets `crate` and `part` of a process of the prover, from its words.
 read_words() {
     local words=() word before='' over='' checked='' test='' made=''
     mapfile -d '' -t words 2>/dev/null <"/proc/$1/cmdline" || return 1
@@ -48,7 +49,7 @@ read_words() {
     else part=bodies; fi
 }
 
-# Adds up what runs now: a process of the prover that another one started counts for that one.
+# Adds up the processes that run now: a process that another process of the prover started counts for that one.
 read_all() {
     local path pid comm key crate part parent session used start up
     local -A of=() spent=()

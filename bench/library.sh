@@ -1,6 +1,6 @@
 #!/usr/bin/env bash
-# Times the library from C and from Python, on a volume of 200 MB that is made in memory. Each job is timed five times; the least counts.
-# Usage: bench/library.sh FOLDER, that in which `make library` left the library. It needs a C compiler and Python 3.
+# Times the library from C and from Python, on a volume of 200 MB that is made in memory. Each job is timed five times; the least time counts.
+# Usage: bench/library.sh FOLDER, where `make library` left the library. It needs a C compiler and Python 3.
 set -euo pipefail
 export LC_ALL=C PYTHONDONTWRITEBYTECODE=1
 built=$(realpath "${1:?usage: bench/library.sh FOLDER}")

@@ -1,8 +1,8 @@
 #!/usr/bin/env bash
-# Times the reading of a mounted volume against fuse2fs, which mounts an ext2 image of the same files: 100,000,000 bytes of one file, and a stat of each of
-# 5,000 files in one directory. Both are mounted anew for each run, so that nothing is cached, and what is read is compared.
-# Usage: bench/mounted.sh PROGRAM. It needs root, /dev/fuse and 600 MB of disk. Times are the best of five runs by turns. Without fuse2fs its column says so.
-# FOLDER names another place for the files than bench/out.
+# Times reading a mounted volume against fuse2fs, which mounts an ext2 image with the same files: 100,000,000 bytes of one file, and a stat of each of 5,000
+# files in one directory. Both are mounted again for each run, so that nothing is cached, and the bytes read are compared.
+# Usage: bench/mounted.sh PROGRAM. It needs root, /dev/fuse and 600 MB of disk. Times are the best of five alternating runs. Without fuse2fs its column says so.
+# FOLDER names another folder for the files than bench/out.
 set -uo pipefail
 export LC_ALL=C
 program=$(realpath "${1:?usage: bench/mounted.sh PROGRAM}")
@@ -13,7 +13,7 @@ cd "$FOLDER" || exit 1
 trap 'umount -l mounted 2> /dev/null; rm -rf files mounted six.img seven.img ext2.img output wanted told' EXIT
 [ -c /dev/fuse ] && (: <> /dev/fuse) && mkdir -p mounted files/many || exit 1
 
-# mount_ours, mount_theirs: mounts an image on `mounted`, and waits until it is
+# mount_ours, mount_theirs: mounts an image on `mounted`, and waits until it is mounted
 mount_ours() { "$bench/../bin/unixvol-mount" --read-only 7 seven.img mounted > told 2>&1 & }
 mount_theirs() { fuse2fs -f -o ro ext2.img mounted > told 2>&1 & }
 up() {
@@ -21,14 +21,14 @@ up() {
     sleep 0.2
 }
 
-# microseconds WORD..: runs a command, its output in `output`, and leaves the microseconds that it took in `taken`
+# microseconds WORD..: runs a command, with its output in `output`, and leaves its microseconds in `taken`
 microseconds() {
     local begin=${EPOCHREALTIME/./}
     "$@" > output || exit 1
     taken=$((${EPOCHREALTIME/./} - begin))
 }
 
-# quickest MOUNT WORD..: mounts five times, and leaves the microseconds of the quickest run of the command in `best`
+# quickest MOUNT WORD..: mounts five times, and leaves the microseconds of the command's quickest run in `best`
 quickest() {
     local mount=$1
     shift
@@ -43,7 +43,7 @@ quickest() {
     done
 }
 
-# row LABEL WORD..: a row of the table; both have to read the same
+# row LABEL WORD..: a row of the table; both must read the same bytes
 row() {
     local label=$1 ours
     shift

@@ -1,12 +1,12 @@
 #!/usr/bin/env bash
-# Times the program against bench/plain, which does the same jobs in plain Rust, and compares what both write, byte by byte.
-# Usage: bench/run.sh PROGRAM LIBRARY, the second being the built crates/bench_library.
-# It needs rustc, some 900 MB of disk, and a machine that does nothing else.
-# Times are the best of five runs of the whole command, by turns; memory is the greatest that was resident in a run.
-# The last column, where a row has it, is that memory by two copies of the image and one of the file that is put; for the shared
-# volume, how many images it takes more with a view.
-# A row ends with what it is above, where it is above what is wanted.
-# FOLDER names another place for the files than bench/out: one in memory shows the programs without the disk.
+# Times the program against bench/plain, which does the same jobs in plain Rust, and compares their results byte by byte.
+# Usage: bench/run.sh PROGRAM LIBRARY, where LIBRARY is the built crates/bench_library.
+# It needs rustc, some 900 MB of disk, and an otherwise idle machine.
+# Times are the best of five alternating runs of the whole command; memory is the greatest resident size of a run.
+# The last column, if a row has it, is that memory divided by two copies of the image and one of the file that is put; for the shared volume, the number of
+# images' worth of memory that a view adds.
+# A row ends with a note if it is above its limit.
+# FOLDER names another folder for the files than bench/out: one in memory shows the programs without the disk.
 set -uo pipefail
 export LC_ALL=C
 usage='usage: bench/run.sh PROGRAM LIBRARY'
@@ -23,7 +23,7 @@ rustc -O --edition 2021 "$bench/plain/main.rs" -o "$plain" || exit 1
 cd "$FOLDER" || exit 1
 trap 'rm -f ours theirs output made.img work.img full.img six.img seven.img sparse.img plain.img wide.img big script.* archive.tar' EXIT
 
-# reset: puts the files back that a command changes; `base` names the image of which it is given a copy, if it is
+# reset: restores the files that a command changes; `base` names the image that it gets a copy of, if any
 base=
 reset() {
     rm -f made.img work.img
@@ -32,8 +32,8 @@ reset() {
     fi
 }
 
-# microseconds FILE WORD..: runs a command, its output in FILE, and leaves the microseconds that it took in `taken`; its standard
-# input is the file `input`, anew in each run, and its status may be as high as `highest`
+# microseconds FILE WORD..: runs a command, with its output in FILE, and leaves its microseconds in `taken`; its standard input is the file `input`, from the
+# beginning in each run, and its status may be at most `highest`
 input=/dev/null
 highest=0
 microseconds() {
@@ -47,8 +47,7 @@ microseconds() {
     taken=$((end - begin))
 }
 
-# kilobytes WORD..: runs a command, its standard input the file `input`, and leaves the greatest memory that was resident, in
-# kilobytes, in `resident`
+# kilobytes WORD..: runs a command, with the file `input` as standard input, and leaves its greatest resident size, in kilobytes, in `resident`
 kilobytes() {
     if [ -x /usr/bin/time ]; then
         resident=$(/usr/bin/time -f %M "$@" 2>&1 < "$input" > /dev/null | tail -n 1)
@@ -60,8 +59,8 @@ print(os.wait4(child, 0)[2].ru_maxrss)' "$@" < "$input")
     fi
 }
 
-# compare LABEL TIMES COPIES RESULT WORD..: both programs do a job, whose result stands in the file RESULT; a row of the
-# table. It is to take at most so many TIMES plain Rust's time, and memory for COPIES bytes and a tenth more (0 for any).
+# compare LABEL TIMES COPIES RESULT WORD..: both programs do a job, whose result is in the file RESULT; a row of the table. The limits are TIMES plain Rust's
+# time, and memory for COPIES bytes plus a tenth (0 for no limit).
 compare() {
     local label=$1 times=$2 copies=$3 result=$4 ours=999999999 theirs=999999999 ours_resident
     shift 4
@@ -94,8 +93,8 @@ compare() {
         printf "\n" }'
 }
 
-# row LABEL TIMES FIRST SECOND: a row of the table, for two times in microseconds, of which the second has the place of plain
-# Rust's. The first is to be at most so many TIMES the second.
+# row LABEL TIMES FIRST SECOND: a row of the table, for two times in microseconds; the second is printed in plain Rust's column. The limit of the first is TIMES
+# the second.
 row() {
     awk -v label="$1" -v times="$2" -v first="$3" -v second="$4" 'BEGIN {
         printf "%-38s %9.1f %9.1f %6.2f", label, first / 1000, second / 1000, first / second
@@ -103,8 +102,7 @@ row() {
         printf "\n" }'
 }
 
-# side_by_side LABEL TIMES WORD.. -- WORD..: two of the program's own jobs; a row of the table. A job that changes `work.img`
-# gets it anew.
+# side_by_side LABEL TIMES WORD.. -- WORD..: two of the program's own jobs; a row of the table. A job that changes `work.img` gets a new copy.
 side_by_side() {
     local label=$1 times=$2 first=999999999 second=999999999 one=()
     shift 2
@@ -124,7 +122,7 @@ side_by_side() {
     row "$label" "$times" "$first" "$second"
 }
 
-# quickest WORD..: runs a command five times, and leaves the microseconds of the quickest run in `best`
+# quickest WORD..: runs a command five times, and leaves the microseconds of its quickest run in `best`
 quickest() {
     best=999999999
     for _ in 1 2 3 4 5; do
@@ -133,7 +131,7 @@ quickest() {
     done
 }
 
-# checking CHECKER WORKERS IMAGE: the microseconds of ten checks of an image in memory, by so many workers, in `best`
+# checking CHECKER WORKERS IMAGE: leaves the microseconds of ten checks of an image in memory, with WORKERS threads, in `best`
 checking() {
     local once
     input=$3
@@ -144,8 +142,7 @@ checking() {
     input=/dev/null
 }
 
-# asking JOB COUNT VIEWS BYTES: the microseconds of so many queries or calls on a shared volume in memory, in `best`; so many bytes
-# are written by each call
+# asking JOB COUNT VIEWS BYTES: leaves the microseconds of COUNT queries or calls on a shared volume in memory in `best`; each call writes BYTES bytes
 asking() {
     local none
     quickest "$library" views "$1" 0 "$3" 400 "$4"
@@ -154,8 +151,8 @@ asking() {
     best=$((best - none))
 }
 
-# many DIRECTORIES NAMES: so many directories are made with so many files each, and then a byte is written into each file;
-# two rows of the table. Both programs leave the same volume.
+# many DIRECTORIES NAMES: makes DIRECTORIES directories with NAMES files each, and then writes a byte into each file; two rows of the table. Both programs leave
+# the same volume.
 many() {
     local directories=$1 names=$2 none theirs_none created theirs_created written theirs_written
     "$library" calls "$directories" "$names" write image > ours || exit 1
@@ -183,7 +180,7 @@ many() {
 echo "load before: $(cut -d ' ' -f 1-3 /proc/loadavg)"
 printf '%-38s %9s %9s %6s %9s %9s %6s %6s\n' job 'ms' 'plain ms' ratio 'MiB' 'plain MiB' ratio copies
 
-# Calls on files of directories of 100 and of 5,000 names.
+# Calls on files in directories of 100 and of 5,000 names.
 many 100 100
 many 2 5000
 rm -f ours theirs
@@ -196,7 +193,7 @@ compare 'cat 200,000,000 bytes, edition 7' 0 0 output cat 7 seven.img 3
 compare 'mkfs 340,670 blocks, edition 7' 0 0 made.img mkfs 7 made.img 340670 2000 0 0 173750400
 rm -f ours theirs six.img seven.img
 
-# Directories of the greatest size that are nearly all holes, against an ordinary volume of as many bytes.
+# Directories of the greatest size that consist mostly of holes, against an ordinary volume of as many bytes.
 sparse() {
     local label=$1 edition=$2 blocks=$3 list_blocks=$4 directories=$5 files=$6
     "$plain" sparse "$edition" sparse.img "$blocks" "$list_blocks" "$directories" || exit 1
@@ -221,7 +218,7 @@ mv theirs full.img
 compare 'rm 100,000,000 bytes' 1.5 $((2 * image)) work.img rm 7 work.img /big 173750600
 mv theirs full.img
 
-# The checkers by one worker, and a free list made anew, on the volume with 10,000 files.
+# The checkers with one worker, and rebuilding the free list, on the volume with 10,000 files.
 base=
 compare 'icheck, 10,000 files' 1.5 0 output icheck 7 full.img 1
 compare 'dcheck, 10,000 files' 1.5 0 output dcheck 7 full.img 1
@@ -231,8 +228,7 @@ compare 'salvage, 10,000 files' 1.5 0 work.img salvage 7 work.img
 base=
 rm -f full.img ours theirs
 
-# An archive of 100 directories, each with 100 files of 10,000 bytes, from which an empty volume is filled; and all of that
-# volume as an archive again.
+# An archive of 100 directories, each with 100 files of 10,000 bytes, which fills an empty volume; and all of that volume as an archive again.
 "$plain" mkfs 7 wide.img 230000 1300 0 0 173750400 || exit 1
 "$plain" archive 100 100 10000 > archive.tar || exit 1
 base=wide.img
@@ -244,15 +240,16 @@ mv theirs wide.img
 compare 'export 10,000 files, 100,000,000 bytes' 1.5 0 output export 7 wide.img /
 rm -f wide.img archive.tar ours theirs
 
-# Paths through 10,000 directories one below the other, and a directory of 60,000 names.
+# Paths through 10,000 nested directories, and a directory of 60,000 names.
 "$plain" deep 7 wide.img 20000 2000 10000 || exit 1
 compare 'ncheck, 10,000 directories deep' 1.5 0 output ncheck 7 wide.img 1
 "$plain" names 7 wide.img 20000 200 60000 || exit 1
 compare 'dcheck, 60,000 names' 1.5 0 output dcheck 7 wide.img 1
 compare 'ncheck, 60,000 names' 1.5 0 output ncheck 7 wide.img 1
 
-# Images of 1 MB that were made to keep a command busy, each against an ordinary one of as many bytes. One run of each, which ends after 300 seconds.
-# Above 50 are only those whose time is the specified steps': icheck's one for each i-node and block that it names, and dcheck's one for each 64 logical blocks.
+# Images of 1 MB that were made to keep a command busy, each against an ordinary one of as many bytes. One run of each, which is ended after 300 seconds.
+# Only rows whose time follows from the specification are above 50: icheck takes a step for each i-node and block that it names, and dcheck one for each 64
+# logical blocks.
 "$plain" fill 7 plain.img 2048 20 100 || exit 1
 highest=124
 # hostile PATTERN COMMAND WORD..: a row of the table; the words follow the image
@@ -295,7 +292,7 @@ row 'the same 10 times, without loading' 0.45 "$best" "$one"
 compare 'migrate, 65,535 blocks' 1.5 0 made.img migrate six.img made.img 70000 1500 173750700
 rm -f six.img ours theirs
 
-# Scripts of calls: one of 100,000, as many in 4 and in 64 scripts, and one of which half is refused or answered.
+# Scripts of calls: one of 100,000, as many in 4 and in 64 scripts, and one with half its calls refused or answered.
 "$plain" mkfs 7 wide.img 60000 6000 0 0 173750400 || exit 1
 base=wide.img
 "$plain" script all 100000 whole > script.all
@@ -312,8 +309,8 @@ side_by_side 'the same against 100,000 calls' 3 play 7 work.img script.half -- p
 highest=0
 base=
 
-# A volume that threads share: ten queries by a view to one by a session through the lock, both while another session writes 4,096
-# bytes at a time; as many queries by each of four views as by one alone; calls where there is a view against those where there is none.
+# A volume that threads share: ten queries by a view against one by a session through the lock, while another session writes 4,096 bytes at a time; as many
+# queries by each of four views as by one alone; calls with a view against calls without one.
 asking view 1000000 1 4096
 one=$best
 asking lock 100000 1 4096
@@ -327,7 +324,7 @@ one=$best
 asking calls 20000 0 5
 row '20,000 Writes, with a view' 3.5 "$one" "$best"
 
-# The memory of a shared volume of 200,000 blocks with a view and without, and how many images the first is more.
+# The memory of a shared volume of 200,000 blocks with and without a view, and the difference in images.
 kilobytes "$library" views calls 1 1 200000 5
 one=$resident
 kilobytes "$library" views calls 1 0 200000 5

@@ -11,7 +11,7 @@ pub struct Call {
     pub body: Vec<u8>,
 }
 
-/// A volume, a copy of it as it was made, and the calls since.
+/// A volume, a copy of it when it was made, and the calls since.
 pub struct Session {
     pub volume: Volume,
     pub base: Vec<u8>,
@@ -30,7 +30,7 @@ impl Session {
         })
     }
 
-    /// Makes so many directories, and in each so many files, and writes a byte into each, if that is asked.
+    /// Makes directories, and files in each, and writes a byte into each file, if that is asked for.
     pub fn with_calls(directories: usize, names: usize, writes: bool) -> Outcome<Session> {
         let mut session = Session::new()?;
         for d in 0..directories {

@@ -1,17 +1,17 @@
-//! The reports of the checkers, of any volume whose sizes are in order, and the mending of a free list.
+//! The reports of the checkers, for any volume whose sizes are valid, and rebuilding a free list.
 
 use crate::volume::{Edition, Kind, Volume, BLOCK};
 use crate::Outcome;
 use std::io::Write;
 
-/// What the walk over the free list met: the blocks, and the fault at which it stopped.
+/// The result of the walk over the free list: the blocks, and the fault at which it stopped.
 struct FreeWalk {
     is_met: Vec<bool>,
     count: usize,
     fault: Option<(&'static str, usize)>,
 }
 
-/// The places of an i-node that name numbers out of the zone: how many, and the least number.
+/// The pointers of an i-node that are outside the zone: their number, and the least of them.
 #[derive(Clone, Copy)]
 struct Bad {
     count: usize,
@@ -26,7 +26,7 @@ struct Entry<'a> {
 }
 
 impl Volume {
-    /// Writes the report on blocks; the answer is whether it has faults.
+    /// Writes the report on blocks; returns true if it has faults.
     pub fn check_blocks(&self, output: &mut impl Write) -> Outcome<bool> {
         let walk = self.walk_free();
         let mut places = vec![0_usize; self.zone_end];
@@ -81,7 +81,7 @@ impl Volume {
         Ok(has_faults || missing > 0 || odd > 0)
     }
 
-    /// The walk over the free list, up to its first fault.
+    /// Walks the free list, up to its first fault.
     fn walk_free(&self) -> FreeWalk {
         let mut walk = FreeWalk {
             is_met: vec![false; self.zone_end],
@@ -117,7 +117,7 @@ impl Volume {
         }
     }
 
-    /// Counts the blocks that a file's places name.
+    /// Counts the blocks that a file's pointers name.
     fn count_places(&self, ino: usize, places: &mut [usize]) -> Bad {
         let is_large = self.is_large(ino);
         let mut bad = Bad {
@@ -153,7 +153,7 @@ impl Volume {
         (1..=self.last_inode()).filter(|&ino| self.kind(ino) == Kind::Directory)
     }
 
-    /// Writes the report on link counts; the answer is whether it has a line.
+    /// Writes the report on link counts; returns true if it has a line.
     pub fn check_links(&self, output: &mut impl Write) -> Outcome<bool> {
         let last = self.last_inode();
         let mut entries = vec![0_usize; last + 1];
@@ -178,7 +178,7 @@ impl Volume {
         Ok(has_faults)
     }
 
-    /// Writes the report on names; the answer is whether a path doesn't begin at the root.
+    /// Writes the report on names; returns true if a path doesn't begin at the root.
     pub fn check_names(&self, output: &mut impl Write) -> Outcome<bool> {
         let mut entries = Vec::new();
         let mut naming = vec![None; self.last_inode() + 1];
@@ -212,7 +212,7 @@ impl Volume {
         Ok(has_faults)
     }
 
-    /// The path of an entry, by the first entries of the directories above it.
+    /// Returns the path of an entry, by the first entries of the directories above it.
     fn path(
         &self,
         entry: &Entry,
@@ -248,7 +248,7 @@ impl Volume {
         path
     }
 
-    /// Makes the free list anew, if all other rules hold.
+    /// Rebuilds the free list, if all other rules hold.
     pub fn salvage(&mut self) -> Outcome<()> {
         self.judge_but_free()?;
         let mut places = vec![0_usize; self.zone_end];

@@ -4,7 +4,7 @@ use crate::volume::{Edition, Kind, Volume, BLOCK, FREE_HEAD};
 use crate::Outcome;
 use std::io::Write;
 
-/// The steps from an i-node to a block: the place of an address, and the entries of the indirect blocks that follow.
+/// The way from an i-node to a block: the index of an address, and the entries of the indirect blocks that follow.
 type Way = (usize, [usize; 3], usize);
 
 impl Volume {
@@ -44,7 +44,7 @@ impl Volume {
         Ok(block)
     }
 
-    /// The way to a logical block, in a file that has the large flag or not.
+    /// Returns the way to a logical block, in a file with or without the large flag.
     pub fn way(&self, is_large: bool, index: usize) -> Way {
         let fan = self.layout.fan_out;
         match self.edition {
@@ -64,8 +64,8 @@ impl Volume {
         }
     }
 
-    /// The block of a logical block of a file: none for a hole, where a number lies outside the zone, or past the last address
-    /// of a small file.
+    /// Returns the block of a logical block of a file; none for a hole, a number outside the zone, or past the last
+    /// address of a small file.
     pub fn block(&self, ino: usize, is_large: bool, index: usize) -> Option<usize> {
         let (address, entries, steps) = self.way(is_large, index);
         if address >= self.layout.address_count {
@@ -81,7 +81,7 @@ impl Volume {
         self.is_in_zone(block).then_some(block)
     }
 
-    /// The same, where blocks are taken for what is missing on the way.
+    /// The same, but allocates the blocks that are missing on the way.
     pub fn block_taken(&mut self, ino: usize, is_large: bool, index: usize) -> Outcome<usize> {
         let (address, entries, steps) = self.way(is_large, index);
         let mut block = self.address(ino, address);
@@ -100,7 +100,7 @@ impl Volume {
         Ok(block)
     }
 
-    /// How many steps lead from an address of an i-node to its data blocks.
+    /// Returns the number of steps from an address of an i-node to its data blocks.
     pub fn depth(&self, is_large: bool, index: usize) -> usize {
         match self.edition {
             Edition::V6 if !is_large => 0,
@@ -132,7 +132,7 @@ impl Volume {
         Ok(())
     }
 
-    /// Puts a body into a regular file that is empty.
+    /// Puts a body into an empty regular file.
     pub fn write(&mut self, ino: usize, body: &[u8], now: usize) -> Outcome<()> {
         if body.len() > self.layout.greatest {
             return Err("27 TooBig".into());
@@ -153,7 +153,7 @@ impl Volume {
         Ok(())
     }
 
-    /// Gives back all blocks of a file.
+    /// Frees all blocks of a file.
     pub fn empty(&mut self, ino: usize) {
         let is_large = self.is_large(ino);
         for index in (0..self.layout.address_count).rev() {
@@ -167,7 +167,7 @@ impl Volume {
         self.put_size(ino, 0);
     }
 
-    /// Gives back a block, and first those to which it leads in so many steps; what names them is cleared.
+    /// Frees a block, after those that it leads to in this many steps; clears the pointers to them.
     fn give_all(&mut self, block: usize, depth: usize) {
         if depth > 0 {
             for entry in (0..self.layout.fan_out).rev() {
@@ -181,7 +181,7 @@ impl Volume {
         self.give(block);
     }
 
-    /// Whether a file of the sixth edition becomes large by having so many blocks.
+    /// True if a file of the sixth edition becomes large with this many blocks.
     pub fn is_past_small(&self, ino: usize, blocks: usize) -> bool {
         self.edition == Edition::V6 && !self.is_large(ino) && blocks > self.layout.address_count
     }

@@ -1,4 +1,4 @@
-//! Images on which a command that follows all that they claim would work long.
+//! Images on which a command would work for a long time if it followed all pointers.
 
 use crate::volume::{Edition, Volume, BLOCK, SLOT};
 use crate::Outcome;
@@ -10,7 +10,7 @@ const FILE: usize = 0o100644;
 const DIRECTORY: usize = 0o040755;
 
 impl Volume {
-    /// A volume in which all i-nodes but the root's are alike, and follow a pattern.
+    /// Makes a volume in which all i-nodes except the root's are alike, and follow a pattern.
     pub fn hostile(
         pattern: &str,
         edition: Edition,
@@ -36,7 +36,8 @@ impl Volume {
         Ok(volume)
     }
 
-    /// All i-nodes but the root's have this mode and the greatest size, and their last address is a block that is made so.
+    /// Gives all i-nodes except the root's this mode and the greatest size; their last address is a block made by
+    /// `make`.
     fn name_by_all(&mut self, mode: usize, make: impl Fn(&mut Volume) -> usize) {
         let (mode, is_large) = match (self.edition, mode) {
             (Edition::V6, FILE) => (0o100644, true),
@@ -54,7 +55,7 @@ impl Volume {
         }
     }
 
-    /// The same for directories, with the root among them.
+    /// The same for directories, including the root.
     fn name_by_root_too(&mut self, make: impl Fn(&mut Volume) -> usize) {
         self.name_by_all(DIRECTORY, make);
         let (from, to) = (self.layout.root + 1, self.layout.root);
@@ -62,21 +63,21 @@ impl Volume {
         self.bytes.copy_within(from..from + self.layout.inode_bytes, to);
     }
 
-    /// A block all of whose entries are one number.
+    /// Makes a block whose entries are all one number.
     fn fill_block(&mut self, block: usize, number: usize) {
         for entry in 0..self.layout.fan_out {
             self.put_number(block * BLOCK + entry * self.layout.number_bytes, number);
         }
     }
 
-    /// A block all of whose entries name it.
+    /// Makes a block whose entries all name it.
     fn ring(&mut self) -> usize {
         let block = self.zone_start + 1;
         self.fill_block(block, block);
         block
     }
 
-    /// Four blocks, each of which names the next in all its entries, but for the last.
+    /// Makes four blocks, each of which names the next in all its entries, except the last.
     fn tree(&mut self) -> usize {
         let top = self.zone_start + 1;
         for step in 0..3 {
@@ -86,7 +87,7 @@ impl Volume {
         top
     }
 
-    /// The same, but for the last block, which has an entry in each slot.
+    /// The same, but the last block has an entry in each slot.
     fn tree_of_entries(&mut self) -> usize {
         let top = self.tree();
         let (root, last) = (self.layout.root, top + 3);
@@ -96,14 +97,14 @@ impl Volume {
         top
     }
 
-    /// The same, but for the last block, which has 32 names, 31 of them for directories.
+    /// The same, but the last block has 32 names, 31 of them for directories.
     fn tree_of_names(&mut self) -> usize {
         let top = self.tree();
         self.put_names(top + 3);
         top
     }
 
-    /// A block of 32 names: of one after the other of the first directories.
+    /// Puts 32 names into a block, for the first directories one after another.
     fn put_names(&mut self, block: usize) {
         for slot in 0..BLOCK / SLOT {
             let name = format!("n{slot}");
@@ -112,8 +113,8 @@ impl Volume {
         }
     }
 
-    /// Blocks whose entries name the next level's as many different ones as there are: a third of the zone for each level
-    /// below the first, of which the last has names.
+    /// Makes blocks whose entries name as many different blocks of the next level as there are: a third of the zone
+    /// for each level below the first; the last level has names.
     fn fan_of_names(&mut self) -> usize {
         let top = self.zone_start + 1;
         let many = (self.zone_end - top - 1) / 3;
@@ -134,7 +135,7 @@ impl Volume {
         top
     }
 
-    /// Blocks whose entries name as many different blocks as there are, each of which does the same.
+    /// Makes blocks whose entries name as many different blocks as there are, each of which does the same.
     fn fan(&mut self) -> usize {
         let zone = self.zone_end - self.zone_start;
         for block in self.zone_start + 1..self.zone_end {
@@ -146,7 +147,7 @@ impl Volume {
         self.zone_start + 1
     }
 
-    /// The last block of the free list's chain leads to the first again.
+    /// Makes the last block of the free list's chain name the first again.
     fn free_ring(&mut self) {
         let head = BLOCK + self.layout.free_head;
         let first = self.number(head + 2);
@@ -157,7 +158,7 @@ impl Volume {
         self.put_number(block * BLOCK + 2, first);
     }
 
-    /// Each block of the free list has the number of one more.
+    /// Makes a free list in which each block has only the number of the next.
     fn free_chain(&mut self) {
         let head = BLOCK + self.layout.free_head;
         self.put_word(head, 1);
@@ -174,7 +175,7 @@ impl Volume {
         }
     }
 
-    /// Directories one below the other, of which the first is an entry of the last and not of the root.
+    /// Makes nested directories, the first of which is an entry of the last and not of the root.
     fn circle(&mut self) -> Outcome<()> {
         let root = self.layout.root;
         let count = (self.zone_end - self.zone_start).min(self.last_inode() - root) - 2;

@@ -1,4 +1,4 @@
-//! The twelve rules of sound volumes. The first two, on the sizes, are tested where a volume is opened.
+//! The twelve rules of sound volumes. The first two, on the sizes, are tested when a volume is opened.
 
 use crate::tree::Slot;
 use crate::volume::{Edition, Kind, Volume, BLOCK, SLOT};
@@ -6,19 +6,19 @@ use crate::Outcome;
 
 type Name = [u8; SLOT - 2];
 
-/// What the directories say of each i-number.
+/// The directories' entries for each i-number.
 struct Entries {
-    /// How many entries name it.
+    /// The number of entries that name it.
     count: Vec<usize>,
-    /// Where it is a directory: what its `.` and its `..` name, 0 for none.
+    /// For a directory, the numbers of its `.` and its `..`, 0 for none.
     own: Vec<usize>,
     parent: Vec<usize>,
-    /// Each entry but `.` and `..` for a directory: that directory, and the one that has the entry.
+    /// Each entry except `.` and `..` for a directory: that directory, and the one that has the entry.
     namings: Vec<(usize, usize)>,
 }
 
 impl Volume {
-    /// Tests the rules from the third on; the fault names the least that is broken.
+    /// Tests the rules from the third on; the fault names the first that is broken.
     pub fn judge(&self) -> Outcome<()> {
         self.judge_rules(true)
     }
@@ -89,7 +89,7 @@ impl Volume {
             .then_some(8)
     }
 
-    /// Marks a block and those to which it leads; the answer is whether their numbers lie in the zone.
+    /// Marks a block and those that it leads to; returns true if their numbers are in the zone.
     fn mark(&self, block: usize, depth: usize, named: &mut [bool], is_twice: &mut bool) -> bool {
         if block == 0 {
             return true;
@@ -106,7 +106,7 @@ impl Volume {
         })
     }
 
-    /// Which blocks the free list has, if it is one.
+    /// Returns the blocks on the free list, if it is valid.
     fn free_blocks(&self) -> Option<Vec<bool>> {
         let mut stacked = vec![false; self.zone_end];
         let mut head = BLOCK + self.layout.free_head;
@@ -160,7 +160,7 @@ impl Volume {
             .then_some(12)
     }
 
-    /// Whether each directory but the root is named once and reached from the root, which is named never.
+    /// True if each directory except the root is named once and reached from the root, which is never named.
     fn is_tree(&self, namings: &[(usize, usize)], directories: usize) -> bool {
         let root = self.layout.root;
         let mut above = vec![0; self.last_inode() + 1];
@@ -189,7 +189,7 @@ impl Volume {
         namings.len() + 1 == directories
     }
 
-    /// What the directories say, if each entry is one.
+    /// Returns the directories' entries, if each is valid.
     fn entries(&self) -> Option<Entries> {
         let last = self.last_inode();
         let mut entries = Entries {

@@ -1,5 +1,5 @@
-//! The jobs of `unixvol` in plain Rust, for `bench/run.sh`: what a programmer would write who wants them done, fast and
-//! with no proofs. It also makes the sample volumes, scripts and archive.
+//! The jobs of `unixvol` in plain Rust, for `bench/run.sh`: written as a programmer would who wants them done, fast
+//! and without proofs. It also makes the sample volumes, scripts and archive.
 //!
 //! plain cat 6|7 IMAGE INO
 //! plain ls 6|7 IMAGE PATH
@@ -8,19 +8,19 @@
 //! plain rm 6|7 IMAGE PATH NOW
 //! plain import 6|7 IMAGE PATH NOW < ARCHIVE
 //! plain export 6|7 IMAGE PATH > ARCHIVE
-//! plain icheck|dcheck|ncheck 6|7 IMAGE WORKERS      by one worker, however many are asked for
+//! plain icheck|dcheck|ncheck 6|7 IMAGE WORKERS      always with one thread
 //! plain salvage 6|7 IMAGE
 //! plain migrate OLD NEW FSIZE IBLOCKS NOW
 //! plain play 6|7 IMAGE SCRIPT..
-//! plain deep 6|7 IMAGE FSIZE IBLOCKS COUNT       a new volume with so many directories, one below the other
-//! plain names 6|7 IMAGE FSIZE IBLOCKS COUNT      a new volume whose directory /many has so many names of two files
-//! plain script FOLDER LINES half|whole           a script of so many calls below /FOLDER; if half, each second line is a query or is refused
-//! plain archive DIRECTORIES FILES BYTES          an archive of so many directories with so many files each, of so many bytes
-//! plain sample 6|7 IMAGE FSIZE IBLOCKS BYTES     a new volume with a file of so many bytes, the i-node after the root's
-//! plain fill 6|7 IMAGE FSIZE IBLOCKS FILES       a new volume with so many files of various sizes, half of them in /many
-//! plain calls DIRECTORIES NAMES create|write [image]     so many calls, as `bench_library calls` makes them
-//! plain sparse 6|7 IMAGE FSIZE IBLOCKS COUNT     a new volume with so many directories of the greatest size, nearly all holes
-//! plain hostile 6|7 IMAGE FSIZE IBLOCKS PATTERN  a volume, mostly not a sound one, on which a checker may work long (`hostile.rs`)
+//! plain deep 6|7 IMAGE FSIZE IBLOCKS COUNT       a new volume with COUNT nested directories
+//! plain names 6|7 IMAGE FSIZE IBLOCKS COUNT      a new volume whose directory /many has COUNT names of two files
+//! plain script FOLDER LINES half|whole           a script of LINES lines below /FOLDER; if half, every second one is a query or is refused
+//! plain archive DIRECTORIES FILES BYTES          an archive of directories with FILES files of BYTES bytes each
+//! plain sample 6|7 IMAGE FSIZE IBLOCKS BYTES     a new volume with a file of BYTES bytes, the i-node after the root's
+//! plain fill 6|7 IMAGE FSIZE IBLOCKS FILES       a new volume with FILES files of various sizes, half of them in /many
+//! plain calls DIRECTORIES NAMES create|write [image]     calls as `bench_library calls` makes them
+//! plain sparse 6|7 IMAGE FSIZE IBLOCKS COUNT     a new volume with COUNT directories of the greatest size, mostly holes
+//! plain hostile 6|7 IMAGE FSIZE IBLOCKS PATTERN  a volume, usually unsound, on which a checker may work for a long time (`hostile.rs`)
 
 mod archives;
 mod calls;
@@ -48,12 +48,12 @@ use volume::{Edition, Volume};
 
 type Outcome<T> = Result<T, Box<dyn Error>>;
 
-/// The volume in an image, whether it is sound or not, if its sizes are.
+/// Reads the volume in an image, sound or not, if its sizes are valid.
 fn open(edition: &str, image: &str) -> Outcome<Volume> {
     Volume::open(Edition::named(edition)?, fs::read(image)?)
 }
 
-/// A sound volume that is to be changed, with a copy of the bytes that were mounted.
+/// A sound volume to change, with a copy of the bytes that were mounted.
 struct Mounted {
     volume: Volume,
     base: Vec<u8>,
@@ -67,7 +67,7 @@ impl Mounted {
         Ok(Mounted { volume, base })
     }
 
-    /// Saves the volume, and gives it up; till then the copy is kept.
+    /// Saves the volume, and drops it; the copy is kept until then.
     fn save(self, image: &str) -> Outcome<()> {
         save(&self.volume, image)?;
         black_box(&self.base);
@@ -75,7 +75,7 @@ impl Mounted {
     }
 }
 
-/// A new volume, of the numbers that `mkfs` is given after the image.
+/// Reads a new volume from the numbers after the image on the command line of `mkfs`.
 fn make(edition: &str, [blocks, list_blocks, uid, gid, now]: [&str; 5]) -> Outcome<Volume> {
     Volume::make(
         Edition::named(edition)?,
@@ -87,7 +87,7 @@ fn make(edition: &str, [blocks, list_blocks, uid, gid, now]: [&str; 5]) -> Outco
     )
 }
 
-/// Writes to standard output, not through the standard library's own buffer, which looks for the ends of lines.
+/// Writes to standard output, without the standard library's own buffer, which searches for line ends.
 fn print(write: impl FnOnce(&mut BufWriter<File>) -> Outcome<()>) -> Outcome<()> {
     let output = File::from(io::stdout().as_fd().try_clone_to_owned()?);
     let mut output = BufWriter::with_capacity(64 * 1024, output);
@@ -96,7 +96,7 @@ fn print(write: impl FnOnce(&mut BufWriter<File>) -> Outcome<()>) -> Outcome<()>
     Ok(())
 }
 
-/// All of standard input, not through the standard library's own buffer, which doesn't ask how long a file is.
+/// Reads all of standard input, without the standard library's own buffer, which doesn't query a file's length.
 fn input() -> Outcome<Vec<u8>> {
     let mut bytes = Vec::new();
     File::from(io::stdin().as_fd().try_clone_to_owned()?).read_to_end(&mut bytes)?;

@@ -4,7 +4,7 @@ use crate::volume::{Edition, Kind, Volume, BLOCK, SLOT};
 use crate::Outcome;
 
 impl Volume {
-    /// A volume of the seventh edition with this volume's tree, each i-number higher by one.
+    /// Returns a volume of the seventh edition with this volume's tree, with each i-number one higher.
     pub fn migrated(&self, blocks: usize, list_blocks: usize, now: usize) -> Outcome<Volume> {
         let mut made = Volume::sized(Edition::V7, blocks, list_blocks)?;
         let nodes = || (1..=self.last_inode()).filter(|&ino| self.kind(ino) != Kind::Free);
@@ -58,7 +58,7 @@ impl Volume {
         made.put_long(to + 60, now);
     }
 
-    /// The block of a logical block of a file; those that are missing on its way are the next ones.
+    /// Returns the block of a logical block of a file; blocks that are missing on its way are allocated in order.
     fn block_placed(&mut self, ino: usize, index: usize, next: &mut usize) -> Outcome<usize> {
         let (address, entries, steps) = self.way(false, index);
         let mut block = self.address(ino, address);
@@ -85,7 +85,7 @@ impl Volume {
         Ok(*next - 1)
     }
 
-    /// Puts the slots of a directory's block, with each i-number higher by one, and empty ones as zeros.
+    /// Puts the slots of a directory's block, with each i-number one higher, and empty ones as zeros.
     fn put_raised_slots(&mut self, start: usize, body: &[u8]) {
         for (index, slot) in body.chunks_exact(SLOT).enumerate() {
             let ino = usize::from(u16::from_le_bytes([slot[0], slot[1]]));

@@ -1,5 +1,6 @@
-//! Scripts of calls, one thread each, over one volume behind a lock, with a journal and receipts. It reads the lines that the
-//! benchmark's scripts have: create, mkdir, write at offset 0 into an empty file, unlink and stat, all by user 0.
+//! Scripts of calls, with one thread each, on one volume behind a lock, with a journal and receipts. It reads the
+//! lines that the benchmark's scripts have: create, mkdir, write at offset 0 into an empty file, unlink and stat, all
+//! as user 0.
 
 use crate::volume::{Kind, Volume};
 use crate::Outcome;
@@ -7,7 +8,7 @@ use std::io::Write;
 use std::sync::Mutex;
 use std::thread;
 
-/// What a line asks for.
+/// The command of a line.
 #[derive(Clone, PartialEq)]
 enum Asked {
     Create(String),
@@ -24,7 +25,7 @@ struct Step {
     asked: Asked,
 }
 
-/// What came of a line: a number, the words of a stat, or a refusal.
+/// The result of a line: a number, the words of a stat, or a refusal.
 #[derive(Clone, PartialEq)]
 enum Answer {
     Done(usize),
@@ -32,7 +33,7 @@ enum Answer {
     Refused(String),
 }
 
-/// What came of a line, after so many records of the journal.
+/// The result of a line, and the number of records in the journal.
 struct Receipt {
     at: usize,
     answer: Answer,
@@ -69,7 +70,7 @@ impl Step {
     }
 }
 
-/// The bytes that hexadecimal digits are.
+/// Returns the bytes of hexadecimal digits.
 fn bytes(hex: &str) -> Outcome<Vec<u8>> {
     let digit = |byte: u8| char::from(byte).to_digit(16).ok_or("no digit");
     let pairs = hex.as_bytes().chunks_exact(2);
@@ -79,7 +80,7 @@ fn bytes(hex: &str) -> Outcome<Vec<u8>> {
 }
 
 impl Volume {
-    /// Does a step; a refused one changes nothing.
+    /// Runs a step; a refused one changes nothing.
     fn step(&mut self, step: &Step) -> Outcome<Answer> {
         let now = step.now;
         Ok(match &step.asked {
@@ -127,7 +128,7 @@ impl Shared {
         Receipt { at, answer }
     }
 
-    /// How many receipts agree with the journal, from the volume as it was on.
+    /// Counts the receipts that agree with the journal, replayed from the original volume.
     fn confirmed(&self, mut base: Volume, scripts: &[(Vec<Step>, Vec<Receipt>)]) -> usize {
         let mut receipts: Vec<(&Step, &Receipt)> = scripts
             .iter()
@@ -151,7 +152,7 @@ impl Shared {
     }
 }
 
-/// Plays scripts on a sound volume, writes what came of each line, and answers the volume.
+/// Plays scripts on a sound volume, writes the result of each line, and returns the volume.
 pub fn play(volume: Volume, scripts: &[String], output: &mut impl Write) -> Outcome<Volume> {
     let mut played = Vec::new();
     for script in scripts {

@@ -1,11 +1,11 @@
-//! Sample volumes, and scripts and an archive to go with them.
+//! Sample volumes, and scripts and an archive for them.
 
 use crate::archives::{padding, Header, DIRECTORY, FILE};
 use crate::volume::{Edition, Volume, BLOCK, SLOT};
 use crate::Outcome;
 use std::io::Write;
 
-/// The directories over which half of the files are spread.
+/// The number of directories over which half of the files are spread.
 const FOLDERS: usize = 50;
 
 const MOMENT: usize = 173_750_400;
@@ -31,7 +31,7 @@ impl Noise {
         }
     }
 
-    /// The bytes of a file. Most files are small; few have double indirect blocks.
+    /// Returns the bytes of a file. Most files are small; few have double indirect blocks.
     fn size(&mut self, index: usize) -> usize {
         let most = match index % 500 {
             0 => return 100_000,
@@ -44,7 +44,7 @@ impl Noise {
 }
 
 impl Volume {
-    /// Makes a file `data` of so many bytes in the root directory, at the i-node after the root's.
+    /// Makes a file `data` of `bytes` bytes in the root directory, at the i-node after the root's.
     pub fn put_file(&mut self, size: usize) -> Outcome<()> {
         let root = self.layout.root;
         let ino = root + 1;
@@ -65,7 +65,7 @@ impl Volume {
         Ok(())
     }
 
-    /// Makes so many files of various sizes: half of them in `/many`, the others spread over further directories.
+    /// Makes files of various sizes: half of them in `/many`, the others spread over further directories.
     pub fn fill(&mut self, files: usize) -> Outcome<()> {
         let root = self.layout.root;
         let many = self.make_directory(root, b"many", MOMENT)?;
@@ -90,8 +90,8 @@ impl Volume {
         Ok(())
     }
 
-    /// Makes so many directories in the root that are of the greatest size and nearly all holes: the two slots
-    /// that each has are its last, behind a pointer at the end of each indirect block on the way.
+    /// Makes directories in the root that have the greatest size and consist mostly of holes: each has only its last
+    /// two slots, reached through the last pointer of each indirect block on the way.
     pub fn make_sparse(&mut self, directories: usize) -> Outcome<()> {
         let root = self.layout.root;
         let size = self.layout.greatest / SLOT * SLOT;
@@ -111,7 +111,7 @@ impl Volume {
         Ok(())
     }
 
-    /// Makes so many directories, one below the other.
+    /// Makes nested directories.
     pub fn make_deep(&mut self, directories: usize) -> Outcome<()> {
         let mut dir = self.layout.root;
         for _ in 0..directories {
@@ -120,7 +120,7 @@ impl Volume {
         Ok(())
     }
 
-    /// Makes a directory with so many names, which two files share.
+    /// Makes a directory with names that two files share.
     pub fn make_names(&mut self, names: usize) -> Outcome<()> {
         let many = self.make_directory(self.layout.root, b"many", MOMENT)?;
         let mut file = 0;
@@ -137,8 +137,8 @@ impl Volume {
     }
 }
 
-/// Writes a script of so many lines: directories of 100 files each below one of its own, a file made, written with 100 bytes,
-/// and each second one unlinked again. `with_answers` has a query, or a call that is refused, for each call that is accepted.
+/// Writes a script: directories of 100 files each below one of its own; each file is made, written with 100 bytes,
+/// and every second one is unlinked again. `with_answers` adds a query, or a refused call, for each accepted call.
 pub fn write_script(
     folder: &str,
     calls: usize,
@@ -178,8 +178,8 @@ pub fn write_script(
     Ok(())
 }
 
-/// Writes an archive of so many directories with so many files each, of so many bytes. All are of a user and a group, and no
-/// two of one time.
+/// Writes an archive of directories with files in each. All have the same user and group, and all have different
+/// times.
 pub fn write_archive(
     directories: usize,
     files: usize,

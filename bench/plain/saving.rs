@@ -1,4 +1,4 @@
-//! Saving a volume, so that a failure leaves the file that was there.
+//! Saves a volume, so that a failure leaves the old file.
 
 use crate::volume::Volume;
 use crate::Outcome;
@@ -7,10 +7,10 @@ use std::io::{self, ErrorKind, Write};
 use std::os::unix::fs::{chown, MetadataExt, OpenOptionsExt};
 use std::path::{Path, PathBuf};
 
-/// How many names are tried for the new file.
+/// The number of names that are tried for the new file.
 const TRIES: u32 = 1000;
 
-/// Saves a volume in a new file, which then takes the place of what was there, and has its permissions and owner.
+/// Saves a volume in a new file, which then replaces the old one, and has its permissions and owner.
 pub fn save(volume: &Volume, path: &str) -> Outcome<()> {
     let (place, old) = match fs::canonicalize(path) {
         Ok(place) => {
@@ -29,7 +29,7 @@ pub fn save(volume: &Volume, path: &str) -> Outcome<()> {
     Ok(result?)
 }
 
-/// Makes an empty file in the folder of `place`, with a name that no file has.
+/// Makes an empty file in the folder of `place`, with an unused name.
 fn new_file(place: &Path, is_private: bool) -> io::Result<(File, PathBuf)> {
     let mut options = OpenOptions::new();
     options.write(true).create_new(true);
@@ -47,11 +47,11 @@ fn new_file(place: &Path, is_private: bool) -> io::Result<(File, PathBuf)> {
     Err(ErrorKind::AlreadyExists.into())
 }
 
-/// Fills the new file, and sees its bytes on the disk.
+/// Fills the new file, and synchronises it.
 fn fill(mut file: File, beside: &Path, old: Option<&Metadata>, bytes: &[u8]) -> io::Result<()> {
     file.write_all(bytes)?;
     if let Some(old) = old {
-        // Only the super-user may give a file away; for others it is their own.
+        // Only the super-user can give a file to another user; others remain its owner.
         let _ = chown(beside, Some(old.uid()), Some(old.gid()));
         file.set_permissions(old.permissions())?;
     }

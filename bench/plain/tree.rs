@@ -1,4 +1,4 @@
-//! Directories, paths, and the calls that change them. All is done by user 0, to whom everything is permitted.
+//! Directories, paths, and the calls that change them. Everything is done as user 0, who may do everything.
 
 use crate::volume::{Edition, Kind, Volume, BLOCK, SLOT};
 use crate::Outcome;
@@ -6,7 +6,7 @@ use std::io::Write;
 
 const NAME: usize = SLOT - 2;
 
-/// The slots of the cache of free i-numbers.
+/// The number of slots in the cache of free i-numbers.
 const CACHED: usize = 100;
 
 static HOLE: [u8; BLOCK] = [0; BLOCK];
@@ -26,7 +26,7 @@ impl<'a> Slot<'a> {
     }
 }
 
-/// The names of a path, each cut to what an entry holds.
+/// Returns the names of a path, each cut to the length of an entry's name.
 fn components(path: &str) -> Vec<&[u8]> {
     path.as_bytes()
         .split(|&byte| byte == b'/')
@@ -36,7 +36,7 @@ fn components(path: &str) -> Vec<&[u8]> {
 }
 
 impl Volume {
-    /// All slots of a directory, in their order.
+    /// Returns all slots of a directory, in order.
     pub fn slots(&self, dir: usize) -> impl Iterator<Item = Slot<'_>> {
         let is_large = self.is_large(dir);
         let size = self.size(dir).min(self.layout.greatest);
@@ -50,7 +50,7 @@ impl Volume {
         })
     }
 
-    /// The place of a name among the slots of a directory, and its i-number.
+    /// Returns the slot of a name in a directory, and its i-number.
     fn find(&self, dir: usize, name: &[u8]) -> Option<(usize, usize)> {
         self.slots(dir)
             .enumerate()
@@ -58,7 +58,7 @@ impl Volume {
             .map(|(index, slot)| (index, slot.ino))
     }
 
-    /// The i-node to which these names lead from the root.
+    /// Returns the i-node that these names lead to from the root.
     fn walk(&self, names: &[&[u8]]) -> Outcome<usize> {
         names.iter().try_fold(self.layout.root, |dir, name| {
             self.directory(dir)?;
@@ -66,7 +66,7 @@ impl Volume {
         })
     }
 
-    /// The i-node to which a path leads from the root.
+    /// Returns the i-node that a path leads to from the root.
     pub fn find_path(&self, path: &str) -> Outcome<usize> {
         self.walk(&components(path))
     }
@@ -78,7 +78,7 @@ impl Volume {
         }
     }
 
-    /// Writes the names of a directory and their i-numbers, ascending by name.
+    /// Writes the names of a directory and their i-numbers, in ascending order of the names.
     pub fn list(&self, path: &str, output: &mut impl Write) -> Outcome<()> {
         let dir = self.directory(self.walk(&components(path))?)?;
         let mut entries: Vec<Slot> = self.slots(dir).filter(|slot| slot.ino != 0).collect();
@@ -91,7 +91,7 @@ impl Volume {
         Ok(())
     }
 
-    /// Makes the file, if there is none, and gives it this body.
+    /// Makes the file, if it doesn't exist, and gives it this body.
     pub fn put(&mut self, path: &str, body: &[u8], now: usize) -> Outcome<()> {
         let names = components(path);
         let (name, above) = names.split_last().ok_or("21 IsDirectory")?;
@@ -117,7 +117,7 @@ impl Volume {
         self.make_file_at(dir, index, name, now)
     }
 
-    /// Makes an empty file, whose entry goes into a slot that is empty or the next one.
+    /// Makes an empty file, whose entry is put into an empty slot or the next one.
     pub fn make_file_at(
         &mut self,
         dir: usize,
@@ -132,14 +132,14 @@ impl Volume {
         Ok(ino)
     }
 
-    /// Makes an empty file, where its directory hasn't the name.
+    /// Makes an empty file, if its directory doesn't have the name.
     pub fn create(&mut self, path: &str, now: usize) -> Outcome<usize> {
         let (dir, index, name) = self.new_place(path)?;
         self.make_file_at(dir, index, name, now)
     }
 
-    /// The directory of a path, the slot for a new entry, and its name, which the directory hasn't: looks for the name and for
-    /// a free slot in one pass.
+    /// Returns the directory of a path, the slot for a new entry, and its name, which the directory doesn't have.
+    /// Looks for the name and for a free slot in one pass.
     fn new_place<'a>(&self, path: &'a str) -> Outcome<(usize, usize, &'a [u8])> {
         let names = components(path);
         let (name, above) = names.split_last().ok_or("17 Exists")?;
@@ -173,7 +173,7 @@ impl Volume {
         Ok(())
     }
 
-    /// Gives a file or a directory to a user and a group.
+    /// Changes the owner and group of a file or a directory.
     pub fn chown(&mut self, path: &str, uid: usize, gid: usize, now: usize) -> Outcome<()> {
         if uid > self.layout.most_id || gid > self.layout.most_id {
             return Err("104 BadId".into());
@@ -227,7 +227,7 @@ impl Volume {
         Ok(ino)
     }
 
-    /// Takes a name away that is no directory's, and with its last name the file.
+    /// Removes a name that isn't a directory's, and with its last name the file.
     pub fn unlink(&mut self, path: &str, now: usize) -> Outcome<()> {
         let names = components(path);
         let (name, above) = names.split_last().ok_or("21 IsDirectory")?;
@@ -250,7 +250,7 @@ impl Volume {
         Ok(())
     }
 
-    /// The first empty slot of a directory, or the one after its last.
+    /// Returns the first empty slot of a directory, or the one after its last.
     fn free_slot(&self, dir: usize) -> usize {
         let index = self.slots(dir).position(|slot| slot.ino == 0);
         index.unwrap_or(self.size(dir) / SLOT)
@@ -282,7 +282,7 @@ impl Volume {
         Ok(())
     }
 
-    /// Where a slot of a directory stands, once its block is there.
+    /// Returns the offset of a slot of a directory, once its block exists.
     fn slot_taken(&mut self, dir: usize, index: usize) -> Outcome<usize> {
         let (index, at) = (index * SLOT / BLOCK, index * SLOT % BLOCK);
         if self.is_past_small(dir, index + 1) {
@@ -292,7 +292,7 @@ impl Volume {
         Ok(block * BLOCK + at)
     }
 
-    /// Takes a free i-number from the cache, which is filled from the i-list where it is empty.
+    /// Takes a free i-number from the cache, which is filled from the i-list when it is empty.
     fn take_inode(&mut self) -> Option<usize> {
         let cache = BLOCK + self.layout.cache;
         for index in (0..self.cached()).rev() {
@@ -313,7 +313,7 @@ impl Volume {
         found.last().copied()
     }
 
-    /// How many i-numbers are cached.
+    /// Returns the number of cached i-numbers.
     fn cached(&self) -> usize {
         match self.word(BLOCK + self.layout.cache) {
             count if count > CACHED => 0,

@@ -4,7 +4,7 @@ use crate::Outcome;
 
 pub const BLOCK: usize = 512;
 
-/// The count of free numbers and the numbers themselves, as the super-block and the blocks of the chain have them.
+/// The count of free numbers and the numbers themselves, as in the super-block and the blocks of the chain.
 pub const FREE_HEAD: usize = 202;
 
 pub const SLOT: usize = 16;
@@ -32,7 +32,8 @@ pub struct Layout {
     pub time: usize,
     pub root: usize,
     pub address_count: usize,
-    /// The bytes of a number in the free list and in an indirect block, and how many an indirect block has.
+    /// The number of bytes of a number in the free list and in an indirect block, and of numbers in an indirect
+    /// block.
     pub number_bytes: usize,
     pub fan_out: usize,
     pub most_list_blocks: usize,
@@ -78,7 +79,7 @@ static SEVENTH: Layout = Layout {
     greatest: 1_082_201_088,
 };
 
-/// What an i-node is, by its mode. Odd are the modes that the edition doesn't have.
+/// The kind of an i-node, by its mode. Odd modes are those that the edition doesn't have.
 #[derive(Clone, Copy, PartialEq)]
 pub enum Kind {
     Free,
@@ -115,7 +116,7 @@ impl Edition {
 }
 
 impl Volume {
-    /// The volume in these bytes, if its sizes fit one another and the bytes.
+    /// Returns the volume in these bytes, if its sizes fit one another and the bytes.
     pub fn open(edition: Edition, bytes: Vec<u8>) -> Outcome<Volume> {
         if bytes.len() < 2 * BLOCK {
             return Err("unsound, rule 1".into());
@@ -147,7 +148,7 @@ impl Volume {
         Ok(volume)
     }
 
-    /// A volume with nothing but its sizes.
+    /// Returns a volume with nothing but its sizes.
     pub fn sized(edition: Edition, blocks: usize, list_blocks: usize) -> Outcome<Volume> {
         let layout = edition.layout();
         if list_blocks < 1
@@ -177,7 +178,7 @@ impl Volume {
         Ok(volume)
     }
 
-    /// A new volume with an empty root directory.
+    /// Returns a new volume with an empty root directory.
     pub fn make(
         edition: Edition,
         blocks: usize,
@@ -229,7 +230,7 @@ impl Volume {
         self.put_word(at + 2, number);
     }
 
-    /// A number of the free list or of an indirect block.
+    /// Returns a number of the free list or of an indirect block.
     pub fn number(&self, at: usize) -> usize {
         match self.edition {
             Edition::V6 => self.word(at),
@@ -244,7 +245,7 @@ impl Volume {
         }
     }
 
-    /// Where an i-node stands.
+    /// Returns the offset of an i-node.
     pub fn inode(&self, ino: usize) -> usize {
         2 * BLOCK + (ino - 1) * self.layout.inode_bytes
     }
@@ -276,7 +277,7 @@ impl Volume {
         matches!(self.kind(ino), Kind::Regular | Kind::Directory)
     }
 
-    /// Whether it has the large flag of the sixth edition.
+    /// True if it has the large flag of the sixth edition.
     pub fn is_large(&self, ino: usize) -> bool {
         self.edition == Edition::V6 && self.word(self.inode(ino)) & LARGE != 0
     }
@@ -287,7 +288,7 @@ impl Volume {
         self.put_word(place, if is_large { mode | LARGE } else { mode });
     }
 
-    /// A new i-node of user 0 and group 0.
+    /// Makes a new i-node of user 0 and group 0.
     pub fn put_inode(&mut self, ino: usize, mode: usize, links: usize, now: usize) {
         let place = self.inode(ino);
         self.bytes[place..place + self.layout.inode_bytes].fill(0);
@@ -326,7 +327,7 @@ impl Volume {
         self.put_word(place, mode | permissions & PERMISSIONS);
     }
 
-    /// The user and the group.
+    /// Returns the user and the group.
     pub fn owner(&self, ino: usize) -> (usize, usize) {
         let place = self.inode(ino);
         match self.edition {
@@ -351,7 +352,7 @@ impl Volume {
         }
     }
 
-    /// The time when the body last changed.
+    /// Returns the time of the last change of the body.
     pub fn modified(&self, ino: usize) -> usize {
         let place = self.inode(ino);
         match self.edition {
@@ -360,7 +361,7 @@ impl Volume {
         }
     }
 
-    /// Sets the time when the body last changed.
+    /// Sets the time of the last change of the body.
     pub fn touch(&mut self, ino: usize, now: usize) {
         let place = self.inode(ino);
         match self.edition {
@@ -370,7 +371,7 @@ impl Volume {
         self.touch_inode(ino, now);
     }
 
-    /// Sets the time when the i-node last changed, which the sixth edition doesn't have.
+    /// Sets the time of the i-node's last change, which the sixth edition doesn't have.
     pub fn touch_inode(&mut self, ino: usize, now: usize) {
         if self.edition == Edition::V7 {
             self.put_long(self.inode(ino) + 60, now);

@@ -1,18 +1,18 @@
 #!/usr/bin/env bash
-# Runs `import` and `export` of the built program on archives of GNU tar and Python, and on images that aren't sound: what is made, what is written byte for
-# byte, and what is refused. `archives/README.md` says where the archives come from.
+# Runs `import` and `export` of the built program on archives of GNU tar and Python, and on images that aren't sound: checks what is made, the bytes
+# that are written, and the refusals. `archives/README.md` says where the archives come from.
 # Usage: tests/archives.sh PROGRAM. It prints a line for each row that fails, and ends with 'N passed, N failed'.
 archives=$(realpath "$(dirname "$0")/archives")
 . "$(dirname "$0")/rows.sh"
 
-# imports EDITION IMAGE ARCHIVE [PATH]: the program imports the archive at the moment 2000, below the root without PATH, and says nothing
+# imports EDITION IMAGE ARCHIVE [PATH]: the program imports the archive at time 2000, below the root or PATH, and prints nothing
 imports() {
     "$program" import "$1" "$2" "${4-}" 2000 < "$archives/$3.tar" > output 2> error
     echo $? > status
     wants "import of $3.tar into edition $1" 0 none none
 }
 
-# unimported LINE EDITION ARCHIVE [PATH]: the program doesn't import the archive in this file into `disk.img`, for the reason in LINE
+# unimported LINE EDITION ARCHIVE [PATH]: the program refuses to import the archive in this file into `disk.img`, for the reason in LINE
 unimported() {
     printf '%s\n' "$1" > line
     "$program" import "$2" disk.img "${4-}" 2000 < "$3" > output 2> error
@@ -20,7 +20,7 @@ unimported() {
     wants "import of ${3##*/} into edition $2" 1 none line
 }
 
-# ends ARCHIVE: the program imports the archive in this file, and what it makes is the same with two blocks of zeros behind the archive
+# ends ARCHIVE: the program imports the archive in this file, and makes the same with two blocks of zeros after the archive
 ends() {
     cat "$1" end.tar > ended.tar
     for name in "$1" ended.tar; do
@@ -32,7 +32,7 @@ ends() {
     saves "the image of $1" "$1.img" ended.tar.img
 }
 
-# exports LABEL STATUS ERROR EDITION IMAGE: the program writes an archive to `output`, and this text on standard error
+# exports LABEL STATUS ERROR EDITION IMAGE: the program writes an archive to `output`, and this text to standard error
 exports() {
     runs export "$4" "$5" ''
     has "the status of an export of $1" "$2" "$(cat status)"
@@ -47,13 +47,13 @@ played() {
     has "the status of a play in edition $1" 0 "$?$(cat error)"
 }
 
-# number EDITION IMAGE PATH: the i-number to which a path leads
+# number EDITION IMAGE PATH: the i-number at a path
 number() { "$program" ls -d "$1" "$2" "$3" | awk 'NR == 1 { print $1 }'; }
 
-# listed EDITION IMAGE [PATH]: all that is below the root, or below PATH, without i-numbers and without `.` and `..`
+# listed EDITION IMAGE [PATH]: everything below the root or PATH, without i-numbers and without `.` and `..`
 listed() { "$program" ls -lR "$1" "$2" "${3:-/}" | sed -E 's/^ *[0-9]+ //; s/ +/ /g' | grep -v ' \.\.*$'; }
 
-# lists LABEL FILE EDITION IMAGE [PATH]: what is listed so is what FILE has
+# lists LABEL FILE EDITION IMAGE [PATH]: this listing is the one in FILE
 lists() {
     listed "${@:3}" > output
     cmp -s output "$2"
@@ -63,10 +63,10 @@ lists() {
 # volume_time EDITION IMAGE: the time of the super-block
 volume_time() { "$program" super "$1" "$2" | awk '$1 == "time" { print $2 }'; }
 
-# node_at EDITION I: where i-node I begins
+# node_at EDITION I: the offset of i-node I
 node_at() { echo $((1024 + ($1 == 6 ? 32 : 64) * ($2 - 1))); }
 
-# digits BYTES: escapes of bytes as the hexadecimal digits that a script has
+# digits BYTES: escapes of bytes as hexadecimal digits, as in a script
 digits() { printf '%b' "$1" | od -An -v -tx1 | tr -d ' \n'; }
 
 # entry_for IMAGE NAME I: the first entry with this name is for i-number I
@@ -82,7 +82,7 @@ done
 nested=p23456789abcde
 eight=$(printf "/$nested%.0s" 1 2 3 4 5 6 7 8)
 
-# What GNU tar makes of a tree, `export` writes byte for byte. The calls are of user 3 and group 5, but for the bytes, which user 0 writes.
+# `export` writes a tree byte for byte as GNU tar does. The calls are made as user 3 and group 5, except those for the bytes, which user 0 writes.
 mapfile -t nest < <(path=; for _ in 1 2 3 4 5 6 7 8; do path=$path/$nested; echo "1000 3 5 mkdir $path 755"; done)
 tree=(
     '1000 3 5 create /\xff\xfe 4755'
@@ -104,7 +104,7 @@ tree=(
 )
 for edition in 6 7; do
     played "$edition" "tree.v$edition" "${tree[@]}"
-    # The special files: a character device 2, 3 and a block device 1, 7.
+    # The special files: character device 2, 3 and block device 1, 7.
     null=$(node_at "$edition" "$(number "$edition" "tree.v$edition" /null)")
     disk=$(node_at "$edition" "$(number "$edition" "tree.v$edition" /disk)")
     if [ "$edition" = 6 ]; then
@@ -121,7 +121,7 @@ for edition in 6 7; do
     prints "$archives/tree.tar" export "$edition" "tree.v$edition" ''
 done
 
-# An output that fails has the front of the archive, as far as it was written.
+# An output that fails has a prefix of the archive, up to the failure.
 for limit in 0 1 511 512 518 6000 17408 17919; do
     said=$(trap '' XFSZ; prlimit --fsize="$limit" "$program" export 7 tree.v7 / 2>&1 > front; echo $?)
     cmp -s -n "$limit" front "$archives/tree.tar"
@@ -130,12 +130,12 @@ done
 (sleep 0.3; "$program" export 7 tree.v7 / 2> error; echo $? > status) | true
 has 'an archive to a pipe that nobody reads' '3 unixvol: cannot write -' "$(cat status error | paste -s -d ' ' -)"
 
-# What leads to no directory.
+# Paths that lead to no directory.
 refuses 1 'unixvol: 20 NotDirectory' export 6 tree.v6 /a.txt
 refuses 1 'unixvol: 2 NoEntry' export 6 tree.v6 /x
 refuses 1 'unixvol: unsound, rule 1' export 6 none ''
 
-# Images that aren't sound: a directory that holds itself and the root, an entry for a free i-node, and one past the last.
+# Images that aren't sound: a directory that contains itself and the root, an entry for a free i-node, and one past the last.
 for edition in 6 7; do
     played "$edition" ring.img '1000 3 5 mkdir /d 755' '1000 3 5 create /d/ring_itself 644' '1000 3 5 create /d/ring_root 644' \
         '1000 3 5 create /d/the_last 644' '1000 3 5 create /d/free 644' '1000 3 5 create /kept 644'
@@ -152,7 +152,7 @@ unixvol: unsound, rule 9' "$edition" ring.img
     has 'the members beside a ring' 'drwxr-xr-x d/ -rw-r--r-- kept' "$(tar -tvf output | awk '{ print $1, $6 }' | paste -s -d ' ' -)"
 done
 
-# Paths for which a header has no room: sixteen directories have, each in the one before, and the next has not.
+# Paths that don't fit in a header: sixteen nested directories fit, and the next doesn't.
 path=
 lines=()
 for _ in $(seq 18); do
@@ -172,7 +172,7 @@ unixvol: unsound, rule 9' 6 slash.img
 image end.tar 1024
 saves 'an archive without members' output end.tar
 
-# Archives of GNU tar in three formats, imported. That of ustar is exported again byte for byte; the others make the same image.
+# Archives of GNU tar in three formats, imported. The ustar one is exported again byte for byte; the others make the same image.
 mkdir wanted
 { printf x; head -c 598 /dev/zero; printf y; } > wanted/big
 printf 'hello\n' > wanted/hello.txt
@@ -187,7 +187,7 @@ for edition in 6 7; do
         imports "$edition" "$format.img" "$format"
         lists "the tree of $format.tar in edition $edition" "$list" "$edition" "$format.img"
         has "the second name in $format.tar" "$(number "$edition" "$format.img" /dir/link)" "$(number "$edition" "$format.img" /hello.txt)"
-        # The i-node and the root have the moments of the links.
+        # The i-node and the root have the times of the links.
         [ "$edition" = 7 ] && has "the moment of a link in $format.tar" '"ctime":1000000000' \
             "$("$program" inode --json 7 "$format.img" "$(number 7 "$format.img" /hello.txt)" | grep -o '"ctime":[0-9]*')"
         has "the moment of the root after $format.tar" '2001-09-09 01:46:40' "$("$program" ls -l "$edition" "$format.img" / | awk '$NF == "." { print $7, $8 }')"
@@ -204,7 +204,7 @@ for edition in 6 7; do
     prints "$archives/plain.tar" export "$edition" plain.img ''
 done
 
-# Headers of files in both formats, and blocks that are no header.
+# Headers of files in both formats, and blocks that aren't headers.
 for format in posix gnu; do
     cp blank.v7 disk.img
     imports 7 disk.img "${format}_file"
@@ -232,7 +232,7 @@ ROWS
 saves 'an image into which no header was imported' disk.img blank.v7
 
 for edition in 6 7; do
-    # Directories that are no members, and members that come twice.
+    # Directories that aren't members, and members that occur twice.
     cp "blank.v$edition" disk.img
     imports "$edition" disk.img ways
     cat > list << 'LIST'
@@ -265,7 +265,7 @@ drwx------ 2 0 0 48 1970-01-01 00:16:40 lib
 LIST
     lists 'directories that come twice' list "$edition" disk.img
     prints b.c get "$edition" disk.img /src/lib/b.c
-    # A directory that is there stays; a file that is there is in the place of one on the way.
+    # An existing directory stays; an existing file blocks a directory on the way.
     played "$edition" disk.img '1000 0 0 mkdir /src 711'
     imports "$edition" disk.img twice
     sed 's/^drwxr-x---/drwx--x--x/' list > stays
@@ -275,7 +275,7 @@ LIST
     unimported 'unixvol: 17 Exists: /src' "$edition" "$archives/ways.tar"
     saves 'an image with a file in the place of a directory' disk.img before.img
 
-    # Members that no call makes, archives that can't be read, and what the calls refuse.
+    # Members that can't be made, archives that can't be read, and refusals of the calls.
     cp "blank.v$edition" disk.img
     while IFS='|' read -r name line; do
         unimported "unixvol: $line" "$edition" "$archives/$name.tar"
@@ -317,25 +317,25 @@ ROWS
     mkdir got
     prints none get -o got "$edition" disk.img /dir/big /hello.txt /dir/sub/deep /empty
     has 'the files of old_tree.tar' 'Only in wanted: far' "$(diff -r got wanted)"
-    # Pax's records of an owner and a group: the last of each counts, and an empty one leaves the header's.
+    # Pax records of an owner and a group: the last of each counts, and an empty one keeps the header's.
     cp "blank.v$edition" disk.img
     imports "$edition" disk.img given_guest
     printf '/:\n-rw-r--r-- 1 3 0 0 1970-01-01 00:16:40 ok\n' > list
     lists 'an owner given by a record' list "$edition" disk.img
-    # The label of an archive is no member, and a long name before it is its.
+    # The label of an archive isn't a member, and a long name before it is the label's.
     for name in labelled label_named; do
         cp "blank.v$edition" disk.img
         imports "$edition" disk.img "$name"
         saves "the image of $name.tar" disk.img before.img
     done
-    # A comment on all later members is passed over.
+    # A comment on all later members is skipped.
     cp "blank.v$edition" disk.img
     imports "$edition" disk.img commented
     printf 'x\n' > ok
     prints ok get "$edition" disk.img /ok
 done
 
-# Paths of members, by Python: each of 4,096 bytes, or one more, and ways with more directories than the volume has i-nodes.
+# Paths of members, made with Python: of 4,096 bytes and of one more, and with more directories on the way than the volume has i-nodes.
 cat > make.py << 'PYTHON'
 import sys, tarfile
 
@@ -388,7 +388,7 @@ for edition in 6 7; do
     unimported "unixvol: 103 NoInode: /d$inodes/f" "$edition" ways.tar
     python3 make.py directories.tar directories 1000
     unimported "unixvol: 103 NoInode: /d$((inodes + 1))/" "$edition" directories.tar
-    # Where they aren't more, the calls say what is missing: i-nodes, or links of the root, of which the sixth edition has 127 at most.
+    # With fewer, the calls report what is missing: i-nodes, or links of the root, of which the sixth edition has 127 at most.
     python3 make.py directories.tar directories "$inodes"
     refusal='103 NoInode: /d62/'
     [ "$edition" = 6 ] && refusal='31 TooManyLinks: /d125/'
@@ -396,7 +396,7 @@ for edition in 6 7; do
     saves 'an image without a member whose path is too long' disk.img "blank.v$edition"
 done
 
-# Directories that come after what is in them, as `find -depth` lists them: they get their permissions and owner; the last member for one counts.
+# Directories that come after their contents, as `find -depth` lists them: they get their permissions and owner; the last member for one counts.
 mkdir -p dd/sub
 printf 'f\n' > dd/sub/f
 touch -d @1500 dd/sub/f
@@ -436,7 +436,7 @@ LIST
     done
 done
 
-# An import leaves the volume at its moment, by a call that keeps the permissions of the directory in which it is made.
+# An import sets the volume's time, by a call that keeps the permissions of the directory below which it works.
 for edition in 6 7; do
     played "$edition" disk.img '1000 5 6 mkdir /d 1751'
     "$program" import "$edition" disk.img /d 2000 < depth.tar > output 2> error
@@ -449,7 +449,7 @@ for edition in 6 7; do
     echo $? > status
     wants "import of an archive without members into edition $edition" 0 none none
     saves 'an image into which no member was imported' disk.img before.img
-    # The directory isn't there, and members for it make it.
+    # The directory doesn't exist, and members for it make it.
     python3 make.py base.tar base ./
     "$program" import "$edition" disk.img /new 3000 < base.tar > output 2> error
     echo $? > status
@@ -458,7 +458,7 @@ for edition in 6 7; do
     has "the directory of an import into edition $edition that it makes" 'drwx--x--t 2 0 0' "$("$program" ls -l "$edition" disk.img / | awk '$NF == "new" { print $2, $3, $4, $5 }')"
 done
 
-# An owner of the seventh edition that the sixth has not.
+# An owner of the seventh edition that the sixth can't have.
 cp blank.v7 disk.img
 imports 7 disk.img guest
 printf '/:\n-rw-r--r-- 1 1000 0 0 1970-01-01 00:16:40 ok\n' > list
@@ -470,8 +470,8 @@ saves 'an image of the sixth edition without the owner' disk.img blank.v6
 unimported 'unixvol: unsound, rule 1' 6 "$archives/ok.tar"
 saves 'an image without bytes' disk.img none
 
-# An archive that is cut off, with its length: the line names the first header that isn't there with all that follows it, or a first block of
-# the end with half a second one. Before a header, and behind the first block of the end, it ends as with two blocks of zeros.
+# A truncated archive, with its length: the line names the first header that is missing with all that follows it, or a first block of the end with
+# half a second one. Truncated before a header, or after the first block of the end, it counts as complete.
 cp blank.v7 disk.img
 for length in $(seq 0 256 11520) 1100; do
     for at in 10752 9728 9216 8704 8192 7680 7168 6656 6144 5632 5120 4608 3584 3072 2048 512 0; do
@@ -488,7 +488,7 @@ done
 image 512.tar 512
 ends 512.tar
 
-# A name, or a record of times, for a member that doesn't come.
+# A name, or a record of times, without its member.
 while read -r name length; do
     head -c "$length" "$archives/$name.tar" > front.tar
     unimported "unixvol: archive, byte $length: cut off" 7 front.tar
@@ -504,8 +504,8 @@ extended 28160
 ROWS
 saves 'an image into which no front of an archive was imported' disk.img blank.v7
 
-# Input without end: what is no archive is refused, what follows an archive is left, and a header that claims too many bytes is refused.
-# endless LABEL STATUS LINE IMAGE WORD..: what the command writes is imported into IMAGE, and ends so within a minute
+# Endless input: bytes that aren't an archive are refused, bytes after an archive are left, and a header with too great a size is refused.
+# endless LABEL STATUS LINE IMAGE WORD..: the output of the command is imported into IMAGE, with this status and line within a minute
 endless() {
     "${@:5}" 2> /dev/null | timeout 60 "$program" import 7 "$4" '' 2000 > output 2> error
     echo "${PIPESTATUS[1]}" > status
@@ -536,7 +536,7 @@ saves 'an image into which zeros were imported' disk.img blank.v7
 (set -o pipefail; cat "$archives/plain.tar" <(head -c 1000000 /dev/zero) | "$program" import 7 disk.img '' 2000)
 has 'a pipe that an archive came from with a long last record' 0 $?
 
-# Trees that are exported, imported and exported alike: an empty one, directories, files.
+# Trees whose export, imported and exported again, is the same: an empty one, directories, files.
 for edition in 6 7; do
     played "$edition" directories.img '1000 0 7 mkdir /b 700' '1000 0 7 mkdir /b/b 1777' '1000 0 7 mkdir /b/a 0' '1000 0 7 mkdir /a 755' \
         '1000 0 7 mkdir /a/\xff 755' '1000 0 0 chown /a 0 0' '1000 0 0 create /b/b/none 444'

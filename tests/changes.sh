@@ -1,12 +1,12 @@
 #!/usr/bin/env bash
-# Runs the commands of the built program that change a volume by several calls, and compares what they tell and what the volume then has:
-# archives that are imported, directories, moves, files that are put and got, and trees that are removed.
+# Runs the commands of the built program that change a volume by several calls, and checks their lines and the volume: imported archives, directories,
+# moves, files that are put and got, and removed trees.
 # Usage: tests/changes.sh PROGRAM. It prints a line for each row that fails, and ends with 'N passed, N failed'.
 . "$(dirname "$0")/rows.sh"
 data=$samples/../tests/changes
 
-# answers IMAGE: standard input has queries, each with a colon and its answer after it: each is asked by user 0, of a copy of the image. In an
-# answer * is any text.
+# answers IMAGE: standard input has queries, each followed by a colon and its answer: each is run as user 0, on a copy of the image. In an answer * is
+# any text.
 answers() {
     local number=0 query answer printed
     : > queries
@@ -26,7 +26,7 @@ answers() {
     done 3< wanted 4< output
 }
 
-# imports STATUS LINE ARCHIVE IMAGE [PATH]: the program imports the archive, with this status, and tells the line, if there is one
+# imports STATUS LINE ARCHIVE IMAGE [PATH]: the program imports the archive, with this status, and prints the line, if any
 imports() {
     "$program" import "$edition" "$4" "${5-}" 2000 < "$3" > output 2> error
     echo $? > status
@@ -34,14 +34,14 @@ imports() {
     wants "import of $3 into $4" "$1" none line
 }
 
-# plays IMAGE FILE..: the calls of some files are made on the volume, one after the other, and none is refused
+# plays IMAGE FILE..: makes the calls in some files on the volume, one after another; none is refused
 plays() {
     cat "${@:2}" > calls
     runs play "$edition" "$1" calls
     has "the calls that make $1" "0 $(wc -l < calls)" "$(cat status) $(grep -c ' ok ' output)"
 }
 
-# at_node I: where i-node I begins
+# at_node I: the offset of i-node I
 at_node() { echo $((1024 + (edition == 6 ? 32 : 64) * ($1 - 1))); }
 
 pieces "$data/archives"
@@ -56,8 +56,8 @@ printf other > in/f
 : > in/g
 printf x > in/fourteen.bytes
 
-# A directory and a file in it, of another user; and below /d directories in one another, a large file, files with further names, one of them
-# outside of the tree, and two that become special files.
+# A directory and a file in it, of another user; and below /d nested directories, a large file, files with further names, one of them outside the
+# tree, and two that become special files.
 nest=/d
 cat > keep << 'END'
 1000 0 0 mkdir /keep 100
@@ -88,7 +88,7 @@ cat > names << 'END'
 1000 0 0 link /one /other
 END
 
-# shown IMAGE: a volume's rules, its free blocks and i-nodes, the names of / and /keep, and of them and of /keep/file the numbers and links
+# shown IMAGE: a volume's rules, its free blocks and i-nodes, the names in / and /keep, and the i-numbers and links of these and of /keep/file
 shown() {
     cp "$1" asked.img
     printf '1 0 0 stat %s\n' / /keep /keep/file > queries
@@ -99,7 +99,7 @@ shown() {
     "$program" play "$edition" asked.img queries 2>&1 | awk '{ print $1, $2, $3, $4, $5, $6, $7, $8 }'
 }
 
-# is_as_before IMAGE: what is shown of it is what was shown before the tree was there
+# is_as_before IMAGE: it shows the same as before the tree was made
 is_as_before() {
     shown "$1" > now
     cmp -s now before && [ "$(grep -c ': holds$' before)" = 12 ]
@@ -107,7 +107,7 @@ is_as_before() {
 }
 
 for edition in 6 7; do
-    # Archives that are imported, and those that aren't.
+    # Archives that are imported, and archives that are refused.
     "$program" mkfs "$edition" blank.img 40 2 0 0 1000
     for name in tree odd ways unread; do cp blank.img "$name.img"; done
     imports 0 '' tree.tar tree.img
@@ -137,7 +137,7 @@ END
     saves 'a volume without room for an archive' five.img five_before.img
     imports 1 'unixvol: unsound, rule 1' tree.tar empty
 
-    # Directories, moves, removals and copies, by the lines of a file; and what the volumes then have.
+    # Directories, moves, removals and copies, from the lines of a file; then the volumes are compared.
     "$program" mkfs "$edition" six.img 6 2 0 0 1000
     cp six.img six_before.img
     "$program" mkfs "$edition" before.img 400 12 0 0 1000
@@ -179,7 +179,7 @@ stat /d/g:stat * file 0644 * 0 0 *
 stat /g:2 NoEntry
 END
 
-    # A tree is removed at once or part by part, and all that it held is free.
+    # A tree is removed at once or part by part, and all of its blocks and i-nodes are free.
     shown before.img > before
     plays grown.img keep grow
     "$program" ls "$edition" grown.img /d > listed

@@ -1,6 +1,6 @@
 #!/usr/bin/env bash
-# Runs the checkers of the built program, `icheck`, `dcheck` and `ncheck`, each with 1, 2, 7 and 64 threads, on images that are sound or not,
-# and compares their reports byte by byte. tests/program.sh has further reports, and what the three commands refuse.
+# Runs the checkers of the built program, `icheck`, `dcheck` and `ncheck`, each with 1, 2, 7 and 64 threads, on images that are sound or not, and
+# compares their reports byte by byte. tests/program.sh has further reports, and the refusals of the three commands.
 # Usage: tests/checkers.sh PROGRAM. It prints a line for each row that fails, and ends with 'N passed, N failed'.
 . "$(dirname "$0")/rows.sh"
 
@@ -8,7 +8,7 @@
 "$program" mkfs 6 new.6 20 2 0 0 168496141
 "$program" mkfs 7 new.7 100 2 0 0 168496141
 
-# make FILE FROM AT=HEX..: FILE is the image FROM with these bytes in their places
+# make FILE FROM AT=HEX..: FILE is a copy of the image FROM with these bytes at these offsets
 make() {
     local file=$1 piece
     cp "$2" "$file"
@@ -34,14 +34,14 @@ edition=7
 mapfile -t found < <(totals 0 1 0 0 1 95 0)
 finds 0 icheck new.7 "${found[@]}"
 
-# I-number 1 of the seventh edition may have no links, and another that isn't free may not.
+# I-number 1 of the seventh edition may have no links; any other that isn't free must have some.
 make image new.7 1024=0080
 finds 0 dcheck image
 make image new.7 1152=0080
 finds 1 dcheck image '3 0 0'
 
 # File 3 has a triple indirect block, and in the last image more: one that names itself in all its entries; one of four blocks, each of which names
-# the next; and eight that name one another, numbers of no data block and 0. The counts were made place by place, by a program of its own.
+# the next; and eight that name one another, numbers outside the data zone and 0. The counts were made block by block, by a separate program.
 entries() { printf '0000%02x00' "$@"; }
 all() { printf "0000$(printf %02x "$1")00%.0s" {1..128}; }
 file=("1152=A48101" "1200=003C00")
@@ -74,7 +74,7 @@ alike() {
     for _ in {1..1021}; do cat inodes; done | tail -c +129 | dd of="$1" bs=1152 seek=1 conv=notrunc status=none
 }
 
-# One made for icheck to be busy with: the block names itself.
+# An image made to keep icheck busy: the block names itself.
 alike busy A48101
 put busy $((512 * 1024)) "$(printf '00000004%.0s' {1..128})"
 mapfile -t found < <(echo 'dup 1024 17260188390 1' && totals 8166 1 0 0 2 1024 0)
@@ -82,7 +82,7 @@ printf '%s\n' "${found[@]}" > lines
 runs_within 20 icheck 7 busy 1
 wants 'icheck of an image that was made to keep it busy' 1 lines none
 
-# One for ncheck: the i-nodes are directories of the greatest size, whose 67 million slots each lie in one block of 32 entries. Its report
+# One for ncheck: the i-nodes are directories of the greatest size, whose 67 million slots each are all in one block of 32 entries. Its report
 # would have 548 billion lines.
 alike names ED4101000000000081400014
 for block in 1024 1025 1026; do put names $((512 * block)) "$(printf "0000$(printf %02X $((block - 1023)))04%.0s" {1..128})"; done
@@ -98,8 +98,8 @@ dd if=/dev/zero of=entries bs=64 seek=$((16 + 26)) count=$((8168 - 26)) conv=not
 runs_within 20 dcheck 7 entries 1
 wants 'dcheck of an image that was made to keep it busy' 1 lines none
 
-# A directory of 66 blocks, which the checkers divide: file 16 has the name `/f` and 2,100 others, and directory 15 is `/d`. Then the last
-# of the names is one of the directory.
+# A directory of 66 blocks, which the checkers divide: file 16 has the name `/f` and 2,100 others, and directory 15 is `/d`. Then the last of the
+# names is that of a directory.
 "$program" mkfs 7 large 300 2 0 0 0
 mapfile -t links < <(seq -f 'link /f /n%04g' 2100)
 plays large 'create /f 644' 'mkdir /d 755' 'mkdir /d/e 755' "${links[@]}"
@@ -115,8 +115,8 @@ edition=6
 make image new.6 512=1200
 finds 1 icheck image 'rule 2'
 
-# Lines of every kind but odd ones: the root is in block 4; file 2 names block 5 twice, and block 6, which is free, and met again in the free
-# list; file 3 names two blocks that the volume doesn't have; block 7 is lost.
+# Lines of every kind except odd ones: the root is in block 4; file 2 names block 5 twice, and block 6, which is free and occurs again in the free
+# list; file 3 names two blocks outside the volume; block 7 is lost.
 "$program" mkfs 6 eight 8 2 0 0 168496141
 make image eight 516=020006000600 1056="$regular 050005000600" 1088="$regular 78006300"
 mapfile -t found < <(printf '%s\n' 'bad 3 2 99' 'dup 5 2 0' 'dup 6 1 1' 'lost 7' 'free repeat 6' && totals 2 1 0 0 3 1 1)
@@ -131,7 +131,7 @@ cp new.6 file
 plays file 'mkdir /d 755' 'create /d/f 644' 'write /d/f 0 616263'
 finds 0 ncheck file '31 /d/f' '32 /d'
 
-# A name with an escape and a backslash: a terminal gets it escaped.
+# A name with an escape and a backslash: it is escaped on a terminal.
 cp new.6 odd
 plays odd 'create /unusual 644'
 put odd "$(grep -abo unusual odd | cut -d : -f 1)" 1B5C
@@ -152,7 +152,7 @@ make image new.6 1030=4000 2080=200064 2096=1F0067 1984="$regular" 1856="$regula
     1888="$(directory 8)" 4128=1B007A
 finds 1 ncheck image '27 .../z' '29 .../x/y/x' '30 .../y/x/y' '31 /d/f' '31 /g' '32 /d'
 
-# Images that are cut short.
+# Truncated images.
 for length in 10239 1025 1024 512 1 0; do
     head -c "$length" new.6 > "cut at $length"
     for command in icheck dcheck ncheck; do finds 1 "$command" "cut at $length" 'rule 1'; done

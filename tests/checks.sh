@@ -9,7 +9,7 @@ rows=$(realpath "$(dirname "$0")/checks")
 "$program" mkfs 6 new.6 20 2 0 0 168496141
 "$program" mkfs 7 new.7 100 2 0 0 168496141
 
-# volume FILE CALL..: FILE is a new volume, or the file that is there, on which user 0 made these calls
+# volume FILE CALL..: FILE is a new volume, or an existing file, on which user 0 made these calls
 volume() {
     local file=$1
     shift
@@ -19,7 +19,7 @@ volume() {
     has "the calls on $file" "$#" "$(grep -c '^1\.[0-9]* ok ' played)"
 }
 
-# repeated COUNT TEXT: the text so many times
+# repeated COUNT TEXT: the text COUNT times
 repeated() { printf "$2%.0s" $(seq "$1"); }
 
 volume directory.6 'mkdir /d 755'
@@ -32,15 +32,15 @@ volume two_files.6 'create /a 644' 'create /b 644' 'write /a 0 78' 'write /b 0 7
 volume itself.6 'create /a 644' 'write /a 0 0500'
 volume all_uses.6 'mkdir /d 755' 'create /a 644' "write /a 0 $(repeated 5000 07)"
 
-# make FILE FROM [AT=HEX]..: FILE is the image FROM with these bytes in their places
+# make FILE FROM [AT=HEX]..: FILE is a copy of the image FROM with these bytes at these offsets
 make() {
     local file=$1 piece
     cp "$2" "$file"
     for piece in "${@:3}"; do put "$file" "${piece%=*}" "${piece#*=}"; done
 }
 
-# each NAME TEST: for each row of tests/checks/NAME, calls TEST with its edition and its first line, once its image is made as `image`,
-# and its other lines are in `lines`
+# each NAME TEST: for each row of tests/checks/NAME, calls TEST with its edition and its first line, when its image is in `image` and its other lines
+# are in `lines`
 each() {
     local given=() line
     has "rows in $1" yes "$(grep -q '^image ' "$rows/$1" && echo yes)"
@@ -58,7 +58,7 @@ each() {
     done < <(grep -v '^#' "$rows/$1" && echo)
 }
 
-# The rules, and what is found of them, which is in `lines`; a rule that isn't in `lines` holds.
+# The rules, with the findings in `lines`; a rule that isn't in `lines` holds.
 sentences=(
     'the image has all blocks of the volume'
     'the sizes are within their limits'
@@ -86,7 +86,7 @@ check_rules() {
 }
 each rules check_rules
 
-# Images that are of the other edition: a note says so.
+# Images of the other edition: a note says so.
 { echo '1 the image is too short' && printf '%d not asked\n' {2..12}; } > lines
 { reported && echo 'note: rules 1 and 2 hold for edition 6'; } > wanted
 runs check 7 new.6
@@ -96,7 +96,7 @@ wants 'check of a volume of the sixth edition as one of the seventh' 1 wanted no
 runs check 6 new.7
 wants 'check of a volume of the seventh edition as one of the sixth' 1 wanted none
 
-# Below an address of each of 63 directories a block of empty slots is named two million times, and gone over once.
+# Below an address of each of 63 directories a block of empty slots is named two million times, and read once.
 shared shared.7 0
 printf '%s\n' '10 no . for itself: directory 2' '11 not reached from the root: directory 3' '12 a wrong link count: i-node 2, entries 0, links 1' > lines
 reported | tail -n 4 > wanted
@@ -108,7 +108,7 @@ wants 'check of directories that name one empty block everywhere' 1 wanted none
 python3 "$rows/as_json.py" "$rows/i_nodes" "$rows/supers" > objects
 count=0
 
-# shown EDITION WORD..: a command that looks at an image prints `lines`, and with `--json` the next line of `objects`
+# shown EDITION WORD..: a command that shows part of an image prints `lines`, and with `--json` the next line of `objects`
 shown() {
     count=$((count + 1))
     sed -n "${count}p" objects > wanted
@@ -121,7 +121,7 @@ each i_nodes show_inode
 each supers show_super
 has 'the rows of i-nodes and super-blocks' 11 "$count"
 
-# I-numbers that the volume doesn't have, and images without the sizes of a volume.
+# I-numbers outside the volume, and images without a volume's sizes.
 for number in 0 33 65535; do refuses 1 'unixvol: 2 NoEntry' inode 6 new.6 "$number"; done
 make short new.6 514=1500
 make unlisted new.6 512=0000
@@ -131,7 +131,7 @@ for row in 1:short 2:unlisted; do
     refuses 1 "unixvol: unsound, rule ${row%:*}" map 6 "${row#*:}"
 done
 
-# What the blocks are used for.
+# The uses of the blocks.
 legend='B boot
 S super-block
 i i-list
@@ -143,13 +143,13 @@ c chain
 L lost
 T named twice'
 
-# drawing WIDTH LETTERS: the letters in rows, and the legend
+# drawing WIDTH LETTERS: the letters in rows, followed by the legend
 drawing() { fold -w "$1" <<< "$2" && printf '\n%s\n' "$legend"; }
 
 # square LETTER X Y: a square of a picture
 square() { echo "<path class='$1' d='M$2 $3h9v9h-9z'/>"; }
 
-# picture LETTERS: the letters as squares, 128 in a row, and the legend; the colours are left out
+# picture LETTERS: the letters as squares, 128 in a row, followed by the legend, without the colours
 picture() {
     local letters=$1 k top one name
     top=$(((${#letters} + 127) / 128 * 10 + 10))
@@ -164,7 +164,7 @@ picture() {
     echo '</svg>'
 }
 
-# maps EDITION LABEL LETTERS: the map of `image` has these letters, one for each block, and so has the picture
+# maps EDITION LABEL LETTERS: the map of `image` has these letters, one per block, and so has the picture
 maps() {
     { printf '%d blocks, 1 in each cell\n\n' ${#3} && drawing 64 "$3"; } > wanted
     runs map "$1" image
@@ -177,28 +177,28 @@ maps() {
 check_map() { maps "$1" "$2" "$(cat lines)"; }
 each maps check_map
 
-# More blocks than a row of squares has: the last is named by the root, and free; the free list goes on in block 29.
+# More blocks than a row of squares has: the last is named by the root, and free; the free list continues in block 29.
 "$program" mkfs 6 new.129.6 129 2 0 0 168496141
 make image new.129.6 1034=8000
 maps 6 '129 blocks' "BSiid$(repeated 24 o)c$(repeated 98 o)T"
 
-# More blocks than a map has cells: four in each cell. The free list goes on in block 92, and in each hundredth after it. A cell shows the
-# most telling of its blocks: the super-block, and a block that two files name.
+# More blocks than a map has cells: four in each cell. The free list continues in block 92, and in every hundredth after it. A cell shows the most
+# telling of its blocks: the super-block, and a block that two files name.
 "$program" mkfs 6 new.8192.6 8192 2 0 0 168496141
 volume new.8192.6 'create /a 644' 'create /b 644' 'write /a 0 78' 'write /b 0 79'
 make image new.8192.6 1992=0500
 { printf '8192 blocks, 4 in each cell\n\n' && drawing 64 "ST$(repeated 21 o)c$(repeated 80 "$(repeated 24 o)c")$(repeated 24 o)"; } > wanted
 prints wanted map 6 image
 
-# On a terminal the rows are as wide as COLUMNS says, and each letter has a colour.
-# terminal FILE: what the program draws of FILE on a terminal of eight columns
+# On a terminal the rows are as wide as COLUMNS, and each letter has a colour.
+# terminal FILE: the map of FILE on a terminal of eight columns
 terminal() { COLUMNS=8 script -qec "'$program' map 6 $1" /dev/null < /dev/null | tr -d '\r'; }
 terminal new.6 | sed $'s/\e\\[[0-9;]*m//g' > output
 { printf '20 blocks, 1 in each cell\n\n' && drawing 8 BSiidooooooooooooooo; } > wanted
 cmp -s output wanted
 has 'a map in rows of eight' 0 $?
 declare -A colours=([B]=100 [S]=100 [i]=43 [d]=44 [f]=42 [p]=46 [o]=47 [c]=45 [L]=103 [T]=41)
-# coloured LETTERS: the letters between the codes of a terminal
+# coloured LETTERS: the letters between a terminal's colour codes
 coloured() {
     local letters=$1 k
     for ((k = 0; k < ${#letters}; k++)); do printf '\e[%dm%s\e[0m' "${colours[${letters:k:1}]}" "${letters:k:1}"; done

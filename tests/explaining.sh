@@ -1,5 +1,5 @@
 #!/usr/bin/env bash
-# Asks the built program for the second line of its faults, by `--explain`, and compares what it prints; without it there is one line.
+# Runs the built program with `--explain`, and compares the second lines of its faults; without it there is one line.
 # Usage: tests/explaining.sh PROGRAM. It prints a line for each row that fails, and ends with 'N passed, N failed'.
 . "$(dirname "$0")/rows.sh"
 linux="$samples/linux_made.v7"
@@ -27,7 +27,7 @@ done
 image=disk.v6
 cp "$image" before
 
-# Refusals, each with the path that it is about.
+# Refusals, each with its path.
 explains 1 'unixvol: 2 NoEntry' 'unixvol: /usr/x: no file or directory has this name' get 6 "$image" /usr/x
 explains 1 'unixvol: 2 NoEntry' 'unixvol: none: no file or directory has this name' ls 6 "$image" none
 explains 1 'unixvol: 2 NoEntry' "unixvol: /none/a: a directory on the way to it isn't there" put 6 "$image" /none/a hello
@@ -66,17 +66,17 @@ put special.v6 $((1024 + 32 * (number - 1) + 1)) a1
 explains 1 'unixvol: 102 NotRegular' 'unixvol: /tty: it is a special file, which has no bytes' get 6 special.v6 /tty
 explains 1 'unixvol: 105 HasDevice' 'unixvol: special.v6: the volume has a special file, and migrate makes none' migrate special.v6 new.img 400 10
 
-# A path with control characters is escaped, and another isn't.
+# A path with control characters is escaped, and any other isn't.
 explains 1 'unixvol: 2 NoEntry' 'unixvol: /\033[31m\012: no file or directory has this name' get 6 "$image" $'/\e[31m\n'
 explains 1 'unixvol: 2 NoEntry' 'unixvol: /grüße\: no file or directory has this name' get 6 "$image" '/grüße\'
 
-# Rules that images break, in the words of `check`.
+# Rules that images break, described as by `check`.
 explains 1 'unixvol: unsound, rule 12' 'unixvol: broken.v6: it breaks rule 12, that each link count is the number of entries; `unixvol check` says what breaks it' ls 6 broken.v6
 explains 1 'unixvol: unsound, rule 12' 'unixvol: broken.v7: it breaks rule 12, that each link count is the number of entries; `unixvol check` says what breaks it' rm 7 broken.v7 /d/f
 explains 1 'unixvol: unsound, rule 1' 'unixvol: hello: it breaks rule 1, that the image has all blocks of the volume' super 6 hello
 explains 1 'unixvol: unsound, rule 1' 'unixvol: hello: it breaks rule 1, that the image has all blocks of the volume' cat 6 hello 1
 
-# The sizes of an image that is cut off, and the other edition where its rules 1 and 2 hold. A pipe isn't read again.
+# The sizes of a truncated image, and the other edition if its rules 1 and 2 hold. A pipe isn't read again.
 head -c 100000 disk.v7 > cut.v7
 explains 1 'unixvol: unsound, rule 1' 'unixvol: cut.v7: it breaks rule 1, that the image has all blocks of the volume: it has 195 blocks, its super-block says 400' super 7 cut.v7
 explains 1 'unixvol: unsound, rule 1' 'unixvol: cut.v7: it breaks rule 1, that the image has all blocks of the volume: it has 195 blocks, its super-block says 400; nothing is exported' export 7 cut.v7
@@ -85,16 +85,16 @@ explains 1 'unixvol: unsound, rule 2' 'unixvol: disk.v7: it breaks rule 2, that 
 cut='unixvol: /dev/stdin: it breaks rule 1, that the image has all blocks of the volume'
 has 'the second line of a pipe' "$cut" "$(head -c 2000 disk.v7 | "$program" cat 7 /dev/stdin 2 --explain 2>&1 | tail -n 1)"
 
-# On a terminal the second line comes without being asked, unless UNIXVOL_EXPLAIN is 0.
+# On a terminal the second line is printed without the option, unless UNIXVOL_EXPLAIN is 0.
 if [ -n "$(command -v script)" ]; then
-    # watched: what a terminal shows of a path that leads nowhere
+    # watched: the lines on a terminal for a path that leads nowhere
     watched() { script -qec "'$program' get 6 disk.v6 /none" /dev/null < /dev/null | tr -d '\r'; }
     none='unixvol: /none: no file or directory has this name'
     has 'what a terminal is told' "$(printf '%s\n' 'unixvol: 2 NoEntry' "$none")" "$(watched)"
     has 'what a terminal is told that wants no second line' 'unixvol: 2 NoEntry' "$(UNIXVOL_EXPLAIN=0 watched)"
     has 'what a terminal is told where the variable says something else' "$none" "$(UNIXVOL_EXPLAIN=1 watched | tail -n 1)"
 
-    # replaces WORD..: what a terminal is told of a volume that is made
+    # replaces WORD..: the lines on a terminal for a volume that is made
     replaces() { script -qec "'$program' $*" /dev/null < /dev/null | tr -d '\r'; }
     cp disk.v6 old.img
     has 'what is told of a sound volume that is replaced' 'unixvol: old.img: it held a sound volume of edition 6 with 1 file' "$(replaces mkfs 7 old.img 100 5 0 0 5)"
@@ -105,7 +105,7 @@ if [ -n "$(command -v script)" ]; then
     has 'what is told of a new file' '' "$(replaces mkfs 7 brand_new.img 100 5 0 0 5)"
     has 'what is told of a file that is kept' "$(printf '%s\n' 'unixvol: cannot write hello' 'unixvol: hello: it is there already, and --new replaces no file')" "$(replaces mkfs --new 7 hello 100 5 0 0 5)"
 
-    # A lock that is waited for is told after a second.
+    # Waiting for a lock is reported after a second.
     if [ -n "$(command -v flock)" ]; then
         cp disk.v6 locked.img
         flock locked.img sleep 3 &
@@ -133,7 +133,7 @@ printf '5 0 0 create /a 644\n' > first
 printf '5 0 0 create /b 644\nnonsense\n' > second
 explains 2 'unixvol: script 2 line 2' 'unixvol: second: line 2 is no call or query; `unixvol play --help` has their forms' play 6 "$image" first second
 
-# Files that fail, with the system's reason.
+# Files that can't be read or written, with the system's reason.
 explains 3 'unixvol: cannot read none.img' 'unixvol: none.img: No such file or directory (os error 2)' ls 6 none.img
 explains 3 'unixvol: cannot read none.img' 'unixvol: none.img: No such file or directory (os error 2)' rm 6 none.img /a
 explains 3 'unixvol: cannot read none.img' 'unixvol: none.img: No such file or directory (os error 2)' cat 6 none.img 1
@@ -170,13 +170,13 @@ if command -v script > /dev/null; then
     done
 fi
 
-# A refused allocation has its line too: memory is kept too small for the image.
+# A refused allocation has its line too: there is too little memory for the image.
 truncate -s 100M large
 printf '\003\000\003\000\100\015' | dd of=large bs=1 seek=512 conv=notrunc status=none # 200,000 blocks
 (ulimit -v 60000 && "$program" ls 7 large --explain) > output 2> error
 has 'want of memory' '4 unixvol: 12 NoMemory unixvol: there was too little memory for this' "$? $(paste -s -d ' ' error)"
 
-# Lines that say in words what is wrong have no second one; a refusal of a member has one.
+# Lines in plain words have no second one; a refusal of a member has one.
 : > fifteen-bytes-n
 tar --format=ustar -cf long.tar fifteen-bytes-n
 "$program" import 6 "$image" --explain < long.tar > output 2> error
@@ -206,7 +206,7 @@ tar --delete -f linked.tar d
 "$program" import 6 "$image" --explain < linked.tar > output 2> error
 has 'a member that is a link to a directory' '1 unixvol: 21 IsDirectory: /hello unixvol: this member: what it is a link to is a directory, and only files get other names' "$? $(paste -s -d ' ' error)"
 
-# Several files: a refusal of one has the line of its path.
+# Several files: the refusal of one has a line with its path.
 explains 1 'unixvol: 2 NoEntry: /none/hello' "unixvol: this file: a directory on the way to it isn't there" put 6 "$image" -t /none hello
 explains 1 'unixvol: 21 IsDirectory: d' 'unixvol: this file: it is a directory, whose names `unixvol ls` lists' get 6 "$image" -o . /d/f d
 explains 3 'unixvol: cannot write missing/f' 'unixvol: missing/f: No such file or directory (os error 2)' get 6 "$image" -o missing /d/f
@@ -218,14 +218,14 @@ refuses 1 'unixvol: fifteen-bytes-n: a name above 14 bytes' put 6 "$image" -t /d
 : > 1975
 refuses 2 'unixvol: 1975: a moment, and a file too: write ./1975, or the moment in another form' put 6 "$image" -t /d hello 1975 --explain
 
-# A file called `--explain`, behind `--`; and a command that goes well, with the option or without.
+# A file called `--explain`, after `--`; and a command that succeeds, with and without the option.
 refuses 1 'unixvol: 2 NoEntry' get 6 "$image" -- --explain
 refuses 1 $'unixvol: 2 NoEntry\nunixvol: --explain: no file or directory has this name' --explain get 6 "$image" -- --explain
 refuses 1 $'unixvol: 2 NoEntry\nunixvol: --explain: no file or directory has this name' get --explain 6 "$image" -- --explain
 "$program" get 6 "$image" /d/f --explain | cmp -s - hello
 has 'a file with --explain' 0 $?
 
-# The command line says itself what is wrong with it, with its place where it is no text.
+# The command line's own errors, with the number of a word that isn't text.
 misread "error: invalid value '8'" --explain ls 8 "$image"
 misread "error: invalid value '8' for '<EDITION>': 6 for the Sixth, 7 for the Seventh" ls 8 "$image"
 has 'the usage where an edition is wrong' 'Usage: unixvol ls [OPTIONS] <EDITION> <IMAGE> [PATH]' "$(grep '^Usage' error)"

@@ -1,10 +1,10 @@
 #!/usr/bin/env bash
-# Runs the built program where memory, the stack, the disk or a descriptor fails it, and where a signal ends it, and looks at what it left.
-# Usage: tests/faults.sh PROGRAM [RUNS]. Each kind of fault is tried RUNS times, 1,000 without the word, over all commands by turns.
-# After each run its status is one of 0 to 4 or, where a signal ended it, that signal's own; the image is the old one or the new one,
-# whole, and the new one where the status is 0; standard output has the front of what it is to have, and all where the status is 0;
-# standard error has one line where the status is one of 1 to 4, and else none; no file `.unixvol-N` is left but by a signal. A play
-# that goes to its end says on standard output which lines found no memory, and is saved.
+# Runs the built program when memory, the stack, the disk or a descriptor fails, and when a signal ends it, and checks what is left.
+# Usage: tests/faults.sh PROGRAM [RUNS]. Each kind of fault is tried RUNS times, 1,000 by default, over all commands in turn.
+# After each run the status is 0 to 4 or, if a signal ended it, that signal's own; the image is the old one or the new one, complete, and the new one
+# if the status is 0; standard output has a prefix of its output, and all of it if the status is 0; standard error has one line if the status is 1 to
+# 4, and otherwise none; only a signal leaves a file `.unixvol-N`. A play that runs to its end reports on standard output which lines had no memory,
+# and is saved.
 # It prints a line for each run that breaks this, one for each kind of fault, and ends with 'N passed, N failed'.
 set -uo pipefail
 export LC_ALL=C
@@ -15,7 +15,7 @@ folder=$(mktemp -d)
 passed=0
 failed=0
 mounted=
-# A shell that a signal ends before it becomes the program runs this too, and is to leave the files alone.
+# A shell that a signal ends before it becomes the program runs this too, and must leave the files alone.
 clear_up() {
     [ "$BASHPID" = "$$" ] || return
     cd /
@@ -26,7 +26,7 @@ trap clear_up EXIT
 cd "$folder" || exit 1
 mkdir wanted work
 
-# The image that all commands begin with: a volume of 4 MB with some directories and files, and an unsound one that can be mended.
+# The image that all commands start from: a volume of 4 MB with some directories and files, and an unsound one that can be repaired.
 "$program" mkfs 7 wanted/old 8000 100 0 0 1 || exit 1
 head -c 300000 /dev/urandom > body
 for number in 1 2 3 4 5 6 7 8; do
@@ -40,11 +40,11 @@ printf '\0\0' | dd of=damaged bs=1 seek=518 conv=notrunc status=none
 printf '5 0 0 create /a 644\n5 0 0 write /a 0 616263\n5 0 0 stat /a\n' > script
 printf 'view\n6 0 0 stat /d1\n7 0 0 list /d1\n' > watcher
 
-# What is imported: standard input of each run.
+# The archive to import: standard input of each run.
 "$program" export 7 wanted/old /d1 > archive || exit 1
 "$program" mkdir 7 wanted/old /d7/new 4 || exit 1
 
-# commands: the words of each command, of which `image` is a copy of the volume that its label names before the colon
+# commands: the words of each command; `image` is a copy of the volume that its label names before the colon
 commands=(
     'old: ls 7 image /d1'
     'old: get 7 image /d1/file'
@@ -81,7 +81,7 @@ done
 cp damaged wanted/damaged
 cp wanted/old_six six
 
-# What each command leaves where nothing fails it: wanted/N.image and wanted/N.output.
+# The results of each command without a fault: wanted/N.image and wanted/N.output.
 for number in "${!commands[@]}"; do
     read -r label words <<< "${commands[number]}"
     cp "wanted/${label%:}" image
@@ -95,7 +95,7 @@ for number in "${!commands[@]}"; do
     cp image "wanted/$number.image"
 done
 
-# is_front: whether the file `output` is a front of that which is wanted, and the whole where the status is 0
+# is_front: true if the file `output` is a prefix of the wanted one, and all of it if the status is 0
 is_front() {
     local length
     if [ "$2" = 0 ]; then
@@ -106,8 +106,8 @@ is_front() {
     fi
 }
 
-# is_played: whether a play went to its end, of whose lines some found no memory or weren't confirmed for want of it: it says so on
-# standard output, as many calls were accepted as there are records, and the image is a sound volume
+# is_played: true if a play ran to its end although some lines had no memory or weren't confirmed for lack of it: it says so on standard output, as
+# many calls were accepted as there are records, and the image is a sound volume
 is_played() {
     [ ! -s error ] && tail -n 1 output | grep -qE '^confirmed [0-5]$' &&
         ! grep -qvE '^(1\.[123] (ok [0-9]+|12 NoMemory|2 NoEntry|stat [0-9]+ file 0644 1 0 0 [03])|2\.[23] (12 NoMemory|stat [0-9]+ dir 0755 2 0 0 48|list 3)|(records|confirmed) [0-5])$' output &&
@@ -115,8 +115,8 @@ is_played() {
         [ -z "$(find "$place" -name '.unixvol-*')" ]
 }
 
-# judge LABEL NUMBER STATUS SIGNAL SAYS: looks at what the run of a command left in the folder `place`; SIGNAL is the status of the
-# signal that may have ended it (0 for none), and SAYS how many lines standard error is to have where the status is one of 1 to 4
+# judge LABEL NUMBER STATUS SIGNAL SAYS: checks what the run of a command left in the folder `place`; SIGNAL is the status of the signal that may have
+# ended it (0 for none), and SAYS the number of lines on standard error if the status is 1 to 4
 judge() {
     local label=$1 number=$2 status=$3 signal=$4 says=$5 fault= before words
     read -r before words <<< "${commands[number]}"
@@ -158,9 +158,8 @@ lay() {
     true > error
 }
 
-# limited LABEL FLAG LEAST MOST SIGNAL FIRST: the commands by turns under `ulimit FLAG`, with limits from LEAST to MOST KB, after
-# the shell's command FIRST. The program may also end with the status SIGNAL. A limit under which it can't tell its version is too little
-# to begin.
+# limited LABEL FLAG LEAST MOST SIGNAL FIRST: runs the commands in turn under `ulimit FLAG`, with limits from LEAST to MOST KB, after the shell's
+# command FIRST. The program may also end with the status SIGNAL. A limit under which it can't print its version is too low to start with.
 limited() {
     local label=$1 flag=$2 limit=$3 step signal=$5 first=$6 run=0 number status too_little=0 ended=0
     step=$((($4 - $3) * ${#commands[@]} / runs + 1))
@@ -185,7 +184,7 @@ limited() {
     echo "$label: $run runs, up to $limit KB; $too_little limits too little to begin; $ended ended by a signal"
 }
 
-# signalled NAME STATUS: the commands by turns, each ended by a signal after some of its time
+# signalled NAME STATUS: runs the commands in turn, each ended by a signal after part of its time
 signalled() {
     local name=$1 signal=$2 run=0 number status child
     place=work
@@ -204,7 +203,7 @@ signalled() {
     echo "signal $name: $run runs"
 }
 
-# closed: the commands by turns with closed descriptors
+# closed: runs the commands in turn with closed descriptors
 closed() {
     local run=0 number status
     place=work
@@ -231,7 +230,7 @@ closed() {
     echo "closed descriptors: $run runs"
 }
 
-# full: the commands by turns on a disk with room for less and less
+# full: runs the commands in turn on a disk with less and less room
 full() {
     local run=0 number status spare
     mkdir full
@@ -259,7 +258,7 @@ full() {
     echo "full disk: $run runs"
 }
 
-# refused: each command with each of its allocations refused in turn, until it meets none that is refused
+# refused: runs each command with each of its allocations refused in turn, until none is refused
 refused() {
     local run=0 number allocation status
     if ! command -v rustc > /dev/null || ! rustc -O --edition 2021 --crate-type cdylib -C panic=abort "$tests/refusing.rs" -o refusing.so; then
@@ -277,7 +276,7 @@ refused() {
             status=$?
             judge "refused allocation $allocation" "$number" "$status" 0 1
             run=$((run + 1))
-            # A refusal is told as one, if it is told.
+            # If a refused allocation is reported, it is reported as one.
             if [ -s met ] && [ "$status" != 0 ] && { [ "$status" != 4 ] || [ -s error ] && [ "$(cat error)" != 'unixvol: 12 NoMemory' ]; }; then
                 failed=$((failed + 1))
                 echo "failed: refused allocation $allocation: ${words[*]}: status $status: $(head -c 200 error)"
@@ -291,7 +290,7 @@ refused() {
     echo "refused memory: $run runs"
 }
 
-# shut: the commands by turns, by a user who may not write into the folder
+# shut: runs the commands in turn, as a user who may not write into the folder
 shut() {
     local run=0 number status by=()
     if [ "$(id -u)" = 0 ]; then
@@ -323,7 +322,7 @@ shut() {
 }
 
 cp body script watcher six work
-# Where the stack can't grow the system ends the program by SIGSEGV, and where a file can't by SIGXFSZ, but for one that ignores it.
+# If the stack can't grow, the system ends the program with SIGSEGV, and if a file can't, with SIGXFSZ, unless that is ignored.
 limited memory -v 2500 40000 139 true 2> /dev/null
 limited stack -s 256 8192 0 true 2> /dev/null
 limited 'greatest file' -f 1 4500 0 "trap '' XFSZ" 2> /dev/null

@@ -1,7 +1,7 @@
 #!/usr/bin/env bash
-# Tests the built library from C, Python and Rust: each function, each refused allocation, threads, the examples, what is installed, and that the
-# declarations say what the source does. What a test needs and isn't here is skipped aloud.
-# Usage: tests/library.sh FOLDER, that which tools/library.sh built. It prints what fails, and ends with 'N passed, N failed, N skipped'.
+# Tests the built library from C, Python and Rust: each function, each refused allocation, threads, the examples, the installed files, and that the
+# declarations agree with the source. If a tool is missing, its tests are skipped with a message.
+# Usage: tests/library.sh FOLDER, which tools/library.sh built. It prints what fails, and ends with 'N passed, N failed, N skipped'.
 set -uo pipefail
 built=$(realpath "${1:?usage: $0 FOLDER}")
 cd "$(dirname "$0")/.." || exit 1
@@ -34,13 +34,13 @@ fails() {
     runs "$label" test $? = "$status"
 }
 
-# there COMMAND WHAT: true if the command is there and runs; else says that this is skipped
+# there COMMAND WHAT: true if the command exists and runs; otherwise says that WHAT is skipped
 there() {
     "$1" --version > "$room/output" 2>&1 && return
     skips "$1 is not here: $2"
 }
 
-# skips WHAT: says so
+# skips WHAT: says that WHAT is skipped
 skips() {
     skipped=$((skipped + 1))
     echo "skipped: $1"
@@ -53,7 +53,7 @@ for name in gcc clang cc; do
 done
 warnings=(-std=c11 -Wall -Wextra -Wpedantic -Wshadow -Wconversion -Werror -g -I "$top/bindings/c")
 
-# compiles NAME FILE FLAG..: leaves the program in the room
+# compiles NAME FILE FLAG..: leaves the program in `$room`
 compiles() {
     local name=$1 file=$2
     shift 2
@@ -68,7 +68,7 @@ test_header() {
     fi
 }
 
-# The tests in C: as they are, with sanitizers, and under valgrind.
+# The tests in C: plainly, with sanitizers, and under valgrind.
 test_c() {
     local wrap=-Wl,--wrap=malloc,--wrap=realloc,--wrap=free sanitized=(-fsanitize=address,undefined -fno-sanitize-recover=all)
     compiles calls tests/calls.c
@@ -88,7 +88,7 @@ test_c() {
     fi
 }
 
-# The examples in C, on a volume that Linux wrote, with what `ls -li` said there.
+# The examples in C, on a volume that Linux wrote, compared with what `ls -li` printed there.
 test_examples() {
     compiles list examples/list.c
     compiles inject examples/inject.c
@@ -134,7 +134,7 @@ test_rust() {
     fails 1 'look at an image that is none' "$room/rust/debug/examples/look" 7 README.md
 }
 
-# What is installed, used as a program elsewhere would.
+# The installed files, used as another program would.
 test_installed() {
     LIBRARY=$built runs 'install' tools/install_library.sh "$room/usr"
     if there pkg-config 'the installed library in C'; then

@@ -1,17 +1,16 @@
 #!/usr/bin/env bash
-# Runs the commands of the built program that look at an image, sound or not, and compares what they print with what GNU tar, Python and
-# od make of the same.
+# Runs the commands of the built program that show part of an image, sound or not, and compares their output with that of GNU tar, Python and od.
 # Usage: tests/looks.sh PROGRAM. It prints a line for each row that fails, and ends with 'N passed, N failed'.
 . "$(dirname "$0")/rows.sh"
 linux="$samples/linux_made.v7"
 
-# exports STATUS FILE WORD..: the program writes an archive to FILE, with this status; what it tells stands in `error`
+# exports STATUS FILE WORD..: the program writes an archive to FILE, with this status; its lines are in `error`
 exports() {
     "$program" export "${@:3}" > "$2" 2> error < /dev/null
     has "the status of export ${*:3}" "$1" $?
 }
 
-# A volume that Linux wrote, as an archive: GNU tar finds the names that Linux told of, and the bytes.
+# A volume that Linux wrote, as an archive: GNU tar finds the names that Linux listed, and the bytes.
 exports 0 linux.tar 7 "$linux"
 sed -n '2,/^[0-9a-f]\{32\} /p' "$samples/linux_made.txt" | grep '^\./' | sed 's,^\./,,' | LC_ALL=C sort > wanted
 tar -tf linux.tar 2> /dev/null | sed 's,/$,,' > names
@@ -62,7 +61,7 @@ for edition in 6 7; do
     has 'permissions and time of a file' '4755 1003' "$(stat -c '%a %Y' out/none)"
     has 'the time of a directory' 1002 "$(stat -c %Y out/d)"
 
-    # An image that isn't sound is exported as far as it can be read, and what is wrong is told.
+    # An image that isn't sound is exported as far as it can be read, with lines on what is wrong.
     cp disk.img broken.img
     at=$((edition == 6 ? 1024 + 2 : 1024 + 64 + 2))
     put broken.img "$at" '09'
@@ -124,8 +123,8 @@ sed -n '3,/^$/p' output | tr -d '\n' > cells
 has 'the cells of a map' 240 "$(wc -c < cells)"
 has 'the cells of free blocks' "$(sed -n 's/^free //p' report)" "$(tr -cd oc < cells | wc -c)"
 has 'the cells of used blocks' "$(sed -n 's/^used //p' report)" "$(tr -cd dfp < cells | wc -c)"
-# On a terminal it is as wide as COLUMNS says, or 80 where that says nothing.
-# drawn COLUMNS: the map as a terminal gets it, without colours
+# On a terminal it is as wide as COLUMNS, or 80 if that isn't set.
+# drawn COLUMNS: the map on a terminal, without colours
 drawn() { COLUMNS=$1 script -qec "'$program' map 7 '$linux'" /dev/null < /dev/null | sed $'s/\e\\[[0-9;]*m//g' | tr -d '\r'; }
 if [ -n "$(command -v script)" ]; then
     for columns in 20 60; do
@@ -136,7 +135,7 @@ if [ -n "$(command -v script)" ]; then
         drawn "$columns" | cmp -s - wanted
         has "a map where COLUMNS is '$columns'" 0 $?
     done
-    # codes: how many codes for colours a terminal gets, of this kind
+    # codes: the number of colour codes of this kind on a terminal
     codes() { TERM=$1 script -qec "'$program' map 7 '$linux'" /dev/null < /dev/null | grep -o $'\e' | wc -l; }
     has 'the codes for colours of a map' 500 "$(unset NO_COLOR && codes xterm)"
     has 'the codes for colours where NO_COLOR says something' 0 "$(NO_COLOR=1 codes xterm)"
@@ -153,8 +152,8 @@ misread "error: unexpected argument '--svg'" super --svg 7 "$linux"
 misread "error: invalid value '65536' for '<INO>'" inode 7 "$linux" 65536
 misread 'error: the following required arguments' inode 7 "$linux"
 
-# Volumes of 20 blocks, two of them the i-list, all at one moment: a new one; with a directory; with a file of a letter, and with one of
-# three blocks; with a tree; with special files.
+# Volumes of 20 blocks, two of them the i-list, all made at one time: a new one; with a directory; with a file of one letter, and with one of three
+# blocks; with a tree; with special files.
 now=168496141
 data=$samples/../tests/looks
 printf 'hello\n' > line_of_hello
@@ -202,11 +201,12 @@ put special.v7 $((1024 + 11 * 64 + 13)) '01 C8'
 changed directory.v6 links.v6 1026 05
 changed bare.v6 twice_free.v6 544 '06 00'
 
-# Rules of soundness, listings, reports and the map, by the lines of a file.
+# Rules of soundness, listings, reports and the map, from the lines of a file.
 follows "$data/rows"
 
-# What a terminal gets: names escaped; colours, and as many cells in a row as it is wide; no archive.
-# on_terminal COLUMNS WORD..: what the program prints to a terminal, in `output`; what it tells, in `error`; its status, in `status`
+# The output on a terminal: names escaped; colours, and as many cells in a row as it is wide; no archive.
+# on_terminal COLUMNS WORD..: leaves the program's output on a terminal in `output`, its lines on standard error in `error`, and its status in
+# `status`
 on_terminal() {
     COLUMNS=$1 script -qec "'$program' ${*:2} 2> error; echo \$? > status" /dev/null < /dev/null | tr -d '\r' > output
 }
@@ -221,7 +221,7 @@ on_terminal 80 export 6 archived.v6 /
 echo 'unixvol: cannot write -' > line
 wants 'export to a terminal' 3 none line
 
-# A full device, whatever is shown.
+# A full device, whatever command prints.
 for command in 'check 6 directory.v6' 'ls -l 6 special.v6' 'ls -R --json 6 tree.v6' 'inode 6 three.v6 32' 'super --json 6 bare.v6' 'map 6 three.v6' 'map --svg 6 three.v6'; do
     read -r -a words <<< "$command"
     "$program" "${words[@]}" > /dev/full 2> error < /dev/null
@@ -236,11 +236,11 @@ has 'the beginning of a map of squares' "<svg xmlns='http://www.w3.org/2000/svg'
 has 'the end of a map of squares' '</svg>' "$(tail -c 7 output)"
 has 'the status and the errors of a map of squares' '0 0' "$(cat status) $(wc -c < error)"
 
-# Archives, byte for byte as GNU tar makes them of the same.
+# Archives, byte for byte as GNU tar makes them of the same files.
 pieces "$data/archive"
 for edition in 6 7; do prints archive export "$edition" "archived.v$edition" ''; done
 
-# What is wrong with an image: two files name block 5, and the entry of a name that a terminal can't show leads past the last i-node.
+# An image with faults: two files name block 5, and the entry of an unprintable name is for an i-node past the last.
 cp bare.v6 wrong.v6
 edition=6
 on wrong.v6 put /a x
@@ -258,8 +258,8 @@ shared shared.v7 32
 runs_within 20 export 7 shared.v7 /
 has 'an export of directories that name one block everywhere' '1 31 993' "$(cat status) $(tar tf output | wc -l) $(grep -c 'a directory that was met before$' error)"
 
-# Moments of long lines, beside what Python's datetime makes of them: those of a table, and one of each fifth day up to 2105. Each is the
-# time of modification of a file, which is put into its i-node.
+# Times on long lines, compared with those of Python's datetime: those of a table, and one every fifth day up to 2105. Each is the time of
+# modification of a file, which is put into its i-node.
 cat > moments.py << 'PYTHON'
 import datetime, struct, sys
 table = [int(line.split()[0]) for line in open(sys.argv[1])]
@@ -281,7 +281,7 @@ elif sys.argv[2] == "put":
         struct.pack_into("<HH", image, 1024 + 32 * (ino - 1) + 28, it >> 16, it & 0xFFFF)
     open(sys.argv[3], "wb").write(image)
 else:
-    # Each byte of the moments of days in turn is added to 31 times the sum before it, of which the low 32 bits are kept.
+    # Each byte of the times in turn is added to 31 times the sum before it, of which the low 32 bits are kept.
     total = 0
     for line in open(sys.argv[3]).read().split("\n")[len(table):-1]:
         for byte in line.encode():

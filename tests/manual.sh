@@ -1,5 +1,5 @@
 #!/usr/bin/env bash
-# Compares the manual page and the completions in manual/ with what the program says of itself, and tries the completion for bash.
+# Compares the manual page and the completions in manual/ with the program's help, and tries the completion for bash.
 # Usage: tests/manual.sh PROGRAM. It prints a line for each row that fails, and ends with 'N passed, N failed'.
 set -uo pipefail
 program=$(realpath "${1:?usage: tests/manual.sh PROGRAM}")
@@ -10,7 +10,7 @@ trap 'rm -rf "$folder"' EXIT
 passed=0
 failed=0
 
-# counts LABEL STATUS: a row, which holds where the status is 0
+# counts LABEL STATUS: a row, which holds if the status is 0
 counts() {
     if [ "$2" -eq 0 ]; then
         passed=$((passed + 1))
@@ -20,7 +20,7 @@ counts() {
     fi
 }
 
-# unixvol WORD..: the program, where the completion asks for it
+# unixvol WORD..: the program, as the completion calls it
 unixvol() { "$program" "$@"; }
 
 # completes WANTED WORD..: the last word is completed to the words in WANTED
@@ -40,7 +40,7 @@ for file in unixvol.1 unixvol.bash _unixvol; do
     counts "manual/$file isn't what manual/make.sh makes of the program's help: run it" $?
 done
 
-# holds FILE TEXT: FILE has TEXT, as the manual page writes it where FILE is that
+# holds FILE TEXT: FILE has TEXT, as the manual page writes it if FILE is the page
 holds() {
     local text=$2
     [ "$1" = unixvol.1 ] && text=${text//-/\\-}
@@ -48,12 +48,12 @@ holds() {
     counts "$2 in manual/$1" $?
 }
 
-# listed NAME WORD..: what stands first in each line of a section of the help
+# listed NAME WORD..: the first word of each line in a section of the help
 listed() {
     "$program" "${@:2}" --help | awk -v name="$1:" '$0 == name { on = 1; next } /^$/ { on = 0 } on { sub(/^ +/, ""); sub(/  .*/, ""); print }'
 }
 
-# Nothing that the help lists is left out.
+# Nothing that the help lists is missing.
 for command in '' $(listed Commands | grep -v help); do
     for option in $(listed Options $command | sed -E -e 's/,//g' -e 's/<[A-Z]+>//'); do
         for file in unixvol.1 unixvol.bash _unixvol; do holds $file "$option"; done

@@ -1,11 +1,11 @@
 #!/usr/bin/env bash
-# Imports archives of many random trees, and compares what is exported with them: the same members, each with its kind, permissions, owner,
-# time of modification, links and bytes. An export that is imported into an empty volume, also of the other edition, reads as the same tree.
+# Imports archives of many random trees, and compares them with what is exported: the same members, each with its kind, permissions, owner, time of
+# modification, links and bytes. An export that is imported into an empty volume, also of the other edition, reads as the same tree.
 # Usage: tests/many_trees.sh PROGRAM [TREES]. It prints a line for each row that fails, and ends with 'N passed, N failed'.
 trees=${2:-60}
 . "$(dirname "$0")/rows.sh"
 
-# Writes the archive of a random tree, by its number: directories, files with and without bytes, further names, odd names and permissions.
+# Writes the archive of a random tree with this number: directories, files with and without bytes, further names, odd names and permissions.
 cat > make.py << 'PYTHON'
 import io, random, sys, tarfile
 number, file = int(sys.argv[1]), sys.argv[2]
@@ -51,7 +51,7 @@ with tarfile.open(file, "w", format=tarfile.USTAR_FORMAT) as archive:
             files.append(path)
 PYTHON
 
-# Tells each difference between the tree of an archive that was imported and the one of an export of it.
+# Prints each difference between the tree of an archive that was imported and that of its export.
 cat > compare.py << 'PYTHON'
 import sys, tarfile
 
@@ -66,7 +66,7 @@ def tree(file):
                 continue
             first[path] = path
             body = archive.extractfile(it).read() if it.isfile() else None
-            # (a directory gets the moments of the names that are made in it)
+            # A directory gets the times of the names that are made in it.
             time = it.mtime if it.isfile() else None
             found[path] = (it.type, it.mode, it.uid, it.gid, time, body)
     same = {path: sorted(other for other in first if first[other] == first[path]) for path in first}

@@ -1,27 +1,27 @@
 #!/usr/bin/env bash
-# Migrates worked volumes by the built program. Compares whole images byte for byte, and of greater volumes the names, the bytes of files and
-# the fields of i-nodes.
+# Migrates worked volumes with the built program. Compares whole images byte for byte, and for larger volumes the names, the bytes of files and the
+# fields of i-nodes.
 # Usage: tests/migrations.sh PROGRAM. It prints a line for each row that fails, and ends with 'N passed, N failed'.
 . "$(dirname "$0")/rows.sh"
 
-# The moment of the old volumes is 168496141, which the disk has as 0B 0A 0D 0C; that of migrating is 16909060, or 02 01 04 03.
+# The time of the old volumes is 168496141, which is 0B 0A 0D 0C on the disk; that of migrating is 16909060, or 02 01 04 03.
 later=16909060
 
-# plays FILE: user 0 makes the calls that standard input has on the old volume FILE, and all are accepted
+# plays FILE: makes the calls on standard input as user 0 on the old volume FILE; all are accepted
 plays() {
     sed 's/^/168496141 0 0 /' > calls
     "$program" play 6 "$1" calls > played
     has "the calls on $1" "$(wc -l < calls)" "$(grep -c '^1\.[0-9]* ok ' played)"
 }
 
-# migrated OLD NEW FSIZE IBLOCKS: the program makes NEW out of OLD, and it is sound
+# migrated OLD NEW FSIZE IBLOCKS: the program makes NEW from OLD, and it is sound
 migrated() {
     prints none migrate "$@" "$later"
     "$program" check 7 "$2" > report
     has "the volume made of $1 is sound" 0 $?
 }
 
-# zeros COUNT: so many zeros as hexadecimal digits
+# zeros COUNT: COUNT zeros as hexadecimal digits
 zeros() { head -c $((2 * $1)) /dev/zero | tr '\0' 0; }
 
 # padded LABEL FILE AT COUNT HEX: the COUNT bytes of FILE from byte AT on begin with these, and the others are zeros
@@ -33,7 +33,7 @@ padded() {
     has "$1" 0 $?
 }
 
-# A directory, i-number 32, and in it a file of three bytes, 31: the whole new volume.
+# A directory, i-number 32, with a file of three bytes, 31: the whole new volume.
 "$program" mkfs 6 new.6 20 2 0 0 168496141
 cp new.6 old
 plays old << 'END'
@@ -43,7 +43,7 @@ write /d/f 0 616263
 END
 cp old before
 
-# carried FILE BLOCKS: the directory and the file in a volume of so many blocks, five of them the i-list, with no free block
+# carried FILE BLOCKS: the directory and the file in a volume of BLOCKS blocks, five of them the i-list, with no free block
 carried() {
     local times='0B 0A 0D 0C 0B 0A 0D 0C 02 01 04 03'
     image "$1" $((512 * $2))
@@ -61,8 +61,7 @@ carried() {
 # numbers FROM TO: the block numbers from the first down to the last
 numbers() { printf '0000%02x00' $(seq "$1" -1 "$2"); }
 
-# The chain block is 50, whose array has 99 to 51, and the next free block is 10. Past the count stands what the array before had there:
-# 59 to 51.
+# The chain block is 50, whose array has 99 to 51, and the next free block is 10. After the count the array keeps its old numbers there: 59 to 51.
 migrated old new 100 5
 carried wanted 100
 put wanted 518 "29 00 $(numbers 50 10) $(numbers 59 51)"
@@ -85,7 +84,7 @@ refuses 1 'unixvol: bounds' migrate device none.img 7 5 "$later"
 refuses 1 'unixvol: 105 HasDevice' migrate device none.img 9 4 "$later"
 has 'volumes that were not made' '' "$(find . -name none.img)"
 
-# An empty slot, whose name's bytes stand in the old volume still, and bytes behind a name are zeros in the new one.
+# An empty slot whose name's bytes are still in the old volume, and bytes after a name, are zeros in the new one.
 cp new.6 slots
 plays slots << 'END'
 create /a 644
@@ -98,7 +97,7 @@ padded 'an old directory with an empty slot' slots $((512 * 4)) 512 "01 00 $old_
 migrated slots new 100 5
 padded 'a new directory with an empty slot' new $((512 * 7)) 512 "02 00 2E $(zeros 13) 02 00 2E 2E $(zeros 12) $(zeros 16) 20 00 62"
 
-# A file whose size became 3: of its two blocks the second and all other bytes of the first are past it.
+# A file whose size became 3: the second of its two blocks and the other bytes of the first are past its end.
 cp new.6 past
 plays past << END
 create /t 644
@@ -109,10 +108,10 @@ migrated past new 100 5
 padded 'the size and the addresses of a file with blocks past its size' new $((1024 + 64 * 32 + 8)) 44 '00 00 03 00 00 08 00'
 padded 'the block of a file with bytes past its size' new $((512 * 8)) 1024 '41 41 41'
 
-# fields EDITION IMAGE NUMBER: the fields of an i-node that both volumes have
+# fields EDITION IMAGE NUMBER: the fields of an i-node that both editions have
 fields() { "$program" inode "$@" | sed -n 's/^mode [0-7]* //p; /^\(nlink\|uid\|gid\|size\|[amc]time\) /p'; }
 
-# nodes OLD NEW NUMBER..: these i-nodes of OLD have the fields of the next ones of NEW, whose last change is the migration
+# nodes OLD NEW NUMBER..: these i-nodes of OLD have the fields of the next ones of NEW, whose last change is at the migration
 nodes() {
     local number
     for number in "${@:3}"; do fields 6 "$1" "$number" && echo "ctime $later"; done > wanted
@@ -121,15 +120,15 @@ nodes() {
     has "the i-nodes of the volume made of $1" "0 $((8 * ($# - 2)))" "$? $(wc -l < found)"
 }
 
-# names OLD NEW PATH COUNT: a directory has so many names, `.` and `..` among them, in both volumes, each for the next i-number
+# names OLD NEW PATH COUNT: a directory has COUNT names, including `.` and `..`, in both volumes, each for the next i-number
 names() {
     "$program" ls 6 "$1" "$3" | awk '{ printf "%5d %s\n", $1 + 1, $2 }' > wanted
     prints wanted ls 7 "$2" "$3"
     has "the names in $3 of $1" "$4" "$(wc -l < wanted)"
 }
 
-# A volume with files of each form: small, large, huge, with holes, and with more names than a small directory has. Of 300 files in /d
-# each third is gone, with a name of /small in its place, and so is half of those after them.
+# A volume with files of each form: small, large, huge, with holes, and with more names than a small directory has. Of 300 files in /d every third is
+# replaced by a name of /small, and in the first half the one after it is removed.
 "$program" mkfs 6 forms 600 30 0 0 168496141
 hole='a hole, and a part of a block'
 behind='behind a hole'
@@ -156,13 +155,13 @@ migrated forms new 700 61
 names forms new / 7
 names forms new /d 252
 nodes forms new $("$program" ls 6 forms / | awk '{ print $1 }' | sort -u) 94
-# The long listings of both volumes are equal, but for i-numbers, which are one higher.
+# The long listings of both volumes are equal except for i-numbers, which are one higher.
 "$program" ls -lR 6 forms | awk '/^ *[0-9]/ { $1 = sprintf("%5d", $1 + 1) } 1' > wanted
 "$program" ls -lR 7 new | awk '/^ *[0-9]/ { $1 = sprintf("%5d", $1) } 1' > output
 cmp -s output wanted
 has 'all that is listed of the old volume and of the new one' '0 262' "$? $(wc -l < wanted)"
 
-# The fields of some of them. The old volume's i-numbers are 101 and below, since the highest of a cache of the lowest hundred is used first.
+# The fields of some of them. The old volume's i-numbers are 101 and below, since the cache of the lowest hundred is used from the highest down.
 printf '%s\n' view '0 0 0 stat /small' '0 0 0 stat /large' '0 0 0 stat /huge' '0 0 0 stat /empty' '0 0 0 stat /' '0 0 0 stat /d' '0 0 0 stat /d/002' \
     '0 0 0 stat /d/003' > asking
 printf '%s\n' '1.2 stat 102 file 0644 101 0 0 1029' '1.3 stat 101 file 0644 1 0 0 300013' '1.4 stat 100 file 0644 1 0 0 16777215' \
@@ -182,7 +181,7 @@ for file in small large huge empty; do
 done
 for number in 000 003 297; do prints small get 7 new "/d/$number"; done
 
-# As many links as there may be.
+# As many links as are allowed.
 "$program" mkfs 6 links 100 2 0 0 168496141
 plays links << END
 mkdir /d 755
@@ -193,7 +192,7 @@ migrated links new 100 5
 nodes links new 1 31 32
 has 'the links of the new file' 'nlink 127' "$("$program" inode 7 new 32 | grep nlink)"
 
-# A file whose size became 4096: behind the first block are only holes, and stored bytes behind the old size are seen.
+# A file whose size became 4096: after the first block there are only holes, and stored bytes past the old size become visible.
 cp new.6 grown
 plays grown << 'END'
 create /t 644

@@ -1,13 +1,14 @@
 #!/usr/bin/env bash
-# Mounts volumes of both editions by bin/unixvol-mount with the built program, and compares what the kernel shows of them with what `export` writes.
-# It needs root and /dev/fuse, or else says that it skips this. Usage: tests/mount.sh PROGRAM. It prints a line for each row that fails, and ends
-# with 'N passed, N failed'.
+# Mounts volumes of both editions with bin/unixvol-mount and the built program, and compares them, as the kernel shows them, with what `export`
+# writes.
+# It needs root and /dev/fuse, and otherwise says that it is skipped. Usage: tests/mount.sh PROGRAM. It prints a line for each row that fails, and
+# ends with 'N passed, N failed'.
 mount=$(realpath "$(dirname "$0")/../bin/unixvol-mount")
 . "$(dirname "$0")/rows.sh"
 export UNIXVOL=$program
 linux="$samples/linux_made.v7"
 
-# refuses_mount STATUS LINE WORD..: nothing is mounted, and the wrapper says this line
+# refuses_mount STATUS LINE WORD..: nothing is mounted, and the wrapper prints this line
 refuses_mount() {
     printf '%s\n' "$2" > line
     "$mount" "${@:3}" > output 2> error < /dev/null
@@ -15,7 +16,7 @@ refuses_mount() {
     wants "unixvol-mount ${*:3}" "$1" none line
 }
 
-# What is refused before anything is mounted.
+# Refusals before anything is mounted.
 mkdir mnt
 usage='unixvol-mount: usage: unixvol-mount [--read-only] [--allow-other] EDITION IMAGE FOLDER'
 refuses_mount 2 "$usage"
@@ -27,7 +28,7 @@ refuses_mount 3 "unixvol-mount: $PWD/none is no folder: make it by mkdir, or, if
 has 'a mount without --read-only' "2 error: the option '--read-only' is missing: nothing can be changed through a mounted volume yet" "$? $(head -n 1 error)"
 UNIXVOL=nothing refuses_mount 3 'unixvol-mount: there is no program nothing: install unixvol, or set UNIXVOL to where it is' --read-only 7 "$linux" mnt
 
-# mounted EDITION IMAGE: mounts the image on `mnt`, and waits until it is; `wrapper` is the process
+# mounted EDITION IMAGE: mounts the image on `mnt`, and waits until it is mounted; `wrapper` is the process
 mounted() {
     "$mount" --read-only "$1" "$2" mnt > said 2> told &
     wrapper=$!
@@ -39,13 +40,13 @@ mounted() {
     has "a mount of $2" '' "$(cat told)"
 }
 
-# ended: waits until the wrapper has ended, and takes its status
+# ended: waits until the wrapper has ended, and reads its status
 ended() {
     timeout 20 tail --pid=$wrapper -f /dev/null || kill -KILL $wrapper $(pgrep -P $wrapper)
     wait $wrapper
 }
 
-# unmounted LABEL STATUS LINE: the wrapper ends so, and nothing is mounted
+# unmounted LABEL STATUS LINE: the wrapper ends with this status and line, and nothing is mounted
 unmounted() {
     ended
     has "$1" "$2 $3" "$? $(cat said told)"
@@ -65,7 +66,7 @@ if [ -n "$skipped" ]; then
 fi
 trap 'umount -l mnt 2> /dev/null; rm -rf "$folder"' EXIT
 
-# same EDITION IMAGE: find, diff, grep, cp and stat find in `mnt` what the archive of the image has
+# same EDITION IMAGE: find, diff, grep, cp and stat find the same in `mnt` as the archive of the image has
 same() {
     rm -rf out copy
     mkdir out
@@ -108,7 +109,7 @@ for edition in 6 7; do
     has "four copies at once in edition $edition" '4 0' "$(ls diff.* | wc -l) $(cat diff.* | wc -c)"
     rm -rf copy.* diff.*
     pids=()
-    # (a shell without jobs lets those in the background ignore INT)
+    # A shell without job control lets background processes ignore INT.
     kill -TERM $wrapper
     unmounted "a signal in edition $edition" 0 ''
 done

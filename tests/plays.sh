@@ -1,5 +1,5 @@
 #!/usr/bin/env bash
-# Plays scripts on volumes: the lines that can be read, what is printed and saved, sessions and views at once, and calls that are foreseen for views.
+# Plays scripts on volumes: lines that can be read, output and saved images, sessions and views at once, and calls that are foreseen for views.
 # Usage: tests/plays.sh PROGRAM. It prints a line for each row that fails, and ends with 'N passed, N failed'.
 data=$(realpath "$(dirname "$0")/plays")
 . "$(dirname "$0")/rows.sh"
@@ -10,7 +10,7 @@ data=$(realpath "$(dirname "$0")/plays")
 "$program" mkfs 6 wide.6 100 2 0 0 1
 "$program" mkfs 7 wide.7 100 2 0 0 1
 
-# plays STATUS LINES EDITION SCRIPT..: plays scripts on a new volume, prints these lines (`|` between them), and saves the volume anew
+# plays STATUS LINES EDITION SCRIPT..: plays scripts on a new volume, prints these lines (`|` between them), and saves the volume again
 plays() {
     local status=$1 edition=$3
     tr '|' '\n' <<< "$2" > lines
@@ -33,8 +33,8 @@ unread() {
 
 echo '5 0 0 create /a 644' > create
 
-# Each line of the data: a status, a tab, the lines that are printed on a new volume, a tab, and the script. With status 2 the script can't be read,
-# and in place of what is printed there is the number of the first line at fault.
+# Each line of the data: a status, a tab, the lines printed for a new volume, a tab, and the script. With status 2 the script can't be read, and the
+# number of its first faulty line takes the place of the output.
 cp made.6 kept
 inode=$(stat -c %i kept)
 while IFS=$'\t' read -r status wanted text; do
@@ -48,7 +48,7 @@ while IFS=$'\t' read -r status wanted text; do
 done < "$data/lines"
 has 'the rows in lines' 52 "$(grep -c . "$data/lines")"
 
-# The fault of the first script that has one is reported, even if the image is at fault too.
+# The fault of the first faulty script is reported, even if the image is faulty too.
 printf '%s\n' '5 0 0 cut' > good
 printf '%s\n' '5 0 0 cut' '5 0 0 cut' x > bad
 printf '%s\n' x > worse
@@ -69,7 +69,7 @@ saves 'no image' kept none
 refuses 1 'unixvol: unsound, rule 1' play 6 kept create
 saves 'no image yet' kept none
 
-# Each command, by a user whose group is none of the editions'.
+# Each command, as a user whose group is above both editions' limits.
 cat > commands << 'END'
 4294967295 1 65535 create /a 644
 4294967295 1 65535 mkdir /d 07777
@@ -88,7 +88,7 @@ cat > commands << 'END'
 END
 refused=$(seq -f '1.%.0f 104 BadId' 12 | paste -s -d '|' -)
 plays 1 "$refused|1.13 cut 0|1.14 104 BadId|records 0|confirmed 13|gone 0" 7 commands
-# By one whose group is the seventh edition's greatest, and in the end by user 0.
+# As one whose group is the seventh edition's greatest, and finally as user 0.
 sed 's/ 1 65535 / 1 32767 /' commands > able
 cat >> able << 'END'
 4294967295 0 0 read /a 1 2
@@ -117,7 +117,7 @@ printf '%s\n' '1.2 stat 2 dir 0777 3 0 0 64' '1.3 read 4243' '1.4 list 2' 'recor
 runs play 7 played asking
 wants 'the queries of a view' 0 lines none
 
-# What is printed of each outcome, by script and line.
+# The output for each outcome, by script and line.
 cat > outcomes << 'END'
 5 0 0 create /a 644
 5 0 0 create /a 644
@@ -152,7 +152,7 @@ cat > kinds << 'END'
 2 0 0 create /b 644
 END
 plays 1 '1.1 ok 16|1.2 17 Exists|1.3 2 NoEntry|1.4 read -|1.5 stat 16 file 0644 1 0 0 0|1.6 list 3|1.7 ok 15|records 2|confirmed 7' 7 kinds
-# Which of two scripts comes first is left open; a script without lines in between prints none.
+# Which of two scripts is first is left open; an empty script prints nothing.
 cp made.6 played
 runs play 6 played create none create
 printf '%s\n' '1.1 ok 32' '3.1 17 Exists' 'records 1' 'confirmed 2' > lines
@@ -176,7 +176,7 @@ for name in mine theirs; do
     prints bytes get 6 played "/$name"
 done
 
-# A view looks at the root while two sessions make ten files each: each look sees what some of these calls left, and no less than the one before it.
+# A view lists the root while two sessions make ten files each: each listing shows what some of these calls left, and no less than the one before it.
 for name in {a..j}; do echo "9 0 0 create /$name 644"; done > ten
 for name in {k..t}; do echo "9 0 0 create /$name 644"; done > ten_more
 { echo view; yes '9 0 0 stat /' | head -1000; } > watching
@@ -194,7 +194,7 @@ for round in {1..5}; do
     tail -n +1021 report > output
     wants "two sessions beside a view, round $round" 0 lines none
 done
-# Sixteen views look while eight sessions change the root's permissions.
+# Sixteen views query while eight sessions change the root's permissions.
 for k in $(seq 0 499); do printf '9 0 0 chmod / %o\n' $((448 + k % 64)); done > changing
 cp made.6 played
 runs_within 60 play 6 played $(yes changing | head -8) $(yes watching | head -16)
@@ -204,8 +204,8 @@ printf '%s\n' 'records 4000' 'confirmed 20000' > lines
 tail -n +20001 report > output
 wants 'eight sessions beside sixteen views' 0 lines none
 
-# foresees EDITION SCRIPT OUTCOME..: beside a view, each call is foreseen, and then made as it was foreseen. Plays the first line of a script, the first
-# two, and so on, without a view and with one. Both print these outcomes, and save the same image.
+# foresees EDITION SCRIPT OUTCOME..: with a view, each call is foreseen, and then made as foreseen. Plays the first line of a script, the first two,
+# and so on, with and without a view. Both print these outcomes, and save the same image.
 foresees() {
     local edition=$1 script=$2 count records=0 status=0 alone foreseen
     shift 2
@@ -254,7 +254,7 @@ foresees 6 some 'ok 32' 'ok 1' 'ok 1' '17 Exists' 'ok 31' 'ok 1' 'ok 30' 'ok 29'
 has 'the calls that are accepted in the sixth edition' 'records 13' "$(grep records output)"
 foresees 7 some 'ok 16' 'ok 1' 'ok 1' '17 Exists' 'ok 15' 'ok 1' 'ok 14' 'ok 13' 'ok 0' '101 NotEmpty' 'ok 0' 'ok 0' 'ok 0' 'ok 0' '2 NoEntry' 'ok 14'
 has 'the calls that are accepted in the seventh edition' 'records 13' "$(grep records output)"
-# I-numbers until none is left: the sixth edition has 31 for files here, the seventh 14. One of 28 names is removed, and one more is made.
+# I-numbers until none is left: the sixth edition has 31 for files here, the seventh 14. One with 28 names is removed, and one more is made.
 {
     for name in {a..z} '{' '|'; do echo "2 0 0 create $name 644"; done
     echo '6 0 0 unlink a'

@@ -72,24 +72,24 @@ refuses 1 'unixvol: 102 NotRegular' cat 7 edited 2
 changed seven edited 1088 'A4 11' # none of the edition's types
 refuses 1 'unixvol: 102 NotRegular' cat 7 edited 2
 
-# Files of every form. In both volumes the data blocks hold one letter each, and the block behind the volume names the
-# first of them all through, as does the rest of the i-list: whoever follows a number outside the zone prints its letters.
+# Files of every form. In both volumes each data block is filled with one letter, and the block after the volume names the first of them throughout,
+# as does the rest of the i-list: following a number outside the zone would print its letters.
 
-# word N, long N, address N: a number below 65536 as hexadecimal bytes: two, four, or the three of an i-node
+# word N, long N, address N: a number as hexadecimal bytes: two, four, or the three of an i-node's address
 word() { printf '%02x%02x' $(($1 % 256)) $(($1 / 256)); }
 long() { printf '%02x%02x' $(($1 / 65536 % 256)) $(($1 / 16777216)) && word $(($1 % 65536)); }
 address() { printf '00' && word "$1"; }
 
-# repeated COUNT HEX: the bytes so many times
+# repeated COUNT HEX: the bytes COUNT times
 repeated() { printf "${2// /}%.0s" $(seq "$1"); }
 
-# letter FILE BLOCK LETTER: block BLOCK of FILE holds this letter 512 times
+# letter FILE BLOCK LETTER: fills block BLOCK of FILE with this letter
 letter() { head -c 512 /dev/zero | tr '\0' "$3" | dd of="$1" bs=512 seek="$2" conv=notrunc status=none; }
 
-# body FILE BYTES: a file of so many zeros, of which none takes room on the disk
+# body FILE BYTES: a file of BYTES zeros, which take no room on the disk
 body() { rm -f "$1" && truncate -s "$2" "$1"; }
 
-# gives FILE WORD..: as `prints`, for a body of which nothing is kept
+# gives FILE WORD..: like `prints`, for a body that isn't kept
 gives() {
     local file=$1
     shift
@@ -97,8 +97,8 @@ gives() {
     wants "$*" 0 none none
 }
 
-# The sixth edition: blocks 3 to 11 are the zone. I-node 1 is a large file of the greatest size, 2 a small file, and 3 a
-# large file whose addresses lie outside the zone.
+# The sixth edition: blocks 3 to 11 are the zone. I-node 1 is a large file of the greatest size, 2 a small file, and 3 a large file whose addresses
+# are outside the zone.
 image six_forms $((13 * 512))
 put six_forms 512 "$(word 1)$(word 12)"
 put six_forms 1024 "$(repeated 256 "$(word 8)")"
@@ -123,8 +123,7 @@ gives wanted cat 6 six_forms 2
 body wanted $((14 * 65536 + 512)) # one block more than single indirect blocks name
 gives wanted cat 6 six_forms 3
 
-# The seventh edition: blocks 3 to 19 are the zone. I-node 2 is a file of the greatest size, and 3 one whose addresses
-# lie outside the zone.
+# The seventh edition: blocks 3 to 19 are the zone. I-node 2 is a file of the greatest size, and 3 one whose addresses are outside the zone.
 image seven_forms $((21 * 512))
 put seven_forms 512 "$(word 3)$(long 20)"
 put seven_forms 1024 "$(repeated 128 "$(long 12)")"
@@ -169,7 +168,7 @@ wants 'cat to a closed output' 3 none line
 "$program" --help > /dev/full 2> error
 echo $? > status
 wants 'help to a full device' 3 none line
-# A pipe that nobody reads any more, where the signal of that would end a program, and where it is ignored.
+# A pipe that nobody reads any more, when its signal would end a program, and when it is ignored.
 signal=()
 env --default-signal=PIPE true 2> /dev/null && signal=(env --default-signal=PIPE)
 (sleep 0.3; "${signal[@]}" "$program" cat 6 six 1 2> error; echo $? > status) | true
@@ -187,7 +186,7 @@ cat six > pipe &
 prints hello cat 6 pipe 1
 wait
 
-# Words that are none of the command line's.
+# Words that the command line doesn't have.
 misread 'error: invalid value' cat 8 six 1
 misread 'error: invalid value' cat six 6 1
 for number in 65536 99999999999999999999 +1 1.0 0x1 '' ' 1' '1 ' one; do
@@ -219,7 +218,7 @@ prints none mkfs 6 volumes/a "${twenty[@]}"
 saves 'a new file' volumes/a made
 prints root cat 6 volumes/a 1
 
-# The moment as a date, and that of the clock where it is left out.
+# The time as a date, and the clock's if it is left out.
 prints none mkfs 6 volumes/dated 20 2 0 0 1975-05-05T05:59:01+01:30
 saves 'a volume that was made at a date' volumes/dated made
 begun=$(date +%s)
@@ -241,7 +240,7 @@ prints none mkfs 7 volumes/b 5 2 32767 32767 4294967295
 put volumes/b 1092 '00 00 00 00' # the root's user and group
 prints root cat 7 volumes/b 2
 
-# A volume that isn't made leaves the file that was there, and makes none.
+# If no volume is made, an existing file stays, and no file is made.
 cp hello volumes/kept
 for sizes in '4 2' '20 0' '65536 2' '4294967295 2' '20 65535'; do
     read -r blocks list_blocks <<< "$sizes"
@@ -263,7 +262,7 @@ printf '%5d %s\n' 2 . 2 .. > listed
 prints listed ls 7 volumes/large /
 rm volumes/large
 
-# Files that are replaced: what stands at the end of a link, permissions, and what is no regular file.
+# Files that are replaced: at the end of a link, with their permissions, and other than regular files.
 cp hello volumes/linked
 chmod 640 volumes/linked
 ln -s linked volumes/link
@@ -287,8 +286,7 @@ refuses 3 'unixvol: cannot write volumes/astray' mkfs 6 volumes/astray "${twenty
 ln -s circle volumes/circle
 refuses 3 'unixvol: cannot write volumes/circle' mkfs 6 volumes/circle "${twenty[@]}"
 has 'a symbolic link that leads to itself' circle "$(readlink volumes/circle)"
-# In a folder so deep that the system can't name it from the root: a file at the end of a link is made all the same,
-# and an old one is replaced.
+# In a folder so deep that the system can't name it from the root: a file at the end of a link is still made, and an old one is replaced.
 # deep WORD..: runs the program in that folder
 long_name=$(printf 'd%.0s' $(seq 250))
 deep() {
@@ -321,8 +319,8 @@ refuses 3 'unixvol: cannot write /proc/a' mkfs 6 /proc/a "${twenty[@]}"
 refuses 3 'unixvol: cannot write ' mkfs 6 '' "${twenty[@]}"
 refuses 3 'unixvol: cannot write hello/a' mkfs 6 hello/a "${twenty[@]}"
 
-# Who a new file belongs to: the super-user gives it to the old one's owner. For others it is their own, and it stays in the
-# old one's group where that is one of theirs.
+# The owner of a new file: the super-user gives it to the old one's owner. For others it is their own, and it keeps the old one's group if that is one
+# of theirs.
 if [ "$(id -u)" = 0 ]; then
     chown 12:34 volumes/linked
     prints none mkfs 6 volumes/linked "${twenty[@]}"
@@ -383,7 +381,7 @@ if [ "$(id -u)" = 0 ]; then
     fi
 fi
 
-# A disk that is full, which a limit on the size of files stands for: the old file stays, and no new one.
+# A full disk, simulated by a limit on the size of files: the old file stays, and no new one is left.
 (ulimit -f 8; trap '' XFSZ; runs mkfs 6 volumes/kept "${twenty[@]}")
 echo 'unixvol: cannot write volumes/kept' > line
 wants 'mkfs where the new file finds no room' 3 none line
@@ -394,7 +392,7 @@ echo 'unixvol: cannot write volumes/empty' > line
 wants 'mkfs at the end of a link where the new file finds no room' 3 none line
 has 'a file at the end of a link' no "$([ -e volumes/nothing ] && echo yes || echo no)"
 
-# Files and folders that are closed to the user: the super-user may write them all the same.
+# Files and folders that the user may not access: the super-user may still write them all.
 if [ "$(id -u)" != 0 ]; then
     chmod 555 volumes
     refuses 3 'unixvol: cannot write volumes/kept' mkfs 6 volumes/kept "${twenty[@]}"
@@ -404,7 +402,7 @@ if [ "$(id -u)" != 0 ]; then
     saves 'a file that is closed to writing' volumes/kept hello
 fi
 
-# Words of mkfs that are none of the command line's.
+# Words of mkfs that aren't valid.
 misread 'error: invalid value' mkfs 8 volumes/kept "${twenty[@]}"
 for number in 4294967296 +1 0x1 '' ' 1' one; do
     misread "error: invalid value '$number' for '<FSIZE>'" mkfs 6 volumes/kept "$number" 2 0 0 0
@@ -419,7 +417,7 @@ misread 'error: the following required arguments were not provided' mkfs 6 volum
 misread 'error: unexpected argument' mkfs 6 volumes/kept 20 2 0 0 0 0
 saves 'a file whose command line was misread' volumes/kept hello
 
-# Words of the commands on trees that are none of the command line's.
+# Words of the commands on trees that aren't valid.
 for command in 'ls /' 'get /a' 'put /a hello 1' 'rm /a 1' 'rmdir /a 1' 'mkdir /a 1' 'ln /a /b 1' 'chmod /a 644 1' 'chown /a 1 2 1'; do
     read -r -a given <<< "$command"
     misread "error: invalid value '8'" "${given[0]}" 8 volumes/a "${given[@]:1}"
@@ -486,7 +484,7 @@ for numbers in '6 1 32 31' '7 2 16 15'; do
     prints none put "$edition" "$tree" /d/none none 1005
     prints none get "$edition" "$tree" /d/none
     cp "$tree" before
-    # What is refused leaves the image as it was.
+    # A refusal leaves the image as it was.
     refuses 1 'unixvol: 2 NoEntry' ls "$edition" "$tree" /none
     refuses 1 'unixvol: 20 NotDirectory' ls "$edition" "$tree" /hello/none
     refuses 1 'unixvol: 20 NotDirectory' ls "$edition" "$tree" /hello
@@ -513,7 +511,7 @@ for numbers in '6 1 32 31' '7 2 16 15'; do
     body great 50000
     refuses 1 'unixvol: 28 NoSpace' put "$edition" "$tree" /great great 2000
     saves 'a volume that commands were refused on' "$tree" before
-    # And back to the start: all that was made goes.
+    # Back to the start: everything that was made is removed.
     prints none rm "$edition" "$tree" /d/none 1007
     prints none rm "$edition" "$tree" hello/ 1008
     prints long_hello get "$edition" "$tree" /d/again
@@ -522,7 +520,7 @@ for numbers in '6 1 32 31' '7 2 16 15'; do
     lists "$tree" / "${dots[@]}"
     has 'the permissions of a volume that was changed' 640 "$(stat -c %a "$tree")"
     has 'the size of a volume that was changed' 51200 "$(wc -c < "$tree")"
-    # The 95 blocks but the root's are free again: a file takes them all, one of them to name the others.
+    # The 95 blocks besides the root's are free again: a file takes them all, one of them as an indirect block.
     body all $((94 * 512))
     prints none put "$edition" "$tree" /all all 1011
     prints all get "$edition" "$tree" /all
@@ -533,8 +531,8 @@ for numbers in '6 1 32 31' '7 2 16 15'; do
     prints none mkdir "$edition" "$tree" /d 1016
 done
 
-# Permissions and owners, which stand in the i-nodes: in the sixth edition as mode, links, user and group in the first five
-# bytes, in the seventh as two bytes each in the first eight.
+# Permissions and owners, as they are in the i-nodes: in the sixth edition mode, links, user and group are the first five bytes, in the seventh the
+# first eight, two bytes each.
 # holds LABEL FILE AT HEX: FILE has these bytes from byte AT on
 holds() {
     local digits=${4// /}
@@ -542,8 +540,8 @@ holds() {
 }
 
 owned=volumes/owned
-# Each row: the edition; where the i-nodes of the root and of /hello begin; the greatest number of a user or group; what stands
-# in the i-node of /hello when it is put, after chmod, after chown, and after chown to the greatest numbers; and in the root's.
+# Each row: the edition; the offsets of the i-nodes of the root and of /hello; the greatest number of a user or group; the i-node of /hello after put,
+# after chmod, after chown, and after chown to the greatest numbers; and the root's.
 while IFS=: read -r edition root_at at greatest put_as permitted given greatly top; do
     prints none mkfs "$edition" "$owned" 100 2 0 0 1000
     prints none put "$edition" "$owned" /hello hello 1001
@@ -564,7 +562,7 @@ while IFS=: read -r edition root_at at greatest put_as permitted given greatly t
     refuses 1 'unixvol: 104 BadId' chown "$edition" "$owned" /hello $((greatest + 1)) 17 2000
     refuses 1 'unixvol: 104 BadId' chown "$edition" "$owned" /none 3 $((greatest + 1)) 2000
     saves 'a volume whose permissions and owners stay' "$owned" before
-    # As user 0 all that there was can still be done.
+    # User 0 can still do everything as before.
     prints hello get "$edition" "$owned" /hello
     prints none put "$edition" "$owned" /hello none 1006
     prints none rm "$edition" "$owned" /hello 1007
@@ -573,7 +571,7 @@ done <<'END'
 7:1088:1984:32767:A4 81 01 00 00 00 00 00:E9 89 01 00 00 00 00 00:E9 89 01 00 03 00 11 00:E9 89 01 00 FF 7F FF 7F:C0 41 02 00 00 00 00 00
 END
 
-# Refusals that want a volume of their own: i-nodes, links, sizes, special files.
+# Refusals that need a volume of their own: i-nodes, links, sizes, special files.
 edition=6
 prints none mkfs 6 volumes/small 20 1 0 0 0
 for number in $(seq 15); do prints none put 6 volumes/small "/f$number" none 1; done
@@ -597,8 +595,8 @@ prints none rm 6 volumes/special /tty 1
 prints none rm 6 volumes/special /terminal 1
 lists volumes/special / '    1 .' '    1 ..'
 
-# Free lists that are made anew. `made` has the list that `mkfs` makes, which is the one that `salvage` makes of it.
-# salvages LABEL AT HEX: a copy of `made` with these bytes from byte AT on is refused by `ls`, and `salvage` gives `made` back
+# Free lists that are rebuilt. `made` has the list that `mkfs` makes, which is also the one that `salvage` makes.
+# salvages LABEL AT HEX: `ls` refuses a copy of `made` with these bytes from byte AT on, and `salvage` restores `made`
 salvages() {
     changed made damaged "$2" "$3"
     chmod 640 damaged
@@ -624,13 +622,13 @@ changed made7 damaged 25602 '00 00 32 00' # block 50, which has the rest of the 
 refuses 1 'unixvol: unsound, rule 6' ls 7 damaged /
 prints none salvage 7 damaged
 saves 'a volume with a free list that goes round, salvaged' damaged made7
-# A volume with files, cached i-numbers and bytes past the end of a file: but for the free list all stays.
+# A volume with files, cached i-numbers and bytes past the end of a file: everything except the free list stays.
 cp "$samples/linux_made.v7" files
 put files $((20 * 512 + 500)) 'AA BB' # block 20 has the eight bytes of /etc/motd
 changed files damaged 518 '30 00'
 refuses 1 'unixvol: unsound, rule 8' ls 7 damaged /
 prints none salvage 7 damaged
-# stays LABEL FROM COUNT: these bytes of the salvaged volume are as they were
+# stays LABEL FROM COUNT: these bytes of the salvaged volume are unchanged
 stays() { has "$1 of a salvaged volume" "$(od -An -v -tx1 -j "$2" -N "$3" files)" "$(od -An -v -tx1 -j "$2" -N "$3" damaged)"; }
 stays 'the boot block and the sizes' 0 518
 stays 'the cache, the flags and the time' 720 304
@@ -671,7 +669,7 @@ prints none salvage 6 leads
 has 'a link to a volume that was salvaged' damaged "$(readlink leads)"
 saves 'what a link leads to, salvaged' damaged made
 
-# What `icheck` finds, whatever the number of threads.
+# The findings of `icheck`, whatever the number of threads.
 edition=6
 mapfile -t made_lines < <(totals 0 1 0 0 1 15 0)
 finds 0 icheck made "${made_lines[@]}"
@@ -737,7 +735,7 @@ changed made7 damaged 25602 '00 00 32 00'
 finds 1 icheck damaged "${found[@]}"
 edition=6
 
-# What `dcheck` and `ncheck` find, whatever the number of threads. Names are printed byte for byte.
+# The findings of `dcheck` and `ncheck`, whatever the number of threads. Names are printed byte for byte.
 finds 0 dcheck made
 finds 0 ncheck made
 finds 0 dcheck twice
@@ -771,7 +769,7 @@ finds 0 ncheck tree '31 /d/f' $'31 /\xff\ng' '32 /d'
 put tree $((4 * 512 + 32)) '00 00' # the root's entry for `/d` is gone
 finds 1 dcheck tree '32 1 2'
 finds 1 ncheck tree '31 .../f' $'31 /\xff\ng'
-# Two directories that hold each other, and that no way leads to: 31 has `x` for 32, and 32 has `y` for 31.
+# Two directories that contain each other, and that no path leads to: 31 has `x` for 32, and 32 has `y` for 31.
 changed made ring 1984 "FF C1 02 00 00 00 30 00 05 00"
 put ring 2016 "FF C1 02 00 00 00 30 00 06 00"
 put ring $((5 * 512)) "1F 00 2E $(repeated 13 00) 20 00 2E 2E $(repeated 12 00) 20 00 78"
@@ -792,8 +790,7 @@ for command in dcheck ncheck; do
     has "an image after $command" "$stood" "$(stat -c '%i %y' tree)"
 done
 
-# Volumes of the seventh edition that are made of those of the sixth. `old` has `/d`, i-number 32, and in it `/d/f`, 31, of
-# three bytes.
+# Volumes of the seventh edition that are made from volumes of the sixth. `old` has `/d`, i-number 32, and in it `/d/f`, 31, of three bytes.
 cp made old
 printf abc > letters
 prints none mkdir 6 old /d 168496141
@@ -804,8 +801,7 @@ prints none migrate old new 100 5 168496143
 has 'the old volume once it is migrated' "$stood" "$(stat -c '%i %y' old)"
 saves 'the old volume once it is migrated' old before
 has 'the size of the new volume' 51200 "$(wc -c < new)"
-# 90 blocks are free, of which 41 stand in the super-block: the last, which comes next, is block 10, and the first is
-# block 50, which has the rest.
+# 90 blocks are free, 41 of them in the super-block: the last, which is taken first, is block 10, and the first is block 50, which has the rest.
 holds 'the super-block of the new volume' new 512 '07 00 00 00 64 00 29 00 00 00 32 00'
 holds 'the next free block of the new volume' new 680 '00 00 0A 00'
 holds 'the i-node of the new root' new 1088 'FF 41 03 00 00 00 00 00 00 00 30 00 00 07 00 00 00 00'
@@ -845,7 +841,7 @@ refuses 1 'unixvol: bounds' migrate old no/folder 7 5 1 # before the file that c
 refuses 3 'unixvol: cannot write no/folder' migrate old no/folder 100 5 1
 refuses 3 'unixvol: cannot write .' migrate old . 100 5 1
 refuses 3 'unixvol: cannot write /dev/full' migrate old /dev/full 100 5 1
-# The old volume is no new one, whatever path leads to it.
+# The old volume can't be the new one, whatever path leads to it.
 ln -s old leads_to_old
 ln old second_name
 for path in old ./old "$folder/old" leads_to_old second_name; do
@@ -857,7 +853,7 @@ saves 'an old volume that was to become a new one' old before
 has 'an old volume that was not to be written' "$stood" "$(stat -c '%i %y' old)"
 refuses 1 'unixvol: bounds' migrate old old 7 5 1
 rm -f leads_to_old second_name
-# A new file where a link leads, and one where another program has it locked for less than half a minute.
+# A new file at the end of a link, and one that another program has locked for less than half a minute.
 ln -s made_there leads_on
 prints none migrate old leads_on 100 5 168496143
 saves 'what a link leads to, migrated' made_there new
@@ -916,7 +912,7 @@ wants 'ls to a full device' 3 none line
 echo $? > status
 echo 'unixvol: 21 IsDirectory' > line
 wants 'get of a directory to a closed output' 1 none line
-# A change that can't be saved leaves the old volume; one that can goes to the end of a link.
+# A change that can't be saved leaves the old volume; otherwise it is saved at the end of a link.
 cp volumes/tree6 before
 (ulimit -f 40; trap '' XFSZ; runs put 6 volumes/tree6 /more hello 2000)
 echo 'unixvol: cannot write volumes/tree6' > line
@@ -932,7 +928,7 @@ echo 'unixvol: 12 NoMemory' > line
 wants 'put in less memory than the image takes' 4 none line
 rm volumes/great
 
-# Where the changed volume goes: a link is followed, and a full disk leaves the old file.
+# Saving the changed volume: a link is followed, and a full disk leaves the old file.
 cp volumes/a volumes/linked
 prints none put 6 volumes/link /a hello 1
 has 'a symbolic link to a volume' linked "$(readlink volumes/link)"
@@ -943,7 +939,7 @@ echo 'unixvol: cannot write volumes/linked' > line
 wants 'rm where the new file finds no room' 3 none line
 saves 'a volume whose new file found no room' volumes/linked before
 
-# An image that is a pipe, a socket or a terminal isn't changed, and isn't read either; it can be looked at.
+# An image that is a pipe, a socket or a terminal isn't changed, and isn't read for it either; it can be shown.
 for command in 'put /a hello 1' 'rm /a 1' 'rmdir /a 1' 'mkdir /a 1' 'ln /a /b 1' 'chmod /a 644 1' 'chown /a 1 2 1'; do
     read -r -a given <<< "$command"
     refuses 3 'unixvol: cannot write pipe' "${given[0]}" 6 pipe "${given[@]:1}"
@@ -988,7 +984,7 @@ has 'no new file beside an image by its absolute path' '' "$(find . -maxdepth 1 
 refuses 3 "unixvol: cannot read $folder/missing" put 6 "$folder/absolute" /b "$folder/missing" 1
 refuses 3 "unixvol: cannot read $folder/missing" rm 6 "$folder/missing" /b 1
 
-# A full device, where the bytes are more than any buffer takes.
+# A full device, with more bytes than any buffer takes.
 prints none mkfs 7 large 4000 4 0 0 1
 body great 1900000
 prints none put 7 large /great great 1
@@ -1014,7 +1010,7 @@ gives great get 7 large /great
 prints none rm 7 large /great 1
 rm great large
 
-# A command that is refused leaves the image with its i-number and its time of modification.
+# A refused command leaves the image with its i-number and its time of modification.
 touch -d '2001-02-03 04:05:06.789' absolute
 stood=$(stat -c '%i %y' absolute)
 refuses 1 'unixvol: 2 NoEntry' rm 6 absolute /none 1
@@ -1024,7 +1020,7 @@ refuses 1 'unixvol: bounds' mkfs 6 absolute 4 2 0 0 0
 misread 'error: invalid value' rm 6 absolute /a one
 has 'an image that commands were refused on' "$stood" "$(stat -c '%i %y' absolute)"
 
-# Many commands at once on an image: each that ends with status 0 has done its work, each other one says that it hasn't.
+# Many commands at once on an image: each that ends with status 0 has made its change, and any other one reports that it hasn't.
 prints none mkfs 7 shared_image 500 20 0 0 1
 for number in $(seq 60); do
     { "$program" put 7 shared_image "/f$number" hello 1 > "output$number" 2> "error$number"; echo $? > "status$number"; } &
@@ -1068,7 +1064,7 @@ if command -v flock > /dev/null; then
     done
 fi
 
-# A command that waits for what it is given leaves the image to others, and then changes what these made of it.
+# A command that waits for its other input leaves the image to others meanwhile, and then changes the result.
 # waits LABEL FED NAMES WORD..: runs the program on an image with the pipe as its standard input, makes a directory in the image meanwhile, and then
 # feeds the file FED into the pipe: the root then has these names
 waits() {
@@ -1094,8 +1090,8 @@ waits 'put -t' hello '. .. meanwhile stdin' put -t / 7 image /dev/stdin 3
 echo '3 0 0 create /a 0644' > one_call
 waits play one_call '. .. a meanwhile' play 7 image /dev/stdin
 
-# What can be told of the image without its lock is told before anything is waited for.
-# tells LINE IMAGE: a change that would wait for its archive tells this line of an image at once, with status 3
+# Faults of the image that need no lock are reported before anything is waited for.
+# tells LINE IMAGE: a change that would wait for its archive prints this line for an image at once, with status 3
 tells() {
     sleep 30 > pipe &
     timeout 20 "$program" import 7 "$2" / 3 > output 2> error < pipe
@@ -1109,8 +1105,8 @@ tells 'unixvol: cannot read missing' missing
 mkfifo unread
 tells 'unixvol: cannot write unread' unread
 
-# What has no end is read as far as its volume goes, in little memory.
-# limited STATUS OUTPUT LINE WORD..: the program prints OUTPUT, and tells LINE, if there is one
+# Endless input is read as far as its volume extends, in little memory.
+# limited STATUS OUTPUT LINE WORD..: the program prints OUTPUT, and LINE on standard error, if any
 limited() {
     if [ -n "$3" ]; then echo "$3" > line; else : > line; fi
     (ulimit -v 200000; exec timeout 120 "$program" "${@:4}" > output 2> error)
@@ -1132,13 +1128,13 @@ limited 1 none 'unixvol: unsound, rule 1' ls 7 /dev/stdin / < <(cat lying)
 limited 3 none $'unixvol: cannot read /dev/stdin\nunixvol: /dev/stdin: it has more blocks than any volume, and its super-block says so' \
     ls 7 /dev/stdin / --explain < <(cat lying /dev/zero)
 
-# Another program that writes the image, or puts another in its place, after a command has read it and before it saves: nothing is saved.
-# meddled LABEL SHELL-COMMAND: runs the command once `play` has read the image, and before it has printed all
+# Another program that writes the image, or replaces it, after a command has read it and before it saves: nothing is saved.
+# meddled LABEL SHELL-COMMAND: runs the command once `play` has read the image, and before it has printed everything
 meddled() {
     prints none mkfs 7 image 100 4 0 0 1
     touch -d '2001-02-03 04:05:06.789' image
     "$program" play 7 image long_script > pipe 2> error < /dev/null &
-    # `play` has more to print than a pipe holds. So once a byte of that has come, it waits until the others are read, and only then saves.
+    # `play` prints more than a pipe holds. So once one byte of that has come, it waits until the others are read, and only then saves.
     exec 9< pipe
     head -c 1 <&9 > begun
     eval "$2"
@@ -1162,9 +1158,9 @@ meddled 'that was removed meanwhile' 'rm image'
 has 'an image that was removed meanwhile' '' "$(find . -maxdepth 1 \( -name image -o -name '.unixvol-*' \))"
 has 'what play has printed by then' 'records 2 confirmed 102' "$(tail -n 2 rest | paste -s -d ' ' -)"
 
-# A volume that Linux wrote, as samples/README.md says: its names, i-numbers, sizes and sums are those that Linux told of it.
+# A volume that Linux wrote, as samples/README.md says: its names, i-numbers, sizes and checksums are those that Linux printed.
 linux="$samples/linux_made.v7"
-# told DIRECTORY: the lines that Linux listed its entries with
+# told DIRECTORY: the lines of Linux's listing of its entries
 told() { sed -n "\\|^$1:\$|,/^\$/p" "$samples/linux_made.txt" | sed '1d;/^$/d'; }
 
 while read -r directory own parent; do
@@ -1200,7 +1196,7 @@ refuses 1 'unixvol: unsound, rule 12' ls 7 linux.v7 /etc
 # Scripts that are played on a volume.
 echo '5 0 0 create /a 644' > create_a
 cp made played
-# Which of two scripts comes first is left open.
+# Which of two scripts is first is left open.
 runs play 6 played create_a create_a
 printf '%s\n' '1.1 ok 32' '2.1 17 Exists' 'records 1' 'confirmed 2' > lines
 printf '%s\n' '1.1 17 Exists' '2.1 ok 32' 'records 1' 'confirmed 2' > others
@@ -1213,7 +1209,7 @@ cp made played
 printf '%s\n' '1.1 ok 32' '1.2 cut 1' '1.3 ok 0' '1.4 stat 32 file 0600 1 0 0 0' 'records 1' 'confirmed 2' 'gone 1' > lines
 prints lines play 6 played cutting
 holds 'the i-node of a file that was played' played 2016 '80 81 01 00 00 00 00 00'
-# Each call and each query, with what is refused of them.
+# Each call and each query, with their refusals.
 cat > all << 'END'
 1 0 0 mkdir /d 755
 2 3 4 create /d/f 644
@@ -1247,12 +1243,12 @@ prints lines ls 6 played /
 cp made played
 printf '%s\n' 'records 0' 'confirmed 0' > lines
 prints lines play 6 played no_line
-# Scripts for views beside a session's, and alone.
+# Scripts for views, with a session's script and alone.
 printf '%s\n' view '6 0 0 stat /' '7 0 0 stat /b' '8 0 0 read / 0 4' '9 0 0 list /' > watching
 printf 'view\n6 0 0 stat /\n' > looking
 cp made played
 runs play 6 played create_a looking
-# Whether the view sees the file yet is left open.
+# Whether the view already sees the file is left open.
 printf '%s\n' '1.1 ok 32' '2.2 stat 1 dir 0777 2 0 0 48' 'records 1' 'confirmed 2' > lines
 printf '%s\n' '1.1 ok 32' '2.2 stat 1 dir 0777 2 0 0 32' 'records 1' 'confirmed 2' > others
 cmp -s output lines || cp others lines
@@ -1277,7 +1273,7 @@ printf '%s\n' $(seq 16 | sed 's/$/.2 stat 1 dir 0777 2 0 0 32/' | tr ' ' '_') 'r
 prints lines play 6 played $(cat sixteen)
 refuses 2 'unixvol: script 17 line 1' play 6 played $(cat sixteen) looking
 refuses 2 'unixvol: script 18 line 1' play 6 played $(cat sixteen) create_a looking
-# Faults in their order: files that can't be read, lines that can't, the image, and the output.
+# The order of faults: files that can't be read, lines that can't, the image, and the output.
 printf '%s\n' '1 0 0 stat /' '2 0 0 write / 0 123' > odd_digits
 printf '1 0 0 stat /' > no_end
 printf '%s\n' '4294967296 0 0 stat /' > too_late
@@ -1315,7 +1311,7 @@ echo 'unixvol: cannot write played' > line
 (ulimit -f 8; trap '' XFSZ; runs play 6 played create_a)
 wants 'a play whose volume finds no room' 3 lines line
 saves 'an image whose volume found no room' played before
-# Where standard output fails and then the saving, the first fault alone is told.
+# If standard output fails and then saving does, only the first fault is reported.
 (
     ulimit -f 8
     trap '' XFSZ
@@ -1346,7 +1342,7 @@ for number in 1 33 64; do
     { head -c 7 /dev/zero; printf "\\x$(printf %02x "$number")"; } > bytes
     prints bytes get 7 played "/f$number"
 done
-# The time of reading a script is that of its length: one of a hundred thousand lines, and one with 8 MB in one word.
+# The time to read a script is proportional to its length: one of a hundred thousand lines, and one with a word of 8 MB.
 yes '1 0 0 list /' | head -100000 > many_lines
 { seq -f '1.%.0f list 66' 100000; printf '%s\n' 'records 0' 'confirmed 100000'; } > lines
 runs_within 30 play 7 played many_lines
@@ -1364,7 +1360,7 @@ wants 'a script with 8 MB in one word' 0 lines none
 gives many_bytes get 7 played /f
 rm -f played many_bytes many_lines long_line script[0-9]* report
 
-# The examples of README.md and of the help; where a word is `disk.img`, it is a volume in which the example has a file.
+# The examples of README.md and of the help; the word `disk.img` is a volume with the example's file.
 prints hello cat 6 "$samples/hello.v6" 1
 prints none mkfs 6 disk.img 4000 100 0 0 173750400
 has 'the size of a volume of 4,000 blocks' 2048000 "$(wc -c < disk.img)"
@@ -1404,7 +1400,7 @@ put disk.img 1536 'A4 81 01 00 00 00 00 00 00 00 05 00 00 05 00' # i-node 9, who
 put disk.img 2560 '68 65 6C 6C 6F'
 prints hello cat 7 disk.img 9
 
-# What the program says of itself.
+# The program's help and version.
 echo 'unixvol 0.1.0' > version
 prints version --version
 prints version -V

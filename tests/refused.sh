@@ -1,12 +1,11 @@
 #!/usr/bin/env bash
-# Makes each run of the program `refused_memory` with each of its allocations refused in turn: the first, the second, .., until a run
-# meets none that is refused. The program looks at what a refusal leaves, and prints how many promises were broken; each run is to
-# print that it were none, and to end with status 0. Some runs are made too with all allocations refused from the first on, from the
-# second on, ..: there a step that is done once more finds no memory either, and the run may end there, which it counts as the one
-# promise broken, or at its words, with status 1. A run that takes 20 seconds is ended, and fails; so does a program of which nothing is
-# refused, as one that has an allocator of its own.
-# Usage: tests/refused.sh REFUSED_MEMORY [RUN..]. It needs rustc, which builds tests/refusing.rs. It prints a line for each run that
-# breaks this and one for each kind of run, and ends with 'N passed, N failed'.
+# Does each run of the program `refused_memory` with each of its allocations refused in turn: the first, the second, .., until no allocation is
+# refused. The program checks the state after a refusal, and prints the number of broken promises; each run must print that there were none, and end
+# with status 0. Some runs are also done with all allocations refused from the first on, from the second on, ..: then a repeated step finds no memory
+# either, and the run may end there, which it counts as one broken promise, or at its words, with status 1. A run that takes 20 seconds is ended, and
+# fails; so does a program without refusals, such as one with an allocator of its own.
+# Usage: tests/refused.sh REFUSED_MEMORY [RUN..]. It needs rustc, which builds tests/refusing.rs. It prints a line for each run that fails and one for
+# each kind of run, and ends with 'N passed, N failed'.
 set -uo pipefail
 export LC_ALL=C
 usage='usage: tests/refused.sh REFUSED_MEMORY [RUN..]'
@@ -27,7 +26,7 @@ echo '001 promises broken' > unfinished
 passed=0
 failed=0
 
-# Whether a run came out as it is to where VARIABLE says what is refused: is_right VARIABLE STATUS
+# is_right VARIABLE STATUS: true if a run ended as it must when VARIABLE names the refusals
 is_right() {
     case "$1 $2" in
     'REFUSED 0') cmp -s output whole ;;
@@ -37,7 +36,7 @@ is_right() {
     esac
 }
 
-# Makes a run with VARIABLE at 1, 2, .., until nothing is refused: refuse VARIABLE RUN
+# refuse VARIABLE RUN: does a run with VARIABLE at 1, 2, .., until nothing is refused
 refuse() {
     local number=0 status
     while true; do
@@ -50,7 +49,7 @@ refuse() {
             failed=$((failed + 1))
             echo "failed: $2, $1 $number: status $status: $(head -c 200 output error)"
         fi
-        # A run that meets no refusal is the last.
+        # A run without a refusal is the last.
         [ -s met ] || break
     done
     echo "$2: $((number - 1)) allocations refused, $1"

@@ -1,7 +1,8 @@
-//! Refuses allocations of a program: a library that is loaded before the C library, in whose place it stands for `malloc`, `calloc`
-//! and `realloc`. REFUSED names the one allocation that is refused by its number, counted from 1, and REFUSED_FROM the first of which it
-//! and all later are; for each that is refused a line goes to descriptor 9, if that is open.
-//! `tests/refused.sh` builds it with `rustc --crate-type cdylib` and loads it by LD_PRELOAD. It needs the GNU C library.
+//! Refuses allocations of a program: a library that is loaded before the C library, and replaces its `malloc`,
+//! `calloc` and `realloc`. REFUSED is the number of the one allocation to refuse, counted from 1, and REFUSED_FROM
+//! that of the first to refuse with all later ones; each refusal writes a line to descriptor 9, if that is open.
+//! `tests/refused.sh` builds it with `rustc --crate-type cdylib` and loads it with LD_PRELOAD. It needs the GNU C
+//! library.
 
 use std::ffi::{c_char, c_int, c_void, CStr};
 use std::ptr::null_mut;
@@ -17,13 +18,13 @@ extern "C" {
     fn write(descriptor: c_int, bytes: *const c_void, count: usize) -> isize;
 }
 
-/// The number that `errno` has where there is no memory.
+/// The value of `errno` for out of memory.
 const ENOMEM: c_int = 12;
 
-/// How many allocations there were.
+/// The number of allocations so far.
 static COUNT: AtomicU64 = AtomicU64::new(0);
 
-/// The number that a variable of the environment has, 0 where there is none.
+/// Returns the number in a variable of the environment, 0 if there is none.
 fn number_in(name: &CStr) -> u64 {
     unsafe {
         match getenv(name.as_ptr()) {
@@ -33,7 +34,7 @@ fn number_in(name: &CStr) -> u64 {
     }
 }
 
-/// Whether this allocation is refused.
+/// True if this allocation is refused.
 fn is_refused() -> bool {
     let number = COUNT.fetch_add(1, Ordering::SeqCst) + 1;
     let from = number_in(c"REFUSED_FROM");
@@ -47,7 +48,7 @@ fn is_refused() -> bool {
     true
 }
 
-/// As the C library's, but for what is refused.
+/// Allocates as the C library does, unless refused.
 #[no_mangle]
 pub unsafe extern "C" fn malloc(size: usize) -> *mut c_void {
     match is_refused() {
@@ -56,7 +57,7 @@ pub unsafe extern "C" fn malloc(size: usize) -> *mut c_void {
     }
 }
 
-/// As the C library's, but for what is refused.
+/// Allocates as the C library does, unless refused.
 #[no_mangle]
 pub unsafe extern "C" fn calloc(count: usize, size: usize) -> *mut c_void {
     match is_refused() {
@@ -65,7 +66,7 @@ pub unsafe extern "C" fn calloc(count: usize, size: usize) -> *mut c_void {
     }
 }
 
-/// As the C library's, but for what is refused.
+/// Reallocates as the C library does, unless refused.
 #[no_mangle]
 pub unsafe extern "C" fn realloc(old: *mut c_void, size: usize) -> *mut c_void {
     match is_refused() {

@@ -1,5 +1,5 @@
-# What the rows of the program's tests have in common. It is read by `.`, with the program as the first word, and goes on in a folder of the
-# test's own: `program` is the program, `samples` the folder of the samples.
+# Shared by the tests of the program. It is read with `.`, with the program as the first word, and continues in a folder of the test's own: `program`
+# is the program, `samples` the folder of the samples.
 set -uo pipefail
 : "${1:?usage: $0 PROGRAM}"
 program=$(realpath "$1")
@@ -10,24 +10,24 @@ cd "$folder" || exit 1
 passed=0
 failed=0
 
-# image FILE BYTES: a file of so many zeros
+# image FILE BYTES: a file of BYTES zeros
 image() { head -c "$2" /dev/zero > "$1"; }
 
-# put FILE AT HEX: these bytes from byte AT of FILE on
+# put FILE AT HEX: puts these bytes at byte AT of FILE
 put() {
     local escaped
     escaped=$(sed 's/../\\x&/g' <<< "${3// /}")
     printf '%b' "$escaped" | dd of="$1" bs=1 seek="$2" conv=notrunc status=none
 }
 
-# changed FROM TO AT HEX: TO is FROM with these bytes from byte AT on
+# changed FROM TO AT HEX: TO is a copy of FROM with these bytes at byte AT
 changed() {
     cp "$1" "$2"
     put "$2" "$3" "$4"
 }
 
-# shared FILE NAMES: a volume of the seventh edition with 63 directories of the greatest size, in which all logical blocks from 16,522 on are
-# one block, with so many names: n0 for the root, n1 for the directory after it, and so on
+# shared FILE NAMES: a volume of the seventh edition with 63 directories of the greatest size, in which all logical blocks from 16,522 on are one
+# block, with NAMES names: n0 for the root, n1 for the directory after it, and so on
 shared() {
     "$program" mkfs 7 "$1" 50 8 0 0 1
     python3 - "$@" << 'PYTHON'
@@ -44,7 +44,7 @@ open(sys.argv[1], "wb").write(image)
 PYTHON
 }
 
-# wants LABEL STATUS OUTPUT ERROR: compares what the last run left in status, output and error; OUTPUT and ERROR are files
+# wants LABEL STATUS OUTPUT ERROR: checks the status, output and error of the last run; OUTPUT and ERROR are files
 wants() {
     if [ "$(cat status)" = "$2" ] && cmp -s output "$3" && cmp -s error "$4"; then
         passed=$((passed + 1))
@@ -60,13 +60,13 @@ runs() {
     echo $? > status
 }
 
-# runs_within SECONDS WORD..: runs the program, and ends it once so many seconds are over
+# runs_within SECONDS WORD..: runs the program, and ends it after SECONDS seconds
 runs_within() {
     timeout "$1" "$program" "${@:2}" > output 2> error < /dev/null
     echo $? > status
 }
 
-# prints FILE WORD..: the program prints the bytes of FILE, and nothing else, with status 0
+# prints FILE WORD..: the program prints exactly the bytes of FILE, with status 0
 prints() {
     local file=$1
     shift
@@ -74,7 +74,7 @@ prints() {
     wants "$*" 0 "$file" none
 }
 
-# refuses STATUS LINE WORD..: the program prints this line on standard error, and nothing else
+# refuses STATUS LINE WORD..: the program prints only this line, on standard error
 refuses() {
     local status=$1
     printf '%s\n' "$2" > line
@@ -83,7 +83,7 @@ refuses() {
     wants "$*" "$status" none line
 }
 
-# misread TEXT WORD..: the command line is at fault: status 2, no output, and an error that begins with TEXT
+# misread TEXT WORD..: the command line is wrong: status 2, no output, and an error that begins with TEXT
 misread() {
     local text=$1
     shift
@@ -104,7 +104,7 @@ helps() {
     wants "$*" 0 help none
 }
 
-# saves LABEL FILE WANTED: FILE has the bytes of WANTED, and no new file is left over in its folder
+# saves LABEL FILE WANTED: FILE has the bytes of WANTED, and no new file is left in its folder
 saves() {
     if cmp -s "$2" "$3" && [ -z "$(find "$(dirname "$2")" -maxdepth 1 -name '.unixvol-*')" ]; then
         passed=$((passed + 1))
@@ -126,7 +126,7 @@ has() {
 
 : > none
 
-# pieces FILE: makes the files that FILE has: `= NAME BYTES` begins one of so many zeros, `AT TEXT` puts text with escapes into it
+# pieces FILE: makes the files that FILE describes: `= NAME BYTES` begins one of BYTES zeros, `AT TEXT` puts text with escapes into it
 pieces() {
     local at text name
     while read -r at text; do
@@ -141,8 +141,8 @@ pieces() {
     done < "$1"
 }
 
-# follows FILE: runs each line `$ WORD..` of FILE, in which E is the edition and '' an empty word. The lines below it are what is to be
-# printed, `! LINE` is to be told, and `? N` is the status where it isn't 0. `= ONE OTHER` compares two files; lines with # are comments.
+# follows FILE: runs each line `$ WORD..` of FILE, in which E is the edition and '' an empty word. The lines after it are its output, `! LINE` is its
+# line on standard error, and `? N` its status if it isn't 0. `= ONE OTHER` compares two files; lines with # are comments.
 follows() {
     local line words=() want=0
     has "the rows in $1" yes "$([ -s "$1" ] && echo yes)"
@@ -180,7 +180,7 @@ words_of() {
     done
 }
 
-# followed: runs the words, if there are some, and compares; then there are none
+# followed: runs the words, if any, and compares; then clears them
 followed() {
     if [ ${#words[@]} != 0 ]; then
         runs "${words[@]}"
@@ -192,8 +192,8 @@ followed() {
     : > to_tell
 }
 
-# finds STATUS COMMAND IMAGE LINE..: the checker prints these lines of an image of the edition `edition`, with 1, 2, 7 and 64 threads, and ends
-# with this status
+# finds STATUS COMMAND IMAGE LINE..: the checker prints these lines for an image of the edition `edition`, with 1, 2, 7 and 64 threads, and ends with
+# this status
 finds() {
     local status=$1 command=$2 volume=$3 workers
     shift 3

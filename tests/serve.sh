@@ -1,6 +1,6 @@
 #!/usr/bin/env bash
-# Runs `serve` of the built program under a pretended kernel (serves/kernel.py), which needs no rights and no /dev/fuse: names, attributes and bytes
-# are those that the other commands print, of both editions and of images that aren't sound, and each request that wants a reply gets one.
+# Runs `serve` of the built program under a simulated kernel (serves/kernel.py), which needs no rights and no /dev/fuse: names, attributes and bytes
+# are those that the other commands print, for both editions and for images that aren't sound, and each request that wants a reply gets one.
 # tests/mount.sh mounts volumes. Usage: tests/serve.sh PROGRAM. It prints a line for each row that fails, and ends with 'N passed, N failed'.
 kernel=$(realpath "$(dirname "$0")/serves/kernel.py")
 . "$(dirname "$0")/rows.sh"
@@ -19,28 +19,28 @@ printf '%s\n' 'unixvol: unsound, rule 1' "unixvol: short.img: it breaks rule 1, 
 runs serve --read-only 7 short.img --explain
 wants 'serve of a short image, explained' 1 none line
 
-# An input that ends at once.
+# Input that ends at once.
 prints none serve --read-only 7 "$linux"
 
-# node_at I: where i-node I of an image of the edition begins
+# node_at I: the offset of i-node I in an image of the edition
 node_at() { echo $((1024 + (edition == 6 ? 32 : 64) * ($1 - 1))); }
 
-# number PATH: the i-number to which a path leads in the volume
+# number PATH: the i-number at a path of the volume
 number() { "$program" ls -d "$edition" volume "$1" | awk 'NR == 1 { print $1 }'; }
 
-# breaks RULE IMAGE: the image breaks this rule, none before it; a server says so, and ends with its input
+# breaks RULE IMAGE: this is the first rule that the image breaks; a server says so, and ends with its input
 breaks() {
     printf 'unixvol: unsound, rule %s\n' "$1" > line
     runs serve --read-only "$edition" "$2"
     wants "serve of $2" 0 none line
 }
 
-# serves LABEL FILES LINE EDITION IMAGE: so many files are served as the other commands print them, and LINE is what the server says
+# serves LABEL FILES LINE EDITION IMAGE: FILES files are served as the other commands print them, and the server prints LINE
 serves() {
     has "$1" "$2 files; $3" "$(timeout 60 python3 "$kernel" tree "$program" "$4" "$5" 2>&1)"
 }
 
-# answers SEED EDITION IMAGE: random requests are answered
+# answers SEED EDITION IMAGE: random requests get replies
 answers() { has "random requests $1 to $3" '' "$(timeout 60 python3 "$kernel" random "$program" "$2" "$3" "$1" 1500 2>&1)"; }
 
 if ! command -v python3 > /dev/null; then
@@ -86,7 +86,7 @@ for edition in 6 7; do
     serves "a volume of edition $edition" 81 '' "$edition" volume
     for seed in 1 2; do answers "$edition$seed" "$edition" volume; done
 
-    # Images that aren't sound are served as far as entries lead, once with a line.
+    # Images that aren't sound are served as far as entries lead, with one line.
     root=$((edition == 6 ? 1 : 2))
     changed volume links.img "$(($(node_at "$(number /x)") + 2))" "$([ "$edition" = 6 ] && echo 09 || echo 0900)"
     breaks 12 links.img

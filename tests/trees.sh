@@ -1,17 +1,17 @@
 #!/usr/bin/env bash
-# Runs the commands of the built program that show a tree or change it by several calls, and compares what they make with GNU tar and Python.
+# Runs the commands of the built program that show a tree or change it by several calls, and compares the results with GNU tar and Python.
 # Usage: tests/trees.sh PROGRAM. It prints a line for each row that fails, and ends with 'N passed, N failed'.
 . "$(dirname "$0")/rows.sh"
 linux="$samples/linux_made.v7"
 
-# imports FILE WORD..: the program imports the archive in FILE, without a word
+# imports FILE WORD..: the program imports the archive in FILE, and prints nothing
 imports() {
     "$program" import "${@:2}" < "$1" > output 2> error
     echo $? > status
     wants "import ${*:2}" 0 none none
 }
 
-# A tree outside: directories, files of several sizes, a further name, names of 14 bytes, an empty file.
+# A tree on the host: directories, files of several sizes, a further name, names of 14 bytes, an empty file.
 mkdir -p src/cmd/empty src/man
 printf 'main() {}\n' > src/cmd/a.c
 head -c 5000 /dev/zero | tr '\0' b > src/cmd/fourteen-bytes
@@ -41,21 +41,21 @@ for edition in 6 7; do
         "$program" icheck "$edition" disk.img 1 > report
         has "a volume into which a $format archive was imported" 0 $?
     done
-    # An export that is imported is exported alike.
+    # The export of an imported export is the same.
     "$program" export "$edition" disk.img > one.tar
     cp new.img other.img
     imports one.tar "$edition" other.img
     "$program" export "$edition" other.img > other.tar
     cmp -s one.tar other.tar
     has 'an export of an import of an export' 0 $?
-    # Below a directory, and once more into what is there.
+    # Below a directory, and a second time over the existing members.
     prints none mkdir -p "$edition" other.img /usr/src 5
     imports ustar.tar "$edition" other.img /usr/src 6
     "$program" get "$edition" other.img /usr/src/cmd/a.c > output
     cmp -s output src/cmd/a.c
     has 'a file below a directory' 0 $?
 
-    # Files whose directories are no members, and directories that come twice.
+    # Files whose directories aren't members, and directories that occur twice.
     cp new.img ways.img
     tar --format=ustar --owner=0 --group=0 -cf ways.tar -C src cmd/a.c ./man/again
     imports ways.tar "$edition" ways.img / 100000500
@@ -69,7 +69,7 @@ for edition in 6 7; do
     "$program" dcheck "$edition" ways.img 1 > report
     has 'a volume into which an archive was imported that has a directory twice' 0 $?
 
-    # A file from before 1970, as GNU tar has it.
+    # A file from before 1970, as GNU tar archives it.
     mkdir -p early
     echo early > early/moon
     touch -d 1969-07-20T20:17:40Z early/moon
@@ -77,7 +77,7 @@ for edition in 6 7; do
     imports early.tar "$edition" ways.img / 100000500
     has 'the time of a file from before 1970' '1973-03-03 09:55:00' "$("$program" ls -l "$edition" ways.img /moon | awk '{ print $7, $8 }')"
 
-    # What isn't imported.
+    # Archives that are refused.
     tar --format=ustar --owner=40000 --group=0 -cf owner.tar -C src cmd/a.c
     cp other.img before
     "$program" import "$edition" other.img / 7 < owner.tar > output 2> error
@@ -101,7 +101,7 @@ for edition in 6 7; do
     has 'the status of an import of a symbolic link' '1 1' "$? $(wc -l < error)"
     saves 'an image without the symbolic link' other.img before
 
-    # Directories on the way, other names, and what is below a directory.
+    # Directories on the way, further names, and everything below a directory.
     prints none mkdir -p "$edition" other.img /p/q/r 8
     prints none mkdir -p "$edition" other.img /p/q/r 9
     prints none mkdir -p "$edition" other.img /p/q/s 9
@@ -155,7 +155,7 @@ for edition in 6 7; do
     prints none get -o away "$edition" several.img in/first
     cmp -s first away/first
     has 'a file that was there, got again' 0 $?
-    # A pipe in the folder, or at the end of a link there, is left alone, whether another program reads from it or not.
+    # A pipe in the folder, or at the end of a link there, is left alone, whether or not another program reads from it.
     rm -rf pipes pipe
     mkdir pipes
     mkfifo pipe pipes/first
@@ -180,7 +180,7 @@ for edition in 6 7; do
     runs_within 20 get "$edition" several.img -o /dev null
     wants 'get -o onto a device' 0 none none
     prints none rm "$edition" several.img /null 6
-    # A last word that is a moment and a file too: nothing is opened. With a slash it is a file, and where no file has that name, a moment.
+    # A last word that is both a time and a file: nothing is opened. With a slash it is a file, and if no file has that name, a time.
     printf nine > 9
     mkdir -p 2026-11-23T12:00:00Z
     cp several.img before
@@ -253,7 +253,7 @@ for it in json.load(sys.stdin):
     has 'directories below' '/cmd: /cmd/empty: /man:' "$(grep ':$' output | sed 's,^,/,; s,^//*,/,' | grep -v '^/:$' | paste -s -d ' ' -)"
 done
 
-# A terminal is shown control bytes escaped; a pipe gets them as they are.
+# Control bytes are escaped on a terminal; a pipe gets them unchanged.
 cp "$linux" odd.img
 printf 'x' > letter
 "$program" put 7 odd.img "/$(printf 'a\033b')" letter 5

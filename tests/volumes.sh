@@ -1,25 +1,25 @@
 #!/usr/bin/env bash
-# Plays calls on new volumes, and compares what is printed of each, and the bytes of the images.
+# Plays calls on new volumes, and checks the output of each, and the bytes of the images.
 # Usage: tests/volumes.sh PROGRAM. It prints a line for each row that fails, and ends with 'N passed, N failed'.
 #
-# The files tests/volumes/*.rows have one row a line; lines that begin with # are comments.
-#   volume 6 20 2          a new volume of this edition, of so many blocks and blocks of i-list
-#   by 16909060 0 0        moment, user and group of the steps that follow; these are so after each `volume`
+# The files tests/volumes/*.rows have one row per line; lines that begin with # are comments.
+#   volume 6 20 2          a new volume of this edition, with this many blocks, and blocks of i-list
+#   by 16909060 0 0        time, user and group of the steps that follow; this is the default after each `volume`
 #   > create /f 644        a step, as in a script of `play`
-#   = ok 32                what is printed of it
-#   at 516 0D 00           bytes of the image, from a place on
-#   all 2024 16 00         so many bytes of the image that are this one
-#   stays 718 202          so many bytes of the image, which no step up to the next `volume` or `put` changes
+#   = ok 32                its output
+#   at 516 0D 00           bytes of the image, from this offset on
+#   all 2024 16 00         16 bytes of the image, all with this value
+#   stays 718 202          202 bytes of the image, which no step up to the next `volume` or `put` changes
 #   put 1024 41 ED         puts bytes into the image
-#   ls /d: 32 . 1 .. 31 f  what `ls` lists
-#   {41*512}               in any row: these digits so many times; {} is nothing
-# A path has \0NNN, in octal digits, for a byte that can't be written. The steps up to a row of the image are one run of the program;
-# those between two rows `volume` or `put` are played once more in one run, which leaves the same image.
+#   ls /d: 32 . 1 .. 31 f  the output of `ls`
+#   {41*512}               in any row: these digits 512 times; {} is nothing
+# A path has \0NNN, in octal digits, for a byte that can't be written. The steps up to a row of the image are one run of the program; those between
+# two rows `volume` or `put` are played again in one run, which leaves the same image.
 rows=$(realpath "$(dirname "$0")/volumes")
 . "$(dirname "$0")/rows.sh"
 export LC_ALL=C
 
-# expand ROW: puts the row with its repeated digits written out into `expanded`
+# expand ROW: writes the row with its repeated digits into `expanded`
 expand() {
     local rest=$1 once many
     expanded=
@@ -35,7 +35,7 @@ expand() {
     expanded+=$rest
 }
 
-# shown AT COUNT: puts so many bytes of the image into `found`, as hexadecimal digits
+# shown AT COUNT: puts COUNT bytes of the image into `found`, as hexadecimal digits
 shown() {
     local end=$(($1 + $2))
     if [ "$end" -gt "$known" ]; then
@@ -47,7 +47,7 @@ shown() {
     found=${found^^}
 }
 
-# compare LABEL WANTED FOUND: as `has`, where a text may be long
+# compare LABEL WANTED FOUND: like `has`, for texts that may be long
 compare() {
     local same=0
     if [ "$2" = "$3" ]; then
@@ -59,7 +59,7 @@ compare() {
     fi
 }
 
-# run WORD..: runs the program; its lines are in `lines`, those of standard error in `errors`, and its status in `status`
+# run WORD..: runs the program; leaves its output in `lines`, its standard error in `errors`, and its status in `status`
 run() {
     status=0
     "$program" "$@" > output 2> error < /dev/null || status=$?
@@ -67,7 +67,7 @@ run() {
     mapfile -t errors < error
 }
 
-# plays LABEL IMAGE STEP..: plays these steps; `wanted` has what is wanted of each
+# plays LABEL IMAGE STEP..: plays these steps; `wanted` has the expected output of each
 plays() {
     local label=$1 volume=$2 accepted=0 refused=0 number
     shift 2
@@ -85,7 +85,7 @@ plays() {
     compare "$label, the end" "$# records $accepted confirmed $# $refused" "${#wanted[@]} ${lines[*]:$#} $status${errors[*]}"
 }
 
-# play_steps: plays the steps that wait, and looks at the bytes that stay
+# play_steps: plays the pending steps, and checks the bytes that must stay
 play_steps() {
     local stay at count kept
     [ ${#steps[@]} = 0 ] && return
@@ -104,7 +104,7 @@ play_steps() {
     done
 }
 
-# play_again: plays all steps since the last row `volume` or `put` once more: in one run, or, where they were played in one, each in a run of its own
+# play_again: plays all steps since the last row `volume` or `put` again: in one run, or, if they were played in one, each in a run of its own
 play_again() {
     local step
     play_steps
@@ -125,7 +125,7 @@ play_again() {
     runs=0
 }
 
-# take_row WORD REST: does what a row says
+# take_row WORD REST: carries out a row
 take_row() {
     local word=$1 rest=$2 at count digits path
     case $word in
@@ -178,7 +178,7 @@ take_row() {
     esac
 }
 
-# play_rows FILE: takes the rows of a file
+# play_rows FILE: carries out the rows of a file
 play_rows() {
     local row number=0
     steps=()
@@ -211,8 +211,8 @@ done
 # new FILE EDITION BLOCKS LIST: a new volume of user 0 and group 0
 new() { "$program" mkfs "$2" "$1" "$3" "$4" 0 0 168496141; }
 
-# The rules of soundness. Each image of tests/volumes/rules is looked at by `ls`, mounted by `play`, and examined by `check` and `salvage`.
-# finds LABEL RULE WORD..: the program finds this rule broken, and says so alone; `-` is for none
+# The rules of soundness. Each image of tests/volumes/rules is listed with `ls`, mounted by `play`, and checked by `check` and `salvage`.
+# finds LABEL RULE WORD..: the program finds this rule broken, and reports only that; `-` is for none
 finds() {
     local line='0 '
     [ "$2" = - ] || line="1 unixvol: unsound, rule $2"
@@ -220,7 +220,7 @@ finds() {
     compare "$1" "$line" "$status ${errors[*]}"
 }
 
-# `play` leaves an image as it was where nothing is changed in it, and so does whatever refuses it.
+# `play` leaves an image as it was if nothing in it is changed, and so does every refusal.
 echo '1 0 0 stat /' > script
 new sound6 6 20 2
 new sound7 7 100 2
@@ -264,8 +264,8 @@ prints lines ls 7 sound7 /
 head -c $((99 * 512)) sound7 > short
 refuses 1 'unixvol: unsound, rule 1' ls 7 short /
 
-# A seventh edition volume of 1010 blocks. Each of 8000 files names a triply indirect block whose entries, and theirs, all name one block:
-# there are some 17 thousand million places.
+# A seventh edition volume of 1010 blocks. Each of 8000 files names a triply indirect block whose entries, and theirs, all name one block: there are
+# some 17 thousand million of them.
 node="\xA4\x81$(printf '\\0%.0s' {1..47})\xEA\x03$(printf '\\0%.0s' {1..13})"
 {
     head -c 512 /dev/zero
@@ -281,9 +281,9 @@ echo 'unixvol: unsound, rule 7' > line
 runs_within 10 salvage 7 ways
 wants 'an image with many ways' 1 none line
 
-# New volumes of sizes around those at which an array of either edition is full: `mkfs` leaves what giving each block, from the last down,
-# leaves, and so does a file that had them all.
-# give BLOCK: puts a block on the free list in `count` and `list`; `chain` has what is written into blocks
+# New volumes of sizes around those that fill an array of either edition: `mkfs` leaves the same as freeing each block, from the last down, and so
+# does a file that had them all.
+# give BLOCK: puts a block on the free list in `count` and `list`; `chain` collects the bytes to write into blocks
 give() {
     if [ "$count" = "$most" ]; then
         chain[$1]="$(word "$count")$(numbers "${list[@]}")"
@@ -299,7 +299,7 @@ give() {
     fi
 }
 
-# word N, numbers N..: a word, and block numbers of the edition, as hexadecimal digits
+# word N, numbers N..: a 16-bit word, and block numbers of the edition, as hexadecimal digits
 word() { printf '%02X%02X' $(($1 % 256)) $(($1 / 256)); }
 numbers() {
     local number
@@ -309,7 +309,7 @@ numbers() {
     done
 }
 
-# zeros_in FILE COUNT: puts lines into `script` that write so many blocks of zeros into a new file
+# zeros_in FILE COUNT: puts lines into `script` that write COUNT blocks of zeros into a new file
 zeros_in() {
     printf '1 0 0 create %s 644\n' "$1" >> script
     case $2 in
@@ -318,7 +318,7 @@ zeros_in() {
     esac
 }
 
-# room EDITION FREE: `whole` is how many blocks a file can have where so many are free, and `left` how many are free then
+# room EDITION FREE: `whole` is the number of blocks that a file can have with FREE free ones, and `left` the number that is then still free
 room() {
     local names
     for ((whole = $2; ; whole--)); do
@@ -341,7 +341,7 @@ for size in '4 1' '5 1' '53 1' '54 1' '55 2' '103 1' '104 1' '105 2' '128 3' '12
         count=0
         for ((block = 0; block < most; block++)); do list[block]=0; done
         for ((block = blocks - 1; block > first; block--)); do give "$block"; done
-        # The super-block with its time, the root's i-node, its slots, and what was written into blocks.
+        # The super-block with its time, the root's i-node, its slots, and the bytes written into blocks.
         if [ "$edition" = 6 ]; then
             head="$(word "$list_blocks")$(word "$blocks")$(word "$count")$(numbers "${list[@]}"){00*206}0B0A0D0C{00*96}"
             root="FFC1020709002000$(word "$first"){00*14}0B0A0D0C0B0A0D0C{00*4}"
@@ -359,7 +359,7 @@ for size in '4 1' '5 1' '53 1' '54 1' '55 2' '103 1' '104 1' '105 2' '128 3' '12
         for block in "${!chain[@]}"; do put made $((512 * block)) "${chain[block]}"; done
         prints none mkfs "$edition" new "$blocks" "$list_blocks" 7 9 168496141
         saves "a new volume of edition $edition with $size blocks" new made
-        # One file takes all blocks, with a second one for what is left where one block more would want two; both go from the last block down.
+        # One file takes all blocks, with a second one for the rest if one more block would need two; both are freed from the last block down.
         room "$edition" $((blocks - first - 1))
         : > script
         zeros_in /f "$whole"
@@ -380,11 +380,11 @@ for size in '4 1' '5 1' '53 1' '54 1' '55 2' '103 1' '104 1' '105 2' '128 3' '12
     done
 done
 
-# Limits of owners that are no faults; tests/program.sh has the others.
+# Owners at their limits, which are no faults; tests/program.sh has the others.
 prints none mkfs 6 new 20 2 255 255 168496141
 prints none mkfs 7 new 100 2 256 32767 168496141
 
-# Each field of an i-node of either edition, no two bytes of which are the same.
+# Each field of an i-node of either edition, with all bytes different.
 image fields 2560
 put fields 512 '01 00 05 00'
 put fields 1056 "$(printf '%02X' {1..32})"
@@ -405,7 +405,7 @@ $((0x282A29)),$((0x2B2D2C)),$((0x2E302F)),$((0x313332))],\"atime\":$((0x36353837
 \"uid\":$((0x0605))}" > line
 wants 'the fields of the seventh edition' 0 line none
 
-# Each node of the volume that Linux wrote is as Linux told of it: path, i-number, kind and permissions, links, user, group and size.
+# Each node of the volume that Linux wrote is as Linux listed it: path, i-number, kind and permissions, links, user, group and size.
 awk '/^\..*:$/ { folder = substr($0, 2, length($0) - 2); next } NF == 10 { print folder "/" $10, $1, $2, $3, $4, $5, $6 }' "$samples/linux_made.txt" |
     sort > lines
 has 'how many nodes Linux told of' 37 "$(wc -l < lines)"
@@ -415,7 +415,7 @@ awk '/:$/ { folder = substr($0, 1, length($0) - 1); if (folder == "/") folder = 
 cp told output
 wants 'the nodes of the volume that Linux wrote' 0 lines none
 
-# Memory is not said to be refused where there is enough of it, however much is asked for.
+# Out of memory isn't reported when there is enough, however much is asked for.
 new disk 7 100 2
 { echo '16909060 0 0 create /f 644' && seq -f '16909060 0 0 write /f %.0f 78' 4999; } > script
 { echo '1.1 ok 16' && seq -f '1.%.0f ok 1' 2 5000 && printf '%s\n' 'records 5000' 'confirmed 5000'; } > lines
@@ -433,7 +433,7 @@ for numbers in '6 1' '7 2'; do
     prints lines ls "$edition" disk /
 done
 
-# A journal can be cut before each of its calls and behind them: the calls leave the same image, and the records are counted on. All calls of
+# A journal can be cut before and after each of its calls: the calls leave the same image, and the records are numbered on. All calls of
 # tests/volumes/accepted are accepted.
 steps=()
 while IFS= read -r row; do
@@ -441,7 +441,7 @@ while IFS= read -r row; do
     steps+=("16909060 0 0 $expanded")
 done < "$rows/accepted"
 cut='16909060 0 0 cut'
-# plays_whole EDITION STEP..: plays these steps on a new volume; `told` is all that is printed
+# plays_whole EDITION STEP..: plays these steps on a new volume; `told` is the whole output
 plays_whole() {
     new disk "$1" 20 2
     printf '%s\n' "${@:2}" > script
@@ -476,7 +476,7 @@ plays_whole 7 "${steps[@]:0:9}" "$cut" "$cut" "${steps[@]:9:9}" "$cut" "$cut" "$
 has 'the numbers of records of a journal that is cut twice at a time' \
     '1.10 cut 9 1.11 cut 9 1.21 cut 18 1.22 cut 18 1.29 cut 24 1.30 cut 24 records 0 confirmed 0 gone 24' "$(grep -v ' ok ' output | paste -s -d ' ' -)"
 saves 'calls that are cut three times' disk whole7
-# What is refused after a cut changes nothing.
+# A refusal after a cut changes nothing.
 expand '{01*9000}'
 refused=('create /d 644' 'mkdir /x/y 755' 'unlink /a' 'rmdir /d' "write /i/j 0 $expanded" 'truncate /i 0')
 plays_whole 6 "${steps[@]}" "$cut" "${refused[@]/#/16909060 0 0 }"

@@ -1,9 +1,9 @@
 #!/usr/bin/env bash
-# Runs the built program with many lines of words, and compares what it does with what they ask for: the files, the paths, the numbers, the
-# moments. Usage: tests/words.sh PROGRAM. It prints a line for each row that fails, and ends with 'N passed, N failed'.
+# Runs the built program with many command lines, and checks what it does with their files, paths, numbers and times. Usage: tests/words.sh PROGRAM.
+# It prints a line for each row that fails, and ends with 'N passed, N failed'.
 . "$(dirname "$0")/rows.sh"
 
-# A table has a row on each line, its columns parted by ` | `. The first column has the words as a shell reads them.
+# A table has one row per line, with columns separated by ` | `. The first column has the words as a shell reads them.
 
 # reads WORDS: runs the program with the words of a table, and the archive in `given` on standard input
 reads() {
@@ -18,7 +18,7 @@ reads() {
 # bytes FILE AT COUNT: these bytes as hexadecimal digits
 bytes() { od -An -v -tx1 -j "$2" -N "$3" "$1" | tr -d ' \n'; }
 
-# dated LABEL MOMENT: the super-block of `disk`, of the seventh edition, has this moment, or the one of the clock where MOMENT is `clock`
+# dated LABEL MOMENT: the super-block of `disk`, of the seventh edition, has this time, or the clock's if MOMENT is `clock`
 dated() {
     local high low found
     read -r high low < <(od -An -tu2 -j 926 -N 4 disk)
@@ -33,8 +33,8 @@ dated() {
 # paths LABEL WANTED: the paths in `disk`, each after its i-number
 paths() { has "the paths after $1" "$2" "$("$program" ncheck 7 disk 1 | paste -s -d ' ' -)"; }
 
-# begins NAME..: `disk` becomes a volume with directory /d, which is i-node 16, and files of these paths, which are 15, 14, ..; the bytes of each
-# are those of its last name
+# begins NAME..: `disk` becomes a volume with directory /d, which is i-node 16, and files at these paths, which are 15, 14, ..; the bytes of each are
+# those of its last name
 begins() {
     local path
     "$program" mkfs 7 disk 100 2 0 0 1000
@@ -45,7 +45,7 @@ begins() {
     done
 }
 
-# refused: reads a table of words and a text: status 2, no output, and the text stands in the error
+# refused: reads a table of words and a text: status 2, no output, and the text is part of the error
 refused() {
     local words text
     while IFS='|' read -r words text; do
@@ -58,11 +58,11 @@ refused() {
 
 : > given
 printf hello > file
-# A member from before 1970, which is made at the moment of the import.
+# A member from before 1970, which gets the time of the import.
 mkdir tree tree/t
 tar --format=gnu --owner=0 --group=0 --mtime=@-1000 -cf archive -C tree t
 
-# Calls that are made one after another: the words, the moment that the super-block has then, and all paths with their i-numbers.
+# Calls that are made one after another: the words, the time of the super-block afterwards, and all paths with their i-numbers.
 begins
 "$program" rmdir 7 disk /d 1000
 while IFS='|' read -r words moment wanted; do
@@ -101,7 +101,7 @@ prints none chmod 7 disk /d 07777 4
 prints none chown 7 disk /d 32767 010 5
 has 'the i-node with the permissions and the owner of the words' 'ff4f0200ff7f0a00' "$(bytes disk $((1024 + 64 * 15)) 8)"
 
-# Moments: the words after those of `rm`, and the moment that is meant.
+# Times: the words after those of `rm`, and the time that is meant.
 begins /f
 cp disk with_file
 while IFS='|' read -r words moment; do
@@ -122,7 +122,7 @@ for word in 2026-11-23 2026-11-23T12:00:00 2026-11-23T12:00:00.5Z 1969-12-31T23:
     misread "error: invalid value '$word' for '<NOW>': not a number from 0" rm 7 disk /f "$word"
 done
 
-# Several files that are put: the words, the moment, and the files in their order, each with the bytes of its path.
+# Several files that are put: the words, the time, and the files in order, each with the bytes of its path.
 mkdir x y
 for file in a x/b y/c d b c 123 456 notamoment -a b..; do printf '%s' "$file" > "./$file"; done
 begins
@@ -155,7 +155,7 @@ done << 'END'
 -t /d 7 disk -- -a b.. | clock | -a b..
 END
 
-# Several files that are got: the words, and the last names of the paths in their order. Where a name can't be written, those before it are.
+# Several files that are got: the words, and the last names of the paths in order. If a name can't be written, only those before it are.
 begins /d/f /d/g /g /h /8
 while IFS='|' read -r words names; do
     rm -rf out
@@ -182,7 +182,7 @@ done << 'END'
 7 disk /d/f --output=out /d/g | f g
 END
 
-# Words that are refused, and a text that the error has.
+# Words that are refused, and a text in the error.
 refused << 'END'
 put 7 disk -t '' a | invalid value '' for '<DIR>': it is empty
 get 7 disk --output= /d/f | invalid value '' for '<FOLDER>': it is empty
@@ -216,7 +216,7 @@ super 7 disk --explained | --explained
 icheck 7 disk 065 | '065' for '<WORKERS>'
 END
 
-# Second lines: an image that isn't there has one where the words ask for it.
+# Second lines: a missing image has one if the words ask for it.
 echo 'unixvol: cannot read missing' > first
 { cat first; echo 'unixvol: missing: No such file or directory (os error 2)'; } > second
 while IFS='|' read -r words wanted; do
@@ -234,7 +234,7 @@ play 7 missing one two --explain | second
 play 7 missing one -- --explain | first
 END
 
-# Listings: the words, and the lines, each with a semicolon at its end, no space before it, and single ones in it.
+# Listings: the words, and the lines, each followed by a semicolon, without leading spaces, and with single spaces inside.
 begins /d/f
 while IFS='|' read -r words wanted; do
     reads "$words"
@@ -248,7 +248,7 @@ ls 7 disk --recursive /d | /d:;16 .;2 ..;15 f;
 ls --long --json 7 disk /d | [{"gid":0,"inode":16,"kind":"directory","links":2,"modified":1000,"path":"/d/.","permissions":493,"size":48,"uid":0},{"gid":0,"inode":2,"kind":"directory","links":3,"modified":1000,"path":"/d/..","permissions":511,"size":48,"uid":0},{"gid":0,"inode":15,"kind":"file","links":1,"modified":1000,"path":"/d/f","permissions":420,"size":1,"uid":0}];
 END
 
-# Looks, and the front of what they print. I-node 17 of `disk` is a file of five bytes in block 5.
+# Commands that show part of an image, and the beginning of their output. I-node 17 of `disk` is a file of five bytes in block 5.
 image disk 3072
 put disk 512 '05 00 00 00 06 00'
 put disk 2048 'A4 81 01 00 00 00 00 00 00 00 05 00 00 05 00'
@@ -288,8 +288,8 @@ has 'the user and the group of its root' 01000200 "$(bytes disk 1092 4)"
 dated 'mkfs at 3' 3
 "$program" mkfs 6 6 20 2 0 0 1
 
-# Disks by their names, and words that are left out: the sizes, and the i-list as mkfs of the edition reckoned it; the root is of user 0 and
-# group 0, and of this moment. The seventh edition's s_isize counts the first two blocks too.
+# Disks by name, and words that are left out: the sizes, and the i-list of the edition's mkfs; the root belongs to user 0 and group 0, and has this
+# time. The seventh edition's s_isize counts the first two blocks too.
 while read -r edition size blocks list; do
     reads "mkfs $edition disk $size"
     has "mkfs $edition $size" "0 isize $list fsize $blocks" "$(cat status) $("$program" super "$edition" disk | head -n 2 | paste -s -d ' ' -)"
@@ -313,7 +313,7 @@ refuses 1 'unixvol: bounds' mkfs 6 disk rp06
 refuses 1 'unixvol: bounds' mkfs 6 disk rp03
 rm disk
 
-# With --new a file that is there is kept, also a link that leads nowhere.
+# With --new an existing file is kept, even a link that leads nowhere.
 prints none mkfs 7 disk 65536 8191 1 02 3
 cp disk kept
 refuses 3 'unixvol: cannot write disk' mkfs --new 6 disk 20 2 0 0 1

@@ -1,16 +1,17 @@
-# Prints for each row of the files `i_nodes` and `supers` its values as JSON, as docs/FORMATS.md says, on a line.
+# Prints for each row of the files `i_nodes` and `supers` its values as JSON, as docs/FORMATS.md defines it, on one
+# line.
 import json
 import re
 import sys
 
 
 def whole(words):
-    """The numbers of these words."""
+    """Returns the numbers in these words."""
     return [int(word) for word in words]
 
 
 def extent(line):
-    """The object of a line for a range of blocks."""
+    """Returns the object of a line for a range of blocks."""
     first, last, levels, logical = re.match(r"block (\d+)(?:-(\d+))?: (?:pointers, level (\d), from )?logical (\d+)", line).groups()
     count = int(last) - int(first) + 1 if last else 1
     inside = not line.endswith(", no data block")
@@ -18,7 +19,7 @@ def extent(line):
 
 
 def inode(lines):
-    """The object of an i-node."""
+    """Returns the object of an i-node."""
     found = {"ctime": None, "extents": []}
     for line in lines:
         name, *words = line.split(" ")
@@ -34,7 +35,7 @@ def inode(lines):
 
 
 def super_block(lines):
-    """The object of a super-block."""
+    """Returns the object of a super-block."""
     found = {"fault": None, "free": [], "inode": []}
     for line in lines:
         name, *words = line.split(" ")

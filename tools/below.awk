@@ -1,4 +1,4 @@
-# Prints the lines of crates.txt of the program and of each crate that it stands on, lowest first.
+# Prints the lines of crates.txt for the program and each crate that it needs, lowest first.
 function take(name, list, count, k) {
     if (!(name in line) || name in taken) return
     taken[name]

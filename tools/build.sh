@@ -1,7 +1,7 @@
 #!/usr/bin/env bash
 # Proves and builds the program, and leaves it as ./unixvol.
-# `rt ci` proves crates side by side, as many as the machine has processors and memory for. It gets a copy of those that the program stands on, without
-# the crates of tests and the wrong bodies. A toolchain that keeps proofs doesn't prove them again for the gate.
+# `rt ci` proves crates side by side, as many as the machine has processors and memory for. It gets a copy of the crates that the program needs, without test
+# crates and wrong bodies. If the toolchain keeps proofs, the gate doesn't prove them again.
 set -euo pipefail
 cd "$(dirname "$0")/.."
 sources=$(tools/sources.sh)

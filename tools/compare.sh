@@ -1,5 +1,6 @@
 #!/usr/bin/env bash
-# Compares the built program, ./unixvol, with the one in dist/, byte for byte, if dist/ was built from the same sources by the same toolchain. It says which.
+# Compares the built program, ./unixvol, with the one in dist/, byte for byte, if dist/ was built from the same sources with the same toolchain. It prints the
+# result.
 set -euo pipefail
 cd "$(dirname "$0")/.."
 sources=$(tools/sources.sh)

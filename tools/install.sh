@@ -1,5 +1,5 @@
 #!/usr/bin/env bash
-# Installs the program, unixvol-mount, their manual pages and the completions: ./unixvol where it was built, else the release in dist/. It says which.
+# Installs the program, unixvol-mount, their manual pages and the completions: ./unixvol if it was built, else the release in dist/. It prints which.
 # Usage: tools/install.sh FOLDER
 set -euo pipefail
 folder=$(realpath -m "${1:?usage: $0 FOLDER}")
@@ -19,7 +19,7 @@ install -D -m 644 manual/unixvol-mount.1 "$folder/share/man/man1/unixvol-mount.1
 install -D -m 644 "$manual/unixvol.bash" "$folder/share/bash-completion/completions/unixvol"
 install -D -m 644 "$manual/_unixvol" "$folder/share/zsh/site-functions/_unixvol"
 
-# The library for C, Python and Rust, where that was built.
+# The library for C, Python and Rust, if it was built.
 if [ -e bindings/out/libunixvol.a ]; then
     tools/install_library.sh "$folder"
 fi

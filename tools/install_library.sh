@@ -1,5 +1,5 @@
 #!/usr/bin/env bash
-# Installs the library for C, Python and Rust, as tools/library.sh built it: the header, both libraries, what pkg-config reads, and the Python package.
+# Installs the library for C, Python and Rust, as tools/library.sh built it: the header, both libraries, the file for pkg-config, and the Python package.
 # Usage: tools/install_library.sh FOLDER. LIBRARY names the folder of the built library, if it isn't bindings/out.
 set -euo pipefail
 folder=$(realpath -m "${1:?usage: $0 FOLDER}")
@@ -12,7 +12,7 @@ ln -sf libunixvol.so.0 "$folder/lib/libunixvol.so"
 install -D -m 644 "$built/unixvol.pc" "$folder/lib/pkgconfig/unixvol.pc"
 echo "the library, as it was built here, to $folder"
 
-# Of the folders in which the Python here looks for packages, the one below FOLDER; or that of plain Python's layout.
+# The folder below FOLDER in which the Python here looks for packages; or that of plain Python's layout.
 if ! command -v python3 >/dev/null; then
     echo 'skipped: python3 is not here: the Python package'
     exit

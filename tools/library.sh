@@ -1,7 +1,7 @@
 #!/usr/bin/env bash
-# Proves and builds the library for C, Python and Rust, and leaves it in bindings/out: libunixvol.a, libunixvol.so, unixvol.pc, and in python/ the
-# package with the shared object in it. It needs `rt` alone, since archiver and linker are those of the toolchain.
-# BACKEND names the compiler: llvm, or rattle. OUT names another folder than bindings/out.
+# Proves and builds the library for C, Python and Rust, and leaves it in bindings/out: libunixvol.a, libunixvol.so, unixvol.pc, and in python/ the package with
+# the shared object. It needs only `rt`, since the archiver and the linker are the toolchain's.
+# BACKEND names the compiler: llvm or rattle. OUT names another folder than bindings/out.
 set -euo pipefail
 cd "$(dirname "$0")/.."
 rt=$(realpath "$(command -v "${RT:-rt}")")
@@ -20,7 +20,7 @@ save
 end
 END
 
-# The shared object shows only what unixvol.h declares, and needs the C library alone.
+# The shared object exports only what unixvol.h declares, and needs only the C library.
 echo '{ global: unixvol_*; local: *; };' >"$out/exports"
 "$kit/toolchain/bin/ld.lld" -shared -soname libunixvol.so.0 --version-script="$out/exports" -z text -z defs -z now -z noexecstack --strip-all \
     -o "$out/libunixvol.so.0" --whole-archive "$out/libunixvol.a" --no-whole-archive "$kit/toolchain/lib/libc.so.6"

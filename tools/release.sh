@@ -1,6 +1,7 @@
 #!/usr/bin/env bash
-# Packs the built program, ./unixvol, which `make build` or `make test` has built of these sources, with unixvol-mount, their manual pages, completions, samples, licence and README, as dist/unixvol-VERSION-x86_64-linux.tar.xz. Beside it are SHA256SUMS
-# and SOURCES, the sum of the sources (tools/sources.sh). The same files give the same archive, byte for byte.
+# Packs the built program, ./unixvol, which `make build` or `make test` built from these sources, with unixvol-mount, their manual pages, completions, samples,
+# licence and README, as dist/unixvol-VERSION-x86_64-linux.tar.xz. Beside it are SHA256SUMS and SOURCES, the checksum of the sources (tools/sources.sh). The
+# same files give the same archive, byte for byte.
 set -euo pipefail
 cd "$(dirname "$0")/.."
 version=$(./unixvol --version)

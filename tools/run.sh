@@ -1,5 +1,5 @@
 #!/usr/bin/env bash
-# Prints the file in samples/hello.v6 by ./unixvol where it was built, else by the program in dist/. It says which on standard error.
+# Prints the file in samples/hello.v6 with ./unixvol if it was built, else with the program in dist/. It prints which on standard error.
 set -euo pipefail
 cd "$(dirname "$0")/.."
 if [ -x unixvol ]; then

@@ -1,5 +1,6 @@
 #!/usr/bin/env bash
-# Prints the SHA-256 sum of the sources that the program is built from: the crates that it stands on, their lines of crates.txt, HANDLES, and the name of the toolchain.
+# Prints the SHA-256 checksum of the sources from which the program is built: the crates that it needs, their lines of crates.txt, HANDLES, and the name of the
+# toolchain.
 set -euo pipefail
 export LC_ALL=C
 cd "$(dirname "$0")/.."

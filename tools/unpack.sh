@@ -1,4 +1,5 @@
-# Unpacks dist/, once its sum is right, below a folder that goes with the script: `release` is the folder of the program. It is read by `.` at the top of the repository.
+# Unpacks dist/, after checking its checksum, into a folder that is removed when the script ends: `release` is the folder of the program. It is read with `.` at
+# the top of the repository.
 room=$(mktemp -d)
 trap 'rm -rf "$room"' EXIT
 (cd dist && sha256sum --quiet -c SHA256SUMS)

@@ -1,5 +1,5 @@
 #!/usr/bin/env bash
-# Tries the wrong bodies of the crates named, or of all that have some here: the prover must refuse each. It works on a copy.
+# Tries the wrong bodies of the crates named, or of all crates that have some here: the prover must refuse each. It works on a copy.
 # Usage: tools/wrong_bodies.sh [CRATE..]
 set -euo pipefail
 cd "$(dirname "$0")/.."

@@ -1,27 +1,27 @@
 #!/usr/bin/env bash
-# Writes the manual page and the completions for bash and zsh, as the program describes itself: each command, word and option comes
-# from `--help`. What all commands have in common comes from sections.man. Usage: manual/make.sh PROGRAM FOLDER. It writes FOLDER/unixvol.1, FOLDER/unixvol.bash and FOLDER/_unixvol.
+# Writes the manual page and the completions for bash and zsh from what the program prints: each command, word and option comes from `--help`. Text on all
+# commands comes from sections.man. Usage: manual/make.sh PROGRAM FOLDER. It writes FOLDER/unixvol.1, FOLDER/unixvol.bash and FOLDER/_unixvol.
 set -euo pipefail
-# Texts are bytes, whatever the language of the system.
+# Texts are bytes, whatever the system's language.
 export LC_ALL=C
 [ $# = 2 ] || { echo "usage: manual/make.sh PROGRAM FOLDER" >&2; exit 2; }
 program=$(realpath "$1")
 folder=$(realpath "$2")
 sections=$(realpath "$(dirname "$0")")/sections.man
 
-# help WORD..: the help of the program, or of the command that is named
+# help WORD..: the help of the program, or of the command named
 help() { "$program" "$@" --help; }
 
-# commands: the name of each command but `help`, a line each
+# commands: the name of each command except `help`, one per line
 commands() { help | awk '/^Commands:/ { on = 1; next } /^$/ { on = 0 } on && $1 != "help" { print $1 }'; }
 
-# about_help: what the program says of its command `help`
+# about_help: the program's text on its command `help`
 about_help() { help | awk '/^Commands:/ { on = 1 } /^$/ { on = 0 } on && $1 == "help" { sub(/^ *help +/, ""); print }'; }
 
 # about WORD..: the first line of the help
 about() { help "$@" | head -n 1; }
 
-# usage WORD..: the lines of the usage, without the word `Usage:`, where the program has its own name
+# usage WORD..: the lines of the usage, without the word `Usage:`, in which the program has its own name
 usage() { help "$@" | awk '/^Usage:/ { on = 1; sub(/^Usage:/, "") } /^$/ { on = 0 } on { sub(/^ *[^ ]*/, "unixvol"); print }'; }
 
 # section NAME WORD..: the lines of a section of the help, from after its heading to the next empty line
@@ -31,18 +31,18 @@ section() {
     help "$@" | awk -v name="$name:" '$0 == name { on = 1; next } /^$/ { on = 0 } on'
 }
 
-# rest WORD..: what stands in the help after the options
+# rest WORD..: the text of the help after the options
 rest() { help "$@" | awk 'past { print; next } /^Options:/ { on = 1; next } on && /^$/ { past = 1 }'; }
 
 # escaped: standard input as text of a manual page
 escaped() { sed -e 's/\\/\\e/g' -e 's/-/\\-/g' -e 's/`/\\(ga/g' -e "s/'/\\\\(aq/g" -e 's/^\./\\\&./'; }
 
-# table: lines of a section of the help as a list of a manual page: what stands before two spaces, and then its text
+# table: lines of a section of the help as a list of a manual page: the text before two spaces, and the text after them
 table() {
     sed -E -e 's/^ +//' -e 's/  +/\t/' | escaped | awk -F '\t' '{ print ".TP"; print ".B " $1; print $2 }'
 }
 
-# verbatim: standard input as it is, in a manual page
+# verbatim: standard input unchanged, in a manual page
 verbatim() {
     echo .nf
     escaped
@@ -78,7 +78,7 @@ manual_page() {
     cat "$sections"
 }
 
-# kind WORD: what stands for a word of the command line: an edition, a file, a path in the volume, or anything
+# kind WORD: the kind of a word of the command line: an edition, a file, a path in the volume, or anything
 kind() {
     case $1 in
         EDITION) echo edition ;;
@@ -88,7 +88,7 @@ kind() {
     esac
 }
 
-# words COMMAND: the kinds of the command's words, in their order; the last has dots behind it where it may be repeated
+# words COMMAND: the kinds of the command's words, in order; the last is followed by dots if it may be repeated
 words() {
     local name dots
     while read -r name; do
@@ -98,14 +98,14 @@ words() {
     done < <(section Arguments "$1" | awk '{ print $1 }')
 }
 
-# options [COMMAND]: the options of the command, or of the program, a line each; what stands for the value of one that takes a value is behind it
+# options [COMMAND]: the options of the command, or of the program, one per line; an option with a value is followed by the value's kind
 options() {
     section Options "$@" | sed -E -e 's/^ +//' -e 's/  .*//' | awk -F ', ' '
         { value = ""; if (match($0, /<[A-Z]+>/)) value = " " substr($0, RSTART + 1, RLENGTH - 2) }
         { for (i = 1; i <= NF; i++) { sub(/ .*/, "", $i); print $i value } }'
 }
 
-# valued COMMAND: the options of the command that take a value, each with what stands for that
+# valued COMMAND: the options of the command that take a value, each with the value's kind
 valued() {
     local option name
     options "$1" | while read -r option name; do
@@ -113,7 +113,7 @@ valued() {
     done
 }
 
-# words_with_option COMMAND: the kinds of the command's words where an option with a value is given, by the second line of its usage
+# words_with_option COMMAND: the kinds of the command's words if an option with a value is given, from the second line of its usage
 words_with_option() {
     local name dots
     usage "$1" | sed -n 2p | sed -E -e 's/ \[OPTIONS\]//' -e 's/ -. <[A-Z]+>//' | tr ' ' '\n' | tail -n +3 | while read -r name; do
@@ -127,7 +127,7 @@ words_with_option() {
 # one_line: standard input in one line
 one_line() { paste -s -d ' ' -; }
 
-# with_values COMMAND: what the completion for bash has to know of the options that take a value, if there are any
+# with_values COMMAND: the part of the completion for bash on the options that take a value, if there are any
 with_values() {
     [ -z "$(valued "$1")" ] || echo " valued='$(valued "$1" | one_line)' others='$(words_with_option "$1" | one_line)'"
 }
@@ -136,7 +136,7 @@ bash_completion() {
     cat << 'END'
 # Completion for bash. Made by manual/make.sh.
 
-# The names in a directory of the volume, as far as the path's directory leads there.
+# Completes a path in the volume with the names in its directory.
 _unixvol_paths() {
     local folder=${3%/*} name
     [[ $3 == */* ]] || folder=
@@ -146,11 +146,11 @@ _unixvol_paths() {
     done < <(unixvol ls -- "$(_unixvol_plain "$1")" "$(_unixvol_plain "$2")" "$folder/" 2> /dev/null)
     [[ $3 == /* ]] || COMPREPLY=("${COMPREPLY[@]#/}")
     mapfile -t COMPREPLY < <(compgen -W "$(printf '%q ' "${COMPREPLY[@]}")" -- "$3")
-    # A directory's path is gone on with.
+    # After a directory the path goes on.
     compopt -o nospace 2> /dev/null
 }
 
-# A word of the line without quotes, and with the home directory for a tilde.
+# Prints a word of the line without quotes, and with the home directory for a tilde.
 _unixvol_plain() {
     local word=${1//[\"\'\\]/}
     printf '%s' "${word/#\~\//"$HOME"/}"
@@ -160,7 +160,7 @@ _unixvol() {
     local current=${COMP_WORDS[COMP_CWORD]} command='' options='' kinds='' valued='' others='' word previous='' expected=''
     local -a before=("${COMP_WORDS[@]:1:COMP_CWORD-1}") given=()
     COMPREPLY=()
-    # Options of the program stand before the command.
+    # Options of the program come before the command.
     while [[ ${before[0]:-} == -* ]]; do before=("${before[@]:1}"); done
     command=${before[0]:-}
     if [ -z "$command" ]; then
@@ -181,9 +181,9 @@ END
         return
     fi
     for word in "${before[@]:1}"; do
-        # An equals sign between an option and its value is a word to bash.
+        # To bash an equals sign between an option and its value is a word.
         [[ $word == = ]] && continue
-        # The value of an option is none of the words.
+        # The value of an option isn't one of the words.
         if [[ " $valued " == *" $previous="* ]]; then
             kinds=$others previous=''
             continue
@@ -209,7 +209,7 @@ complete -o filenames -F _unixvol unixvol
 END
 }
 
-# completer KIND: what zsh completes a word of this kind by
+# completer KIND: zsh's way to complete a word of this kind
 completer() {
     case $1 in
         edition) echo '(6 7)' ;;
@@ -222,7 +222,7 @@ completer() {
 # quoted: standard input as the text within an argument of zsh's `_arguments`
 quoted() { sed -e "s/'/'\\\\''/g" -e 's/\[/(/g' -e 's/\]/)/g' -e 's/:/\\:/g'; }
 
-# option_arguments COMMAND: the options of a command for zsh's `_arguments`, a line each
+# option_arguments COMMAND: the options of a command for zsh's `_arguments`, one per line
 option_arguments() {
     local names text value
     while IFS=$'\t' read -r names text; do
@@ -234,8 +234,8 @@ option_arguments() {
     done < <(section Options "$1" | sed -E -e 's/^ +//' -e 's/  +/\t/')
 }
 
-# word_arguments COMMAND: the words of a command for zsh's `_arguments`, a line each; of a command with an option that takes a value
-# those that it has without this option
+# word_arguments COMMAND: the words of a command for zsh's `_arguments`, one per line; for a command with an option that takes a value, those without this
+# option
 word_arguments() {
     local name text count=1 place
     while IFS=$'\t' read -r name text; do
@@ -250,14 +250,14 @@ word_arguments() {
     done < <(section Arguments "$1" | sed -E -e 's/^ +//' -e 's/  +/\t/')
 }
 
-# repeated_argument COMMAND: the word that a command takes several times where an option with a value is given, for zsh's `_arguments`
+# repeated_argument COMMAND: the word that a command takes several times if an option with a value is given, for zsh's `_arguments`
 repeated_argument() {
     local repeated
     repeated=$(words_with_option "$1" | tail -n 1)
     echo "'*: :$(completer "${repeated%...}")'"
 }
 
-# own_options: the options of the program for zsh's `_describe`, a line each
+# own_options: the options of the program for zsh's `_describe`, one per line
 own_options() {
     local names text
     while IFS=$'\t' read -r names text; do
@@ -267,7 +267,7 @@ own_options() {
     done < <(section Options | sed -E -e 's/^ +//' -e 's/  +/\t/')
 }
 
-# zsh_arguments COMMAND: how zsh completes the words of a command
+# zsh_arguments COMMAND: zsh's way to complete the words of a command
 zsh_arguments() {
     local options words given
     options="_arguments '1: :' $(option_arguments "$1" | one_line)"
@@ -289,7 +289,7 @@ zsh_completion() {
 #compdef unixvol
 # Completion for zsh. Made by manual/make.sh.
 
-# The names in a directory of the volume, as far as the path's directory leads there.
+# Completes a path in the volume with the names in its directory.
 _unixvol_paths() {
     local given=${(Q)PREFIX} folder= name
     local -a paths
@@ -315,7 +315,7 @@ END
     own_options
     cat << 'END'
 )
-# The option of all commands may stand before the command.
+# The option of all commands may come before the command.
 if (( CURRENT > 2 )) && [[ $words[2] == --explain ]]; then
     words=("$words[1]" "${(@)words[3,-1]}")
     (( CURRENT -= 1 ))

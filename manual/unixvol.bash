@@ -1,6 +1,6 @@
 # Completion for bash. Made by manual/make.sh.
 
-# The names in a directory of the volume, as far as the path's directory leads there.
+# Completes a path in the volume with the names in its directory.
 _unixvol_paths() {
     local folder=${3%/*} name
     [[ $3 == */* ]] || folder=
@@ -10,11 +10,11 @@ _unixvol_paths() {
     done < <(unixvol ls -- "$(_unixvol_plain "$1")" "$(_unixvol_plain "$2")" "$folder/" 2> /dev/null)
     [[ $3 == /* ]] || COMPREPLY=("${COMPREPLY[@]#/}")
     mapfile -t COMPREPLY < <(compgen -W "$(printf '%q ' "${COMPREPLY[@]}")" -- "$3")
-    # A directory's path is gone on with.
+    # After a directory the path goes on.
     compopt -o nospace 2> /dev/null
 }
 
-# A word of the line without quotes, and with the home directory for a tilde.
+# Prints a word of the line without quotes, and with the home directory for a tilde.
 _unixvol_plain() {
     local word=${1//[\"\'\\]/}
     printf '%s' "${word/#\~\//"$HOME"/}"
@@ -24,7 +24,7 @@ _unixvol() {
     local current=${COMP_WORDS[COMP_CWORD]} command='' options='' kinds='' valued='' others='' word previous='' expected=''
     local -a before=("${COMP_WORDS[@]:1:COMP_CWORD-1}") given=()
     COMPREPLY=()
-    # Options of the program stand before the command.
+    # Options of the program come before the command.
     while [[ ${before[0]:-} == -* ]]; do before=("${before[@]:1}"); done
     command=${before[0]:-}
     if [ -z "$command" ]; then
@@ -64,9 +64,9 @@ _unixvol() {
         return
     fi
     for word in "${before[@]:1}"; do
-        # An equals sign between an option and its value is a word to bash.
+        # To bash an equals sign between an option and its value is a word.
         [[ $word == = ]] && continue
-        # The value of an option is none of the words.
+        # The value of an option isn't one of the words.
         if [[ " $valued " == *" $previous="* ]]; then
             kinds=$others previous=''
             continue

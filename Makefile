@@ -1,4 +1,5 @@
-# What can be done with this repository. All but `make run` and `make install` need the Rattle toolchain (its command `rt`); `make bench` and `make faults` also need rustc.
+# Targets of this repository. All but `make run` and `make install` need the Rattle toolchain (its command `rt`); `make bench` and `make faults` also
+# need rustc.
 
 RT ?= rt
 PREFIX ?= /usr/local
@@ -6,7 +7,7 @@ PREFIX ?= /usr/local
 .DEFAULT_GOAL := help
 .PHONY: help run build test bench faults wrong-bodies manual release install library library-test
 
-# The scripts of rows that the gate runs the built program through.
+# The test scripts that the gate runs the built program through.
 ROWS = program words volumes looks checks checkers changes trees many_trees archives migrations plays explaining serve mount manual readme lessons
 
 help:
@@ -24,7 +25,7 @@ help:
 	@echo 'make manual                 builds the program, and makes the manual page and the completions anew from what it says of itself'
 	@echo 'make release                packs ./unixvol as it was built, with its manual page and completions, into dist/'
 
-# The program is built only where it is proved.
+# The program is built only when it is proved.
 build:
 	RT=$(RT) tools/build.sh
 
@@ -53,21 +54,21 @@ bench: build
 	cd crates/bench_library && $(RT) run -- calls 0 0 create + checks 6 icheck 1 1 + views view 0 1 400 5 < stdin
 	bench/run.sh ./unixvol crates/bench_library/out/bench_library
 
-# The libraries' runs come by the program `refused_memory`, which the gate runs once with nothing refused.
+# The runs of the libraries use the program `refused_memory`, which the gate runs once with nothing refused.
 faults: build
 	cd crates/refused_memory && $(RT) run -- volume
 	tests/refused.sh crates/refused_memory/out/refused_memory
 	tests/faults.sh ./unixvol
 
-# They are kept beside the crates, since the gate tries what it finds in must-fail.
+# They are kept outside the crates, since the gate tries all wrong bodies in must-fail.
 wrong-bodies:
 	RT=$(RT) tools/wrong_bodies.sh $(CRATES)
 
-# What is made is committed, and the gate compares it with the program's help.
+# The generated files are committed, and the gate compares them with the program's help.
 manual: build
 	manual/make.sh ./unixvol manual
 
-# A release is made of what the gate has passed.
+# A release is made from what the gate has passed.
 release:
 	RT=$(RT) tools/release.sh
 

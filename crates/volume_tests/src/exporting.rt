@@ -5,11 +5,9 @@ use pdp_words::{Image, IntoWrite};
 use std::alloc::Global;
 use std::io::ErrorKind;
 use std::process::Abort;
-use std::test::Fail;
-use vol_archive::{StartFault, WriteFault, export, start_of, walk_lost};
+use vol_archive::{StartFault, WriteFault, export, start_of};
 use vol_dir::Refusal;
-use vol_inspect::lost_inodes;
-use vol_layout::{Edition, Geometry};
+use vol_layout::Edition;
 
 /// A volume of the seventh edition, of ten blocks, four of them before the data. I-node 2 is the root. It has files,
 /// directories, a further name and special files; no directory has `.` or `..`.
@@ -89,29 +87,4 @@ fn a_path_with_a_zero_byte_is_refused(rt: HostRuntime) {
     let image = image_of(&rt, rt.alloc(), 2048, &[(512, b"\x01\0\x04\0")]);
     let fault = StartFault::Refused(Refusal::Invalid);
     assert_eq!(rt; start_of(Edition::V6, &image, b"/d\0"), Err(fault));
-}
-
-#[test]
-fn a_directory_without_a_name_is_walked_below_lost_and_found(rt: HostRuntime) -> Result<(), Fail> {
-    let alloc = rt.alloc();
-    let mut pieces = Vec::from_slice(alloc, &TREE)?;
-    pieces.push((2080, b"\0"))?;
-    let image = image_of(&rt, alloc, 5120, &pieces);
-    let geometry = Geometry::read(Edition::V7, &image).expect(&rt, "a geometry");
-    let lost = lost_inodes(alloc, &image, &geometry)?;
-    assert_eq!(rt; lost.as_slice(), [5].as_slice());
-    let founds = walk_lost(alloc, &image, &geometry, 2, &lost)?;
-    let mut met = Vec::new(alloc);
-    for found in founds.iter().skip(5) {
-        met.push((found.path.as_slice(), found.inode))?;
-    }
-    let wanted: [(&[u8], u16); 5] = [
-        (b"lost+found", 2),
-        (b"lost+found/#5", 5),
-        (b"lost+found/#5/abcdefghijklmn", 8),
-        (b"lost+found/#5/e", 9),
-        (b"lost+found/#5/link", 3),
-    ];
-    assert_eq!(rt; met.as_slice(), wanted.as_slice());
-    Ok(())
 }

@@ -49,11 +49,11 @@ in_turned b (x ∷ xs) ys (inr i) = in_turned b xs (x ∷ ys) (inr (inr i))
 pub in_reverse : (b : ℕ) (xs : List ℕ) → IsIn b xs → IsIn b (reverse xs)
 in_reverse b xs i = in_turned b xs [] (inl i)
 
--- a fault isn't none
+-- a walk with a fault isn't one without
 no_fault : {walk : Walked} {fault : FreeFault × ℕ} {met : List ℕ} → walk.fault ≡ Some fault → walk ≡ record { met = met; fault = None } → ⊥
 no_fault {fault = fault} some none = none-some fault (sym (ap (λ (k : Walked). k.fault) none) ∙ some)
 
--- nor is none a fault
+-- a walk without a fault isn't one with a fault
 a_fault : {walk : Walked} {fault : FreeFault × ℕ} {met : List ℕ} → walk.fault ≡ None → walk ≡ record { met = met; fault = Some fault } → ⊥
 a_fault {fault = fault} none some = none-some fault (sym none ∙ ap (λ (k : Walked). k.fault) some)
 

@@ -34,7 +34,7 @@ and_gone true true = refl
 and_gone true false = refl
 and_gone false y = refl
 
--- no place is lacking once all that are wanted are named
+-- no place is missing once all the wanted ones name blocks
 lacking_none : (geometry : Geometry) (old new : List ℕ) (i : ℕ) (wanted : List ℕ → Bool) → IsFile geometry old i
     → mode_of geometry new i ≡ mode_of geometry old i
     → ((p : List ℕ) → IsPlaceOf geometry old i p → is_named geometry new i p ≡ (is_named geometry old i p || wanted p))

@@ -70,7 +70,7 @@ under_front a j p q under = front_above q p under.index a under.front
 pub under_longer : (p : List ℕ) (j : ℕ) → IsUnder p j p → ⊥
 under_longer p j under = front_longer under.index p under.front
 
--- an entry doesn't lie under later ones
+-- an entry isn't below a later one
 pub under_later : (p : List ℕ) (j k : ℕ) → j < k → IsUnder p k (j ∷ p) → ⊥
 under_later p j k less under = elim under.front [
   | inl e ↦ let same : under.index ≡ j = cc in let from : k ≤ under.index = under.from in omega arith

@@ -70,7 +70,7 @@ below_stack geometry old new b level kept cleared node =
 node_stack : (geometry : Geometry) (image : List ℕ) (b level : ℕ) → IsNamedAtLevel geometry image b level → HasStack geometry image
 node_stack geometry image b level node = record { blocks = node.blocks; free = node.sound.free }
 
--- the blocks given by one step more are no more than can be counted
+-- after one more step the number of blocks given still fits the counter
 pub step_few : (geometry : Geometry) (old mid low : List ℕ) (b level kept given count : ℕ) → HasStack geometry old → IsNamedAtLevel geometry mid b level
     → Gains geometry old mid given → ClearsBelow geometry mid low b level kept → Gains geometry mid low count → given + (count + 1) ≤ 33554433
 step_few geometry old mid low b level kept given count has node gains cleared more =

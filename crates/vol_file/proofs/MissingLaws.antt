@@ -23,7 +23,7 @@ use Rattle.vol_layout.proofs.LastPlaces.{last_small, last_large, last_huge, last
 
 -- Counts
 
--- 1 for yes
+-- 1 if true, else 0
 abbrev pub one_if : Bool → ℕ
 one_if t = cond t 1 0
 
@@ -106,7 +106,7 @@ front_new (j ∷ (a ∷ p)) q (inr deeper) =
     let above : is_new true (a ∷ p) q ≡ true = front_new (a ∷ p) q deeper in
     yes_after (bytes_eq q (j ∷ (a ∷ p))) (is_new true (a ∷ p) q) above
 
--- the fronts of a place are those that count if the whole way does
+-- if the whole way counts, the fronts of a place are those that count
 pub fronts_new : (p q : List ℕ) → list_any (bytes_eq q) (fronts p) ≡ is_new true p q
 fronts_new [] q = refl
 fronts_new (k ∷ []) q = or-false (bytes_eq q (k ∷ []))
@@ -679,7 +679,7 @@ small_grows_not Large = refl
 small_grows_not Deep = refl
 small_grows_not Bare = refl
 
--- no bytes need nothing
+-- a write of no bytes needs no blocks
 pub need_nothing : (form : Form) (names : List ℕ → Bool) → need_of form names [] ≡ 0
 unfolding need_of missing_count
 need_nothing form names = let none : grows_large form [] ≡ false = small_grows_not form in

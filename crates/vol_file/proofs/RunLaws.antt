@@ -1,4 +1,4 @@
--- Runs of logical blocks whose numbers stand one after the other.
+-- Runs of logical blocks whose numbers are stored one after another.
 use Rattle.std.proofs.Common.{◌≡◌, ℕ, suc, ◌+◌, ◌-◌, ◌/◌, ◌%◌, ◌<◌, ◌≤◌, ◌∙◌, sym, ap, subst, List, [], ◌∷◌, length, slice_index, arith, inl, inr, Some}
 use Rattle.std.specs.Option.{option_map_or}
 use Rattle.std.proofs.lemmas.Bool.{cases_lt}
@@ -18,7 +18,7 @@ use Rattle.vol_file.proofs.Subtrees.{some_is, head_of, tail_of, pointers_at, len
 abbrev moved : ℕ → List ℕ → List ℕ
 moved t p = (head_of p + t) ∷ tail_of p
 
--- the last place of the logical block t behind one of a large file, in the same indirect block
+-- the last place of logical block b + t of a large file, if that of b is in the same indirect block
 next_large : (b t : ℕ) → b < 1792 → b % 256 + t < 256 → last_place Large (b + t) ≡ Some ((b % 256 + t) ∷ ((b / 256) ∷ []))
 next_large b t low within =
     let entry : (b + t) % 256 ≡ b % 256 + t = omega arith in
@@ -60,7 +60,7 @@ next_triple b t low high within =
     ∙ (ap (λ x. Some (((b - 16522) % 128 + t) ∷ ((x % 128) ∷ (((b + t - 16522) / 16384) ∷ (12 ∷ []))))) above
     ∙ ap (λ x. Some (((b - 16522) % 128 + t) ∷ (((b - 16522) / 128 % 128) ∷ (x ∷ (12 ∷ []))))) top))
 
--- the last place of a logical block behind the direct ones is a pointer, and those that follow it in its block are of the blocks that follow
+-- the last place of a logical block after the direct ones is a pointer, and the pointers after it are those of the next logical blocks
 pub record IsFollowed (form : Form) (b : ℕ) (p : List ℕ) : Type 0 where
   pub deep : 2 ≤ length p
   pub next : (t : ℕ) → head_of p + t < pointer_count form → last_place form (b + t) ≡ Some (moved t p)
@@ -88,14 +88,14 @@ followed Deep b p behind e =
     ]
 followed Bare b p behind e = let limit : b < 0 = (last_leaf Bare b p e).limit in absurd (omega arith)
 
--- behind the direct blocks a way has an indirect block
+-- the way of a logical block after the direct ones has an indirect block
 pub deep_way : (form : Form) (b : ℕ) (way : Way) → direct_count form ≤ b → Some (end_of way) ≡ last_place form b → 1 ≤ way.depth
 deep_way form b way behind e =
     let deep = (followed form b (end_of way) behind (sym e)).deep in
     let long : length (end_of way) ≡ suc way.depth = length_to way.address way.entries way.depth in
     omega arith
 
--- what is stored for the logical block t behind one stands t pointers behind its number
+-- the number of logical block b + t is stored t pointers after that of b
 pub stored_behind : (geometry : Geometry) (image : List ℕ) (i : ℕ) (form : Form) (b above t : ℕ) (way : Way) → form ≡ form_at geometry image i
     → direct_count form ≤ b → Some (end_of way) ≡ last_place form b → above + 1 ≡ way.depth
     → slice_index way.entries above + t < (constants geometry.edition).pointers

@@ -210,7 +210,7 @@ pub record MayFill (geometry : Geometry) (image : List ℕ) (i from to : ℕ) : 
   pub blocks : List ℕ
   pub has : HasRoom geometry image i from to blocks
 
--- a text was put at an offset of file i, where the blocks for it were stored, with zeros between the old size and the
+-- a text was put at an offset of file i, which had the blocks for it already, with zeros between the old size and the
 -- offset (Lions on writei)
 pub record Puts (geometry : Geometry) (old new : List ℕ) (i offset : ℕ) (text blocks : List ℕ) : Type 0 where
   pub alone : StaysElsewhere geometry old new i

@@ -17,7 +17,7 @@ pub fn places_are_listed_once()
 {}
 
 /// Counting the blocks that a write needs among all places of the form gives the same number as counting block by
-/// block, where the part of a way that is shared with the block before isn't counted again. No bytes need no blocks.
+/// block, if the part of a way that the block before shares is counted once. A write of no bytes needs no blocks.
 pub fn need_is_counted_by_blocks()
     ensures count { CountsBlockByBlock }
     ensures nothing { NeedsNothingForNothing }

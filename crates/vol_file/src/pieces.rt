@@ -43,7 +43,7 @@ fn clear_piece(image: &mut Image, geometry: &Geometry, i: u16, form: Form, at: u
     }
 }
 
-/// Writes `text` to file `i` from byte `offset` on, where the block of each byte is stored.
+/// Writes `text` to file `i` from byte `offset` on. The file must have the block of each byte.
 pub(crate) fn put_text(
     image: &mut Image,
     geometry: &Geometry,

@@ -67,8 +67,7 @@ fn read_whole(image: &Image, geometry: &Geometry, i: u16, offset: u32, buffer: &
     }
 }
 
-/// Fills `piece` with bytes of block `k` from its byte `start` on, or with zeros where `k` is no data
-/// block.
+/// Fills `piece` with bytes of block `k` from its byte `start` on, or with zeros if `k` is no data block.
 #[tactic(auto, unfolding(vol_layout::specs::Body::zone_byte))]
 fn read_piece(image: &Image, geometry: &Geometry, k: u32, start: usize, piece: &mut [u8])
     requires fits { Fits geometry.now image.now }

@@ -81,10 +81,10 @@ impl BlockNumbers {
         }
     }
 
-    /// The first logical block from `from` up to `end` for which the block map has a number, as
-    /// [`next_block`](crate::next_block) says, of the image and geometry of the calls before.
+    /// Returns the first logical block from `from` up to `end` for which the block map has a number, as
+    /// [`next_block`](crate::next_block) does. The image and geometry must be those of the earlier calls.
     ///
-    /// Costs what [`BlockNumbers::block_at`] does where that is `from`, and else what `next_block` does besides.
+    /// Costs what [`BlockNumbers::block_at`] does if the result is `from`; otherwise also what `next_block` does.
     pub fn next_block(&mut self, image: &Image, geometry: &Geometry, from: u32, end: u32) -> u32
         requires fits { Fits geometry.now image.now }
         requires own { LooksUp geometry.now image.now self.old.inode self.old }

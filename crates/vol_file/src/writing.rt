@@ -59,8 +59,8 @@ fn name_blocks(image: &mut Image, geometry: &Geometry, i: u16, from: u32, to: u3
     }
 }
 
-/// Writes `text` to file `i` from byte `offset` on, where the block of each of its bytes is stored: first zeros between the
-/// size and the offset, then the text, then the size.
+/// Writes `text` to file `i` from byte `offset` on: first zeros between the size and the offset, then the text, then the
+/// size. The file must have the block of each byte.
 fn put_in_blocks(image: &mut Image, geometry: &Geometry, i: u16, offset: u32, text: &[u8])
     requires file { IsFile geometry.now image.old i }
     requires sound { Rules3To7 geometry.now image.old }

@@ -125,7 +125,7 @@ names_behind slots name i =
     still_sorted true = sorted slots
     still_sorted false = is_sorted-put (slice_cmp nat_cmp) nat_list_cmp_total name i (names_of slots) (sorted slots)
 
--- an empty slot, or one whose name is there, adds no name
+-- an empty slot, or one whose name is in the map already, adds no name
 names_more : (slots : List (Option (List ℕ × ℕ))) (entry : Option (List ℕ × ℕ)) → is_met (names_of slots) entry ≡ true
     → names_of (slots ++ entry ∷ []) ≡ names_of slots
 unfolding put_first
@@ -189,7 +189,7 @@ some_else : (first : Option ℕ) (i : ℕ) → is_some (or_else first (Some i)) 
 some_else None i = refl
 some_else (Some j) i = refl
 
--- an entry whose name is there is met when one more is put first
+-- an entry whose name is in the map still counts as met after one more name is added
 met_more : (names : Names) (name : List ℕ) (i : ℕ) (entry : Option (List ℕ × ℕ)) → is_met names entry ≡ true → is_met (put_first names name i) entry ≡ true
 met_more names name i None met = refl
 met_more names name i (Some entry) met =
@@ -201,7 +201,7 @@ met_put names name i =
     ap is_some (get_put_first names name name i ∙ ap (λ b. or_else (get names name) (cond b (Some i) None)) (bytes_same name name refl))
     ∙ some_else (get names name) i
 
--- a slot that is empty or has a name that is there does so when one more is put first
+-- a slot that is empty, or whose name is in the map, still is after one more name is added
 passes_more : (names : Names) (name : List ℕ) (i : ℕ) (geometry : Geometry) (image : List ℕ) (m part : ℕ)
     → passes_in (is_met names) geometry image m part ≡ true → passes_in (is_met (put_first names name i)) geometry image m part ≡ true
 passes_more names name i geometry image m part = elim (nat_lt part 32) as (λ z. (if z then is_met names (entry_in_block geometry image m part) else true) ≡ true
@@ -269,7 +269,7 @@ listed_put entries new key name i missing put is =
     ∙ sym (ap (λ found. cond (is_some found) (by_bytes entries) (insert (by_bytes entries) name i)) (sym (lookup_listed name entries))
     ∙ ap (λ b. cond b (by_bytes entries) (insert (by_bytes entries) name i)) missing)))
 
--- with a name that is there they stay
+-- a name that is there already changes nothing
 pub listed_kept : (entries : List (Vec ℕ × ℕ)) (name : List ℕ) (i : ℕ)
     → is_some (lookup (λ k. is_eq (slice_cmp nat_cmp name k.items)) entries) ≡ true → by_bytes entries ≡ put_first (by_bytes entries) name i
 unfolding put_first

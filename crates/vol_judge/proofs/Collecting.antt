@@ -69,12 +69,12 @@ pub count_low : (edition : Edition) (size : ℕ) → min size (constants edition
 count_low V6 size = omega arith
 count_low V7 size = omega arith
 
--- so are they numbered
+-- the number of the next slot is within its bound
 pub next_low : (geometry : Geometry) (image : List ℕ) (d : ℕ) {from s : ℕ} {slot : Slot} → IsNextEntry (entry_at geometry image d) from (slot_count geometry image d) s slot → s < 67637568
 next_low geometry image d next =
     omega (arith, count_low geometry.edition (size_of geometry image d), next.within)
 
--- a slot below the one after the next entry is below where the search began, or is the next entry's
+-- an entry up to the one that a search finds is before the start of the search, or is that one
 entry_split : (geometry : Geometry) (image : List ℕ) (d : ℕ) {from s : ℕ} {slot : Slot} (t i : ℕ) (name : List ℕ) → IsNextEntry (entry_at geometry image d) from (slot_count geometry image d) s slot
     → t < s + 1 → entry_at geometry image d t ≡ Some (name, i) → (t < from) ⊎ ((t ≡ s) × (name ≡ name_of slot.name) × (i ≡ slot.inode))
 entry_split geometry image d {from = from} {s = s} {slot = slot} t i name next low entry =

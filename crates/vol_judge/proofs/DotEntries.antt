@@ -12,7 +12,7 @@ use Rattle.vol_judge.specs.InodeMarks.{IsNamed, IsNamedUpTo}
 use Rattle.vol_judge.proofs.Collecting.{same_entry, none_some}
 use Rattle.vol_dir.proofs.NextEntries.{entry_next, none_from}
 
--- before the first slot nothing is named
+-- no slot below slot 0 has the name
 pub named_first : (geometry : Geometry) (image : List ℕ) (d : ℕ) (name : List ℕ) → IsNamedUpTo geometry image d 0 name None
 named_first geometry image d name = record { all = λ s i low has. absurd (omega (arith, low)); only = λ i same. absurd (cc) }
 

@@ -49,7 +49,7 @@ before_first nameless d reached other n is = elim (cases_eq d n) [
   | inr apart ↦ let low = reached n is in omega (arith, low, apart)
 ]
 
--- the first directory without an entry for itself tells if one that isn't after it has one
+-- a directory up to the first one without an entry for itself has one exactly if it isn't that one
 pub itself_decides : {geometry : Geometry} {image : List ℕ} {ups : List (Option ℕ)} {nameless : Option ℕ} {d : ℕ} (b : Bool)
     → KnowsDots geometry image ups nameless → IsDirectory geometry image d → ((n : ℕ) → nameless ≡ Some n → d ≤ n)
     → b ≡ not (option_eq eqb nameless (Some d)) → IsTrue b ↔ NamesItself geometry image d
@@ -87,7 +87,7 @@ no_parent {geometry = geometry} {d = d} named none names = elim (cases_eq d (roo
   | inr other ↦ let parent = names.other other in let up = named.all parent.0 parent.1 parent.3 in cc
 ]
 
--- the root's `..` tells if it is its own parent
+-- the root is its own parent exactly if its `..` names it
 pub root_parent : {geometry : Geometry} {image : List ℕ} {d : ℕ} {number : Option ℕ} (up root : ℕ) → IsNamed geometry image d dot_dot number
     → number ≡ Some up → d ≡ root → d ≡ root_of geometry → IsTrue (nat_eq up root) ↔ NamesParent geometry image d
 root_parent {d = d} up root named some own is = (

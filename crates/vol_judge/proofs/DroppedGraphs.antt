@@ -8,7 +8,7 @@ use Rattle.vol_judge.proofs.GraphCounts.{one_for, one_here, one_else, counted_so
 use Rattle.vol_judge.proofs.GraphParts.{has_entry, not_free, not_directory, entry_parts, root_directory, elsewhere, counted_slot, below_kept}
 use Rattle.vol_layout.specs.declared.mode.Kind.TheVariants as kinds
 
--- an entry that is there after one went was there
+-- an entry that exists after one was removed existed before
 pub was_there : (old new : Graph) (d s x t : ℕ) (entry gone : List ℕ × ℕ) → ChangesSlot old new d s (Some gone) None
     → (x ≢ d → new.entry x t ≡ old.entry x t) → new.entry x t ≡ Some entry → old.entry x t ≡ Some entry
 was_there old new d s x t entry gone slot away some = elim (cases_eq x d) [

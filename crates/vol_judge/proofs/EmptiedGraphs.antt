@@ -35,7 +35,7 @@ beyond old new i d s x t name drops other away = drops.others.entry x t away oth
 gone_entry : (old new : Graph) (last i d s t : ℕ) (name : List ℕ) → IsGraphWithin new last → DropsDirectory old new i d s name → new.entry i t ≡ None
 gone_entry old new last i d s t name after drops = after.directories i t (not_directory (new.kind i) drops.kind)
 
--- an entry that is there afterwards was there
+-- an entry that exists afterwards existed before
 kept_entry : (old new : Graph) (last i d s x t : ℕ) (name : List ℕ) (entry : List ℕ × ℕ) → IsGraphWithin new last
     → DropsDirectory old new i d s name → new.entry x t ≡ Some entry → (x ≢ i) × (old.entry x t ≡ Some entry)
 kept_entry old new last i d s x t name entry after drops some = elim (cases_eq x i) [

@@ -10,7 +10,7 @@ use Rattle.vol_dir.specs.Scanning.{IsNextEntry}
 use Rattle.vol_judge.specs.Naming.{HasEntriesBelow, IsNamedBelow, is_in, HoldsNamesBelow}
 use Rattle.vol_judge.proofs.Collecting.{none_some, name_of-padded}
 
--- an entry before the next one is before where the search for it began
+-- an entry before the one that a search finds is before the start of the search
 early : (geometry : Geometry) (image : List ℕ) (d : ℕ) {from s : ℕ} {slot : Slot} (t i : ℕ) (name : List ℕ)
     → IsNextEntry (entry_at geometry image d) from (slot_count geometry image d) s slot → t < s → entry_at geometry image d t ≡ Some (name, i) → t < from
 early geometry image d {from = from} t i name next low entry = elim (cases_lt t from) [
@@ -18,7 +18,7 @@ early geometry image d {from = from} t i name next low entry = elim (cases_lt t 
   | inr above ↦ absurd (none_some (entry_at geometry image d t) (name, i) entry (next.none t above low))
 ]
 
--- so a property of the slots below where it began is one of those below the next entry
+-- so what holds of the slots before the start holds of those before the entry found
 pub below_reached : {geometry : Geometry} {image : List ℕ} {d from s : ℕ} {slot : Slot} → HasEntriesBelow geometry image d from
     → IsNextEntry (entry_at geometry image d) from (slot_count geometry image d) s slot → HasEntriesBelow geometry image d s
 below_reached {geometry = geometry} {image = image} {d = d} below next = record {

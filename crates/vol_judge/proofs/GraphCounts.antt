@@ -105,7 +105,7 @@ count_more entry i a (suc n) (suc m) k e none =
     let right = sum_by-cons (λ s. one_for i (entry s)) a (range_with_len (a + 1) n) in
     omega (arith, rest, left, right)
 
--- the slots of d may be counted as far as one likes after the size
+-- counting slots of d past its size changes nothing
 pub counted_to : (graph : Graph) (last i d n : ℕ) → IsGraphWithin graph last → graph.size d / 16 ≤ n → counted_in graph i d ≡ count_to (graph.entry d) i n
 counted_to graph last i d n within far =
     sum_map (one_for i) (graph.entry d) (range_with_len 0 (graph.size d / 16))

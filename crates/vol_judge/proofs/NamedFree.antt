@@ -75,7 +75,7 @@ module _ (g : Geometry) (image marks blocks : List ℕ) (fits : Fits g image) (n
         λ rule. rule blocks free by.0 by.1 by.2.place (subst (λ x. IsIn x blocks) (sym named_is) there),
       )
 
-  -- the first one found tells if no free block is named
+  -- the search of the free blocks finds the first one that is named, if any is
   pub named_found : (found : Option ℕ) → IsApart g image → FindsMarked marks blocks found
       → Finds (IsFreeApart g image) (IsFirstTwice g image) (option_map UsedAndFree found)
   named_found None apart clear = clear_apart clear

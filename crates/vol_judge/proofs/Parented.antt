@@ -40,7 +40,7 @@ once_first geometry image place low = record {
   root_none = λ e s enters before. absurd (omega (arith, before, low, enters.1.directory.first));
 }
 
--- an entry is passed, if it is `.` or `..`, for the root or for no directory, or for one with an entry noted elsewhere that it doesn't name by `..`
+-- an entry changes no note if it is `.` or `..`, if it is for the root or for no directory, or if another entry is noted and `..` doesn't name this one's directory
 pub parents_kept : {geometry : Geometry} {image : List ℕ} {place d s : ℕ} {slot : Slot} {ups parents : List (Option ℕ)}
     → NotesParentsBefore geometry image ups place parents → IsNextSlot geometry image place d s slot
     → (is_dots (name_of slot.name) ≡ false → IsDirectory geometry image slot.inode → slot.inode ≢ root_of geometry
@@ -119,7 +119,7 @@ parents_noted {geometry = geometry} {image = image} {place = place} {d = d} {s =
           ];
     }
 
--- an entry `.` or `..`, or one for a node that is neither the root nor a directory, enters none
+-- an entry `.` or `..`, or one for a node that is neither the root nor a directory, leads to no directory
 pub once_passed : {geometry : Geometry} {image : List ℕ} {place d s : ℕ} {slot : Slot}
     → HasOnceBefore geometry image place → IsNextSlot geometry image place d s slot
     → (is_dots (name_of slot.name) ≡ false → (slot.inode ≢ root_of geometry) × (IsDirectory geometry image slot.inode → ⊥))
@@ -172,7 +172,7 @@ once_noted {geometry = geometry} {image = image} {place = place} {d = d} {s = s}
           ];
     }
 
--- a property of the entries before the place where the search for the next one began is one of all before that
+-- what holds of the entries before the start of a search holds of all entries before the one that it finds
 once_here : {geometry : Geometry} {image : List ℕ} {place d s : ℕ} {slot : Slot} → HasOnceBefore geometry image place
     → IsNextSlot geometry image place d s slot → HasOnceBefore geometry image (rank d s)
 once_here once next = record {
@@ -249,7 +249,7 @@ again_broken geometry image (findings.EnteredTwice d s) again rule =
     omega (arith, had.before, same.0, same.1)
 again_broken geometry image _ again rule = absurd again
 
--- the first of the violation found before and of that by the next entry
+-- the violation found before, or else that of the next entry, is the first
 pub again_next : {geometry : Geometry} {image : List ℕ} {ups parents : List (Option ℕ)} {place d s : ℕ} {slot : Slot} (first second result : Option Finding)
     → IfNone first (result ≡ second) → IfSome first (λ f. result ≡ first) → NotesParentsBefore geometry image ups place parents
     → IsNextSlot geometry image place d s slot → IfNone first (HasOnceBefore geometry image place) → IfSome first (IsEnteredAgain geometry image)

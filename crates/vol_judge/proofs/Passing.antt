@@ -12,7 +12,7 @@ use Rattle.vol_judge.specs.Stepping.{rank, IsNextSlot, IsPastEntries}
 use Rattle.vol_judge.proofs.Collecting.{count_low, next_low, same_entry, none_some}
 use Rattle.vol_dir.proofs.NextEntries.{entry_next, none_from}
 
--- the slot of an entry is one of the directory
+-- an entry's slot is within its directory
 pub entry_within : (geometry : Geometry) (image : List ℕ) (d s : ℕ) (entry : List ℕ × ℕ) → entry_at geometry image d s ≡ Some entry → s < slot_count geometry image d
 entry_within geometry image d s entry is =
     elim (cases_lt s (slot_count geometry image d)) [
@@ -79,7 +79,7 @@ next_of {geometry = geometry} {image = image} {from = from} {d = d} {start = sta
       ];
 }
 
--- an entry before the place after the next one is before the place where the search began, or is the next one
+-- an entry up to the one that a search finds is before the start of the search, or is that one
 pub split : {geometry : Geometry} {image : List ℕ} {from d s : ℕ} {slot : Slot} (e t i : ℕ) (name : List ℕ) → IsNextSlot geometry image from d s slot
     → HasEntry geometry image e t name i → rank e t < rank d (s + 1)
     → (rank e t < from) ⊎ ((e ≡ d) × (t ≡ s) × (name ≡ name_of slot.name) × (i ≡ slot.inode))

@@ -68,7 +68,7 @@ goes_on {geometry = geometry} {image = image} {walks = walks} {parents = parents
       ];
     }
 
--- of marked directories that only such directories enter, none is reached, unless the root is among them
+-- if only marked directories have entries for marked ones, and the root isn't marked, no marked one is reached
 closed : {geometry : Geometry} {image : List ℕ} {d : ℕ} (walks : List ℕ) (i : ℕ) → get_or walks (root_of geometry) 0 ≢ d
     → ((i e s : ℕ) → get_or walks i 0 ≡ d → Enters geometry image e s i → get_or walks e 0 ≡ d)
     → IsReached geometry image i → get_or walks i 0 ≡ d → ⊥

@@ -152,8 +152,8 @@ fn judge_free(
 }
 
 /// Returns the number of free blocks if rules 6 to 8 hold, else the first rule that fails. `twice` is the first block that
-/// two places of files name, and `named` marks the blocks that they name. Marks the free blocks in `free`, where none is
-/// marked before.
+/// two places of files name, and `named` marks the blocks that they name. Marks the free blocks in `free`, which has no
+/// marks at first.
 fn judge_marks(
     image: &Image,
     geometry: &Geometry,

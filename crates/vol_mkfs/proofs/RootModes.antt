@@ -26,7 +26,7 @@ regular_other e = cc
 special_other : kinds.Special ≢ kinds.Directory
 special_other e = cc
 
--- a choice of a directory that is no other kind had its test hold
+-- if a test chose directory, and the other choice is another kind, the test holds
 chosen : (test : Bool) (rest : Kind) → rest ≢ kinds.Directory → (if test then kinds.Directory else rest) ≡ kinds.Directory → test ≡ true
 chosen true rest other is = refl
 chosen false rest other is = absurd (other is)

@@ -14,7 +14,7 @@ use Rattle.vol_layout.proofs.InodeLaws.{inode_mode}
 use Rattle.pdp_words.specs.Words.{SameOutside}
 use Rattle.vol_change.proofs.ListWrites.{PutsInode}
 
--- a time put in the place of another is there
+-- a time replaced by another is still a time
 stamped_some : (changed : Option ℕ) (now : ℕ) → IsSome changed → IsSome (option_map (λ _. now) changed)
 stamped_some None now some = some
 stamped_some (Some time) now some = some

@@ -130,7 +130,7 @@ pub record HasDot (geometry : Geometry) (image : List ℕ) (i : ℕ) : Type 0 wh
   pub is : IsDirectory geometry image i
   pub has : HoldsNames (state geometry image) i (insert [] dot i) 16 (shape_with_entry geometry.edition no_shape dot)
 
--- it has that once it gets it
+-- after it is added, the directory has `.`
 pub dot_there : (geometry : Geometry) (old new : List ℕ) (i : ℕ) → IsDirectory geometry old i → HoldsNames (state geometry old) i [] 0 no_shape
     → state geometry new ≡ put_entry i dot i (state geometry old) → StaysBeside (graph_of geometry old) (graph_of geometry new) i
     → HasDot geometry new i
@@ -149,7 +149,7 @@ pub dot_dot_new : (geometry : Geometry) (image : List ℕ) (i : ℕ) → HasDot 
 dot_dot_new geometry image i dotted =
     ap (λ names. get names dot_dot) (names_held geometry image i 16 (insert [] dot i) (shape_with_entry geometry.edition no_shape dot) dotted.is dotted.has)
 
--- the places with both
+-- the places of a directory with both
 pub dots_places : (geometry : Geometry) (old new : List ℕ) (i d : ℕ) → HasDot geometry old i
     → state geometry new ≡ put_entry i dot_dot d (state geometry old) → shapes geometry new i ≡ new_directory_shape geometry.edition
 dots_places geometry old new i d dotted makes = (dot_dot_held geometry old new i d dotted.has makes).shape ∙ dots_shape geometry.edition

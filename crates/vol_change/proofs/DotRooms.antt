@@ -18,7 +18,7 @@ asked_twice : (t : Bool) → (t && not (false || t)) ≡ false
 asked_twice true = refl
 asked_twice false = refl
 
--- once the first block of a directory is there, its second slot needs no other
+-- the second slot of a directory needs no block beyond the first
 pub second_need : (edition : Edition) → need_in edition (shape_with_entry edition no_shape dot) (0 ∷ []) ≡ 0
 unfolding need_of missing_count
 second_need V6 =

@@ -31,7 +31,7 @@ pub name_found : (geometry : Geometry) (image name : List ℕ) (d i : ℕ) → I
 name_found geometry image name d i is named =
     ap (λ names. get names name) (sym (names_is geometry image d (record { first = is.first; last = is.last; kind = is.kind }))) ∙ named
 
--- so it is there
+-- so some slot has the name
 pub name_there : (geometry : Geometry) (image name : List ℕ) (d i : ℕ) → IsDirectory geometry image d
     → get (names_at (tree geometry image) d) name ≡ Some i → IsSome (get (names_of (slots geometry image d)) name)
 name_there geometry image name d i is named = ap is_some (name_found geometry image name d i is named)

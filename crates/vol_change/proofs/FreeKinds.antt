@@ -69,7 +69,7 @@ free_kept geometry old new i same free = record {
       (sym (kind_inside geometry new i (omega (arith, free.above)) free.within) ∙ (same ∙ number_free geometry old i free));
 }
 
--- the number that was recorded, and else the one that is taken, may be taken after a change that leaves the graph
+-- after a change that keeps the graph, the recorded number, or else the one taken, is still free
 pub chosen_free : (geometry : Geometry) (old new : List ℕ) (recorded : Option ℕ) (taken : ℕ)
     → IsSameGraph (graph_of geometry old) (graph_of geometry new) → IfSome recorded (λ i. IsFreeNumber geometry old i)
     → IsFreeNumber geometry new taken → IsFreeNumber geometry new (unwrap_or recorded taken)

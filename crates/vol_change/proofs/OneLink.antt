@@ -9,7 +9,7 @@ use Rattle.vol_dir.specs.Tree.{Content, Node, node_with, node_of, content_of, st
 use Rattle.vol_change.specs.Edits.{change_node, put_node, with_links, add_link, drop_link}
 use Rattle.vol_dir.proofs.WalkLaws.{node_inside}
 
--- two changes of a node that are one if the i-node is this
+-- two changes of a node that agree for this i-node
 changed_same : (was : Inode) (one other : Node → Node) (content : Option Content)
     → ((c : Content) → one (node_with was c) ≡ other (node_with was c))
     → option_map one (option_map (node_with was) content) ≡ option_map other (option_map (node_with was) content)

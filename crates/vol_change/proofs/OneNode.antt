@@ -167,7 +167,7 @@ only_file geometry old new i fits alone first = record {
       };
 }
 
--- a change of i alone is the edit that puts there the node as it now reads
+-- a change of i alone is the edit that sets node i to what it now reads as
 pub only_makes : (geometry : Geometry) (old new : List ℕ) (i : ℕ) (node : Option Node) (shape : Shape) → 1 ≤ i → i ≤ geometry.last_inode
     → ChangesOnly geometry old new i → node_of geometry new i ≡ node → shape_at geometry new i ≡ shape
     → state geometry new ≡ put_shape i shape (put_node i node (state geometry old))

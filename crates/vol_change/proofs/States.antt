@@ -83,7 +83,7 @@ shapes_are geometry old new i j _ shape changes = elim (cases_eq j i) [
       ∙ sym (ap (λ t. if t then shape else shapes geometry old j) (ne_eqb j i other))
 ]
 
--- a change of node i is the edit that puts another node and shape there
+-- a change of node i is the edit that sets its node and its shape
 pub makes_both : (geometry : Geometry) (old new : List ℕ) (i : ℕ) (node : Option Node) (shape : Shape) → ChangesNode geometry old new i node shape
     → state geometry new ≡ put_shape i shape (put_node i node (state geometry old))
 unfolding tree

@@ -74,7 +74,7 @@ pub names_stay : (names : List (Bor (List ℕ))) (paths : List (Bor (List ℕ)))
 names_stay names paths i other inside were is =
     were ∙ (sym (append_nil (last_names (texts (take i paths)))) ∙ (ap (λ (o : Option (List ℕ)). last_names (texts (take i paths)) ++ with_name o []) is ∙ sym (names_at paths i other inside)))
 
--- a reference to nothing, where one is needed that isn't used
+-- an empty reference, for an argument that isn't used
 abbrev pub no_name : Bor (List ℕ)
 no_name = record { ref_ptr = (0, 0); now = [] }
 

@@ -33,7 +33,7 @@ pub enum Said<'a> {
     Word(&'a str),
     /// This number of words.
     Words(usize),
-    /// No option, where one is needed.
+    /// An option is missing.
     NoOption,
 }
 

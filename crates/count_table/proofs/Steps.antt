@@ -22,7 +22,7 @@ sum_else w i k log ne = let a = total_cons (amount_at w) (mark i k) log in let n
 blank_fits : (pieces : ℕ) → IsWithinParts pieces blank
 blank_fits pieces = record { empty = λ e. refl; bounded = let n = total_nil (past pieces) in omega arith }
 
--- a seat that did nothing fits
+-- a seat without draws and marks is within the parts
 fresh_fits : (pieces parts : ℕ) → IsWithinParts pieces (view parts [] [])
 fresh_fits pieces parts = record { empty = λ e. ap (λ n. view n [] []) e; bounded = let n = total_nil (past pieces) in omega arith }
 

@@ -192,7 +192,7 @@ least_else v w k ms ne = elim (least_cases w (mark v k) ms) [
   | inr elsewhere ↦ elsewhere.1
 ]
 
--- an item that is there is read
+-- reading an item that exists
 pub read_at : (xs : List ℕ) (i x : ℕ) → get_elem? xs i ≡ some x → x ≡ slice_index xs i
 read_at [] i x e = absurd (some-ne-none x (sym e))
 read_at (y ∷ xs) zero x e = sym (some-injective y x e)

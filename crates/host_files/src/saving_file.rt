@@ -228,7 +228,7 @@ pub fn is_pipe<R: ImageFiles + AllocGlobal>(rt: &R, path: &str) -> bool {
     }
 }
 
-/// True if the system's error for reading a link means that there is none: another file is there, or nothing.
+/// True if the system's error for reading a link means that the path is not a link: it is another file, or doesn't exist.
 fn is_end(error: io::Error) -> bool {
     let kind = error.kind();
     kind == ErrorKind::InvalidInput || kind == ErrorKind::NotFound

@@ -1,4 +1,4 @@
-//! Views beside sessions: their answers, their progress, and that their receipts are confirmed.
+//! Views of a volume that sessions change: their answers, their progress, and their receipts, which are confirmed.
 ghost use Rattle.std.specs.Prelude.{◌≡◌, Some};
 
 use crate::fixtures::{bytes_of, check, check_all, create, list, make, read, sixth, stat, write};

@@ -125,7 +125,7 @@ pub record RunsMkfs (streams : Streams) (taken : List ℕ → Type 0) (volume : 
   pub unsaved : status ≡ 3 → streams.said []
   pub wanting : status ≡ 4 → streams.said [] ⊎ streams.said (mkfs_line_at (is_size volume.edition volume.blocks volume.list_blocks) 4)
 
--- the status after an answer: its own if its image, if any, was taken, or that of a file (this project)
+-- the status after an answer: its own if its image, if any, was saved; 3 or 4 if the saving failed (this project)
 abbrev pub EndsSaved : (List ℕ → Type 0) → Answer → ℕ → Type 0
 EndsSaved taken answer status =
     ((status ≡ answer.status) × IfSome answer.image (λ bytes. taken bytes.items)) ⊎ (IsSome answer.image × IsStatusOfFileOrMemory status)
@@ -182,7 +182,7 @@ IsShownBy true screens.Stream = ⊥
 IsShownBy false (screens.Terminal columns colours) = ⊥
 IsShownBy false screens.Stream = Unit {0}
 
--- the image to show: `check` may have all that a file had, since it also says of which edition an image is (this project)
+-- the image to show; `check` may see the whole file, since it also looks at the sizes of the other edition (this project)
 abbrev pub IsSeen : HostFiles → Edition → Look → List ℕ → Type 0
 IsSeen files edition looks.Check image = files.checked edition image
 IsSeen files edition (looks.List path listing) image = files.shown edition image

@@ -10,8 +10,8 @@ pub fn words<R: Env + AllocGlobal>(rt: &R) -> io::Result<Vec<String>> {
     Ok(env::args(rt)?.collect(rt.alloc())?)
 }
 
-/// Returns the number of the first word that isn't UTF-8, where the program's own name has number 0. Returns `None` if all are,
-/// or memory ran out.
+/// Returns the number of the first word that isn't UTF-8; the program's own name has number 0. Returns `None` if all are UTF-8,
+/// or if memory ran out.
 pub fn place_of_no_text<R: Env + AllocGlobal>(rt: &R) -> Option<usize> {
     for place in 0..usize::MAX {
         match is_text(rt, rt.alloc(), place) {

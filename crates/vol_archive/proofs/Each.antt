@@ -49,12 +49,12 @@ all_pairs_kept p R (x ∷ xs) h =
       | false ↦ λ here. all_pairs_kept p R xs h.1
     ] (λ e. each_map (λ y. p x ≡ true → p y ≡ true → R x y) (λ y. p y ≡ true → R x y) (λ y r. r e) xs h.0)
 
--- two things that hold of each
+-- two properties of each item
 pub each_both : {X : Type 0} (P Q : X → Type 0) (xs : List X) → Each P xs → Each Q xs → Each (λ x. P x × Q x) xs
 each_both P Q [] h k = tt
 each_both P Q (x ∷ xs) h k = ((h.0, k.0), each_both P Q xs h.1 k.1)
 
--- a property of each, one by one, is one of all
+-- if each item has a property, all have it
 pub each_all : {X : Type 0} (P : X → Type 0) (xs : List X) → Each P xs → All P xs
 each_all P [] h = λ k d within. absurd (omega arith)
 each_all P (x ∷ xs) h = all_first P x xs h.0 (each_all P xs h.1)

@@ -207,7 +207,7 @@ goes_on g image start founds entry rest h =
     both d path other (inr one) (inl two) = old_new d other path two one
     both d path other (inr one) (inr two) = sym one.1 ∙ two.1
 
--- in a tree, two names of one directory, each met or the one where the walk began, are at one path
+-- in a tree a directory is at one path, whether it was met or the walk began there
 one_path : (g : Geometry) (image : List ℕ) (start : ℕ) (founds : List Found) (pending : List Pending) (path other : List ℕ) (i : ℕ)
     → IsTree g image → IsDirectory g image i → Goes g image start founds pending
     → Comes g image start founds path i → Comes g image start founds other i → path ≡ other

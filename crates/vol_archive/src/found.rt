@@ -9,7 +9,7 @@ use pdp_words::Bytes;
 pub enum Reason {
     /// Its i-number is not one of the volume, or its i-node is free or has no mode of the edition.
     NoNode,
-    /// It is for a directory that was met before, or for the one at which the walk began.
+    /// It is for a directory that was met before, or for the directory where the walk began.
     Again,
     /// Its path doesn't fit a header.
     LongPath,

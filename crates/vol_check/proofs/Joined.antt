@@ -19,7 +19,7 @@ use Rattle.vol_check.specs.Shapes.{Layout}
 use Rattle.vol_check.specs.Seats.{IsSeatOf, IsOf, is_stopped, found_no_memory, layout_weight, layout_kept, layout_fault}
 use Rattle.vol_check.specs.Gathering.{Joins, Gathers}
 
--- one seat stands for several; the rest are not joined yet
+-- one seat is the join of several; the rest are not joined yet
 pub record IsGathering (tally : Tally) (seats rest : List CheckSeat) (all : CheckSeat) : Type 0 where
   pub own : IsSeatAt tally all.seat
   pub parts : all.seat.me.0.parts + length rest ≡ length seats

@@ -49,7 +49,7 @@ module _ (g : Geometry) (image : List ℕ) (weight : ℕ → ℕ) where
   unfolding below_block
   below_leaf b = refl
 
-  -- the numbers found from a number on, as often as places name it
+  -- the weight of the numbers found from a number on, times the places that name it
   pub times_zero : (d b n : ℕ) → b ≡ 0 → n * total weight (blocks_from g image d b) ≡ 0
   times_zero d b n none = ap (λ x. n * x) (weigh_zero g image weight d b none) ∙ no_times n
 

@@ -53,7 +53,7 @@ module _ (tally : Tally) where
     spoiled = spoiled;
   }
 
-  -- some, and then others
+  -- two lists, one after the other
   pub notes_then : (a b c : CheckSeat) (f g h : (Mark → ℕ) → ℕ) (k l m : (Placed → ℕ) → ℕ) → Notes tally a b f k → Notes tally b c g l
       → ((weight : Mark → ℕ) → h weight ≡ f weight + g weight) → ((weight : Placed → ℕ) → m weight ≡ k weight + l weight) → Notes tally a c h m
   notes_then a b c f g h k l m first second marks entries = record {

@@ -19,7 +19,7 @@ pub record Joins (tally : Tally) (old other new : CheckSeat) : Type 0 where
   pub entries : new.entries.items ≡ old.entries.items ++ other.entries.items
   pub spoiled : new.spoiled ≡ (old.spoiled || other.spoiled)
 
--- one seat stands for several, one of which had stopped, and fits each image that they fit; if none of them ran out of memory, one of its draws is past the pieces (this project)
+-- one seat is the join of several, one of which had stopped, and fits each image that they fit; if none of them ran out of memory, one of its draws is past the pieces (this project)
 pub record Gathers (tally : Tally) (seats : List CheckSeat) (all : CheckSeat) : Type 0 where
   pub own : IsSeatAt tally all.seat
   pub parts : all.seat.me.0.parts ≡ length seats

@@ -37,7 +37,7 @@ pub record IsPart (starts : List ℕ) (number : ℕ) (part : Part) : Type 0 wher
   pub start : slice_index starts (part.inode - 1) + part.index ≡ number
   pub end : number < slice_index starts part.inode
 
--- the weight of piece p, by its i-number and its part of that, where the pieces of n i-numbers are counted from those of i-number i on, which has `count i`; 0 past the last (this project)
+-- the weight of piece p, by its i-number and its part of that: the pieces are those of n i-numbers from i on, and i-number i has `count i` of them; 0 past the last (this project)
 unfoldable pub piece_value : (ℕ → ℕ) → (ℕ → ℕ → ℕ) → ℕ → ℕ → ℕ → ℕ
 piece_value count weight i zero p = 0
 piece_value count weight i (suc n) p = if nat_lt p (count i) then weight i p else piece_value count weight (i + 1) n (p - count i)

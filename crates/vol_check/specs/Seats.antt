@@ -65,7 +65,7 @@ pub record EndsPast (pieces : ℕ) (draws : List ℕ) : Type 0 where
   pub is : draws ≡ front ++ n ∷ []
   pub past : pieces ≤ n
 
--- a seat of a table: it stands for itself alone, and at its end it drew exactly one number past the pieces, as the last (this project)
+-- a seat of a table that no other was joined to; at its end its last draw, and no other, is past the pieces (this project)
 pub record IsSeatOf (tally : Tally) (s : CheckSeat) : Type 0 where
   pub own : IsSeatAt tally s.seat
   pub parts : s.seat.me.0.parts ≡ 1

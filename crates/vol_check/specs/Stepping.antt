@@ -37,7 +37,7 @@ StepAnswers sweep old new (Ok (Some p)) = (new.seat.me.0.draws ≡ old.seat.me.0
 StepAnswers sweep old new (Ok None) = (new.ended ≡ true) × (new.spoiled ≡ false)
 StepAnswers sweep old new (Err failed) = new.spoiled ≡ true
 
--- a step: the seat belongs to the sweep and fits the image, as before; it drew at most one number, and none if it was at its end or had run out of memory, after which it always fails (this project)
+-- a step: the seat still belongs to the sweep and fits the image. It drew at most one number; none if it was at its end or had run out of memory before, which lets every later step fail (this project)
 pub record Stepped (sweep : Sweep) (image : List ℕ) (old new : CheckSeat) (result : Result (Option Piece) AllocError) : Type 0 where
   pub own : IsSeatOf sweep.tally new
   pub knows : IsOf sweep.checker sweep.layout image new

@@ -57,7 +57,7 @@ pub(crate) fn count_blocks(
     Ok(())
 }
 
-/// Returns the data blocks that hold these logical blocks, each as often as it does.
+/// Returns the data blocks that hold these logical blocks; one that holds several occurs once for each.
 fn stored_blocks(
     alloc: Global,
     image: &Image,

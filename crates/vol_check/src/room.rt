@@ -135,7 +135,7 @@ fn count_below(
     Ok(count)
 }
 
-/// Adds the entries of an indirect block, each as often as the block; none if it is no data block.
+/// Adds the entries of an indirect block, each as many times as places name the block. Adds nothing if it is no data block.
 fn push_entries(
     image: &Image,
     geometry: &Geometry,

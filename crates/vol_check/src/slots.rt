@@ -77,7 +77,7 @@ impl Sweep {
         }
     }
 
-    /// Notes the slots of the logical blocks `from..end` of directory `d`: as far as it can, block by block.
+    /// Notes the slots of the logical blocks `from..end` of directory `d`, block by block if it can.
     fn note_range(
         &self,
         alloc: Global,

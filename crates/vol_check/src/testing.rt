@@ -16,7 +16,7 @@ pub struct Meeting {
 }
 
 impl Meeting {
-    /// Returns a gate for the first `pieces` pieces, none of which has come yet.
+    /// Returns a gate for the first `pieces` pieces. None has arrived yet.
     pub fn of(pieces: u64) -> Meeting {
         Meeting {
             pieces,

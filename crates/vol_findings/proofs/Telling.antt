@@ -38,7 +38,7 @@ pub said_as : (rule : Type 0) (first : Finding → Type 0) (reason : Type 0) (fo
     → Finds rule first found → outcome ≡ outcome_of found → Says rule first reason outcome
 said_as rule first reason found outcome asked finds is = subst (Says rule first reason) (sym is) (said rule first reason found asked finds)
 
--- a reason for another that is there in the same cases
+-- replacing a reason by an equivalent one
 said_for : (rule : Type 0) (first : Finding → Type 0) (reason other : Type 0) (outcome : Outcome) → (reason → other) → (other → reason)
     → Says rule first reason outcome → Says rule first other outcome
 said_for rule first reason other Holds from back says = (says.0, λ there. says.1 (back there))

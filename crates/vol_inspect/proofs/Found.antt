@@ -25,7 +25,7 @@ sum_zero : (f : ℕ → ℕ) (xs : List ℕ) → ((j : ℕ) → f j ≡ 0) → s
 sum_zero f [] none = refl
 sum_zero f (x ∷ xs) none = let h = sum_zero f xs none in let here = none x in omega (arith, sum_by-cons f x xs, h, here)
 
--- 1 if a block is the one that is sought, at its level, else 0
+-- 1 if this is the wanted block, at the wanted level; else 0
 abbrev pub here_at : ℕ → ℕ → ℕ → ℕ → ℕ
 here_at b c e k = one_if ((b == c) && (e == k))
 
@@ -95,7 +95,7 @@ module _ (g : Geometry) (image : List ℕ) where
       (λ j. high d (pointer_in g image b j) c e (omega (arith, lt))) in
       omega (arith, found_suc d b c e, head, rest)
 
-  -- a block below another is found at least as often as that one
+  -- a block below another one is found at least as many times
   pub found_through : (d b m k c e : ℕ) → 1 ≤ found_at g image k m c e → found_at g image d b m k ≤ found_at g image d b c e
   unfolding below
   found_through zero b m k c e some =

@@ -1,4 +1,4 @@
--- What entries name, as one more is met.
+-- The i-numbers that entries name, with one more entry.
 use Rattle.std.proofs.Common.{◌≡◌, ℕ, ◌+◌, ◌<◌, ◌≤◌, ◌&&◌, ◌∙◌, All, nat_lt, subst, inl, inr, Bool, true, false, List, length, get_or, refl, sym, ap, arith, get_or-set_other, get_or-set_same}
 use Rattle.std.proofs.Math.ListN.{set, length-set}
 use Rattle.std.specs.List.{filter, range_with_len}
@@ -71,7 +71,7 @@ named_all known past = record {
   only = known.only;
 }
 
--- what both sides of a conjunction are
+-- both sides of a conjunction
 left_true : (a b : Bool) → (a && b) ≡ true → a ≡ true
 left_true true b both = refl
 left_true false b both = absurd (true≢false (sym both))

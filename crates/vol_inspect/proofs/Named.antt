@@ -56,7 +56,7 @@ by_level t level (q ∷ qs) low =
     omega (arith, rest, level_one (t q) (level q) (low q (inl refl)), sum_by-cons (λ p. one_if (t p)) q qs, each 0, each 1, each 2, each 3)
 
 module _ (g : Geometry) (image : List ℕ) (i : ℕ) where
-  -- a number that isn't 0 is among the blocks of places as often as they name it
+  -- a number that isn't 0 occurs among the blocks of places once for each place that names it
   named_counted : (b : ℕ) (qs : List (List ℕ)) → b ≢ 0 → count_by (λ k. k == b) (blocks_at g image i qs) ≡ count_by (λ q. named g image i q == b) qs
   named_counted b [] some = ap (count_by (λ k. k == b)) (at_nil g image i)
   named_counted b (q ∷ qs) some =

@@ -66,7 +66,7 @@ module _ (g : Geometry) (image : List ℕ) where
             omega (arith, now, here_other b c e d other, low)
       ]
 
-  -- and blocks below others with fewer levels were counted as often as they
+  -- after that, blocks below others with fewer levels were counted as many times as these
   pub tally_one : (d b : ℕ) (counts : List ℕ) → d ≤ 3 → 1 ≤ d → IsTally g image d counts → in_zone g b ≡ true → get_or counts (4 * b + d) 0 < 2
       → IsTally g image (d - 1) (set counts (4 * b + d) (get_or counts (4 * b + d) 0 + 1))
   tally_one d b counts le deep tally zone few =

@@ -44,7 +44,7 @@ kind_is g image counts kind b done zone =
     ap (min 2) (λ i. count_here counts b (min 2 (n 0)) (done b 0 zone (lit≤ tt)) i + done b 1 zone (lit≤ tt) i + done b 2 zone (lit≤ tt) i + done b 3 zone (lit≤ tt) i)
     ∙ capped (n 0) (n 1) (n 2) (n 3)
 
--- up to two, a data block was counted as often as places name it
+-- the count of a data block is the number of places that name it, up to two
 pub named_is : (g : Geometry) (image directories files : List ℕ) (b : ℕ) → Fits g image → in_zone g b ≡ true
     → CountsKind g image kinds.Directory directories → CountsKind g image kinds.Regular files
     → min 2 (named_in directories (4 * b) + named_in files (4 * b)) ≡ min 2 (use_count g image b)

@@ -21,7 +21,7 @@ telling uses.Twice = 9
 abbrev pub more_telling : Use → Use → Use
 more_telling a b = if nat_lt (telling a) (telling b) then b else a
 
--- the cells of some blocks each, where the first has room for `left` more, and the use with the highest priority among its blocks so far is given (this project)
+-- the cells, each for some blocks; the first has room for `left` more, and `best` is the use with the highest priority among its blocks so far (this project)
 unfoldable pub cells_from : ℕ → ℕ → Use → List Use → List Use
 cells_from blocks left best [] = best ∷ []
 cells_from blocks zero best (u ∷ us) = best ∷ cells_from blocks (blocks - 1) u us

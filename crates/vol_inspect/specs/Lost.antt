@@ -8,7 +8,7 @@ use Rattle.vol_file.specs.Rules.{kind_at}
 use Rattle.vol_judge.specs.Directories.{root_of, Enters}
 use Rattle.vol_judge.specs.InodeMarks.{IsEnteredBefore}
 
--- whether an i-node of a kind has something to be brought back: it is allocated, and its mode is one of the edition's (this project)
+-- true if an i-node of this kind has something to recover: it is allocated, and its mode is one of the edition's (this project)
 abbrev pub has_content : Kind → Bool
 has_content kinds.Regular = true
 has_content kinds.Directory = true

@@ -54,7 +54,7 @@ fn push_lost(
     Ok(())
 }
 
-/// Whether i-node `i` is lost, by whether an entry names each.
+/// True if i-node `i` is lost, given which i-numbers entries name.
 fn is_lost(image: &Image, geometry: &Geometry, named: &[bool], i: u16) -> bool
     requires fits { Fits geometry.now image.now }
     requires last { i ≤ geometry.now.last_inode }
@@ -66,7 +66,7 @@ fn is_lost(image: &Image, geometry: &Geometry, named: &[bool], i: u16) -> bool
         && !named[i as usize]
 }
 
-/// Whether an i-node of a kind has something to be brought back.
+/// True if an i-node of this kind has something to recover.
 fn has_content(kind: Kind) -> bool
     ensures { result ≡ has_content kind }
 {

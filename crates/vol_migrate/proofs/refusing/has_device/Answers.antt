@@ -1,4 +1,4 @@
--- One that was found is one of all, and none was found before.
+-- If one is found, some i-number passes the test; if none is found, none does.
 use Rattle.std.proofs.Common.{◌≡◌, ◌∙◌, sym, ap, ◌+◌, ◌-◌, arith}
 use Rattle.std.specs.List.{list_any, range_with_len}
 use Rattle.vol_dir.specs.Tree.{tree}

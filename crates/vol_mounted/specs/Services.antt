@@ -1,4 +1,4 @@
--- What serving brings about.
+-- The effects of serving.
 use Rattle.std.specs.Prelude.{◌≡◌, ◌≢◌, ℕ, ◌-◌, ◌^◌, Bool, true, false, List, [], ◌∷◌, ◌++◌, length, map, Option, None, Result, Ok, Err}
 use Rattle.std.specs.List.{filter_map, flat_map}
 use Rattle.vol_serve.specs.Messages.{Grows}
@@ -21,7 +21,7 @@ replies_of turns = filter_map (λ (turn : Turn). turn.reply) turns
 abbrev pub images_of : List Turn → List (List ℕ)
 images_of turns = flat_map (λ (turn : Turn). turn.images) turns
 
--- the replies sent in a run that ended so: those of its turns, in their order. The last one's could not be sent where sending failed; too many were taken where there may be more (this project)
+-- the replies sent in a run with this end: those of its turns, in order. If memory ran out, there were no turns; if sending failed, the last reply is missing; a run also ends after 2^64 - 1 requests (this project)
 abbrev pub AreSent : {X : Type 0} → List Turn → List (List ℕ) → Result X ServeFault → Type 0
 AreSent turns sent (Ok done) = sent ≡ replies_of turns
 AreSent turns sent (Err NoMemory) = (turns ≡ []) × (sent ≡ [])

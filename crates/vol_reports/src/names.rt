@@ -16,8 +16,8 @@ use pdp_words::Bytes;
 use std::alloc::{AllocError, Global};
 use vol_layout::Geometry;
 
-/// Returns the name report of any image that has these entries, each once, in any order, where the words hold the ranks of
-/// the naming entries.
+/// Returns the name report of any image that has these entries, each once, in any order. The words hold the ranks of the
+/// naming entries.
 ///
 /// Costs as much as the report is long, and sorting it. Takes memory for the paths, and some for each i-number.
 pub fn name_report(

@@ -46,7 +46,7 @@ impl Split<Front> for Tell {
     ghost right = { λ known. known };
 }
 
-/// Makes a reader know the prefix that it was told.
+/// Makes a reader know the prefix reported to it.
 pub(crate) struct Learn;
 
 impl Join<Front> for Learn {

@@ -182,7 +182,7 @@ impl View {
         self.learn_told(told);
     }
 
-    /// Advances to a log prefix that was told, if it is newer.
+    /// Advances to a reported log prefix, if it is newer.
     fn learn_told(&mut self, told: Told)
         requires { told.book ≡ self.old.book }
         ensures book { self.new.book ≡ self.old.book }

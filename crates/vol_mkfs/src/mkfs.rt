@@ -10,8 +10,7 @@ use vol_layout::Edition;
 
 /// Makes a volume of `blocks` blocks of 512 bytes, with an i-list of `list_blocks` of them, and returns its bytes. The
 /// root, a directory with permissions 0777, belongs to `uid` and `gid`; all times are `now`, in seconds since the beginning
-/// of
-/// 1970. `Bounds` is checked before `BadId`; `NoMemory` comes last.
+/// of 1970. `Bounds` is checked before `BadId`; `NoMemory` comes last.
 ///
 /// Takes memory for the bytes, once, and for four blocks. [`BlankVolume`] writes a volume without memory for its bytes.
 pub fn mkfs(

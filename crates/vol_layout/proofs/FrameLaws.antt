@@ -166,7 +166,7 @@ body_frame geometry old new i kept size names blocks =
     (λ z. (blocks (n / 512) low z).bytes (n % 512) byte)
     ∙ sym (body_byte_is geometry old i n)))))
 
--- a write of block k leaves the body of each file on none of whose ways k lies
+-- a write of block k leaves the body of each file if k is on none of its ways
 pub body_ways_kept : (geometry : Geometry) (old new : List ℕ) (i k : ℕ) → Fits geometry old → KeepsInode geometry old new i
     → SameOutside old new (512 * k) (512 * k + 512)
     → ((b : ℕ) (p q : List ℕ) → 512 * b < body_size geometry old i → last_place (form_at geometry old i) b ≡ Some p → IsFront q p → named geometry old i q ≢ k)

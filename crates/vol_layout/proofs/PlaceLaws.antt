@@ -33,7 +33,7 @@ abbrev EndsAt : Form → ℕ → Option (List ℕ) → Type 0
 EndsAt form b None = block_limit form ≤ b
 EndsAt form b (Some p) = IsLeaf form b p
 
--- a property of both sides of a choice is one of the choice
+-- what holds of both sides of a choice holds of the choice
 choose : {X : Type 0} (P : Option X → Type 0) (t : Bool) (x y : Option X) → (t ≡ true → P x) → (t ≡ false → P y) → P (if t then x else y)
 choose P t x y first other = elim t as (λ s. t ≡ s → P (if s then x else y)) [ true ↦ first | false ↦ other ] refl
 
@@ -126,7 +126,7 @@ has_no_way form b h =
     elim (last_place form b) as (λ o. last_place form b ≡ o → last_place form b ≡ None)
     [ None ↦ λ e. e | Some p ↦ λ e. let limit : b < block_limit form = (last_leaf form b p e).limit in absurd (omega arith) ] refl
 
--- two logical blocks with one last place are one
+-- two logical blocks with the same last place are the same
 pub last_apart : (form : Form) (b c : ℕ) (p : List ℕ) → last_place form b ≡ Some p → last_place form c ≡ Some p → b ≡ c
 last_apart form b c p e f = sym (last_leaf form b p e).block ∙ (last_leaf form c p f).block
 

@@ -47,7 +47,7 @@ module _ {g : Geometry} {image : List ℕ} {marks : List Bool} {walk : FreeWalk}
       let more : g.zone_end - g.zone_start + 1 - walk.met ≡ suc (g.zone_end - g.zone_start - walk.met) = omega (arith, met_most) in
       sym w.rest ∙ (ap (λ n. walk_rest g image n walk.head walk.count met) more ∙ end (g.zone_end - g.zone_start - walk.met))
 
-  -- one block more
+  -- one more block
   pub walks_on : (next : FreeWalk) (b : ℕ) → in_zone g b ≡ true → get_or marks b false ≡ false → next.met ≡ walk.met + 1
       → next.count ≡ next_count image walk.count b → next.head + 202 ≤ length image
       → ((fuel : ℕ) → walk_rest g image (suc fuel) walk.head walk.count met ≡ walk_rest g image fuel next.head next.count (b ∷ met))
@@ -86,7 +86,7 @@ pub zoned_last : {g : Geometry} {image : List ℕ} {marks : List Bool} {walk : F
 unfolding IsIn
 zoned_last {b = b} w = w.zoned b (inl refl)
 
--- one number more is that of a data block
+-- one more number is that of a data block
 pub zoned_more : (g : Geometry) (xs : List ℕ) (b : ℕ) → AreZoned g xs → in_zone g b ≡ true → AreZoned g (xs ++ b ∷ [])
 zoned_more g [] b all zone zero d low = zone
 zoned_more g [] b all zone (suc k) d low = absurd (omega (arith, low))

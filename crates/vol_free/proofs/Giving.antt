@@ -100,7 +100,7 @@ head_stays {geometry = geometry} two s =
     let end : free_head geometry.edition + 202 ≤ 720 = head_end geometry.edition in
     record { len = s.len; below = s.below; between = λ k h less. s.above k h; above = λ k h. s.above k (omega arith) }
 
--- a copy of the head into block b, and a write within the head, leave alone all but both
+-- a copy of the head into block b, and a write within the head, change nothing else
 pub chained_stays : {geometry : Geometry} {old mid new : List ℕ} {b : ℕ} → 2 ≤ b → SameOutside old mid (512 * b) (512 * b + 202)
     → SameOutside mid new (free_head geometry.edition) (free_head geometry.edition + 202) → StaysBut geometry old new b 202
 chained_stays {geometry = geometry} two s t =
@@ -117,7 +117,7 @@ pub given_full : (edition : Edition) → count_given edition (constants edition)
 given_full V6 = refl
 given_full V7 = refl
 
--- an array that is neither empty nor full has one number more
+-- an array that is neither empty nor full has one more number
 pub given_above : (edition : Edition) (n : ℕ) → (n ≡ 0 → ⊥) → (n ≡ (constants edition).free_slots → ⊥) → count_given edition n ≡ n + 1
 given_above edition n some room = grind (arith, nat_tests)
 

@@ -15,7 +15,7 @@ abbrev shifted : ℕ → List ℕ → List ℕ
 shifted start [] = []
 shifted start (b ∷ rest) = (b - start) ∷ shifted start rest
 
--- a number that isn't among some others differs from each of them, also less `start`
+-- a number that isn't among some others differs from each of them even after `start` is subtracted
 shifted_apart : (start b : ℕ) (rest : List ℕ) → start ≤ b → (IsIn b rest → ⊥) → ((c : ℕ) → IsIn c rest → start ≤ c)
     → AllByRecursion (λ y. eqb (b - start) y ≡ false) (shifted start rest)
 unfolding IsIn
@@ -33,12 +33,12 @@ shifted_distinct start (b ∷ rest) once all =
     IsDistinct-cons eqb (b - start) (shifted start rest) (shifted_apart start b rest (all b (inl refl)) once.0 (λ c i. all c (inr i)))
     (shifted_distinct start rest once.1 (λ c i. all c (inr i)))
 
--- the numbers less `start` are as many
+-- subtracting `start` doesn't change how many numbers there are
 shifted_length : (start : ℕ) (xs : List ℕ) → length (shifted start xs) ≡ length xs
 shifted_length start [] = refl
 shifted_length start (b ∷ rest) = omega (arith, shifted_length start rest)
 
--- numbers from `start` up to `end` are below `end - start`, less `start`
+-- numbers from `start` up to `end` are below `end - start` once `start` is subtracted
 shifted_below : (start end : ℕ) (xs : List ℕ) → ((b : ℕ) → IsIn b xs → start ≤ b) → ((b : ℕ) → IsIn b xs → b < end)
     → (q : ℕ) → list_any (eqb q) (shifted start xs) ≡ true → q < end - start
 unfolding IsIn

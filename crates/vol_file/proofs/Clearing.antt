@@ -71,7 +71,7 @@ clears_then geometry old mid new i First Second Both given more blocks fits one 
       unused = λ k r within low. t.unused k r (rest_within k given blocks (given ++ blocks) refl within) low ∙ s.unused k r within low;
     }
 
--- another way to say which places are cleared, and which blocks were given
+-- the same with another description of the cleared places and the blocks given
 pub clears_as : (geometry : Geometry) (old new : List ℕ) (i : ℕ) (Cleared Other : List ℕ → Type 0) (given same blocks : List ℕ)
     → given ≡ same
     → ((q : List ℕ) → IsPlaceOf geometry old i q → Other q → Cleared q ⊎ (named geometry new i q ≡ 0)) → ((q : List ℕ) → Cleared q → Other q)

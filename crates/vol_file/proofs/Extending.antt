@@ -1,4 +1,4 @@
--- One place of a file more that names a block: the first free one, which was zeroed.
+-- One more place of a file names a block: the first free one, which was zeroed.
 use Rattle.std.proofs.Common.{◌≡◌, ◌≢◌, ℕ, ◌+◌, ◌*◌, ◌/◌, ◌%◌, ◌<◌, ◌≤◌, ◌∙◌, sym, ap, subst, List, [], ◌∷◌, get_or, refl, arith, inl, inr, true, false, Bool, cond, None, Some, eqb}
 use Rattle.std.specs.Prelude.{◌&&◌, ◌||◌, not}
 use Rattle.std.specs.Option.{option_map_or}
@@ -95,7 +95,7 @@ unnamed_false geometry image i p e = rw e refl
 pub named_true : (geometry : Geometry) (image : List ℕ) (i : ℕ) (p : List ℕ) → named geometry image i p ≢ 0 → is_named geometry image i p ≡ true
 named_true geometry image i p some = ap not (ne_eqb (named geometry image i p) 0 some)
 
--- one wanted place fewer lacks a name
+-- one fewer wanted place lacks a name
 lacking_less : (geometry : Geometry) (old new : List ℕ) (i : ℕ) (q : List ℕ) (wanted : List ℕ → Bool) → form_at geometry new i ≡ form_at geometry old i
     → IsPlaceOf geometry old i q → wanted q ≡ true → is_named geometry old i q ≡ false → is_named geometry new i q ≡ true
     → ((p : List ℕ) → IsPlaceOf geometry old i p → p ≢ q → is_named geometry new i p ≡ is_named geometry old i p)

@@ -12,7 +12,7 @@ use Rattle.vol_free.proofs.Stacks.{IsFree_unique, zone_behind}
 use Rattle.vol_layout.specs.Names.{form_at}
 use Rattle.vol_file.specs.Clears.{first_block, Gains, IsNamedAtLevel, ClearsBelow}
 
--- the list of free blocks is one
+-- there is one list of free blocks
 free_same : (geometry : Geometry) (image xs ys : List ℕ) → 1 ≤ geometry.zone_start → IsFree geometry image xs → IsFree geometry image ys
     → length xs ≡ length ys
 free_same geometry image xs ys low first second = ap length (IsFree_unique low first second)
@@ -39,7 +39,7 @@ gains_one geometry old new b blocks low from to before after first second =
     let early = free_same geometry old before blocks low first from in
     let late = free_same geometry new after (b ∷ blocks) low second to in omega (arith, early, late)
 
--- the blocks that were given are as many as the free ones are more
+-- as many blocks were given as there are more free ones
 pub gains_given : (geometry : Geometry) (old new given blocks : List ℕ) (count : ℕ) → Gains geometry old new count → IsFree geometry old blocks
     → IsFree geometry new (given ++ blocks) → count ≡ length given
 gains_given geometry old new given blocks count gains from to =
@@ -78,13 +78,13 @@ step_few geometry old mid low b level kept given count has node gains cleared mo
     let second = gains_few geometry mid mid low count node.sound.fits (node_stack geometry mid b level node) (below_stack geometry mid low b level kept cleared node) more in
     omega (arith, first, second)
 
--- the blocks given by one step more: those below a block
+-- the blocks given by one more step: those below a block
 pub step_part : (geometry : Geometry) (old mid low : List ℕ) (b level given count : ℕ) → IsNamedAtLevel geometry mid b level
     → Gains geometry old mid given → Gains geometry mid low count → Gains geometry old low (given + count)
 step_part geometry old mid low b level given count node gains more =
     gains_then geometry old mid low given count (node_stack geometry mid b level node) gains more
 
--- the blocks given by one step more: those below a block, and the block
+-- the blocks given by one more step: those below a block, and the block
 pub step_gains : (geometry : Geometry) (old mid low new : List ℕ) (b level kept given count : ℕ) → IsNamedAtLevel geometry mid b level
     → Gains geometry old mid given → ClearsBelow geometry mid low b level kept → Gains geometry mid low count → Gains geometry low new 1
     → Gains geometry old new (given + count + 1)

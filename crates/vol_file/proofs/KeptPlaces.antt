@@ -38,11 +38,11 @@ four_same a b x u c d y v e f g h = cc
 large_two : (k : ℕ) → 2 ≤ levels Large k → k ≡ 7
 large_two k deep = grind (arith, nat_tests)
 
--- an address of a large file has one or two
+-- an address of a large file has one or two levels below it
 large_some : (k : ℕ) → (1 ≤ levels Large k) × (levels Large k ≤ 2)
 large_some k = (grind (arith, nat_tests), grind (arith, nat_tests))
 
--- if one is left below an address of a large file, it isn't the last
+-- if an address of a large file has one level below it, it isn't the last
 large_one : (k : ℕ) → k < 8 → levels Large k - 1 ≡ 0 → k < 7
 large_one k low none = grind (arith, nat_tests)
 
@@ -153,7 +153,7 @@ record Bottom (form : Form) (p : List ℕ) : Type 0 where
   front : IsFront p leaf
   same : first_block form leaf ≡ first_block form p
 
--- a property of a place below another is one of the other too
+-- if the first place below another has the property, so has the other
 bottom_above : (form : Form) (a : ℕ) (p : List ℕ) → Bottom form (0 ∷ (a ∷ p)) → Bottom form (a ∷ p)
 bottom_above form a p next =
     let start : first_block form (0 ∷ (a ∷ p)) ≡ first_block form (a ∷ p) = omega arith in

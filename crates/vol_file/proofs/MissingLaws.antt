@@ -438,7 +438,7 @@ any_at t a (suc n) j low high e =
       | inr later ↦ yes_after (t a) (list_any t (range_with_len (a + 1) n)) (any_at t (a + 1) n j later (omega arith) e)
     ]
 
--- a range with one number more
+-- a range with one more number
 pub any_more : (t : ℕ → Bool) (a n : ℕ) → list_any t (range_with_len a (suc n)) ≡ (list_any t (range_with_len a n) || t (a + n))
 any_more t a zero = let same : a ≡ a + 0 = omega arith in or-false (t a) ∙ ap t same
 any_more t a (suc n) =
@@ -524,7 +524,7 @@ count_way form names first (suc n) p e sofar =
     count_later form names first n p e sofar
     ∙ ap (λ t. missing_from form names first (suc n) + missing_at form names t (first + suc n)) (sym more)
 
--- the count with one block more
+-- the count with one more block
 count_next : (form : Form) (names : List ℕ → Bool) (first n : ℕ)
     → missing_count form names (range_with_len first n) ≡ missing_from form names first n
     → count_by (λ q. (is_on_ways form (range_with_len first n) q || is_on_way form q (first + n)) && not (names q)) (places form)
@@ -558,7 +558,7 @@ count_blocks form names first (suc n) =
 
 -- Steps of the count
 
--- one entry more on a way
+-- one more entry on a way
 pub missing_to_more : (names : List ℕ → Bool) (whole : Bool) (k : ℕ) (entries : List ℕ) (d : ℕ)
     → missing_to names whole (place_to k entries (d + 1))
     ≡ (if names (place_to k entries (d + 1)) then 0 else 1)
@@ -580,13 +580,13 @@ pub missing_start : (form : Form) (names : List ℕ → Bool) (first : ℕ) → 
 unfolding missing_from
 missing_start form names first = let none : first - first ≡ 0 = omega arith in ap (missing_from form names first) none
 
--- one block more, by the number of blocks
+-- one more block, by the number of blocks
 missing_next : (form : Form) (names : List ℕ → Bool) (first n : ℕ)
     → missing_from form names first (suc n) ≡ missing_from form names first n + missing_at form names (n == 0) (first + n)
 unfolding missing_from
 missing_next form names first n = refl
 
--- one block more
+-- one more block
 pub missing_more : (form : Form) (names : List ℕ → Bool) (first b : ℕ) → first ≤ b
     → missing_from form names first (b + 1 - first) ≡ missing_from form names first (b - first) + missing_at form names (b == first) b
 missing_more form names first b low =

@@ -214,7 +214,7 @@ entries_none geometry old new m level kept j k next few some none cleared i a bo
     (entries_named geometry old new m level kept j k i a bound p blocks cleared sound is deep left ∙ none)
     (cleared i a bound p blocks sound is deep left)
 
--- the block that an entry names has one level less below it
+-- the block that an entry names has one fewer level below it
 pub entries_node : (geometry : Geometry) (old new : List ℕ) (m level kept j k b : ℕ) → ClearsEntries geometry old new m level kept k
     → IsNamedAtLevel geometry old m level → 1 ≤ level → j < (constants geometry.edition).pointers → b ≡ number geometry.edition new (512 * m) j → b ≢ 0
     → IsNamedAtLevel geometry new b (level - 1)

@@ -63,7 +63,7 @@ filter_same f g (q ∷ qs) same =
     let here : f q ≡ g q = same q (inl refl) in
     let rest : filter f qs ≡ filter g qs = filter_same f g qs (λ p among. same p (inr among)) in rw (here, rest) refl
 
--- a member of a list turned round is one of the list
+-- a member of a reversed list is one of the list
 pub among_reverse : (p : List ℕ) (qs : List (List ℕ)) → IsAmong p (reverse qs) → IsAmong p qs
 among_reverse p [] among = among
 among_reverse p (q ∷ qs) among =
@@ -161,7 +161,7 @@ ways_next geometry old mid i wanted from n d b blocks wants named h at =
           (ap (λ c. list_any (bytes_eq p) (way (form_at geometry old i) c)) at ∙ (ap (λ f. list_any (bytes_eq p) (way f b)) (sym form) ∙ on)));
     }
 
--- one block's way more is named
+-- one more block's way is named
 pub ways_more : (geometry : Geometry) (old mid new : List ℕ) (i : ℕ) (wanted : List ℕ → Bool) (from n d b e : ℕ) (blocks : List ℕ)
     → WantsWays geometry old i wanted from n blocks → (named : NamesWays geometry old mid i wanted from d blocks) → from + d ≡ b → d + 1 ≡ e
     → NamesWay geometry mid new i wanted b named.rest → NamesWays geometry old new i wanted from e blocks

@@ -1,4 +1,4 @@
--- One place of a way more that names something, and the way so far.
+-- One more place of a way names something, after the way so far.
 use Rattle.std.proofs.Common.{◌≡◌, ◌≢◌, ℕ, ◌+◌, ◌*◌, ◌<◌, ◌≤◌, ◌∙◌, sym, ap, subst, List, [], ◌∷◌, ◌++◌, length, map, filter, reverse, refl, arith, rules, true, false, true≢false, Bool, None, Some, inl, inr}
 use Rattle.std.specs.Prelude.{◌&&◌, ◌||◌, not}
 use Rattle.std.specs.Str.{bytes_eq}
@@ -55,7 +55,7 @@ or_comm true false = refl
 or_comm false true = refl
 or_comm false false = refl
 
--- the same set by other words
+-- the same for an equal set
 pub extends_as : (geometry : Geometry) (old new : List ℕ) (i : ℕ) (wanted set same : List ℕ → Bool) (gained list : List (List ℕ)) (blocks rest : List ℕ)
     → ((p : List ℕ) → set p ≡ same p) → gained ≡ list → Extends geometry old new i wanted set gained blocks rest
     → Extends geometry old new i wanted same list blocks rest

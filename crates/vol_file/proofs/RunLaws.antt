@@ -14,7 +14,7 @@ use Rattle.vol_layout.proofs.LastPlaces.{last_large, last_huge, last_single, las
 use Rattle.vol_file.specs.Holes.{direct_count}
 use Rattle.vol_file.proofs.Subtrees.{some_is, head_of, tail_of, pointers_at, length_to, named_under}
 
--- a last place whose last index is t more
+-- a last place whose last index is greater by t
 abbrev moved : ℕ → List ℕ → List ℕ
 moved t p = (head_of p + t) ∷ tail_of p
 

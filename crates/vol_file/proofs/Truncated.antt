@@ -1,4 +1,4 @@
--- The end of a truncation: the size and the mode of a file whose places past the kept blocks name nothing any more.
+-- The end of a truncation: the size and the mode of a file whose places past the kept blocks no longer name anything.
 use Rattle.std.proofs.Common.{◌≡◌, ℕ, ◌+◌, ◌*◌, ◌/◌, ◌%◌, ◌<◌, ◌≤◌, ◌⊎◌, ◌∙◌, sym, ap, subst, List, [], ◌∷◌, ◌++◌, length, take, map, filter, get_or, refl, arith, inl, inr, true, false, true≢false, None, Some, if◌then◌else◌}
 use Rattle.std.specs.Prelude.{◌==◌, not}
 use Rattle.std.proofs.lemmas.Bool.{cases_eq}

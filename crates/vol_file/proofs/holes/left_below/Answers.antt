@@ -39,7 +39,7 @@ overflow_sub-left c =
     let same : (constants c.args.geometry.now.edition).pointers ≡ c.constants-pointers.result.pointers = ap (λ (of : Constants). of.pointers) (sym c.constants-pointers.ensures) in
     omega (arith, taken_off c.loop-level.left c.constants-pointers.result.pointers (get_or c.args.way.now.entries c.loop-level.level 0) c.loop-level.invariant.some (omega (arith, entry, same)))
 
--- one level more
+-- one more level
 level_more : (pointers k left level d : ℕ) (entries : List ℕ) → d ≤ level → left ≡ blocks_left pointers (level - d) (place_to k entries level)
     → left * pointers - slice_index entries level ≡ blocks_left pointers (level + 1 - d) (place_to k entries (level + 1))
 level_more pointers k left level d entries low e =

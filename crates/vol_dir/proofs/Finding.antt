@@ -130,7 +130,7 @@ others_are geometry image d (Some (s, slot)) search =
     ∙ list_any_at holds_other (slots geometry image d) s None (let within = search.within in omega arith)
     (ap holds_other (get_or-slots geometry image d s search.within) ∙ search.found)
 
--- slots are fewer than a 32-bit number holds bytes
+-- the greatest size fits 32 bits
 greatest_low : (edition : Edition) → (constants edition).greatest < 2 ^ 32
 greatest_low V6 = omega arith
 greatest_low V7 = omega arith

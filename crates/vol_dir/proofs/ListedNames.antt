@@ -46,12 +46,12 @@ pub record HasCollected (geometry : Geometry) (image : List ℕ) (d n : ℕ) (en
   pub marked : MarksSlots (is_met (by_bytes entries)) geometry image marks
   pub names : by_bytes entries ≡ names_of (slots_below geometry image d n)
 
--- one number more
+-- one more number
 range_more : (a n j : ℕ) → a + n ≡ j → range_with_len a (suc n) ≡ range_with_len a n ++ j ∷ []
 range_more a zero j e = let same : a ≡ j = omega arith in ap (λ k. k ∷ []) same
 range_more a (suc n) j e = ap (λ ks. a ∷ ks) (range_more (a + 1) n j (omega arith))
 
--- one slot more
+-- one more slot
 slots_more : (geometry : Geometry) (image : List ℕ) (d n : ℕ)
     → slots_below geometry image d (suc n) ≡ slots_below geometry image d n ++ entry_at geometry image d n ∷ []
 unfolding slots_below

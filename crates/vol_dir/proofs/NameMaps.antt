@@ -127,7 +127,7 @@ turned false b x y z apart = refl
 with_item_next : {X : Type 0} (first x : X) (xs : List X) (s : ℕ) → with_item (first ∷ xs) (suc s) x ≡ first ∷ with_item xs s x
 with_item_next first x xs s = let next : suc s + 1 ≡ suc (s + 1) = omega arith in ap (λ n. first ∷ (take s xs ++ x ∷ drop n (first ∷ xs))) next
 
--- an item past the end of a list of none
+-- an item put past the end of an empty list
 with_item_none : {X : Type 0} (x : X) (s : ℕ) → with_item [] (suc s) x ≡ x ∷ []
 with_item_none x s = let next : suc s + 1 ≡ suc (s + 1) = omega arith in ap (λ n. x ∷ drop n []) next
 
@@ -159,7 +159,7 @@ names_with slots s i name h empty none =
     (is_sorted-put (slice_cmp nat_cmp) nat_list_cmp_total name i (names_of slots) (sorted slots))
     (λ q. get_with slots s i name q h empty none ∙ sym (get_insert (names_of slots) name q i))
 
--- the names in slots one of which is another
+-- the names in slots after one of them is replaced
 pub names_in_with : (slots : List (Option (List ℕ × ℕ))) (s : ℕ) (slot : Option (List ℕ × ℕ))
     → names_in (with_item slots s slot) ≡ with_item (names_in slots) s (option_map (λ (entry : List ℕ × ℕ). entry.0) slot)
 names_in_with [] zero slot = refl

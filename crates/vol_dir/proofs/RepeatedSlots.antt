@@ -24,7 +24,7 @@ slot_of geometry image d b s fits few within =
       | false ↦ λ zone. entry_in_hole geometry image d b s m few within refl zone
     ] refl
 
--- a slot passes a test in its block just if it does in the directory
+-- a slot passes a test in its block exactly if it does in the directory
 pub passes_slot : (test : Option (List ℕ × ℕ) → Bool) (geometry : Geometry) (image : List ℕ) (d b s : ℕ) → Fits geometry image → s < 32
     → 32 * b + s < slot_count geometry image d
     → passes_in test geometry image (stored geometry image d (form_at geometry image d) b) s ≡ test (entry_at geometry image d (32 * b + s))
@@ -57,12 +57,12 @@ out_passes test geometry image m part out none = elim (nat_lt part 32) as (λ z.
   | false ↦ refl
 ]
 
--- a slot that isn't any entry passes a test that an empty one passes
+-- a slot without an entry passes each test that an empty one passes
 pub empty_passes : (test : Option (List ℕ × ℕ) → Bool) (entry : Option (List ℕ × ℕ)) → test None ≡ true → is_some entry ≡ false → test entry ≡ true
 empty_passes test None none empty = none
 empty_passes test (Some entry) none empty = absurd (true≢false empty)
 
--- a slot that is none is empty
+-- a slot without an entry is empty
 is_empty : (entry : Option (List ℕ × ℕ)) → is_none entry ≡ true → entry ≡ None
 is_empty None empty = refl
 is_empty (Some entry) empty = absurd (true≢false (sym empty))

@@ -127,7 +127,7 @@ with_item_here xs s x d h =
     get_or-append_right (take s xs) (x ∷ drop (s + 1) xs) s s d (length-take-le s xs h) (omega arith)
     ∙ ap (λ k. get_or (x ∷ drop (s + 1) xs) k d) none
 
--- every item but that is as before
+-- every other item is as before
 pub with_item_else : {X : Type 0} (xs : List X) (s k : ℕ) (x d : X) → s ≤ length xs → k ≢ s → get_or (with_item xs s x) k d ≡ get_or xs k d
 with_item_else xs s k x d h other = elim (cases_lt k s) [
   | inl low ↦ get_or_append_left (take s xs) (x ∷ drop (s + 1) xs) d k (let len = length-take-le s xs h in omega arith) ∙ get_or-take s xs k d low

@@ -147,7 +147,7 @@ module _ (g : Geometry) (image : List ℕ) where
       all_refused g image marks zoned len clear
       (files_fail g image i (i - 1) marks mid (omega arith) (omega arith) done (again_marked (blocks_of g image i) mid x found))
 
-  -- a block of the files before i, or of the first of its own, is one of all
+  -- a block of the files before i, or of the first of its own, is among all blocks
   among_all : (i b : ℕ) (before after : List ℕ) → 1 ≤ i → i ≤ g.last_inode → blocks_of g image i ≡ before ++ after
       → IsIn b (files_from g image (i - 1) ++ before) → IsIn b (all_blocks g image)
   unfolding files_from

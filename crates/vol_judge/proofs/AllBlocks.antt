@@ -53,7 +53,7 @@ named_block geometry image i p place some =
     subst (IsIn (named geometry image i p)) (sym (blocks_at_all geometry image i))
     (at_in geometry image i p (places (form_at geometry image i)) (places_among (form_at geometry image i) p place.place) some)
 
--- a block of all is named by a place
+-- each of all blocks is named by a place
 pub all_named : (geometry : Geometry) (image : List ℕ) (b : ℕ) → IsIn b (all_blocks geometry image)
     → (i : ℕ) × (p : List ℕ) × NamedBy geometry image i p b
 all_named geometry image b among =
@@ -61,7 +61,7 @@ all_named geometry image b among =
     let found = block_named geometry image file.0 b file.1 (omega (arith, file.2)) file.3 in
     (file.0, found.0, found.1)
 
--- a block that a place names is one of all
+-- a block that a place names is among all blocks
 pub named_all : (geometry : Geometry) (image : List ℕ) (i : ℕ) (p : List ℕ) → IsPlaceOf geometry image i p → named geometry image i p ≢ 0
     → IsIn (named geometry image i p) (all_blocks geometry image)
 named_all geometry image i p place some =
@@ -98,7 +98,7 @@ file_once geometry image i first last apart =
     (λ p q here there some same.
     (apart i i p q (place_of geometry image i p first last (among_places form p here)) (place_of geometry image i q first last (among_places form q there)) some same).1))
 
--- and none of all occurs twice
+-- and none of all blocks occurs twice
 pub apart_once : (geometry : Geometry) (image : List ℕ) → IsApart geometry image → Once (all_blocks geometry image)
 apart_once geometry image apart =
     once_flat (blocks_of geometry image) 1 geometry.last_inode
@@ -108,7 +108,7 @@ apart_once geometry image apart =
     let q = block_named geometry image j b low' (omega (arith, high')) there in
     (apart i j p.0 q.0 p.1.place q.1.place (λ none. p.1.some (sym p.1.is ∙ none)) (p.1.is ∙ sym q.1.is)).0)
 
--- if each number is a data block's, so is each block of all
+-- if each number is that of a data block, all blocks are data blocks
 pub all_zoned : (geometry : Geometry) (image : List ℕ) (b : ℕ) → IsZoned geometry image → IsIn b (all_blocks geometry image) → in_zone geometry b ≡ true
 all_zoned geometry image b zoned among =
     let found = all_named geometry image b among in
@@ -165,7 +165,7 @@ pub files_none : (geometry : Geometry) (image marks : List ℕ) (n : ℕ) → n 
 unfolding files_from
 files_none geometry image marks n none = ap (λ x. marked marks (flat_map (blocks_of geometry image) (range_with_len 1 x))) none ∙ marked_none marks
 
--- one file more is marked
+-- one more file is marked
 pub files_more : (geometry : Geometry) (image : List ℕ) (i n m : ℕ) (marks mid : List ℕ) (end : Option (List ℕ)) → 1 + n ≡ i → n + 1 ≡ m
     → marked marks (files_from geometry image n) ≡ Some mid → marked mid (blocks_of geometry image i) ≡ end
     → marked marks (files_from geometry image m) ≡ end

@@ -23,7 +23,7 @@ from_leaf geometry image b some = ap (λ t. cond t [] (b ∷ [])) (ne_eqb b 0 so
 unfoldable pub entries_from : Geometry → List ℕ → ℕ → ℕ → ℕ → List ℕ
 entries_from geometry image d b n = flat_map (λ j. blocks_from geometry image d (pointer_in geometry image b j)) (range_with_len 0 n)
 
--- with one level more it is found before its entries
+-- with one more level it is found before its entries
 pub from_suc : (geometry : Geometry) (image : List ℕ) (d b : ℕ) → b ≢ 0
     → blocks_from geometry image (suc d) b ≡ b ∷ entries_from geometry image d b (constants geometry.edition).pointers
 unfolding blocks_from entries_from
@@ -63,7 +63,7 @@ pub entries_none : (geometry : Geometry) (image : List ℕ) (d b : ℕ) (marks :
 unfolding entries_from
 entries_none geometry image d b marks = marked_none marks
 
--- one entry more is marked
+-- one more entry is marked
 pub entries_more : (geometry : Geometry) (image : List ℕ) (d b j k : ℕ) (marks mid : List ℕ) (end : Option (List ℕ)) → j + 1 ≡ k
     → marked marks (entries_from geometry image d b j) ≡ Some mid
     → marked mid (blocks_from geometry image d (pointer_in geometry image b j)) ≡ end

@@ -25,7 +25,7 @@ module _ (g : Geometry) (image counts : List ℕ) (all : HasCounts g image count
   pub uncounted : (i : ℕ) → i ≤ g.last_inode → (n : ℕ) → n ≡ get_or counts i 0 → (IsCounted g image i n → ⊥) → IsCounted g image i (entry_count g image i) → ⊥
   uncounted i last n is wrong here = wrong (subst (IsCounted g image i) (sym (is ∙ all.count i last)) here)
 
-  -- one i-node more is right
+  -- one more i-node is right
   pub links_more : (n : ℕ) → ((j : ℕ) → 1 ≤ j → j < n → IsCounted g image j (entry_count g image j)) → IsCounted g image n (entry_count g image n)
       → (j : ℕ) → 1 ≤ j → j < n + 1 → IsCounted g image j (entry_count g image j)
   links_more n before here j first low = elim (cases_eq n j) [

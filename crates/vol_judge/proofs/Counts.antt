@@ -123,7 +123,7 @@ in_same geometry image p q i d kinds.Regular same = refl
 in_same geometry image p q i d kinds.Special same = refl
 in_same geometry image p q i d kinds.Odd same = refl
 
--- one slot more in a directory is one more in its count
+-- one more slot in a directory is one more in its count
 in_one : (geometry : Geometry) (image : List ℕ) (p q i d s : ℕ) (kind : Kind) → kind ≡ kinds.Directory → s < slot_count geometry image d
     → is_before geometry image p i d s ≡ false → is_before geometry image q i d s ≡ true
     → ((t : ℕ) → t ≢ s → is_before geometry image p i d t ≡ is_before geometry image q i d t)

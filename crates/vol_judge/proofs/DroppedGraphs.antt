@@ -44,7 +44,7 @@ pub record IsUnnamed (old new : Graph) (last i d s : ℕ) (name : List ℕ) : Ty
   pub links : new.kind i ≢ kinds.Free → (new.links i ≡ counted new last i) × (1 ≤ new.links i)
   pub kept : (x : ℕ) → x ≢ i → old.kind x ≢ kinds.Free → new.links x ≡ old.links x
 
--- its entries are one less, and those of others as many
+-- it has one fewer entry, and every other i-number as many as before
 dropped_count : (old new : Graph) (last i d s j : ℕ) (name : List ℕ) → IsGraphWithin old last → IsGraphWithin new last
     → ChangesSlot old new d s (Some (name, i)) None → KeepsOthers old new d i → old.kind i ≢ kinds.Directory → new.kind i ≢ kinds.Directory
     → counted new last j + one_for j (Some (name, i)) ≡ counted old last j

@@ -93,7 +93,7 @@ ext_set g b d below old new within ext = record {
 pub known_none : (g : Geometry) (image marks : List ℕ) → ((b : ℕ) → get_or marks b 0 ≡ 0) → KnowsMarked g image marks
 known_none g image marks clear b d is x among zone = absurd (omega (arith, is, clear b))
 
--- one block more is known
+-- one more block is known
 pub known_more : (g : Geometry) (image marks : List ℕ) (b d : ℕ) → b < length marks → KnowsMarked g image marks
     → ((x : ℕ) → IsIn x (blocks_from g image d b) → in_zone g x ≡ true → get_or (set marks b (d + 1)) x 0 ≢ 0)
     → KnowsMarked g image (set marks b (d + 1))
@@ -190,7 +190,7 @@ module _ (g : Geometry) (image : List ℕ) where
   unfolding entries_from
   ext_start d b marks = ext_none g marks
 
-  -- one entry more
+  -- one more entry
   pub ext_entry : (d b j n : ℕ) (old mid new : List ℕ) → n ≡ j + 1 → ExtendsMarks g (entries_from g image d b j) old mid
       → ExtendsMarks g (blocks_from g image d (pointer_in g image b j)) mid new → ExtendsMarks g (entries_from g image d b n) old new
   unfolding entries_from
@@ -213,7 +213,7 @@ module _ (g : Geometry) (image : List ℕ) where
   unfolding addresses_from
   ext_first i marks = ext_none g marks
 
-  -- one address more
+  -- one more address
   pub ext_address : (i k n : ℕ) (old mid new : List ℕ) → n ≡ k + 1 → ExtendsMarks g (addresses_from g image i k) old mid
       → ExtendsMarks g (address_blocks g image i k) mid new → ExtendsMarks g (addresses_from g image i n) old new
   unfolding addresses_from
@@ -224,7 +224,7 @@ module _ (g : Geometry) (image : List ℕ) where
   unfolding files_from
   ext_begin n marks none = subst (λ x. ExtendsMarks g (files_from g image x) marks marks) (sym none) (ext_none g marks)
 
-  -- one file more
+  -- one more file
   pub ext_file : (i n m : ℕ) (old mid new : List ℕ) → m ≡ n + 1 → 1 + n ≡ i → ExtendsMarks g (files_from g image n) old mid
       → ExtendsMarks g (blocks_of g image i) mid new → ExtendsMarks g (files_from g image m) old new
   unfolding files_from

@@ -107,7 +107,7 @@ pub addresses_none : (geometry : Geometry) (image : List ℕ) (i : ℕ) (marks :
 unfolding addresses_from
 addresses_none geometry image i marks = marked_none marks
 
--- one address more is marked
+-- one more address is marked
 pub addresses_more : (geometry : Geometry) (image : List ℕ) (i k n : ℕ) (marks mid : List ℕ) (end : Option (List ℕ)) → k + 1 ≡ n
     → marked marks (addresses_from geometry image i k) ≡ Some mid → marked mid (address_blocks geometry image i k) ≡ end
     → marked marks (addresses_from geometry image i n) ≡ end

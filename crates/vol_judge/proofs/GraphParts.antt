@@ -75,7 +75,7 @@ elsewhere old new last d i before after others was is x t other = elim (cases_eq
   | inr away ↦ others.entry x t other away
 ]
 
--- if one slot changes, the entries for each i-number are as many more or less as that slot says
+-- if one slot changes, the number of entries for each i-number changes by what that slot had and has for it
 pub counted_slot : (old new : Graph) (last d s j : ℕ) (was is : Option (List ℕ × ℕ)) → IsGraphWithin old last → IsGraphWithin new last
     → ChangesSlot old new d s was is → ((x t : ℕ) → x ≢ d → new.entry x t ≡ old.entry x t)
     → counted new last j + one_for j was ≡ counted old last j + one_for j is

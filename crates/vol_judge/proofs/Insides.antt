@@ -45,7 +45,7 @@ pub knows_nothing : (geometry : Geometry) (image known : List ℕ) → ((b : ℕ
 unfolding IsInside
 knows_nothing geometry image known none b zone = subst (λ x. IsInside geometry image x b) (sym (none b)) (λ some. zone)
 
--- one block more is known
+-- one more block is known
 pub knows_more : (geometry : Geometry) (image known : List ℕ) (b d : ℕ) → b < length known → IsInside geometry image d b
     → KnowsInside geometry image known → KnowsInside geometry image (set known b d)
 knows_more geometry image known b d within inside knows k zone =

@@ -61,7 +61,7 @@ made_stays old new last made d s x t name entry before adds some = elim (cases_e
 sum_two : (f : ℕ → ℕ) → sum_by f (range_with_len 0 2) ≡ f 0 + f 1
 sum_two f = omega arith
 
--- each i-number has as many entries more as the three new slots say
+-- each i-number has as many more entries as the three new slots have for it
 made_count : (old new : Graph) (last made d s j : ℕ) (name : List ℕ) → IsGraphWithin old last → IsGraphWithin new last
     → AddsDirectory old new made d s name
     → counted new last j ≡ counted old last j + one_for j (Some (name, made)) + one_for j (Some (dot, made)) + one_for j (Some (dot_dot, d))

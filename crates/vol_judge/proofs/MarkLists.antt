@@ -35,7 +35,7 @@ marked_then (b ∷ blocks) more marks mid end done next =
       | inr before ↦ absurd (none-some mid (sym (marked_again marks b blocks before) ∙ done))
     ]
 
--- if the first can't be marked nor can all
+-- if the first can't be marked, not all can be
 pub marked_stops : (blocks more marks : List ℕ) → marked marks blocks ≡ None → marked marks (blocks ++ more) ≡ None
 unfolding marked
 marked_stops [] more marks stops = absurd (none-some marks (sym stops))
@@ -61,7 +61,7 @@ flat_more f a n m j size at =
     let more : m ≡ suc n = omega arith in
     ap (λ x. flat_map f (range_with_len a x)) more ∙ (flat_suc f a n ∙ ap (λ x. flat_map f (range_with_len a n) ++ f x) at)
 
--- the blocks of one number more are marked, or one of them can't be
+-- the blocks of one more number are marked, or one of them can't be
 pub marked_more : (f : ℕ → List ℕ) (a n j m : ℕ) (marks mid : List ℕ) (end : Option (List ℕ)) → a + n ≡ j → n + 1 ≡ m
     → marked marks (flat_map f (range_with_len a n)) ≡ Some mid → marked mid (f j) ≡ end → marked marks (flat_map f (range_with_len a m)) ≡ end
 marked_more f a n j m marks mid end at next done last =
@@ -71,7 +71,7 @@ marked_more f a n j m marks mid end at next done last =
     ∙ (ap (λ x. marked marks (flat_map f (range_with_len a n) ++ f x)) at
     ∙ marked_then (flat_map f (range_with_len a n)) (f j) marks mid end done last))
 
--- if those of some numbers can't be marked nor can those of more
+-- if the blocks of some numbers can't be marked, those of more numbers can't be
 marked_longer : (f : ℕ → List ℕ) (a n d : ℕ) (marks : List ℕ) → marked marks (flat_map f (range_with_len a n)) ≡ None
     → marked marks (flat_map f (range_with_len a (d + n))) ≡ None
 marked_longer f a n zero marks stops =
@@ -98,7 +98,7 @@ pub record Marks (blocks marks new : List ℕ) : Type 0 where
   pub all : (b : ℕ) → IsIn b blocks → get_or new b 0 ≢ 0
   pub kept : (b : ℕ) → get_or marks b 0 ≢ 0 → get_or new b 0 ≢ 0
 
--- one block more was marked first
+-- one more block was marked first
 marks_more : (b : ℕ) (blocks marks new : List ℕ) → b < length marks → get_or marks b 0 ≡ 0 → Marks blocks (set marks b 1) new
     → Marks (b ∷ blocks) marks new
 unfolding IsIn Once

@@ -47,7 +47,7 @@ pub record IsNamed (old new : Graph) (last i d s : ℕ) (name : List ℕ) : Type
   pub links : new.links i ≡ counted old last i + 1
   pub kept : (x : ℕ) → x ≢ i → old.kind x ≢ kinds.Free → new.links x ≡ old.links x
 
--- its entries are one more, and those of others as many
+-- it has one more entry, and every other i-number as many as before
 named_count : (old new : Graph) (last i d s j : ℕ) (name : List ℕ) → IsNamed old new last i d s name
     → counted new last j ≡ counted old last j + one_for j (Some (name, i))
 named_count old new last i d s j name named =

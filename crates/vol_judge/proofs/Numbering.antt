@@ -11,12 +11,12 @@ use Rattle.vol_file.specs.Rules.{IsZoned}
 use Rattle.vol_judge.specs.Judging.{IsFirstBroken}
 use Rattle.vol_judge.specs.Sound.{free_rules, block_rules, volume_rules, nth_fact, rules, Rule, IsJudged}
 
--- if a fact holds, and each of some others, each of them all holds
+-- if a fact and each of some others hold, all of them hold
 each_fact : (fact : Type 0) (facts : List (Type 0)) → fact → ((m : ℕ) → nth_fact facts m) → (m : ℕ) → nth_fact (fact ∷ facts) m
 each_fact fact facts holds others zero = holds
 each_fact fact facts holds others (suc m) = others m
 
--- if a fact holds, and each of some others before the n-th, each of them all before the next holds
+-- if a fact and the first n of some others hold, the first n + 1 of all of them hold
 each_before : (fact : Type 0) (facts : List (Type 0)) (n : ℕ) → fact → ((m : ℕ) → m < n → nth_fact facts m)
     → (m : ℕ) → m < suc n → nth_fact (fact ∷ facts) m
 each_before fact facts n holds others zero less = holds

@@ -79,7 +79,7 @@ module _ (g : Geometry) where
     unfolding entries_from
     entries_start d b = refl
 
-    -- one entry more
+    -- one more entry
     pub entries_next : (d b j m : ℕ) (end : Option ℕ) → m ≡ j + 1 → first_outside g (entries_from g image d b j) ≡ None
         → first_outside g (blocks_from g image d (pointer_in g image b j)) ≡ end → first_outside g (entries_from g image d b m) ≡ end
     unfolding entries_from
@@ -140,7 +140,7 @@ module _ (g : Geometry) where
     unfolding addresses_from
     addresses_start i = refl
 
-    -- one address more
+    -- one more address
     pub addresses_next : (i k m : ℕ) (end : Option ℕ) → m ≡ k + 1 → first_outside g (addresses_from g image i k) ≡ None
         → first_outside g (address_blocks g image i k) ≡ end → first_outside g (addresses_from g image i m) ≡ end
     unfolding addresses_from

@@ -77,7 +77,7 @@ walk_done {geometry = geometry} {image = image} {walks = walks} {d = d} {place =
       ],
     )
 
--- each step leaves fewer i-numbers that no way came by
+-- each step leaves fewer i-numbers that no way has passed
 pub walk_fewer : (walks : List ℕ) (n d : ℕ) → n < length walks → get_or walks n 0 ≡ 0 → 1 ≤ d → unwalked (set walks n d) + 1 ≤ unwalked walks
 walk_fewer walks n d room zero first =
     let sums = sum_by-set (λ walk. if walk == 0 then 1 else 0) walks n d 0 room in

@@ -38,7 +38,7 @@ find_neither p xs ys none =
       | Some x ↦ λ e. absurd (none-some x (sym none ∙ find_first p xs ys x e))
     ] refl
 
--- one list more
+-- one more list
 pub find_more : (p : ℕ → Bool) (f : ℕ → List ℕ) (a n j m : ℕ) (end : Option ℕ) → a + n ≡ j → m ≡ n + 1
     → find p (flat_map f (range_with_len a n)) ≡ None → find p (f j) ≡ end → find p (flat_map f (range_with_len a m)) ≡ end
 find_more p f a n j m end at size none last =

@@ -13,7 +13,7 @@ use Rattle.vol_judge.proofs.free_list.find_fault.Goals as goal
 pub walk-init : goal.walk-init
 walk-init c = ([], c.new-walk.ensures c.args.free.now c.requires.free_room c.requires.clear, clear_none c.args.named.now)
 
--- one block more
+-- one more block
 met_next : (c : goal.After-first_named-first) → HasMet c.args.geometry.now c.args.image.now c.next.new.marks c.next.new.self (c.in-Some-Ok.b ∷ c.walk.invariant.0)
 met_next c =
     met_one c.args.geometry.now c.args.image.now c.walk.free c.next.new.marks c.walk.walk c.next.new.self c.in-Some-Ok.field-0-is c.in-Some-Ok.ensures

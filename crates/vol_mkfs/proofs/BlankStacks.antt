@@ -114,7 +114,7 @@ once_range a (suc n) =
 module _ (geometry : Geometry) (image : List ℕ)
     (chains : (c : ℕ) → is_chain geometry c ≡ true
     → HasHead geometry image (512 * c) (c + (constants geometry.edition).free_slots) (constants geometry.edition).free_slots) where
-  -- a head with one number more
+  -- a head with one more number
   grow : (at top count n : ℕ) → HasHead geometry image at top count → count ≤ (constants geometry.edition).free_slots
       → top ≤ geometry.zone_end → geometry.zone_start + count ≤ top → n < count
       → IsStack geometry image at 1 (range_with_len top (geometry.zone_end - top))

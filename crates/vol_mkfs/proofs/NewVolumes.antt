@@ -28,7 +28,7 @@ none_below geometry image a b n start low free blocks other inside =
     let same : blocks ≡ range_with_len a n = IsFree_unique start other free in
     let above : a ≤ b = IsIn-range_with_len b a n (subst (IsIn b) same inside) in absurd (omega arith)
 
--- one number more at the front
+-- one more number at the front
 pub range_before : (a b e : ℕ) → b + 1 ≡ a → a ≤ e → range_with_len b (e - b) ≡ b ∷ range_with_len a (e - a)
 range_before a b e next room =
     let longer : e - b ≡ suc (e - a) = omega arith in

@@ -34,7 +34,7 @@ no_step geometry image ready = record {
   makes = refl;
 }
 
--- a step more that leaves the graph
+-- one more step that leaves the graph
 pub step_more : {Kept : ℕ → Type 0} {listed : List ℕ → List ℕ} (geometry : Geometry) (old mid new : List ℕ) (made : State) (edit : State → State)
     → HasMade geometry old mid made → Changed geometry mid new Kept (edit (state geometry mid)) listed
     → IsSameGraph (graph_of geometry mid) (graph_of geometry new) → HasMade geometry old new (edit made)

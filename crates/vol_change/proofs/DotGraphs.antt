@@ -33,14 +33,14 @@ dots_added old mid new i d s t first beside second later is_s is_t size none =
       rest = λ k from. two.beside k (λ e. omega arith) ∙ (one.beside k (λ e. omega arith) ∙ none k);
     }
 
--- until its parent has one link more, no link count is another
+-- until its parent has one more link, all other link counts stay
 pub dotted_links : (old bare named dotted : Graph) (made d x : ℕ) → AddsNode old bare made kinds.Directory 2 → StaysBeside bare named d
     → AddsDots named dotted made d → x ≢ made → old.kind x ≢ kinds.Free → dotted.links x ≡ old.links x
 dotted_links old bare named dotted made d x adds beside dots other used =
     dots.beside.links x (λ free. used (sym (adds.others.kind x other) ∙ (sym (beside.kind x) ∙ free)))
     ∙ (beside.links x (λ free. used (sym (adds.others.kind x other) ∙ free)) ∙ adds.kept x other used)
 
--- a directory is made: its i-node, its name in d, its own entries, and the link more that d has
+-- a directory is made: its i-node, its name in d, its own entries, and one more link for d
 pub directory_added : (old bare named dotted new : Graph) (made d s : ℕ) (name : List ℕ) → made ≢ d
     → AddsNode old bare made kinds.Directory 2 → ChangesSlot bare named d s None (Some (name, made)) → StaysBeside bare named d
     → AddsDots named dotted made d → SetsLinks dotted new d (dotted.links d + 1) → AddsDirectory old new made d s name

@@ -119,7 +119,7 @@ added_state geometry old new free name d i is fits short writes names list =
     ∙ (ap (λ list. record (stored_shape edition (directory_shape geometry old d) list) { slots = put }) blocks
     ∙ sym (ap (λ shape. shape_with_entry edition shape name) (shape_is geometry old d is)))))
 
--- the state after an entry is gone
+-- the state after an entry is removed
 pub removed_state : (geometry : Geometry) (old new free name : List ℕ) (d s : ℕ) → IsKind geometry old d kinds.Directory → Fits geometry old
     → Writes geometry old new d (16 * s) (0 ∷ 0 ∷ []) free → need geometry old d (16 * s) 2 ≡ 0 → size_of geometry new d ≡ size_of geometry old d
     → names_of (slots geometry new d) ≡ remove (names_of (slots geometry old d)) name

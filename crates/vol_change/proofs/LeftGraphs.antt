@@ -51,7 +51,7 @@ left_name old mid new i d s count name leaves sets less used other most =
       kept = λ x away some. sets.kept x away (still_used old mid d x leaves.beside some) ∙ leaves.beside.links x some;
     }
 
--- without its node, it has gone
+-- if the node is freed too, a file is removed
 pub left_file : (old mid new : Graph) (i d s : ℕ) (name : List ℕ) → LeavesSlot old mid i d s name → DropsNode mid new i
     → old.kind i ≢ kinds.Free → old.kind i ≢ kinds.Directory → mid.links i ≤ 1 → DropsFile old new i d s name
 left_file old mid new i d s name leaves drops used other last =
@@ -76,13 +76,13 @@ left_file old mid new i d s name leaves drops used other last =
       kept = λ x away some. drops.kept x away (still_used old mid d x leaves.beside some) ∙ leaves.beside.links x some;
     }
 
--- a directory that has `.` and `..` alone is another than the one that has a name for it
+-- a directory with only `.` and `..` isn't the one that has a name for it
 pub other_directory : (old mid : Graph) (i d s : ℕ) (name : List ℕ) → LeavesSlot old mid i d s name → is_dots name ≡ false
     → ((t j : ℕ) (word : List ℕ) → old.entry i t ≡ Some (word, j) → is_dots word ≡ true) → d ≢ i
 other_directory old mid i d s name leaves plain only same =
     true≢false (sym (only s i name (ap (λ y. old.entry y s) (sym same) ∙ leaves.slot.was)) ∙ plain)
 
--- without its node, and without the link that its `..` was, a directory has gone
+-- if its node is freed too, and its parent loses the link of its `..`, a directory is removed
 pub left_directory : (old mid low new : Graph) (i d s count : ℕ) (name : List ℕ) → LeavesSlot old mid i d s name → SetsLinks mid low d count
     → DropsNode low new i → count ≡ mid.links d - 1 → 1 ≤ mid.links d → is_dots name ≡ false → old.kind i ≡ kinds.Directory
     → ((t j : ℕ) (word : List ℕ) → old.entry i t ≡ Some (word, j) → is_dots word ≡ true) → DropsDirectory old new i d s name

@@ -84,7 +84,7 @@ pub left_same : (geometry : Geometry) (old mid : List ℕ) (d i : ℕ) (name : L
     → (inode_of geometry.edition mid i).links ≡ (inode_of geometry.edition old i).links
 left_same geometry old mid d i name now leaves = leaves.beside.links i (used_graph geometry old mid d i name now leaves)
 
--- a node that is no directory is none in the graph
+-- a node that isn't a directory isn't one in the graph
 other_graph : (geometry : Geometry) (old mid : List ℕ) (d i : ℕ) (name : List ℕ) (now : ℕ) → LeavesEntry geometry old mid d i name now
     → kind_at geometry old i ≢ kinds.Directory → (graph_of geometry old).kind i ≢ kinds.Directory
 other_graph geometry old mid d i name now leaves other is =

@@ -51,7 +51,7 @@ directory_makes geometry old bare named dotted new cred now perm made d name apa
     ∙ (ap (λ s. put_entry made dot_dot d (put_entry made dot made s)) (enters ∙ ap (add_entry now d name made) makes)
     ∙ dots_made (state geometry old) cred now perm made d name apart))
 
--- a directory may have one link more if the state says so
+-- a directory may have one more link if the state says so
 pub links_room : (geometry : Geometry) (old new : List ℕ) (d : ℕ) → HasKinds geometry old → IsDirectory geometry old d
     → (graph_of geometry new).links d ≡ (graph_of geometry old).links d
     → (node_at (state geometry old).tree d).links < (constants geometry.edition).link_limit

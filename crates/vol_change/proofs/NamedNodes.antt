@@ -78,7 +78,7 @@ file_added old mid new made d s name adds is slot beside = record {
   kept = kept_then old mid new d made adds.others.kind adds.kept beside;
 }
 
--- one link more, and then the name
+-- one more link, and then the name
 pub link_added : (old mid new : Graph) (i d s : ℕ) (name : List ℕ) → SetsLinks old mid i (old.links i + 1) → old.kind i ≢ kinds.Free
     → old.kind i ≢ kinds.Directory → old.kind d ≡ kinds.Directory → ChangesSlot mid new d s None (Some (name, i)) → StaysBeside mid new d
     → AddsLink old new i d s name

@@ -15,7 +15,7 @@ use Rattle.vol_change.proofs.SideStates.{set_beside}
 abbrev pub edit : ℕ → Option Node → Shape → State → State
 edit i node shape state = put_shape i shape (put_node i node state)
 
--- the value at the number at which it is set
+-- the value at the number where it is set
 pub set_here : {X : Type 0} (values : ℕ → X) (i : ℕ) (value : X) → set_at values i value i ≡ value
 set_here values i value = ap (λ t. if t then value else values i) (eq-eqb i i refl)
 

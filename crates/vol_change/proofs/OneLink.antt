@@ -1,4 +1,4 @@
--- One link more or less is another link count.
+-- Adding or removing a link sets another link count.
 use Rattle.std.proofs.Common.{◌≡◌, ◌∙◌, sym, ap, refl, ℕ, ◌+◌, ◌-◌, ◌≤◌, List, Option, None, Some}
 use Rattle.std.specs.Option.{option_map}
 use Rattle.vol_layout.specs.Inode.{inode_of}
@@ -28,7 +28,7 @@ change_same geometry image i one other first last same =
     ∙ (changed_same (inode_of geometry.edition image i) one other (content_of geometry image i (kind_at geometry image i)) same
     ∙ sym (ap (option_map other) here)))
 
--- one link more
+-- one more link
 pub link_more : (geometry : Geometry) (image : List ℕ) (i now count : ℕ) → 1 ≤ i → i ≤ geometry.last_inode
     → count ≡ (inode_of geometry.edition image i).links + 1
     → change_node i (with_links now count) (state geometry image) ≡ add_link now i (state geometry image)
@@ -37,7 +37,7 @@ link_more geometry image i now count first last is =
     ∙ change_same geometry image i (with_links now ((inode_of geometry.edition image i).links + 1)) (λ node. with_links now (node.links + 1) node) first last
     (λ c. refl)
 
--- one link less
+-- one fewer link
 pub link_less : (geometry : Geometry) (image : List ℕ) (i now count : ℕ) → 1 ≤ i → i ≤ geometry.last_inode
     → count ≡ (inode_of geometry.edition image i).links - 1
     → change_node i (with_links now count) (state geometry image) ≡ drop_link now i (state geometry image)

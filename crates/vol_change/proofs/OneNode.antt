@@ -63,7 +63,7 @@ pub bytes_stay : (geometry : Geometry) (old new : List ℕ) (d : ℕ) → KeepsC
     → body geometry new d ≡ body geometry old d
 bytes_stay geometry old new d kept is = kept.bytes (record { first = is.first; last = is.last; kind = ap has_places is.kind })
 
--- before and after which some of them are put
+-- and so if some of them are put in between
 pub bytes_put : (geometry : Geometry) (old mid low new : List ℕ) (d at : ℕ) (text : List ℕ) → KeepsContent geometry old mid d
     → IsDirectory geometry old d → PutsInBody geometry mid low d at text → KeepsContent geometry low new d → IsDirectory geometry low d
     → PutsInBody geometry old new d at text

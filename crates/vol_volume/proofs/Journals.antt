@@ -17,7 +17,7 @@ pub write_nothing : (state : State) (now offset : ℕ) (walked : Result ℕ Refu
 write_nothing state now offset (Ok i) = refl
 write_nothing state now offset (Err refusal) = refl
 
--- the second part leads on from where the first led
+-- the second part continues from the state that the first leads to
 pub after-append : (state : State) (front rest : List Record) → after state (front ++ rest) ≡ after (after state front) rest
 after-append state [] rest = refl
 after-append state (entry ∷ front) rest = after-append (step state entry.call entry.done) front rest

@@ -122,7 +122,7 @@ record OnlySlashes (path : List ℕ) (n : ℕ) : Type 0 where
   pub same : IsSame (take n path) path
   pub stop : (n == length path || slice_index path n == 47) ≡ true
 
--- one byte less, if it is a slash
+-- one byte fewer, if it is a slash
 less : (path : List ℕ) (k : ℕ) → OnlySlashes path (k + 1) → slice_index path k ≡ 47 → OnlySlashes path k
 less path k only slash =
     let low : k < length path = let within = only.within in omega arith in
@@ -167,12 +167,12 @@ dots_same : (path other : List ℕ) → IsSame path other → is_dots (last_name
 unfolding last_name
 dots_same path other same plain = ap (λ names. is_dots (last_of [] names)) same.names ∙ plain
 
--- one number more
+-- one more number
 range_more : (a n j : ℕ) → a + n ≡ j → range_with_len a (suc n) ≡ range_with_len a n ++ j ∷ []
 range_more a zero j is = let same : a ≡ j = omega arith in ap (λ i. i ∷ []) same
 range_more a (suc n) j is = ap (λ rest. a ∷ rest) (range_more (a + 1) n j (omega arith))
 
--- the calls for one byte more
+-- the calls for one more byte
 pub one_more : (f : ℕ → List Call) (front : List Call) (k : ℕ)
     → (front ++ flat_map f (range_with_len 0 k)) ++ f k ≡ front ++ flat_map f (range_with_len 0 (k + 1))
 one_more f front k =

@@ -4,6 +4,6 @@ use Rattle.vol_archive.specs.declared.found.Found.{Found}
 use Rattle.command_reads.specs.Remarks.{role_line}
 use Rattle.command_reads.proofs.remarks.push_left.Given as goal
 
--- the lines of what is left out so far are there
+-- the lines of what is left out so far have been added
 abbrev pub invariant-founds : goal.invariant-founds
 invariant-founds l = l.lines.items ≡ l.initial.lines.items ++ flat_map (λ (found : Found). role_line found.path found.role) (take l.found-index l.founds)

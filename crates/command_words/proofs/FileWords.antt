@@ -21,7 +21,7 @@ use Rattle.command_words.specs.Asking.{AreFilesGiven, EndsInMoment, IsMomentAfte
 abbrev pub texts : List (Bor (List ℕ)) → List (List ℕ)
 texts words = map (λ word. word.now) words
 
--- the texts of one reference more
+-- the texts of one more reference
 pub texts_more : (words : List (Bor (List ℕ))) (i : ℕ) (other : Bor (List ℕ)) → i < length words
     → texts (take (i + 1) words) ≡ texts (take i words) ++ (get_or words i other).now ∷ []
 texts_more words i other inside =
@@ -32,7 +32,7 @@ append_nil : (l : List (List ℕ)) → l ++ [] ≡ l
 append_nil [] = refl
 append_nil (x ∷ l) = ap (λ (m : List (List ℕ)). x ∷ m) (append_nil l)
 
--- the words for one argument more
+-- the words for one more argument
 pub words_more : (given : List ℕ → List (List ℕ)) (words more : List (Bor (List ℕ))) (names : List (Bor (List ℕ))) (i : ℕ) (other : Bor (List ℕ)) → i < length names
     → texts words ≡ flat_map given (texts (take i names)) → texts more ≡ given (get_or names i other).now
     → texts (words ++ more) ≡ flat_map given (texts (take (i + 1) names))

@@ -99,7 +99,7 @@ module _ (shape : TableShape) (s : State (Unit {0}) SeatView) (kept : Kept shape
         });
       }
 
-  -- a view with one mark more fits
+  -- a view with one more mark fits
   marked_fits : (m : Mark) → 1 ≤ v.parts → IsWithinParts shape.pieces (marked_view v m)
   marked_fits m some-parts = record { empty = λ e. absurd (omega arith); bounded = (kept.each id v at).bounded }
 

@@ -131,7 +131,7 @@ under w k m = if (m.word == w) && nat_lt m.amount k then 1 else 0
 under_cases : (w k : ℕ) (m : Mark) → ((m.word ≡ w) × (m.amount < k) × (under w k m ≡ 1)) ⊎ ((m.word ≡ w → k ≤ m.amount) × (under w k m ≡ 0))
 under_cases w k m = grind arith
 
--- the least after one mark more
+-- the minimum after one more mark
 least_cases : (w : ℕ) (m : Mark) (ms : List Mark) → ((m.word ≡ w) × (least_at w (m ∷ ms) ≡ min m.amount (least_at w ms))) ⊎ ((m.word ≢ w) × (least_at w (m ∷ ms) ≡ least_at w ms))
 unfolding least_at
 least_cases w m ms = grind arith
@@ -179,7 +179,7 @@ pub least_same : (w : ℕ) (xs ys : List Mark) → ((weight : Mark → ℕ) → 
 least_same w xs ys same =
     let a = least_le w xs ys same in let b = least_le w ys xs (λ weight. sym (same weight)) in omega arith
 
--- the least after a mark on the word, and on another
+-- the minimum after a mark on the word, and on another
 pub least_here : (w k : ℕ) (ms : List Mark) → least_at w (mark w k ∷ ms) ≡ min (least_at w ms) k
 least_here w k ms = elim (least_cases w (mark w k) ms) [
   | inl here ↦ let e = here.1 in omega arith

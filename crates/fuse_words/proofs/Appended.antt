@@ -5,7 +5,7 @@ use Rattle.byteorder.specs.Endian.{little_bytes}
 use Rattle.fuse_words.specs.declared.directory.EntryKind.{EntryKind}
 use Rattle.fuse_words.specs.Replies.{kind_number, padding, dirent_bytes}
 
--- one part more after the old bytes
+-- one more part after the old bytes
 more : (old front mid new part : List ℕ) → mid ≡ old ++ front → new ≡ mid ++ part → new ≡ old ++ (front ++ part)
 more old front mid new part m n = n ∙ (ap (λ xs. xs ++ part) m ∙ append_assoc old front part)
 

@@ -10,7 +10,7 @@ use Rattle.vol_reports.specs.declared.line.Line.{Line}
 use Rattle.unixvol.specs.Running.{IsEnd, IsUnread, RunsCheck, host_files}
 use Rattle.host_files.specs.declared.image_file.Stamp.{Stamp}
 
--- a run that lacks a file or memory ends so
+-- the end of a run without a file or memory
 ends_badly : (streams : Streams) (status : ℕ) → (3 ≤ status) → (status ≤ 4) → IsEnd streams status
 ends_badly streams status least most = record { within = most; whole = λ e. absurd (omega (arith, least, e)) }
 

@@ -57,7 +57,7 @@ few : {A : Type 0} (made : Option A) (status : ℕ) → (IsSome made → status 
 few (Some a) status zero some_few = let is = zero refl in omega (arith, is)
 few None status zero some_few = some_few refl
 
--- a command that makes bytes ends so
+-- the end of a command that makes bytes
 pub ends_concluded : (makes : List ℕ → Type 0) (is_reason : Fault → Type 0) (streams : Streams) (taken : List ℕ → Type 0) (answer : Answer) (status : ℕ)
     → Concludes makes is_reason streams.said answer → Keeps streams.old streams.new → streams.failed ≡ streams.had_failed
     → EndsSaved taken answer status → Ends streams status
@@ -85,7 +85,7 @@ import_few (imports.Member path cause) = omega arith
 import_few (imports.Refused refusal call) = refusal_within refusal
 import_few imports.NoMemory = omega arith
 
--- the import of an archive ends so
+-- the end of an import
 pub ends_imported : (edition : Edition) (image : List ℕ) (wanted : Result (List Call) ImportFault) (streams : Streams) (taken : List ℕ → Type 0) (answer : Answer)
     (status : ℕ) → ImportsArchive edition image wanted streams.said answer → Keeps streams.old streams.new → streams.failed ≡ streams.had_failed
     → EndsSaved taken answer status → Ends streams status
@@ -105,7 +105,7 @@ quiet_got : (P Q : List FileRead → Type 0) (said : List ℕ → Type 0) (files
 quiet_got P Q said (Some files) some given = given.2
 quiet_got P Q said None some given = absurd (true≢false (sym some))
 
--- the reading of files, and their saving, ends so
+-- the end of reading files and saving them
 pub ends_got : (edition : Edition) (image : List ℕ) (paths : List (List ℕ)) (streams : Streams) (taken : List ℕ → Type 0) (read : FilesRead) (status : ℕ)
     → GetsFiles edition image paths streams.said read → Keeps streams.old streams.new → streams.failed ≡ streams.had_failed → ReadSaved taken read status
     → Ends streams status

@@ -35,7 +35,7 @@ few_by : (status : ℕ) → (status ≢ 0 → status ≤ 4) → status ≤ 4
 few_by zero other = omega arith
 few_by (suc n) other = other (λ e. omega (arith, e))
 
--- a query that is shown ends so
+-- the end of a command that prints an answer
 pub ends_shown : (edition : Edition) (image : List ℕ) (query : Query) (streams : Streams) (status : ℕ)
     → Asks edition image streams status query → Ends streams status
 ends_shown edition image query streams status asks = record {
@@ -46,7 +46,7 @@ ends_shown edition image query streams status asks = record {
   whole = λ e. let shown = asks.shown e in (shown.0.0, shown.1);
 }
 
--- a change ends so
+-- the end of a change
 pub ends_change : (edition : Edition) (image given : List ℕ) (streams : Streams) (taken : List ℕ → Type 0) (answer : Answer) (status : ℕ) (change : Change)
     → Changes edition image given streams answer change → EndsSaved taken answer status → Ends streams status
 ends_change edition image given streams taken answer status (changes.Put path file now) does saved =
@@ -76,7 +76,7 @@ ends_change edition image given streams taken answer status (changes.Touch path 
 ends_change edition image given streams taken answer status changes.Salvage does saved =
     ends_concluded _ _ streams taken answer status does.0 does.1 does.2 saved
 
--- a change whose bytes aren't read ends so
+-- the end of a change whose bytes aren't read
 pub ends_ungiven : {F G : Type 0} (remaining : F → Option (List ℕ)) (heard : G → Option (List ℕ)) (streams : Streams) (status : ℕ) (change : Change)
     → IsUngiven (IsUnread remaining) (IsUnread heard) change status → Keeps streams.old streams.new → Ends streams status
 ends_ungiven remaining heard streams status (changes.Put path file now) ungiven kept = ends_unread remaining streams status ungiven kept

@@ -20,7 +20,7 @@ use Rattle.vol_listing.specs.declared.options.Screen.TheVariants as screens
 use Rattle.unixvol.specs.Running.{IsEnd, IsUnread, RunsLook, host_files}
 use Rattle.host_files.specs.declared.image_file.Stamp.{Stamp}
 
--- a run with a fault ends so
+-- the end of a run with a fault
 ends_badly : (streams : Streams) (status : ℕ) → 1 ≤ status → status ≤ 4 → IsEnd streams status
 ends_badly streams status least most = record { within = most; whole = λ e. absurd (omega (arith, least, e)) }
 

@@ -75,7 +75,7 @@ entries_beside g image path d = beside path (names_of (slots g image d)) (sorted
 abbrev pub IsAfter : List (List ℕ) → Pending → Type 0
 IsAfter names entry = entry.is_plain ≡ true → order names (components entry.path) ≡ Less
 
--- a property of each entry of a directory that was met is one of each below the entry met
+-- what holds of each entry of a directory that was met holds of each below the entry met
 pub each_inside : (P : Pending → Type 0) (g : Geometry) (image : List ℕ) (found : Found) (role : Role)
     → (role ≡ roles.Directory → Each P (entries_below g image found.path found.inode)) → Each P (below g image found role)
 each_inside P g image found roles.Directory h = h refl

@@ -129,7 +129,7 @@ module _ (tally : Tally) (seats : List CheckSeat) where
         knows = λ checker layout image all. let p = All-pop (IsOf checker layout image) seats rest (Some last) is all in (p.1, p.0);
       }
 
-  -- one seat more
+  -- one more seat
   pub gathers_more : (rest fewer : List CheckSeat) (all other new : CheckSeat) → rest ≡ fewer ++ option_to_list (Some other)
       → IsGathering tally seats rest all → Joins tally all other new → IsGathering tally seats fewer new
   gathers_more rest fewer all other new is before joins =

@@ -10,6 +10,6 @@ invariant-loop-piece g l = record {
   knows : IsOf l.self.checker l.self.layout l.image l.seat;
 }
 
--- each piece is one draw more, and a seat draws at most as many numbers as there are pieces before it ends
+-- each piece is one more draw, and a seat draws at most as many numbers as there are pieces before it ends
 abbrev pub decreases-loop-piece : goal.decreases-loop-piece
 decreases-loop-piece g l = (table_shape l.self.tally).pieces - length l.seat.seat.me.0.draws

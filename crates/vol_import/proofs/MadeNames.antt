@@ -175,7 +175,7 @@ abbrev pub entered : ℕ → ℕ → List ℕ → ℕ → Option Node → Option
 entered now size name i node =
     option_map (λ (x : Node). record (modified now x) { content = change_names (λ names. insert names name i) x.content; size = size }) node
 
--- a directory with a link more
+-- a directory with one more link
 abbrev pub linked : ℕ → Option Node → Option Node
 linked now node = option_map (λ (x : Node). record (stamped now x) { links = x.links + 1 }) node
 
@@ -190,7 +190,7 @@ entered_owner : (now size i : ℕ) (name : List ℕ) (node : Option Node) → Ke
 entered_owner now size i name node =
     owner_kept (λ x. record (modified now x) { content = change_names (λ names. insert names name i) x.content; size = size }) (λ x. refl) node
 
--- the result of a map with a name more
+-- the result of a map with one more name
 get_insert : (names : Names) (name word : List ℕ) (i : ℕ) → get (insert names name i) word ≡ cond (bytes_eq word name) (Some i) (get names word)
 get_insert names name word i =
     find-put (slice_cmp nat_cmp) nat_list_cmp_total word name i names ∙ ap (λ b. cond b (Some i) (get names word)) (is_eq-slice_cmp word name)
@@ -303,7 +303,7 @@ name_made nodes now size d i name node names free held fresh =
       stands = set_beside put d (entered now size name i (put d)) i apart ∙ set_here nodes i (Some node);
     }
 
--- and then a link more to its directory
+-- and then one more link to its directory
 pub name_linked : (old mid : ℕ → Option Node) (now d i : ℕ) (name : List ℕ) (node : Node) → MakesName old mid d name i node
     → MakesName old (set_at mid d (linked now (mid d))) d name i node
 name_linked old mid now d i name node makes =

@@ -23,7 +23,7 @@ way_texts n taken steps names count same is =
     ∙ ap (λ (k : ℕ). take (k - 1) (texts steps)) (sym (length-map steps (λ (step : Bor (List ℕ)). step.now)))
     ∙ ap way_of is
 
--- the directories of one step more
+-- the directories of one more step
 pub way_more : (tree : Tree) (base : List ℕ) (now : ℕ) (path next : List ℕ) (steps : List (Bor (List ℕ))) (i : ℕ) (other : Bor (List ℕ)) (before after all : Drafted)
     → i < length steps → with_way tree base now path (texts (drop i steps)) before ≡ all → next ≡ path ++ 47 ∷ (get_or steps i other).now
     → after ≡ with_way_directory tree base now next before → with_way tree base now next (texts (drop (i + 1) steps)) after ≡ all

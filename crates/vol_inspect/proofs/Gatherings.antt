@@ -41,7 +41,7 @@ pub entries_none : (g : Geometry) (image : List ℕ) (d logical b : ℕ) → ent
 unfolding entries_before
 entries_none g image d logical b = refl
 
--- one entry more
+-- one more entry
 pub entries_more : (g : Geometry) (image : List ℕ) (d logical b j at n : ℕ) → pointer_in g image b j ≡ n
     → logical + j * (constants g.edition).pointers ^ d ≡ at
     → entries_before g image d logical b (j + 1) ≡ entries_before g image d logical b j ++ holdings_from g image d at n
@@ -63,7 +63,7 @@ hold_leaf g image d logical b some leaf =
     ap (λ x. holdings_from g image x logical b) leaf
     ∙ (ap (λ t. cond t [] (single g 0 logical b ∷ [])) (ne_eqb b 0 some) ∙ ap (λ x. single g x logical b ∷ []) (sym leaf))
 
--- with one level more a block is found before its entries
+-- with one more level a block is found before its entries
 pub hold_suc : (g : Geometry) (image : List ℕ) (d logical b : ℕ) → b ≢ 0
     → holdings_from g image (suc d) logical b ≡ single g (suc d) logical b ∷ entries_before g image d logical b (constants g.edition).pointers
 unfolding holdings_from entries_before
@@ -101,7 +101,7 @@ pub addresses_none : (g : Geometry) (image : List ℕ) (i : ℕ) → addresses_b
 unfolding addresses_before
 addresses_none g image i = refl
 
--- one address more
+-- one more address
 pub addresses_more : (g : Geometry) (image : List ℕ) (i k : ℕ) → addresses_before g image i (k + 1) ≡ addresses_before g image i k ++ address_holdings g image i k
 unfolding addresses_before
 addresses_more g image i k = flat_more (address_holdings g image i) 0 k (k + 1) k refl (omega arith)

@@ -12,11 +12,11 @@ use vol_judge::reading::{Entry, Place, next_entry};
 use vol_layout::i_list::kind;
 use vol_layout::{Geometry, Kind};
 
-/// The i-nodes that no entry names, in ascending order: regular files, directories and special files above the root's i-number for
-/// which no directory has an entry other than `.` and `..`. The image may be any bytes otherwise. Of directories that name one another,
-/// and of what is below a directory that no entry names, none is among them.
+/// Returns the i-nodes that no entry names, in ascending order: regular files, directories and special files above the root's i-number
+/// for which no directory has an entry other than `.` and `..`. The image may be any bytes otherwise. Directories that name one another
+/// aren't among them, nor is anything below a directory that no entry names.
 ///
-/// Costs a look at each i-node, and at each slot of each directory, less those below blocks that were found without entries before.
+/// Costs a read of each i-node, and of each slot of each directory, except those below blocks that were found to have no entries.
 /// Takes a byte for each i-number, three for each block, and two for each that is found.
 pub fn lost_inodes(
     alloc: Global,

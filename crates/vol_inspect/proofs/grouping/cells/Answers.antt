@@ -15,7 +15,7 @@ full : (blocks left : ℕ) (best u : Use) (us : List Use) → left ≡ 0 → cel
 unfolding cells_from
 full blocks left best u us none = ap (λ n. cells_from blocks n best (u ∷ us)) none
 
--- a cell takes one block more
+-- a cell takes one more block
 takes : (blocks left : ℕ) (best u : Use) (us : List Use) → left ≢ 0 → cells_from blocks left best (u ∷ us) ≡ cells_from blocks (left - 1) (more_telling best u) us
 unfolding cells_from
 takes blocks left best u us some =

@@ -31,7 +31,7 @@ use Rattle.vol_migrate.specs.Raised.{names_block, stored_blocks, raised_shape, s
 use Rattle.vol_migrate.specs.Refusing.{places_needed}
 use Rattle.vol_migrate.specs.Stages.{places_for, file_need, need_before}
 
--- a range of one number more
+-- a range of one more number
 range_more : (a n : ℕ) → range_with_len a (suc n) ≡ range_with_len a n ++ ((a + n) ∷ [])
 range_more a zero = ap (λ x. x ∷ []) (let e : a ≡ a + 0 = omega arith in e)
 range_more a (suc n) = ap (λ rest. a ∷ rest) (range_more (a + 1) n ∙ ap (λ x. range_with_len (a + 1) n ++ (x ∷ [])) (let e : a + 1 + n ≡ a + suc n = omega arith in e))
@@ -68,7 +68,7 @@ below_holes shape m (suc n) order holes =
           ∙ (below_hole shape n (holes n high (omega arith)) ∙ below_holes shape m n high (λ b from to. holes b from (omega (arith, to))))
     ]
 
--- the places on the ways with one block more
+-- the places on the ways with one more block
 pub on_more : (shape : Shape) (n : ℕ) (p : List ℕ) → names_block shape n ≡ true
     → is_on_ways Deep (stored_blocks shape (n + 1)) p ≡ (is_on_ways Deep (stored_blocks shape n) p || is_on_ways Deep (n ∷ []) p)
 on_more shape n p some =
@@ -160,7 +160,7 @@ need_all geometry image =
     (λ i low high. need_here geometry image i low (omega (arith, high)))
     ∙ ap (λ n. sum_by (file_need geometry image) (range_with_len 1 n)) (sym count)
 
--- the need of one file more
+-- the need of one more file
 pub before_more : (geometry : Geometry) (image : List ℕ) (i : ℕ) → 1 ≤ i
     → need_before geometry image (i + 1) ≡ need_before geometry image i + file_need geometry image i
 before_more geometry image i first =

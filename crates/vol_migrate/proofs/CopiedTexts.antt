@@ -202,7 +202,7 @@ write_room from to old image blocks i b m len w rules =
     let same : length blocks ≡ length stage.blocks = ap length (IsFree_unique (omega (arith, behind)) rules.free stage.sound.free) in
     omega (arith, need, room, same)
 
--- once it is written one block more is carried
+-- once it is written one more block is carried
 pub write_carries : (from to : Geometry) (old image new text : List ℕ) (i b m len : ℕ) → WritesBlock from to old image i b m len
     → ((blocks : List ℕ) → Rules3To7With to image blocks → Writes to image new (i + 1) (512 * b) text blocks) → length text ≡ len
     → ((r : ℕ) → r < len → get_or text r 0 ≡ carried_byte (kind_at from old i) (body from old i) (512 * b + r))

@@ -46,7 +46,7 @@ byte_kept to image new k j r is byte stays =
     let P : ℕ → ℕ → Type 0 = λ i s. slice_index new (inode_place to.edition i + s) ≡ slice_index image (inode_place to.edition i + s) in
     subst (λ i. P i r) (sym is) (subst (P j) (sym byte) stays)
 
--- one i-node more is put
+-- one more i-node is put
 pub inodes_more : (from to : Geometry) (old image new : List ℕ) (now i : ℕ) → IsUsed from old i
     → SameOutside image new (inode_place to.edition (i + 1)) (inode_place to.edition (i + 1) + (constants to.edition).inode_bytes)
     → inode_of to.edition new (i + 1) ≡ raised_inode (inode_of from.edition old i) now

@@ -22,7 +22,7 @@ byte_of_slot bytes s r x low at =
     ap (λ n. get_or (bytes_of_slot (raised_slot (slot_at bytes (16 * n)))) (x % 16) 0) slot
     ∙ ap (λ k. get_or (bytes_of_slot (raised_slot (slot_at bytes (16 * s)))) k 0) rest
 
--- one slot more is put
+-- one more slot is put
 pub slot_put : (text old new bytes : List ℕ) (s : ℕ) → bytes ≡ bytes_of_slot (raised_slot (slot_at text (16 * s))) → length bytes ≡ 16
     → slice_range new (16 * s) (16 * s + length bytes) ≡ bytes → SameOutside old new (16 * s) (16 * s + length bytes)
     → ((x : ℕ) → x < 16 * s → get_or old x 0 ≡ raised_byte text x) → (x : ℕ) → x < 16 * (s + 1) → get_or new x 0 ≡ raised_byte text x

@@ -18,7 +18,7 @@ use Rattle.vol_volume.specs.Verdict.{is_device}
 use Rattle.vol_migrate.specs.Refusing.{has_device, has_above, is_device_at, is_node_at, is_above_at}
 use Rattle.vol_migrate.specs.Stages.{IsUsed}
 
--- a range of one number more
+-- a range of one more number
 range_more : (a n : ℕ) (f : ℕ → Bool) → list_any f (range_with_len a (suc n)) ≡ (list_any f (range_with_len a n) || f (a + n))
 range_more a zero f = or-false (f a) ∙ ap f (let e : a ≡ a + 0 = omega arith in e)
 range_more a (suc n) f =

@@ -104,7 +104,7 @@ need_room old from to now image i b stage may used some within =
     let room = stage.room in
     omega (arith, more, grows, next, all, total, space, room)
 
--- one block more is carried
+-- one more block is carried
 pub stage_written : (old : List ℕ) (from to : Geometry) (now : ℕ) (image new text : List ℕ) (i b : ℕ) → MayMigrate old from to
     → (stage : IsStage from to old now image i b) → IsUsed from old i → names_block (shapes from old i) b ≡ true
     → Writes to image new (i + 1) (512 * b) text stage.blocks

@@ -155,7 +155,7 @@ other_stays from to old image new now k j n fits alone first other last seventh 
           ∙ carried.names p place;
     }
 
--- the file itself has one block more
+-- the file itself has one more block
 pub self_carried : (from to : Geometry) (old image new text free : List ℕ) (now i b : ℕ) → from.edition ≡ V6 → to.edition ≡ V7
     → IsFile to image (i + 1) → size_of from old i ≤ 16777215
     → names_block (shapes from old i) b ≡ true

@@ -61,7 +61,7 @@ may_follow volume made k entry whole part has at =
     subst (λ state. MayFollow state entry) (sym (reads_first volume made k part has))
     (legal_at (start (origin_of volume)) volume.journal k entry whole.legal at)
 
--- with it, one record more is made
+-- with it, one more record is made
 pub has_more : (volume old new : Mounted) (k : ℕ) (entry : Record) → HasFirst volume old k → slice_get volume.journal k ≡ Some entry
     → Accepts old new entry.call entry.done
     → HasFirst volume new (k + 1)

@@ -50,7 +50,7 @@ set_alike f nodes d changed x same = elim (cases_eq x d) [
   | inr other ↦ ap f (set_beside nodes d changed x other)
 ]
 
--- a name less leaves a directory, its link count and its own names
+-- removing a name keeps a directory, its link count and its own names
 map_kept : (name : List ℕ) (held : Content) → is_some (map_of (change_names (λ ns. remove ns name) held)) ≡ is_some (map_of held)
 map_kept name (Body bytes) = refl
 map_kept name (Directory names) = refl

@@ -35,7 +35,7 @@ stays_removed nodes i x is = elim (cases_eq x i) [
   | inr other ↦ let same = set_beside nodes i None x other in (λ none. is (same ∙ none), ap searched same)
 ]
 
--- a node with one link less
+-- a node with one fewer link
 abbrev pub unlinked : ℕ → Option Node → Option Node
 unlinked now node = option_map (λ (node : Node). record (stamped now node) { links = node.links - 1 }) node
 
@@ -68,7 +68,7 @@ root_stays state now i =
       | false ↦ refl
     ]
 
--- a directory with one name less
+-- a directory with one fewer name
 abbrev pub without : ℕ → List ℕ → Option Node → Option Node
 without now name node = option_map (λ (node : Node). record (modified now node) { content = change_names (λ names. remove names name) node.content }) node
 

@@ -9,7 +9,7 @@ use Rattle.vol_reports.specs.Placed.{Placed}
 use Rattle.vol_reports.specs.Names.{slashed, dots, path_up}
 use Rattle.vol_reports.specs.Climbing.{naming_in, trail, path_start, AreBefore, Steps, Climbs}
 
--- a count with one item more in front
+-- a count with one more item before the others
 count_front : {X : Type 0} (t : X → Bool) (x : X) (xs : List X) → count_by t (x ∷ xs) ≡ cond (t x) 1 0 + count_by t xs
 count_front t x xs = sum_by-append (λ y. cond (t y) 1 0) (x ∷ []) xs ∙ ap (λ n. n + count_by t xs) (omega arith)
 
@@ -29,7 +29,7 @@ count_set t xs k v low fails passes =
     let b : ◌≡◌ {A = ℕ} (cond (t v) 1 0) 1 = ap (λ b. cond b 1 0) passes in
     omega (arith, e, a, b)
 
--- the trail of a way with one entry more
+-- the trail of a way with one more entry
 pub trail_push : (way : List (Bor Placed)) (entry : Bor Placed) → trail (way ++ entry ∷ []) ≡ slashed entry.now.name ++ trail way
 unfolding trail
 trail_push [] entry = sym (append-nil (slashed entry.now.name))

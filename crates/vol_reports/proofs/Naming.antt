@@ -25,7 +25,7 @@ naming_first words naming n i is =
       missing = λ nothing entry has named. absurd (omega (arith, has.1));
     }
 
--- a loop's step: one entry more is known
+-- a loop's step: one more entry is known
 pub naming_more : {words : List ℕ} {xs : List Placed} {old new : List (Option (Bor Placed))} {i : ℕ} (entry : Placed) → HasNaming words xs old i
     → PutsNaming words entry old new i → HasNaming words (xs ++ entry ∷ []) new i
 naming_more {words} {xs} {old} {new} {i} entry was puts =

@@ -10,7 +10,7 @@ use Rattle.vol_reports.specs.Names.{slashed, path_up, pair_cmp, name_line}
 use Rattle.vol_reports.specs.declared.line.Line.{Line}
 use Rattle.vol_reports.specs.Climbing.{naming_in, path_in, seen_pair}
 
--- a loop's step: the path of one entry more
+-- a loop's step: the path of one more entry
 pub paths_more : (root : ℕ) (naming : List (Option (Bor Placed))) (entries : List Placed) (k : ℕ) (entry : Placed) (old new : List (ℕ × Vec ℕ Global))
     (inode : ℕ) (path : Vec ℕ Global) → k < length entries → entry ≡ get_or entries k entry → map seen_pair old ≡ map (path_in root naming) (take k entries)
     → new ≡ old ++ (inode, path) ∷ [] → inode ≡ entry.inode
@@ -40,7 +40,7 @@ sorted_pairs (first ∷ pairs) sorted = λ k d low high.
     ap (λ x. is_lt (pair_cmp x (get_or (map seen_pair all) k d))) next
     ∙ (ap (λ x. is_lt (pair_cmp (seen_pair (get_or all (k + 1) first)) x)) here ∙ sorted k first low (omega (arith, high, wide)))
 
--- a loop's step: the line of one pair more
+-- a loop's step: the line of one more pair
 pub lines_more : (yielded : List (ℕ × Vec ℕ Global)) (inode : ℕ) (bytes : Vec ℕ Global) (path : List ℕ) (old new : List Line) → path ≡ bytes.items
     → new ≡ old ++ name_line (inode, path) ∷ [] → old ≡ map name_line (map seen_pair yielded)
     → new ≡ map name_line (map seen_pair (yielded ++ (inode, bytes) ∷ []))

@@ -8,7 +8,7 @@ use Rattle.std.proofs.lemmas.List.Concat.{flat_map-append}
 use Rattle.std.proofs.lemmas.List.Sums.{sum_by-append, count_by-le-length}
 use Rattle.std.proofs.lemmas.List.FromFn.{length-range_with_len}
 
--- a range with one number more
+-- a range with one more number
 pub range_last : (a n : ℕ) → range_with_len a (suc n) ≡ range_with_len a n ++ (a + n) ∷ []
 range_last a zero = ap (λ j. j ∷ []) (omega arith)
 range_last a (suc n) = ap (λ r. a ∷ r) (range_last (a + 1) n ∙ ap (λ j. range_with_len (a + 1) n ++ j ∷ []) (omega arith))
@@ -47,7 +47,7 @@ byte_of : (b : Bool) → bool_byte b ≡ cond b 1 0
 byte_of true = refl
 byte_of false = refl
 
--- a count has room for one number more
+-- a count has room for one more number
 pub room_more : (t : ℕ → Bool) (a n now x : ℕ) (b : Bool) → now ≡ count_by t (range_with_len a n) → x ≡ bool_byte b → n + 1 < 4294967296
     → now + x < 4294967296
 room_more t a n now x b was is low =

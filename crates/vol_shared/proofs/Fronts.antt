@@ -59,7 +59,7 @@ published_state volume log keeps is reads =
     ∙ (after-append (start (origin_in log)) is.gone volume.journal
     ∙ (ap (λ (s : State). after s volume.journal) (sym is.starts) ∙ sym keeps.reads)))
 
--- with one record more in both
+-- with one more record in both
 pub published_more : (old new : Stored) (log : List LogEntry) (entry : Record) → IsPublished log old → new.origin ≡ old.origin
     → new.journal ≡ old.journal ++ entry ∷ [] → IsPublished (log ++ Made entry ∷ []) new
 published_more old new log entry is origin journal = record {

@@ -20,7 +20,7 @@ history_append [] b = refl
 history_append (Opened origin journal ∷ a) b = ap (λ w. journal ++ w) (history_append a b) ∙ sym (append_assoc journal (history_of a) (history_of b))
 history_append (Made entry ∷ a) b = ap (λ w. entry ∷ w) (history_append a b)
 
--- one entry more is one record more
+-- one more entry is one more record
 pub history_more : (log : List LogEntry) (entry : Record) → history_of (log ++ Made entry ∷ []) ≡ history_of log ++ entry ∷ []
 history_more log entry = history_append log (Made entry ∷ [])
 

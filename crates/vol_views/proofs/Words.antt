@@ -16,7 +16,7 @@ pub word_set : (n m : ℕ) → set (words n (suc m)) n (0, true) ≡ words (suc 
 word_set zero m = refl
 word_set (suc n) m = ap (λ (cs : List Cell). (0, true) ∷ cs) (word_set n m)
 
--- one word more
+-- one more word
 pub word_more : (n m : ℕ) → words n m ++ (0, false) ∷ [] ≡ words n (suc m)
 word_more zero zero = refl
 word_more zero (suc m) = ap (λ (cs : List Cell). (0, false) ∷ cs) (word_more zero m)

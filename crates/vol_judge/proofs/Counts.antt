@@ -168,7 +168,7 @@ count_other {geometry = geometry} {image = image} {place = place} {d = d} {s = s
     (λ e low high. in_same geometry image place later i e (kind_at geometry image e)
     (λ t kind. before_same i e t next (record { first = low; last = omega arith; kind = kind }) (λ same f number. other number)))
 
--- before the first place nothing is counted
+-- no entry is before the first position
 count_first : (geometry : Geometry) (image : List ℕ) (place i : ℕ) → place ≤ rank 1 0 → count_before geometry image place i ≡ 0
 unfolding count_before
 count_first geometry image place i low =

@@ -1,4 +1,4 @@
--- `skip` has dropped what isn't left of `most`.
+-- The bytes dropped so far, and `left`, are `most` together.
 use Rattle.std.proofs.Common.{◌≡◌, ◌+◌, ℕ, List, length}
 use Rattle.std.specs.Io.KnownBytes.{Consumes}
 use Rattle.host_files.proofs.volume_front.skip.Given as goal

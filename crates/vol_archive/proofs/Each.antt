@@ -39,7 +39,7 @@ all_kept p P (x ∷ xs) h =
       | false ↦ λ here. all_kept p P xs h.1
     ] h.0
 
--- the same of each two
+-- the same for each pair
 pub all_pairs_kept : {X : Type 0} (p : X → Bool) (R : X → X → Type 0) (xs : List X) → Pairs (λ x y. p x ≡ true → p y ≡ true → R x y) xs
     → AllPairs R (filter p xs)
 all_pairs_kept p R [] h = λ i j d lt below. absurd (omega arith)

@@ -26,8 +26,8 @@ use Rattle.vol_import.proofs.TreeWalks.{passes_first}
 use Rattle.command_faults.specs.Changing.{Makes}
 use Rattle.command_changes.specs.Finding.{found_by, found_kind, last_name, last_of}
 use Rattle.command_changes.specs.Mkdir.{calls_unless, mkdir_all_calls, mkdir_at, mkdir_call, missing_calls, unless_found}
-use Rattle.command_changes.specs.declared.finding.Found.{Found}
-use Rattle.command_changes.specs.declared.finding.Found.TheVariants as founds
+use Rattle.command_changes.specs.declared.finding.PathKind.{PathKind}
+use Rattle.command_changes.specs.declared.finding.PathKind.TheVariants as founds
 use Rattle.vol_dir.specs.declared.refusal.Refusal.{Refusal}
 use Rattle.vol_dir.specs.declared.refusal.Refusal.TheVariants as refusals
 use Rattle.vol_layout.specs.declared.edition.Edition.{Edition}
@@ -245,7 +245,7 @@ directory_left : (state : State) (now : ℕ) (path : List ℕ) (journal : List R
     → HasDirectory (after state journal).tree path
 directory_left state now path journal plain asked legal = by (found_by (answer state.tree (queries.Stat user path))) refl asked
   where
-    by : (found : Found) → found_by (answer state.tree (queries.Stat user path)) ≡ found
+    by : (found : PathKind) → found_by (answer state.tree (queries.Stat user path)) ≡ found
         → map (λ (entry : Record). entry.call) journal ≡ calls_unless state.tree now path found → HasDirectory (after state journal).tree path
     by founds.Directory is asked = subst (λ (records : List Record). HasDirectory (after state records).tree path) (sym (no_records journal asked)) (found_directory state.tree path is)
     by founds.File is asked = left_by state now [] path path journal asked legal (record { names = refl; zeros = refl })

@@ -6,11 +6,11 @@ use Rattle.vol_layout.specs.declared.mode.Kind.{Kind}
 use Rattle.vol_layout.specs.declared.mode.Kind.TheVariants as kinds
 use Rattle.vol_volume.specs.declared.queries.Reply.{Reply}
 use Rattle.vol_volume.specs.declared.queries.Reply.TheVariants as replies
-use Rattle.command_changes.specs.declared.finding.Found.{Found}
-use Rattle.command_changes.specs.declared.finding.Found.TheVariants.{Directory, File, Nothing}
+use Rattle.command_changes.specs.declared.finding.PathKind.{PathKind}
+use Rattle.command_changes.specs.declared.finding.PathKind.TheVariants.{Directory, File, Nothing}
 
 -- directory or file, by the kind of a node (manual section 5, file system)
-abbrev pub found_kind : Kind → Found
+abbrev pub found_kind : Kind → PathKind
 found_kind kinds.Directory = Directory
 found_kind kinds.Regular = File
 found_kind kinds.Special = File
@@ -18,7 +18,7 @@ found_kind kinds.Free = File
 found_kind kinds.Odd = File
 
 -- the kind of node that a path leads to, by the answer to a Stat of it (this project)
-abbrev pub found_by : Result Reply Refusal → Found
+abbrev pub found_by : Result Reply Refusal → PathKind
 found_by (Ok (replies.Stat stat)) = found_kind stat.kind
 found_by (Ok (replies.Bytes bytes)) = Nothing
 found_by (Ok (replies.Names names)) = Nothing

@@ -9,8 +9,8 @@ use Rattle.vol_volume.specs.declared.calls.Call.{Call}
 use Rattle.vol_volume.specs.declared.calls.Call.TheVariants as calls
 use Rattle.vol_volume.specs.declared.queries.Query.TheVariants as queries
 use Rattle.command_changes.specs.Finding.{found_by, last_name}
-use Rattle.command_changes.specs.declared.finding.Found.{Found}
-use Rattle.command_changes.specs.declared.finding.Found.TheVariants.{Directory, File, Nothing}
+use Rattle.command_changes.specs.declared.finding.PathKind.{PathKind}
+use Rattle.command_changes.specs.declared.finding.PathKind.TheVariants.{Directory, File, Nothing}
 
 -- true if a name ends at byte k of a path: it isn't a slash, and the next byte, if any, is one (Lions on namei)
 abbrev pub ends_name : List ℕ → ℕ → Bool
@@ -21,7 +21,7 @@ abbrev pub mkdir_call : ℕ → List ℕ → Call
 mkdir_call now path = calls.Mkdir user now path 0o755
 
 -- the call that makes a directory if its path leads nowhere (this project)
-abbrev pub unless_found : ℕ → List ℕ → Found → List Call
+abbrev pub unless_found : ℕ → List ℕ → PathKind → List Call
 unless_found now path Nothing = mkdir_call now path ∷ []
 unless_found now path Directory = []
 unless_found now path File = []
@@ -37,7 +37,7 @@ unfoldable pub missing_calls : Tree → ℕ → List ℕ → List Call
 missing_calls tree now path = flat_map (mkdir_at tree now path) (range_with_len 0 (length path))
 
 -- the calls for a path, by what it leads to: none for a directory, and for a file one that is refused (mkdir -p)
-abbrev pub calls_unless : Tree → ℕ → List ℕ → Found → List Call
+abbrev pub calls_unless : Tree → ℕ → List ℕ → PathKind → List Call
 calls_unless tree now path Directory = []
 calls_unless tree now path File = mkdir_call now path ∷ []
 calls_unless tree now path Nothing = missing_calls tree now path

@@ -12,11 +12,11 @@ use Rattle.vol_volume.specs.declared.queries.Reply.TheVariants as replies
 use Rattle.vol_volume.specs.declared.queries.Stat.{Stat}
 use Rattle.vol_import.specs.Plan.{below}
 use Rattle.command_changes.specs.Finding.{found_by, last_name}
-use Rattle.command_changes.specs.declared.finding.Found.{Found}
-use Rattle.command_changes.specs.declared.finding.Found.TheVariants.{Directory, File, Nothing}
+use Rattle.command_changes.specs.declared.finding.PathKind.{PathKind}
+use Rattle.command_changes.specs.declared.finding.PathKind.TheVariants.{Directory, File, Nothing}
 
 -- the path of a file's new name, by what the given path leads to: in a directory the file keeps its last name (mv)
-abbrev pub target_of : Found → List ℕ → List ℕ → List ℕ
+abbrev pub target_of : PathKind → List ℕ → List ℕ → List ℕ
 target_of Directory from to = below to (last_name from)
 target_of File from to = to
 target_of Nothing from to = to

@@ -7,11 +7,11 @@ use Rattle.vol_volume.specs.declared.calls.Call.{Call}
 use Rattle.vol_volume.specs.declared.calls.Call.TheVariants as calls
 use Rattle.vol_volume.specs.declared.queries.Query.TheVariants as queries
 use Rattle.command_changes.specs.Finding.{found_by}
-use Rattle.command_changes.specs.declared.finding.Found.{Found}
-use Rattle.command_changes.specs.declared.finding.Found.TheVariants.{Directory, File, Nothing}
+use Rattle.command_changes.specs.declared.finding.PathKind.{PathKind}
+use Rattle.command_changes.specs.declared.finding.PathKind.TheVariants.{Directory, File, Nothing}
 
 -- the call for a path that leads to this: a file or directory gets the moment as both its times; if the path leads nowhere, an empty file is made, with permissions 0644 (touch)
-abbrev pub touch_found : ℕ → List ℕ → Found → Call
+abbrev pub touch_found : ℕ → List ℕ → PathKind → Call
 touch_found now path Nothing = calls.Create user now path 0o644
 touch_found now path Directory = calls.Times user now path now now
 touch_found now path File = calls.Times user now path now now

@@ -14,7 +14,7 @@ use vol_volume::{Bytes, Query, Reply, Volume};
 
 /// The kind of node that a path leads to, if any.
 #[derive(Clone, Copy, Debug, PartialEq, Eq)]
-pub enum Found {
+pub enum PathKind {
     /// A directory.
     Directory,
     /// A file, perhaps a special one.
@@ -24,7 +24,7 @@ pub enum Found {
 }
 
 /// Returns the kind of node that a path of a volume leads to. Costs a walk.
-pub(crate) fn find(alloc: Global, volume: &Volume, path: &[u8]) -> Result<Found, AllocError>
+pub(crate) fn find(alloc: Global, volume: &Volume, path: &[u8]) -> Result<PathKind, AllocError>
     ensures { IfOk result (λ found. found ≡ found_by (answer (reads_as volume.now.edition volume.now.image).tree (questions.Stat user path.now))) }
 {
     let query = Query::Stat {
@@ -33,18 +33,18 @@ pub(crate) fn find(alloc: Global, volume: &Volume, path: &[u8]) -> Result<Found,
     };
     match volume.ask(alloc, &query) {
         Ok(Reply::Stat(stat)) => Ok(found_kind(stat.kind)),
-        Ok(_) => Ok(Found::Nothing),
-        Err(_) => Ok(Found::Nothing),
+        Ok(_) => Ok(PathKind::Nothing),
+        Err(_) => Ok(PathKind::Nothing),
     }
 }
 
 /// Returns directory or file, by the kind of a node.
-fn found_kind(kind: Kind) -> Found
+fn found_kind(kind: Kind) -> PathKind
     ensures { result ≡ found_kind kind }
 {
     match kind {
-        Kind::Directory => Found::Directory,
-        Kind::Regular | Kind::Special | Kind::Free | Kind::Odd => Found::File,
+        Kind::Directory => PathKind::Directory,
+        Kind::Regular | Kind::Special | Kind::Free | Kind::Odd => PathKind::File,
     }
 }
 

@@ -23,5 +23,5 @@ mod touch;
 pub use changes::Change;
 pub use changing::do_change;
 pub use migrate::{Migration, migrate_command};
-pub use mkfs::{Made, mkfs_command};
+pub use mkfs::{MadeVolume, mkfs_command};
 pub use put::{NewFile, put_all};

@@ -6,7 +6,7 @@ ghost use Rattle.command_faults.specs.Streams.{says, ErrorStream, Hears};
 ghost use Rattle.command_changes.specs.Mkdir.{ends_name, mkdir_call, mkdir_at, missing_calls, mkdir_all_calls};
 
 use crate::calls::{make_calls, push};
-use crate::finding::{Found, find, last_name};
+use crate::finding::{PathKind, find, last_name};
 use command_faults::answer::conclude;
 use command_faults::mounting::mount;
 use command_faults::{Answer, Fault};
@@ -76,9 +76,9 @@ fn mkdir_all_calls(
 {
     let mut calls = Vec::new(alloc);
     match find(alloc, volume, path)? {
-        Found::Directory => {}
-        Found::File => push_mkdir(alloc, path, now, &mut calls)?,
-        Found::Nothing => push_missing(alloc, volume, path, now, &mut calls)?,
+        PathKind::Directory => {}
+        PathKind::File => push_mkdir(alloc, path, now, &mut calls)?,
+        PathKind::Nothing => push_missing(alloc, volume, path, now, &mut calls)?,
     }
     Ok(calls)
 }
@@ -117,8 +117,8 @@ fn push_at(
         return Ok(());
     }
     match find(alloc, volume, front)? {
-        Found::Nothing => push_mkdir(alloc, front, now, calls),
-        Found::Directory | Found::File => Ok(()),
+        PathKind::Nothing => push_mkdir(alloc, front, now, calls),
+        PathKind::Directory | PathKind::File => Ok(()),
     }
 }
 

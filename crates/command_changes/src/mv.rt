@@ -10,7 +10,7 @@ ghost use Rattle.command_changes.specs.Mv.{target_of, move_calls};
 ghost use Rattle.vol_dir.specs.Access.{user};
 
 use crate::calls::{make_calls, push};
-use crate::finding::{Found, find, last_name, name_in};
+use crate::finding::{PathKind, find, last_name, name_in};
 use command_faults::answer::conclude;
 use command_faults::mounting::mount;
 use command_faults::{Answer, Fault};
@@ -86,7 +86,7 @@ fn target_of(alloc: Global, volume: &Volume, from: &[u8], to: &[u8]) -> Result<B
     ensures { IfOk result (λ target. target ≡ target_of (found_by (answer (reads_as volume.now.edition volume.now.image).tree (questions.Stat user to.now))) from.now to.now) }
 {
     match find(alloc, volume, to)? {
-        Found::Directory => name_in(alloc, to, last_name(from)),
-        Found::File | Found::Nothing => Bytes::from_slice(alloc, to),
+        PathKind::Directory => name_in(alloc, to, last_name(from)),
+        PathKind::File | PathKind::Nothing => Bytes::from_slice(alloc, to),
     }
 }

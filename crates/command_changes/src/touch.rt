@@ -6,7 +6,7 @@ ghost use Rattle.command_faults.specs.Streams.{says, ErrorStream, Hears};
 ghost use Rattle.command_changes.specs.Touch.{touch_call};
 
 use crate::calls::make_call;
-use crate::finding::{Found, find};
+use crate::finding::{PathKind, find};
 use crate::put::FILE_PERMISSIONS;
 use command_faults::answer::conclude;
 use command_faults::mounting::mount;
@@ -52,13 +52,13 @@ fn touch_call(alloc: Global, volume: &Volume, path: &[u8], now: u32) -> Result<C
     let found = find(alloc, volume, path)?;
     let path = Bytes::from_slice(alloc, path)?;
     match found {
-        Found::Nothing => Ok(Call::Create {
+        PathKind::Nothing => Ok(Call::Create {
             cred,
             now,
             path,
             perm: FILE_PERMISSIONS,
         }),
-        Found::Directory | Found::File => Ok(Call::Times {
+        PathKind::Directory | PathKind::File => Ok(Call::Times {
             cred,
             now,
             path,

@@ -12,8 +12,8 @@ use Rattle.clap.specs.declared.parser.matches.ArgMatches.{ArgMatches}
 use Rattle.clap.specs.declared.parser.matches.ArgMatches.TheViews.{out-ArgMatches, out-SubCommand}
 use Rattle.clap.specs.declared.parser.matches.SubCommand.{SubCommand}
 use Rattle.command_words.specs.Asking.{AsksForNothing, IsWorkGiven, IsWorkable, IsWrong, NameAsksFor, TellsOf as IsToldBy, Words}
-use Rattle.command_words.specs.declared.fault.Fault.{Fault}
-use Rattle.command_words.specs.declared.fault.Fault.TheVariants as faults
+use Rattle.command_words.specs.declared.fault.WordFault.{WordFault}
+use Rattle.command_words.specs.declared.fault.WordFault.TheVariants as faults
 use Rattle.command_words.specs.Verbs.{IsNoCommand, verb_name}
 use Rattle.command_words.specs.declared.invocation.Invocation.{Invocation}
 use Rattle.command_words.specs.declared.invocation.Invocation.TheVariants as invocations
@@ -59,12 +59,12 @@ asked_by_rows clock matches values name invocation named rows_are asks =
     (rw (met (out-ArgMatches matches).subcommand name (rows_of (found_of values)) named rows_are) at asks)
 
 -- a fault other than out of memory reports a wrong word
-pub told_wrong : (wrong : Type 0) (fault : Fault) → IsToldBy wrong fault → IsWrong fault → wrong
+pub told_wrong : (wrong : Type 0) (fault : WordFault) → IsToldBy wrong fault → IsWrong fault → wrong
 told_wrong wrong faults.NoMemory tells is = absurd is
 told_wrong wrong (faults.Wrong word) tells is = tells
 
 -- if a command has no invocation, according to a fault, its name has none
-pub told_nothing : (clock : Option ℕ) (given : Words) (name : List ℕ) (verb : Verb) (fault : Fault) → name ≡ verb_name verb
+pub told_nothing : (clock : Option ℕ) (given : Words) (name : List ℕ) (verb : Verb) (fault : WordFault) → name ≡ verb_name verb
     → IsToldBy (AsksForNothing clock verb given) fault → IsWrong fault → NameAsksForNothing clock name given
 unfolding NameAsksForNothing
 told_nothing clock given name verb fault is tells wrong = λ invocation asks.

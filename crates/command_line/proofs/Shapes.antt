@@ -17,8 +17,8 @@ use Rattle.clap.specs.declared.builder.command.Command.TheOpen.{Command-F}
 use Rattle.clap.proofs.WalkLemmas.{both}
 use Rattle.clap.proofs.SimpleLemmas.{is_false, plain_fields}
 use Rattle.command_words.specs.Verbs.{Argument, argument_of, arguments_of, verb_name}
-use Rattle.command_words.specs.declared.parameters.Kind.{Kind}
-use Rattle.command_words.specs.declared.parameters.Kind.TheVariants as kinds
+use Rattle.command_words.specs.declared.parameters.WordKind.{WordKind}
+use Rattle.command_words.specs.declared.parameters.WordKind.TheVariants as kinds
 use Rattle.command_words.specs.declared.parameters.Need.{Need}
 use Rattle.command_words.specs.declared.parameters.Need.TheVariants as needs
 use Rattle.command_words.specs.declared.parameters.Parameter.{Parameter}
@@ -86,7 +86,7 @@ takes_editions old new editions before was same is =
     ∙ ap (λ (p : Option ValueParser). record before { parser = p }) is)
 
 -- the kind of other words changes nothing of an argument
-pub other_kinds : (editions : Bor (List (Bor (List ℕ)))) (kind : Kind) (before : Rule) → (kind ≡ kinds.Edition → ⊥) → before ≡ kind_rule editions kind before
+pub other_kinds : (editions : Bor (List (Bor (List ℕ)))) (kind : WordKind) (before : Rule) → (kind ≡ kinds.Edition → ⊥) → before ≡ kind_rule editions kind before
 other_kinds editions kinds.Edition before other = absurd (other refl)
 other_kinds editions _ before other = refl
 
@@ -101,7 +101,7 @@ need_simple name (needs.Flag letter) = refl
 need_simple name (needs.Value letter value) = refl
 
 -- nor does their kind
-kind_simple : (editions : Bor (List (Bor (List ℕ)))) (kind : Kind) (argument : Rule) → (kind_rule editions kind argument).is_simple ≡ argument.is_simple
+kind_simple : (editions : Bor (List (Bor (List ℕ)))) (kind : WordKind) (argument : Rule) → (kind_rule editions kind argument).is_simple ≡ argument.is_simple
 kind_simple editions kinds.Edition argument = refl
 kind_simple editions _ argument = refl
 

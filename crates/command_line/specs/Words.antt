@@ -9,8 +9,8 @@ use Rattle.clap.specs.declared.builder.arg.Arg.{Arg}
 use Rattle.clap.specs.declared.builder.command.Command.{Command}
 use Rattle.clap.specs.declared.builder.value_parser.ValueParser.TheVariants as parsers
 use Rattle.command_words.specs.Verbs.{Argument, all_verbs, arguments_of, verb_name}
-use Rattle.command_words.specs.declared.parameters.Kind.{Kind}
-use Rattle.command_words.specs.declared.parameters.Kind.TheVariants as kinds
+use Rattle.command_words.specs.declared.parameters.WordKind.{WordKind}
+use Rattle.command_words.specs.declared.parameters.WordKind.TheVariants as kinds
 use Rattle.command_words.specs.declared.parameters.Need.{Need}
 use Rattle.command_words.specs.declared.parameters.Need.TheVariants as needs
 use Rattle.command_words.specs.declared.verbs.Verb.{Verb}
@@ -41,7 +41,7 @@ need_rule name (needs.Flag letter) = record (new_rule name) { long = Some name; 
 need_rule name (needs.Value letter value) = record (new_rule name) { long = Some name; short = Some letter; value_names = 1 }
 
 -- the argument; an edition's words are one of these texts (this project)
-abbrev pub kind_rule : Bor (List (Bor (List ℕ))) → Kind → Rule → Rule
+abbrev pub kind_rule : Bor (List (Bor (List ℕ))) → WordKind → Rule → Rule
 kind_rule editions kinds.Edition argument = record argument { parser = Some (parsers.Names editions) }
 kind_rule editions _ argument = argument
 

@@ -6,7 +6,7 @@ ghost use Rattle.command_line.specs.Words.{AreEditions, app, argument_rule, bare
 
 use clap::{Arg, ArgAction, Command};
 use command_words::parameters::EDITIONS;
-use command_words::{Kind, Need, Parameter, VERBS, ValueName, Verb, texts};
+use command_words::{Need, Parameter, VERBS, ValueName, Verb, WordKind, texts};
 use std::alloc::{AllocError, Global};
 
 /// A builder of the command line.
@@ -65,7 +65,7 @@ impl<'a> Builder<'a> {
     {
         let argument = needed(self.alloc, parameter.name, parameter.help, parameter.need);
         match parameter.kind {
-            Kind::Edition => argument.value_parser(self.editions),
+            WordKind::Edition => argument.value_parser(self.editions),
             _ => argument,
         }
     }

@@ -7,12 +7,12 @@ use std::alloc::{AllocError, Global};
 
 /// The words that clap found after a command.
 #[derive(Drop)]
-pub(crate) struct Found<'m, 'a> {
+pub(crate) struct ClapWords<'m, 'a> {
     /// Clap's values for them.
     pub values: &'m ArgMatches<'a>,
 }
 
-impl<'m, 'a> Given<'a> for Found<'m, 'a> {
+impl<'m, 'a> Given<'a> for ClapWords<'m, 'a> {
     ghost words = { λ found name. words_of found.values.now name };
 
     fn first(&self, name: &str) -> Option<&'a str> {

@@ -10,7 +10,7 @@ ghost use Rattle.command_line.specs.CommandLine.{AsksNothing, IsRead, IsRefused,
 
 use clap::error::ErrorKind;
 use clap::{ArgMatches, Error};
-use command_words::{Fault, Said, Verb, WrongWord, reading};
+use command_words::{Said, Verb, WordFault, WrongWord, reading};
 use std::alloc::{AllocError, Global};
 
 mod building;
@@ -22,7 +22,7 @@ mod rewording;
 use building::Builder;
 pub use command_words::{Copying, Invocation, MadeFile, VolumeFile, Work};
 pub use explaining::asks_to_explain;
-use found::Found;
+use found::ClapWords;
 pub use rewording::reworded;
 
 /// Reads the words of the command line, the first of which is the program's own name. `clock` is the time of the
@@ -76,7 +76,7 @@ fn read_command<'a>(
     let Some(verb) = Verb::of(name) else {
         return Ok(None);
     };
-    let found = Found { values };
+    let found = ClapWords { values };
     match reading::read(alloc, verb, &found, clock) {
         Ok(invocation) => Ok(Some(invocation)),
         Err(fault) => Err(told(alloc, verb, fault)?),
@@ -84,13 +84,13 @@ fn read_command<'a>(
 }
 
 /// Returns the error for a fault, in the words of the help.
-fn told(alloc: Global, verb: Verb, fault: Fault<'_>) -> Result<Error, AllocError>
+fn told(alloc: Global, verb: Verb, fault: WordFault<'_>) -> Result<Error, AllocError>
     ensures kind { IfOk result (λ error. kind_of error ≡ clap_kinds.ValueValidation) }
     ensures wrong { IfOk result (λ _. IsWrong fault.entry) }
 {
     match fault {
-        Fault::NoMemory => Err(AllocError),
-        Fault::Wrong(word) => wrong_word(alloc, verb, word),
+        WordFault::NoMemory => Err(AllocError),
+        WordFault::Wrong(word) => wrong_word(alloc, verb, word),
     }
 }
 

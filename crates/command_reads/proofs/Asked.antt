@@ -15,7 +15,7 @@ use Rattle.vol_dir.specs.declared.refusal.Refusal.{Refusal}
 use Rattle.vol_dir.specs.declared.refusal.Refusal.TheVariants as refusals
 use Rattle.vol_change.specs.Nodes.{node_at, names_at}
 use Rattle.vol_listing.specs.Depths.{is_bare}
-use Rattle.vol_listing.specs.declared.options.Listing.{Listing}
+use Rattle.vol_listing.specs.declared.options.ListOptions.{ListOptions}
 use Rattle.vol_volume.specs.Answer.{answer, kind_of_content, list_tests, query_refusal, refused_or, reply_at, reply_of, stat_of, Answers}
 use Rattle.vol_volume.specs.Verdict.{first_of, of_node}
 use Rattle.vol_volume.specs.Volume.{reads_as}
@@ -147,7 +147,7 @@ number_opened tree path stat bare (Ok i) told number kind = λ is.
 number_opened tree path stat bare (Err fault) told number kind = tt
 
 -- a bare listing of a node whose Stat doesn't say directory is refused
-bare_refused : (edition : Edition) (image path : List ℕ) (listing : Listing) (stat : Stat) (fault : Fault) → IsSound edition image
+bare_refused : (edition : Edition) (image path : List ℕ) (listing : ListOptions) (stat : Stat) (fault : Fault) → IsSound edition image
     → answer (reads_as edition image).tree (queries.Stat user path) ≡ Ok (replies.Stat stat)
     → (fault ≡ faults.Refused refusals.NotDirectory) × (is_bare listing ≡ true) × (stat.kind ≢ kinds.Directory)
     → IsObstacle edition image (question_of listing path) fault
@@ -158,7 +158,7 @@ bare_refused edition image path listing stat fault sound told is =
     subst (IsObstacle edition image (question_of listing path)) (sym is.0) (sound, refused)
 
 -- if a number isn't listed, the listing is refused
-pub number_refused : {T : Type 0} (edition : Edition) (image path : List ℕ) (listing : Listing) (stat : Stat) (result : Result T Fault) → IsSound edition image
+pub number_refused : {T : Type 0} (edition : Edition) (image path : List ℕ) (listing : ListOptions) (stat : Stat) (result : Result T Fault) → IsSound edition image
     → answer (reads_as edition image).tree (queries.Stat user path) ≡ Ok (replies.Stat stat)
     → IfErr result (λ fault. (fault ≡ faults.Refused refusals.NotDirectory) × (is_bare listing ≡ true) × (stat.kind ≢ kinds.Directory))
     → IfErr result (IsObstacle edition image (question_of listing path))
@@ -166,7 +166,7 @@ number_refused edition image path listing stat (Ok i) sound told refused = tt
 number_refused edition image path listing stat (Err fault) sound told refused = bare_refused edition image path listing stat fault sound told refused
 
 -- a refusal of Stat refuses each listing
-pub listing_refused : (edition : Edition) (image path asked : List ℕ) (listing : Listing) (refusal : Refusal) → IsSound edition image
+pub listing_refused : (edition : Edition) (image path asked : List ℕ) (listing : ListOptions) (refusal : Refusal) → IsSound edition image
     → Answers (reads_as edition image).tree (queries.Stat user asked) (Err refusal) → asked ≡ path
     → IsObstacle edition image (question_of listing path) (faults.Refused refusal)
 listing_refused edition image path asked listing refusals.NoMemory sound answers is = tt

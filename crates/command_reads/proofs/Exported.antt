@@ -2,7 +2,7 @@
 use Rattle.std.proofs.Common.{◌≡◌, ◌⊎◌, ℕ, Bool, true, List, Option, Result, Ok, Err, inl, inr, refl, ap, subst, ◌∙◌}
 use Rattle.std.proofs.KnownBytes.{Keeps-refl}
 use Rattle.std.specs.Prelude.{IsErrAnd}
-use Rattle.vol_archive.specs.declared.exporting.Start.{Start}
+use Rattle.vol_archive.specs.declared.exporting.ExportStart.{ExportStart}
 use Rattle.vol_archive.specs.declared.writing.WriteFault.{WriteFault}
 use Rattle.vol_archive.specs.declared.writing.WriteFault.TheVariants as writes
 use Rattle.command_faults.specs.Faults.{fault_line, fault_status, no_memory}
@@ -20,13 +20,13 @@ unwritten_cause writes.NoMemory after cause = inl refl
 unwritten_cause writes.Output after cause = inr (refl, cause refl)
 
 -- memory ran out before the archive began
-pub unbegun_memory : (edition : Edition) (image : List ℕ) (start : Start) (known : Option (List ℕ)) (failed : Bool) (result : Result Remarks Fault)
+pub unbegun_memory : (edition : Edition) (image : List ℕ) (start : ExportStart) (known : Option (List ℕ)) (failed : Bool) (result : Result Remarks Fault)
     → IsErrAnd result (λ fault. fault ≡ no_memory) → WritesBelow edition image start known known failed failed result
 unbegun_memory edition image start known failed (Ok lines) is = absurd is
 unbegun_memory edition image start known failed (Err fault) is = IsUnwritten.unbegun is (Keeps-refl known) refl
 
 -- a fault before the archive began or in the middle of it, which was reported
-pub told_below : (edition : Edition) (image : List ℕ) (start : Start) (streams : Streams) (fault : Fault) (status : ℕ)
+pub told_below : (edition : Edition) (image : List ℕ) (start : ExportStart) (streams : Streams) (fault : Fault) (status : ℕ)
     → IsUnwritten edition image start streams.old streams.new streams.had_failed streams.failed fault → status ≡ fault_status fault
     → streams.said (fault_line fault) → ExportsBelow edition image start streams status
 told_below edition image start streams fault status (IsUnwritten.unbegun is kept same) state said = ExportsBelow.unbegun (record {

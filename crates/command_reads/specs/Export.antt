@@ -6,9 +6,9 @@ use Rattle.vol_layout.specs.declared.edition.Edition.{Edition}
 use Rattle.vol_archive.specs.Exporting.{start_of}
 use Rattle.vol_archive.specs.Members.{archive_bytes}
 use Rattle.vol_archive.specs.Walking.{IsWalk}
-use Rattle.vol_archive.specs.declared.exporting.Start.{Start}
+use Rattle.vol_archive.specs.declared.exporting.ExportStart.{ExportStart}
 use Rattle.vol_archive.specs.declared.exporting.StartFault.{StartFault}
-use Rattle.vol_archive.specs.declared.found.Found.{Found}
+use Rattle.vol_archive.specs.declared.found.MetEntry.{MetEntry}
 use Rattle.command_faults.specs.Faults.{fault_line, no_memory}
 use Rattle.command_faults.specs.Streams.{Streams}
 use Rattle.command_faults.specs.declared.fault.Fault.{Fault}
@@ -34,7 +34,7 @@ unwritten writes.NoMemory = no_memory
 unwritten writes.Output = faults.Output
 
 -- the whole archive of the entries found was written, and all remarks are reported; the status is 1 if there are any (this project)
-pub record IsWhole (edition : Edition) (image : List ℕ) (start : Start) (founds : List Found) (streams : Streams) (code : ℕ) : Type 0 where
+pub record IsWhole (edition : Edition) (image : List ℕ) (start : ExportStart) (founds : List MetEntry) (streams : Streams) (code : ℕ) : Type 0 where
   pub bytes : Appends streams.old streams.new (archive_bytes start.geometry image founds)
   pub working : streams.failed ≡ streams.had_failed
   pub lines : List ℕ
@@ -49,43 +49,43 @@ pub record IsCutShort (streams : Streams) (bytes : List ℕ) (code : ℕ) : Type
   pub said : streams.said (fault_line no_memory)
 
 -- the archive of a directory's contents was written, whole or a prefix of it; or memory ran out before it began (this project)
-pub data ExportsBelow (edition : Edition) (image : List ℕ) (start : Start) (streams : Streams) (status : ℕ) : Type 0 where
-  whole : (founds : List Found) → IsWalk start.geometry image start.inode founds → IsWhole edition image start founds streams status
+pub data ExportsBelow (edition : Edition) (image : List ℕ) (start : ExportStart) (streams : Streams) (status : ℕ) : Type 0 where
+  whole : (founds : List MetEntry) → IsWalk start.geometry image start.inode founds → IsWhole edition image start founds streams status
       → ExportsBelow edition image start streams status
-  broken : (founds : List Found) → IsWalk start.geometry image start.inode founds → IsBrokenOff streams (archive_bytes start.geometry image founds) status
+  broken : (founds : List MetEntry) → IsWalk start.geometry image start.inode founds → IsBrokenOff streams (archive_bytes start.geometry image founds) status
       → ExportsBelow edition image start streams status
-  short : (founds : List Found) → IsWalk start.geometry image start.inode founds → IsCutShort streams (archive_bytes start.geometry image founds) status
+  short : (founds : List MetEntry) → IsWalk start.geometry image start.inode founds → IsCutShort streams (archive_bytes start.geometry image founds) status
       → ExportsBelow edition image start streams status
   unbegun : IsTold streams no_memory status → ExportsBelow edition image start streams status
 
 -- the archive of the entries found was written, and these lines are all remarks on it (this project)
-pub record IsWritten (edition : Edition) (image : List ℕ) (start : Start) (old new : Option (List ℕ)) (before after : Bool) (lines : List ℕ) : Type 0 where
-  pub founds : List Found
+pub record IsWritten (edition : Edition) (image : List ℕ) (start : ExportStart) (old new : Option (List ℕ)) (before after : Bool) (lines : List ℕ) : Type 0 where
+  pub founds : List MetEntry
   pub walk : IsWalk start.geometry image start.inode founds
   pub bytes : Appends old new (archive_bytes start.geometry image founds)
   pub working : after ≡ before
   pub told : TellsAll edition image start.geometry founds lines
 
 -- a fault before the archive began, or in the middle of it (this project)
-pub data IsUnwritten (edition : Edition) (image : List ℕ) (start : Start) (old new : Option (List ℕ)) (before after : Bool) (fault : Fault) : Type 0 where
+pub data IsUnwritten (edition : Edition) (image : List ℕ) (start : ExportStart) (old new : Option (List ℕ)) (before after : Bool) (fault : Fault) : Type 0 where
   unbegun : fault ≡ no_memory → Keeps old new → after ≡ before → IsUnwritten edition image start old new before after fault
-  midway : (founds : List Found) → IsWalk start.geometry image start.inode founds
+  midway : (founds : List MetEntry) → IsWalk start.geometry image start.inode founds
       → (count : ℕ) × AppendsFront old new (archive_bytes start.geometry image founds) count
       → (fault ≡ no_memory) ⊎ ((fault ≡ faults.Output) × (after ≡ true)) → IsUnwritten edition image start old new before after fault
 
 -- the archive that is written of a directory's contents (this project)
-abbrev pub WritesBelow : Edition → List ℕ → Start → Option (List ℕ) → Option (List ℕ) → Bool → Bool → Result Remarks Fault → Type 0
+abbrev pub WritesBelow : Edition → List ℕ → ExportStart → Option (List ℕ) → Option (List ℕ) → Bool → Bool → Result Remarks Fault → Type 0
 WritesBelow edition image start old new before after result =
     MatchResult result (λ remarks. IsWritten edition image start old new before after remarks.lines.items)
     (λ fault. IsUnwritten edition image start old new before after fault)
 
 -- an export to a file or a pipe; a terminal gets no archive, and counts as output that can't be written (this project)
-abbrev pub ExportsTo : Edition → List ℕ → Start → Streams → ℕ → Screen → Type 0
+abbrev pub ExportsTo : Edition → List ℕ → ExportStart → Streams → ℕ → Screen → Type 0
 ExportsTo edition image start streams status screens.Stream = ExportsBelow edition image start streams status
 ExportsTo edition image start streams status (screens.Terminal columns colours) = IsTold streams faults.Output status
 
 -- an export from its start, or the reason why there is nothing to export is reported (this project)
-abbrev pub ExportsFrom : Edition → List ℕ → Screen → Streams → ℕ → Result Start StartFault → Type 0
+abbrev pub ExportsFrom : Edition → List ℕ → Screen → Streams → ℕ → Result ExportStart StartFault → Type 0
 ExportsFrom edition image screen streams status (Ok start) = ExportsTo edition image start streams status screen
 ExportsFrom edition image screen streams status (Err fault) = IsTold streams (unstarted fault) status
 

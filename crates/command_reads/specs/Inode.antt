@@ -15,8 +15,8 @@ use Rattle.command_faults.specs.Streams.{Streams}
 use Rattle.command_faults.specs.declared.fault.Fault.{Fault}
 use Rattle.command_reads.specs.Faults.{uninspected}
 use Rattle.command_reads.specs.Printing.{PrintsOne}
-use Rattle.command_reads.specs.declared.looks.Form.{Form}
-use Rattle.command_reads.specs.declared.looks.Form.TheVariants as forms
+use Rattle.command_reads.specs.declared.looks.OutputForm.{OutputForm}
+use Rattle.command_reads.specs.declared.looks.OutputForm.TheVariants as forms
 
 -- an i-node: its fields by their names in the manual, its kind and its permissions, and its extents; the sixth edition has no time of change (this project)
 unfoldable pub inode_data : InodeReport → Data
@@ -69,12 +69,12 @@ with_places report members =
     (put (codes "addr") (counts (take (address_count report.edition) report.node.addresses)) members)
 
 -- a report on an i-node in some form (this project)
-abbrev pub inode_in : InodeReport → Form → List ℕ
+abbrev pub inode_in : InodeReport → OutputForm → List ℕ
 inode_in report forms.Text = inode_text report
 inode_in report forms.Json = inode_json report
 
 -- the text of the report on an i-node of an image, in some form (this project)
-abbrev pub IsInodeText : Edition → List ℕ → ℕ → Form → List ℕ → Type 0
+abbrev pub IsInodeText : Edition → List ℕ → ℕ → OutputForm → List ℕ → Type 0
 IsInodeText edition image number form text =
     (report : InodeReport) × InspectsInode edition image number (Ok report) × (text ≡ inode_in report form)
 
@@ -83,6 +83,6 @@ abbrev pub IsInodeFault : Edition → List ℕ → ℕ → Fault → Type 0
 IsInodeFault edition image number fault = (why : InspectFault) × InspectsInode edition image number (Err why) × (fault ≡ uninspected why)
 
 -- an i-node is shown, or the reason why not is reported (this project)
-abbrev pub ShowsInode : Edition → List ℕ → ℕ → Form → Streams → ℕ → Type 0
+abbrev pub ShowsInode : Edition → List ℕ → ℕ → OutputForm → Streams → ℕ → Type 0
 ShowsInode edition image number form streams status =
     PrintsOne (IsInodeText edition image number form) (IsInodeFault edition image number) streams status

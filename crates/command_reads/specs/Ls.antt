@@ -12,7 +12,7 @@ use Rattle.vol_dir.specs.Walk.{is_directory}
 use Rattle.vol_change.specs.Nodes.{node_at}
 use Rattle.vol_listing.specs.Depths.{is_bare}
 use Rattle.vol_listing.specs.Listing.{start_of, IsListingOf}
-use Rattle.vol_listing.specs.declared.options.Listing.{Listing}
+use Rattle.vol_listing.specs.declared.options.ListOptions.{ListOptions}
 use Rattle.vol_listing.specs.declared.options.Screen.{Screen}
 use Rattle.command_faults.specs.Streams.{Streams}
 use Rattle.command_reads.specs.Queries.{answer_of, IsObstacle}
@@ -29,11 +29,11 @@ question_by true path = queries.List user path
 question_by false path = queries.Stat user path
 
 -- the query whose refusal a listing reports (ls, stat)
-abbrev pub question_of : Listing → List ℕ → Query
+abbrev pub question_of : ListOptions → List ℕ → Query
 question_of listing path = question_by (is_bare listing) path
 
 -- the image is sound, and this is a listing of the file or directory at a path of its tree, a directory if the listing is bare (this project)
-pub record IsListing (edition : Edition) (image path : List ℕ) (listing : Listing) (screen : Screen) (text : List ℕ) : Type 0 where
+pub record IsListing (edition : Edition) (image path : List ℕ) (listing : ListOptions) (screen : Screen) (text : List ℕ) : Type 0 where
   pub sound : IsSound edition image
   pub inode : ℕ
   pub found : IsFound edition image path inode
@@ -41,6 +41,6 @@ pub record IsListing (edition : Edition) (image path : List ℕ) (listing : List
   pub listed : IsListingOf (reads_as edition image).tree listing screen (start_of path inode) text
 
 -- the file or directory at a path is listed, or the reason why not is reported: out of memory, the first rule that the image breaks, a path that leads nowhere, or, for a bare listing, to no directory (this project)
-abbrev pub Lists : Edition → List ℕ → List ℕ → Listing → Screen → Streams → ℕ → Type 0
+abbrev pub Lists : Edition → List ℕ → List ℕ → ListOptions → Screen → Streams → ℕ → Type 0
 Lists edition image path listing screen streams status =
     PrintsOne (IsListing edition image path listing screen) (IsObstacle edition image (question_of listing path)) streams status

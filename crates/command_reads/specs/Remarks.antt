@@ -6,7 +6,7 @@ use Rattle.vol_layout.specs.declared.edition.Edition.{Edition}
 use Rattle.vol_layout.specs.declared.geometry.Geometry.{Geometry}
 use Rattle.vol_judge.specs.Sound.{IsJudged}
 use Rattle.vol_inspect.specs.Sharing.{shared_blocks}
-use Rattle.vol_archive.specs.declared.found.Found.{Found}
+use Rattle.vol_archive.specs.declared.found.MetEntry.{MetEntry}
 use Rattle.vol_archive.specs.declared.found.Role.{Role}
 use Rattle.vol_archive.specs.declared.found.Role.TheVariants as roles
 use Rattle.vol_archive.specs.declared.found.Reason.{Reason}
@@ -30,8 +30,8 @@ role_line path roles.Special = []
 role_line path (roles.Link k) = []
 
 -- the lines of entries that are left out, in the order of the walk (this project)
-unfoldable pub left_lines : List Found → List ℕ
-left_lines founds = flat_map (λ (found : Found). role_line found.path found.role) founds
+unfoldable pub left_lines : List MetEntry → List ℕ
+left_lines founds = flat_map (λ (found : MetEntry). role_line found.path found.role) founds
 
 -- the line of a block that two places of files name (this project)
 unfoldable pub shared_line : ℕ → List ℕ
@@ -47,6 +47,6 @@ rule_lines g image None = []
 rule_lines g image (Some rule) = shared_lines (shared_blocks g image) ++ line_of_rule rule
 
 -- all remarks on an export: none if all entries are in the archive and the image is sound (this project)
-abbrev pub TellsAll : Edition → List ℕ → Geometry → List Found → List ℕ → Type 0
+abbrev pub TellsAll : Edition → List ℕ → Geometry → List MetEntry → List ℕ → Type 0
 TellsAll edition image g founds lines =
     (least : Option ℕ) × IsJudged true edition image least × (lines ≡ left_lines founds ++ rule_lines g image least)

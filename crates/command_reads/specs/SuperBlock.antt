@@ -15,8 +15,8 @@ use Rattle.command_faults.specs.Streams.{Streams}
 use Rattle.command_faults.specs.declared.fault.Fault.{Fault}
 use Rattle.command_reads.specs.Faults.{uninspected}
 use Rattle.command_reads.specs.Printing.{PrintsOne}
-use Rattle.command_reads.specs.declared.looks.Form.{Form}
-use Rattle.command_reads.specs.declared.looks.Form.TheVariants as forms
+use Rattle.command_reads.specs.declared.looks.OutputForm.{OutputForm}
+use Rattle.command_reads.specs.declared.looks.OutputForm.TheVariants as forms
 
 -- the fault that ended the walk over the free list, with its count or number (icheck)
 abbrev pub fault_data : Option (FreeFault × ℕ) → Data
@@ -80,12 +80,12 @@ with_cache report members =
     (put (codes "ninode") (count report.cache_count) members))
 
 -- a report on the super-block in some form (this project)
-abbrev pub super_in : SuperReport → Form → List ℕ
+abbrev pub super_in : SuperReport → OutputForm → List ℕ
 super_in report forms.Text = super_text report
 super_in report forms.Json = super_json report
 
 -- the text of the report on the super-block of an image, in some form (this project)
-abbrev pub IsSuperText : Edition → List ℕ → Form → List ℕ → Type 0
+abbrev pub IsSuperText : Edition → List ℕ → OutputForm → List ℕ → Type 0
 IsSuperText edition image form text = (report : SuperReport) × InspectsSuper edition image (Ok report) × (text ≡ super_in report form)
 
 -- the reason why the super-block of an image isn't shown (this project)
@@ -93,5 +93,5 @@ abbrev pub IsSuperFault : Edition → List ℕ → Fault → Type 0
 IsSuperFault edition image fault = (why : InspectFault) × InspectsSuper edition image (Err why) × (fault ≡ uninspected why)
 
 -- the super-block is shown, or the reason why not is reported (this project)
-abbrev pub ShowsSuper : Edition → List ℕ → Form → Streams → ℕ → Type 0
+abbrev pub ShowsSuper : Edition → List ℕ → OutputForm → Streams → ℕ → Type 0
 ShowsSuper edition image form streams status = PrintsOne (IsSuperText edition image form) (IsSuperFault edition image) streams status

@@ -12,7 +12,7 @@ use command_faults::status::{DONE, REFUSED};
 use command_faults::{Ending, Fault};
 use pdp_words::{Image, Sink};
 use std::alloc::Global;
-use vol_archive::{Start, StartFault, WriteFault, put_archive, start_of, walk};
+use vol_archive::{ExportStart, StartFault, WriteFault, put_archive, start_of, walk};
 use vol_dir::Refusal;
 use vol_layout::Edition;
 use vol_listing::Screen;
@@ -49,7 +49,7 @@ fn export_to<O: Sink>(
     alloc: Global,
     edition: Edition,
     image: &Image,
-    start: &Start,
+    start: &ExportStart,
     screen: Screen,
     output: &mut O,
 ) -> Ending
@@ -69,7 +69,7 @@ fn export_below<O: Sink>(
     alloc: Global,
     edition: Edition,
     image: &Image,
-    start: &Start,
+    start: &ExportStart,
     output: &mut O,
 ) -> Ending
     requires fits { Fits start.now.geometry image.now }
@@ -88,7 +88,7 @@ fn write_below<O: Sink>(
     alloc: Global,
     edition: Edition,
     image: &Image,
-    start: &Start,
+    start: &ExportStart,
     output: &mut O,
 ) -> Result<Remarks, Fault>
     requires fits { Fits start.now.geometry image.now }

@@ -7,7 +7,7 @@ ghost use Rattle.command_reads.specs.Json.{count_or_null};
 
 use crate::faults::uninspected;
 use crate::json::list;
-use crate::looks::Form;
+use crate::looks::OutputForm;
 use crate::printing::finish;
 use command_faults::{Ending, Fault};
 use pdp_words::{Image, Sink};
@@ -27,7 +27,7 @@ pub(crate) fn show_inode<O: Sink>(
     edition: Edition,
     image: Vec<u8>,
     number: u16,
-    form: Form,
+    form: OutputForm,
     output: &mut O,
 ) -> Ending
     ensures { (errors : ErrorStream) → Hears errors result.fault
@@ -44,7 +44,7 @@ fn inode_text(
     edition: Edition,
     image: &Image,
     number: u16,
-    form: Form,
+    form: OutputForm,
 ) -> Result<String, Fault>
     ensures text { IfOk result (λ text. IsInodeText edition image.now number form (string_bytes text)) }
     ensures fault { IfErr result (λ fault. IsInodeFault edition image.now number fault) }
@@ -56,12 +56,12 @@ fn inode_text(
 }
 
 /// Returns the report on an i-node in some form.
-fn inode_in(alloc: Global, report: &InodeReport, form: Form) -> Result<String, AllocError>
+fn inode_in(alloc: Global, report: &InodeReport, form: OutputForm) -> Result<String, AllocError>
     ensures { IfOk result (λ text. string_bytes text ≡ inode_in report.now form) }
 {
     match form {
-        Form::Json => inode_json(alloc, report),
-        Form::Text => {
+        OutputForm::Json => inode_json(alloc, report),
+        OutputForm::Text => {
             let mut text = String::new(alloc);
             report.push_text(&mut text)?;
             Ok(text)

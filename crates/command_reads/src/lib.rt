@@ -21,4 +21,4 @@ mod super_block;
 pub use cat::CatFault;
 pub use get::{FileRead, FilesRead, get_all};
 pub use looking::look;
-pub use looks::{Form, Look, Picture};
+pub use looks::{Look, OutputForm, Picture};

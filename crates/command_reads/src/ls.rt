@@ -20,7 +20,7 @@ use std::alloc::Global;
 use vol_dir::{Cred, Refusal};
 use vol_judge::examine;
 use vol_layout::{Edition, Geometry, Kind};
-use vol_listing::{Listing, Screen};
+use vol_listing::{ListOptions, Screen};
 use vol_volume::{Bytes, Query, Reply, Stat, ask_image};
 
 /// Lists the file or directory at a path of a sound image: the names in a directory, in ascending order of their bytes, each
@@ -36,7 +36,7 @@ pub(crate) fn list<O: Sink>(
     edition: Edition,
     image: Vec<u8>,
     path: &str,
-    listing: Listing,
+    listing: ListOptions,
     screen: Screen,
     output: &mut O,
 ) -> Ending
@@ -54,7 +54,7 @@ fn list_image(
     edition: Edition,
     image: &Image,
     path: &str,
-    listing: Listing,
+    listing: ListOptions,
     screen: Screen,
 ) -> Result<Vec<u8>, Fault>
     ensures text { IfOk result (λ text. IsListing edition image.now path.now listing screen text.items) }
@@ -76,7 +76,7 @@ fn list_sound(
     image: &Image,
     geometry: &Geometry,
     path: &str,
-    listing: Listing,
+    listing: ListOptions,
     screen: Screen,
 ) -> Result<Vec<u8>, Fault>
     requires sound { IsSound edition image.now }
@@ -97,7 +97,7 @@ fn find(
     image: &Image,
     geometry: &Geometry,
     path: &str,
-    listing: Listing,
+    listing: ListOptions,
 ) -> Result<u16, Fault>
     requires sound { IsSound edition image.now }
     requires sizes { geometry.now ≡ geometry_of edition image.now }
@@ -119,7 +119,7 @@ fn find(
 }
 
 /// Returns the i-number of a node to list, or `NotDirectory` if the listing is bare and the node is no directory.
-fn number_of(stat: Stat, listing: Listing) -> Result<u16, Fault>
+fn number_of(stat: Stat, listing: ListOptions) -> Result<u16, Fault>
     ensures number { IfOk result (λ i. i ≡ stat.number) }
     ensures opened { OnOk result (is_bare listing ≡ true → stat.kind ≡ kinds.Directory) }
     ensures refused { IfErr result (λ fault. (fault ≡ faults.Refused refusals.NotDirectory) × (is_bare listing ≡ true) × (stat.kind ≢ kinds.Directory)) }

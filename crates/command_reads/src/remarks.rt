@@ -8,7 +8,7 @@ use command_faults::Fault;
 use escaped_text::push_escaped;
 use pdp_words::Image;
 use std::alloc::{AllocError, Global};
-use vol_archive::{Found, Reason, Role};
+use vol_archive::{MetEntry, Reason, Role};
 use vol_inspect::shared_blocks;
 use vol_judge::judge;
 use vol_layout::{Edition, Geometry};
@@ -31,7 +31,7 @@ pub(crate) fn tell_all(
     edition: Edition,
     image: &Image,
     geometry: &Geometry,
-    founds: &[Found],
+    founds: &[MetEntry],
 ) -> Result<Remarks, AllocError>
     requires { Fits geometry.now image.now }
     ensures { IfOk result (λ remarks. TellsAll edition image.now geometry.now founds.now remarks.lines.items) }
@@ -65,7 +65,7 @@ fn push_rule(
 }
 
 /// Appends the lines of entries that are left out.
-fn push_left(lines: &mut Vec<u8>, founds: &[Found]) -> Result<(), AllocError>
+fn push_left(lines: &mut Vec<u8>, founds: &[MetEntry]) -> Result<(), AllocError>
     ensures { OnOk result (lines.new.items ≡ lines.old.items ++ left_lines founds.now) }
 {
     'founds: for found in founds {

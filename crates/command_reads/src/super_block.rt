@@ -6,7 +6,7 @@ ghost use Rattle.command_reads.specs.SuperBlock.{fault_data, super_data, super_j
 
 use crate::faults::uninspected;
 use crate::json::list;
-use crate::looks::Form;
+use crate::looks::OutputForm;
 use crate::printing::finish;
 use command_faults::{Ending, Fault};
 use pdp_words::{Image, Sink};
@@ -25,7 +25,7 @@ pub(crate) fn show_super<O: Sink>(
     alloc: Global,
     edition: Edition,
     image: Vec<u8>,
-    form: Form,
+    form: OutputForm,
     output: &mut O,
 ) -> Ending
     ensures { (errors : ErrorStream) → Hears errors result.fault
@@ -37,7 +37,12 @@ pub(crate) fn show_super<O: Sink>(
 }
 
 /// Returns the text of the super-block.
-fn super_text(alloc: Global, edition: Edition, image: &Image, form: Form) -> Result<String, Fault>
+fn super_text(
+    alloc: Global,
+    edition: Edition,
+    image: &Image,
+    form: OutputForm,
+) -> Result<String, Fault>
     ensures text { IfOk result (λ text. IsSuperText edition image.now form (string_bytes text)) }
     ensures fault { IfErr result (λ fault. IsSuperFault edition image.now fault) }
 {
@@ -48,13 +53,13 @@ fn super_text(alloc: Global, edition: Edition, image: &Image, form: Form) -> Res
 }
 
 /// Returns the report on the super-block in some form.
-fn super_in(alloc: Global, report: &SuperReport, form: Form) -> Result<String, AllocError>
+fn super_in(alloc: Global, report: &SuperReport, form: OutputForm) -> Result<String, AllocError>
     requires { report.now.geometry.zone_start ≤ report.now.geometry.zone_end }
     ensures { IfOk result (λ text. string_bytes text ≡ super_in report.now form) }
 {
     match form {
-        Form::Json => super_json(alloc, report),
-        Form::Text => {
+        OutputForm::Json => super_json(alloc, report),
+        OutputForm::Text => {
             let mut text = String::new(alloc);
             report.push_text(&mut text)?;
             Ok(text)

@@ -1,16 +1,16 @@
 -- Faults that are handed on.
 use Rattle.std.proofs.Common.{◌≡◌, Result, Ok, Err, IfErr, IsErrAnd, sym, subst}
 use Rattle.command_words.specs.Asking.{TellsOf}
-use Rattle.command_words.specs.declared.fault.Fault.{Fault}
-use Rattle.command_words.specs.declared.fault.Fault.TheVariants as faults
+use Rattle.command_words.specs.declared.fault.WordFault.{WordFault}
+use Rattle.command_words.specs.declared.fault.WordFault.TheVariants as faults
 
 -- a fault that means one thing means whatever follows from it
-tells_more : (one other : Type 0) (fault : Fault) → (one → other) → TellsOf one fault → TellsOf other fault
+tells_more : (one other : Type 0) (fault : WordFault) → (one → other) → TellsOf one fault → TellsOf other fault
 tells_more one other faults.NoMemory leads tells = tt
 tells_more one other (faults.Wrong word) leads tells = leads tells
 
 -- an outcome that hands on a fault means whatever follows from it
-pub hands_on : {T : Type 0} (result : Result T Fault) (error : Fault) (one other : Type 0) → IsErrAnd result (λ e. e ≡ error) → TellsOf one error → (one → other)
+pub hands_on : {T : Type 0} (result : Result T WordFault) (error : WordFault) (one other : Type 0) → IsErrAnd result (λ e. e ≡ error) → TellsOf one error → (one → other)
     → IfErr result (TellsOf other)
 hands_on (Ok value) error one other is tells leads = tt
-hands_on (Err e) error one other is tells leads = subst (λ (f : Fault). TellsOf other f) (sym is) (tells_more one other error leads tells)
+hands_on (Err e) error one other is tells leads = subst (λ (f : WordFault). TellsOf other f) (sym is) (tells_more one other error leads tells)

@@ -5,8 +5,8 @@ use Rattle.std.specs.Option.{ok_or}
 use Rattle.command_words.specs.Moment.{IsMomentOf}
 use Rattle.command_words.specs.Decimal.{IsNumberUpTo}
 use Rattle.command_words.specs.Asking.{IsMomentGiven, IsWordIfAny, TellsOf}
-use Rattle.command_words.specs.declared.fault.Fault.{Fault}
-use Rattle.command_words.specs.declared.fault.Fault.TheVariants as faults
+use Rattle.command_words.specs.declared.fault.WordFault.{WordFault}
+use Rattle.command_words.specs.declared.fault.WordFault.TheVariants as faults
 
 -- the time that is meant is the one in the first word
 pub written : (clock : Option ℕ) (words : List (List ℕ)) (word : List ℕ) → Some word ≡ slice_get words 0 → (now : ℕ) → IsMomentGiven clock words now
@@ -20,12 +20,12 @@ first_number [] word first if_any = absurd (cc)
 first_number (other ∷ more) word first if_any = let same : word ≡ other = cc in subst (IsNumberUpTo 65535) (sym same) if_any
 
 -- a fault names a word that isn't valid
-pub tells : (wrong : Type 0) (fault : Fault) → wrong → TellsOf wrong fault
+pub tells : (wrong : Type 0) (fault : WordFault) → wrong → TellsOf wrong fault
 tells wrong faults.NoMemory is = tt
 tells wrong (faults.Wrong word) is = is
 
 -- if a word is no time, the fault names it
-pub refused : (wrong : Type 0) (moment : Option ℕ) (result : Result ℕ Fault) (fault : Fault) → result ≡ ok_or moment fault → (moment ≡ None → wrong)
+pub refused : (wrong : Type 0) (moment : Option ℕ) (result : Result ℕ WordFault) (fault : WordFault) → result ≡ ok_or moment fault → (moment ≡ None → wrong)
     → IfErr result (TellsOf wrong)
-refused wrong None result fault same none = subst (λ (r : Result ℕ Fault). IfErr r (TellsOf wrong)) (sym same) (tells wrong fault (none refl))
-refused wrong (Some now) result fault same none = subst (λ (r : Result ℕ Fault). IfErr r (TellsOf wrong)) (sym same) tt
+refused wrong None result fault same none = subst (λ (r : Result ℕ WordFault). IfErr r (TellsOf wrong)) (sym same) (tells wrong fault (none refl))
+refused wrong (Some now) result fault same none = subst (λ (r : Result ℕ WordFault). IfErr r (TellsOf wrong)) (sym same) tt

@@ -9,8 +9,8 @@ use Rattle.vol_check.specs.declared.checker.Checker.TheVariants as checkers
 use Rattle.command_changes.specs.declared.changes.Change.TheVariants as changes
 use Rattle.command_words.specs.Asking.{AreValues, AsksForNothing, IsEditionNamed, IsGiven, IsOneWrong, IsWordIfAny, IsWordOr, NameAsksFor, TellsOf, Words, verb_of}
 use Rattle.command_words.specs.Verbs.{Argument, IsNoCommand, arguments_of, verb_name}
-use Rattle.command_words.specs.declared.fault.Fault.{Fault}
-use Rattle.command_words.specs.declared.fault.Fault.TheVariants as faults
+use Rattle.command_words.specs.declared.fault.WordFault.{WordFault}
+use Rattle.command_words.specs.declared.fault.WordFault.TheVariants as faults
 use Rattle.command_words.specs.declared.invocation.Copying.TheVariants as copies
 use Rattle.command_words.specs.declared.invocation.Invocation.{Invocation}
 use Rattle.command_words.specs.declared.invocation.Invocation.TheVariants as invocations
@@ -102,13 +102,13 @@ no_value clock verb given wrong = λ invocation asks.
     (subst (λ (other : Verb). IsOneWrong clock given (arguments_of other)) asks.0 wrong)
 
 -- a fault that names a word that isn't valid means that there is no invocation
-tells_nothing : (clock : Option ℕ) (verb : Verb) (given : Words) (fault : Fault) → TellsOf (IsOneWrong clock given (arguments_of verb)) fault
+tells_nothing : (clock : Option ℕ) (verb : Verb) (given : Words) (fault : WordFault) → TellsOf (IsOneWrong clock given (arguments_of verb)) fault
     → TellsOf (AsksForNothing clock verb given) fault
 tells_nothing clock verb given faults.NoMemory tells = tt
 tells_nothing clock verb given (faults.Wrong word) tells = no_value clock verb given tells
 
 -- the same of an outcome
-pub refuses_value : {T : Type 0} (clock : Option ℕ) (verb : Verb) (given : Words) (result : Result T Fault)
+pub refuses_value : {T : Type 0} (clock : Option ℕ) (verb : Verb) (given : Words) (result : Result T WordFault)
     → IfErr result (TellsOf (IsOneWrong clock given (arguments_of verb))) → IfErr result (TellsOf (AsksForNothing clock verb given))
 refuses_value clock verb given (Ok value) tells = tt
 refuses_value clock verb given (Err fault) tells = tells_nothing clock verb given fault tells

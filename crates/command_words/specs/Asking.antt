@@ -10,10 +10,10 @@ use Rattle.command_words.specs.Decimal.{IsNumberUpTo, IsNumberGiven, IsThreads, 
 use Rattle.command_words.specs.Moment.{IsMomentOf}
 use Rattle.command_words.specs.Octal.{IsOctalUpTo, IsOctalGiven}
 use Rattle.command_words.specs.Verbs.{Argument, verb_name}
-use Rattle.command_words.specs.declared.fault.Fault.{Fault}
-use Rattle.command_words.specs.declared.fault.Fault.TheVariants as faults
-use Rattle.command_words.specs.declared.parameters.Kind.{Kind}
-use Rattle.command_words.specs.declared.parameters.Kind.TheVariants as kinds
+use Rattle.command_words.specs.declared.fault.WordFault.{WordFault}
+use Rattle.command_words.specs.declared.fault.WordFault.TheVariants as faults
+use Rattle.command_words.specs.declared.parameters.WordKind.{WordKind}
+use Rattle.command_words.specs.declared.parameters.WordKind.TheVariants as kinds
 use Rattle.command_words.specs.declared.invocation.Copying.{Copying}
 use Rattle.command_words.specs.declared.invocation.Copying.TheVariants as copies
 use Rattle.command_words.specs.declared.invocation.Invocation.{Invocation}
@@ -24,8 +24,8 @@ use Rattle.command_words.specs.declared.invocation.Work.{Work}
 use Rattle.command_words.specs.declared.invocation.Work.TheVariants as works
 use Rattle.command_words.specs.declared.verbs.Verb.{Verb}
 use Rattle.command_words.specs.declared.verbs.Verb.TheVariants as verbs
-use Rattle.command_reads.specs.declared.looks.Form.{Form}
-use Rattle.command_reads.specs.declared.looks.Form.TheVariants as forms
+use Rattle.command_reads.specs.declared.looks.OutputForm.{OutputForm}
+use Rattle.command_reads.specs.declared.looks.OutputForm.TheVariants as forms
 use Rattle.vol_listing.specs.declared.options.Depth.{Depth}
 use Rattle.vol_listing.specs.declared.options.Depth.TheVariants as depths
 use Rattle.vol_listing.specs.declared.options.Lines.{Lines}
@@ -91,7 +91,7 @@ IsWordIfAny [] = Unit {0}
 IsWordIfAny (word ∷ more) = IsNumberUpTo 65535 word
 
 -- the words are valid for an argument of this kind (this project)
-abbrev pub IsValue : Option ℕ → Kind → List (List ℕ) → Type 0
+abbrev pub IsValue : Option ℕ → WordKind → List (List ℕ) → Type 0
 IsValue clock kinds.Edition words = (first_word words ≡ codes "6") ⊎ (first_word words ≡ codes "7")
 IsValue clock kinds.Text words = Unit {0}
 IsValue clock kinds.Word words = IsNumberUpTo 65535 (first_word words)
@@ -226,7 +226,7 @@ IsChangeGiven clock given (changes.Touch path now) =
 IsChangeGiven clock given changes.Salvage = Unit {0}
 
 -- the words choose this form of a report: JSON if its option is given (this project)
-abbrev pub IsFormGiven : Words → Form → Type 0
+abbrev pub IsFormGiven : Words → OutputForm → Type 0
 IsFormGiven given forms.Text = is_set (given (codes "json")) ≡ false
 IsFormGiven given forms.Json = is_set (given (codes "json")) ≡ true
 
@@ -341,12 +341,12 @@ abbrev pub NameAsksFor : Option ℕ → List ℕ → Words → Invocation → Ty
 NameAsksFor clock name given invocation = (name ≡ verb_name (verb_of invocation)) × IsGiven clock given invocation
 
 -- memory ran out, or the fault names a word that isn't valid, and `wrong` holds (this project)
-abbrev pub TellsOf : Type 0 → Fault → Type 0
+abbrev pub TellsOf : Type 0 → WordFault → Type 0
 TellsOf wrong faults.NoMemory = Unit {0}
 TellsOf wrong (faults.Wrong word) = wrong
 
 -- the fault names a word that isn't valid (this project)
-abbrev pub IsWrong : Fault → Type 0
+abbrev pub IsWrong : WordFault → Type 0
 IsWrong faults.NoMemory = ⊥
 IsWrong (faults.Wrong word) = Unit {0}
 

@@ -1,7 +1,7 @@
 -- The commands, and their words.
 use Rattle.std.specs.Prelude.{◌≢◌, ◌∷◌, ℕ, List, [], None, Some, codes}
-use Rattle.command_words.specs.declared.parameters.Kind.{Kind}
-use Rattle.command_words.specs.declared.parameters.Kind.TheVariants as kinds
+use Rattle.command_words.specs.declared.parameters.WordKind.{WordKind}
+use Rattle.command_words.specs.declared.parameters.WordKind.TheVariants as kinds
 use Rattle.command_words.specs.declared.parameters.Need.{Need}
 use Rattle.command_words.specs.declared.parameters.Need.TheVariants as needs
 use Rattle.command_words.specs.declared.parameters.Parameter.{Parameter}
@@ -12,7 +12,7 @@ use Rattle.command_words.specs.declared.verbs.Verb.TheVariants as verbs
 
 -- an argument of a command: its name, the kind of its words, and their number (this project)
 abbrev pub Argument : Type 0
-Argument = List ℕ × Kind × Need
+Argument = List ℕ × WordKind × Need
 
 -- the argument of a parameter (this project)
 abbrev pub argument_of : Parameter → Argument

@@ -1,12 +1,12 @@
 //! The faults of a command's words.
 ghost use Rattle.std.specs.Prelude.{◌≡◌};
-ghost use Rattle.command_words.specs.declared.fault.Fault.TheVariants as faults;
+ghost use Rattle.command_words.specs.declared.fault.WordFault.TheVariants as faults;
 
 use std::alloc::AllocError;
 
 /// The reason why the words of a command were refused.
 #[derive(Clone, Copy, Debug, PartialEq, Eq)]
-pub enum Fault<'a> {
+pub enum WordFault<'a> {
     /// Out of memory.
     NoMemory,
     /// A word isn't valid for its argument.
@@ -37,10 +37,10 @@ pub enum Said<'a> {
     NoOption,
 }
 
-impl<'a> From<AllocError> for Fault<'a> {
+impl<'a> From<AllocError> for WordFault<'a> {
     ghost from_gives = { λ _ fault. fault ≡ faults.NoMemory };
 
-    fn from(_: AllocError) -> Fault<'a> {
-        Fault::NoMemory
+    fn from(_: AllocError) -> WordFault<'a> {
+        WordFault::NoMemory
     }
 }

@@ -4,11 +4,11 @@ ghost use Rattle.command_words.specs.Decimal.{IsNumberUpTo, IsNumberGiven, IsThr
 ghost use Rattle.command_words.specs.Octal.{IsOctalUpTo, IsOctalGiven};
 ghost use Rattle.command_words.specs.Disks.{AreBlocksOf};
 ghost use Rattle.command_words.specs.Asking.{IsEditionNamed, IsMomentGiven, IsValue, IsWordOr, IsWrong, TellsOf, is_set, the_word};
-ghost use Rattle.command_words.specs.declared.parameters.Kind.TheVariants as kinds;
+ghost use Rattle.command_words.specs.declared.parameters.WordKind.TheVariants as kinds;
 
 use crate::decimal::{long_of, threads_of, word_of};
 use crate::disks::blocks_of;
-use crate::fault::{Fault, Said, WrongWord};
+use crate::fault::{Said, WordFault, WrongWord};
 use crate::moment::moment_of;
 use crate::octal::permissions_of;
 use crate::texts;
@@ -47,14 +47,14 @@ pub(crate) fn option_in<'a, G: Given<'a>>(
     given: &G,
     name: &'a str,
     wanted: &'a str,
-) -> Result<(), Fault<'a>>
+) -> Result<(), WordFault<'a>>
     ensures read { IfOk result (λ _. is_set (G.words given.now name.now) ≡ true) }
     ensures refused { IfErr result (TellsOf (IsValue None kinds.Wanted (G.words given.now name.now) → ⊥)) }
 {
     if flag_in(given, name) {
         return Ok(());
     }
-    Err(Fault::Wrong(WrongWord {
+    Err(WordFault::Wrong(WrongWord {
         name,
         said: Said::NoOption,
         wanted,
@@ -65,7 +65,7 @@ pub(crate) fn option_in<'a, G: Given<'a>>(
 const SET: &str = "true";
 
 /// Reads the edition.
-pub(crate) fn edition_in<'a, G: Given<'a>>(given: &G) -> Result<Edition, Fault<'a>>
+pub(crate) fn edition_in<'a, G: Given<'a>>(given: &G) -> Result<Edition, WordFault<'a>>
     ensures read { IfOk result (λ edition. IsEditionNamed edition (the_word (G.words given.now) (codes "EDITION"))) }
     ensures refused { IfErr result (TellsOf (IsValue None kinds.Edition (G.words given.now (codes "EDITION")) → ⊥)) }
 {
@@ -78,7 +78,7 @@ pub(crate) fn edition_in<'a, G: Given<'a>>(given: &G) -> Result<Edition, Fault<'
 }
 
 /// Reads the 16-bit number given for an argument.
-pub(crate) fn word_in<'a, G: Given<'a>>(given: &G, name: &'a str) -> Result<u16, Fault<'a>>
+pub(crate) fn word_in<'a, G: Given<'a>>(given: &G, name: &'a str) -> Result<u16, WordFault<'a>>
     ensures read { IfOk result (λ number. IsNumberGiven 65535 (the_word (G.words given.now) name.now) number) }
     ensures refused { IfErr result (TellsOf (IsNumberUpTo 65535 (the_word (G.words given.now) name.now) → ⊥)) }
 {
@@ -87,7 +87,7 @@ pub(crate) fn word_in<'a, G: Given<'a>>(given: &G, name: &'a str) -> Result<u16,
 }
 
 /// Reads the 32-bit number given for an argument.
-pub(crate) fn long_in<'a, G: Given<'a>>(given: &G, name: &'a str) -> Result<u32, Fault<'a>>
+pub(crate) fn long_in<'a, G: Given<'a>>(given: &G, name: &'a str) -> Result<u32, WordFault<'a>>
     ensures read { IfOk result (λ number. IsNumberGiven 4294967295 (the_word (G.words given.now) name.now) number) }
     ensures refused { IfErr result (TellsOf (IsNumberUpTo 4294967295 (the_word (G.words given.now) name.now) → ⊥)) }
 {
@@ -100,7 +100,7 @@ pub(crate) fn word_or<'a, G: Given<'a>>(
     given: &G,
     name: &'a str,
     other: u16,
-) -> Result<u16, Fault<'a>>
+) -> Result<u16, WordFault<'a>>
     ensures read { IfOk result (IsWordOr other (G.words given.now name.now)) }
     ensures refused { IfErr result (TellsOf (IsValue None kinds.WordOr (G.words given.now name.now) → ⊥)) }
 {
@@ -111,7 +111,7 @@ pub(crate) fn word_or<'a, G: Given<'a>>(
 }
 
 /// Reads the number of blocks.
-pub(crate) fn blocks_in<'a, G: Given<'a>>(given: &G) -> Result<u32, Fault<'a>>
+pub(crate) fn blocks_in<'a, G: Given<'a>>(given: &G) -> Result<u32, WordFault<'a>>
     ensures read { IfOk result (AreBlocksOf (the_word (G.words given.now) (codes "FSIZE"))) }
     ensures refused { IfErr result (TellsOf (IsValue None kinds.Blocks (G.words given.now (codes "FSIZE")) → ⊥)) }
 {
@@ -120,7 +120,7 @@ pub(crate) fn blocks_in<'a, G: Given<'a>>(given: &G) -> Result<u32, Fault<'a>>
 }
 
 /// Reads the number of threads given for an argument.
-pub(crate) fn threads_in<'a, G: Given<'a>>(given: &G, name: &'a str) -> Result<usize, Fault<'a>>
+pub(crate) fn threads_in<'a, G: Given<'a>>(given: &G, name: &'a str) -> Result<usize, WordFault<'a>>
     ensures read { IfOk result (λ number. IsThreadsGiven (the_word (G.words given.now) name.now) number) }
     ensures refused { IfErr result (TellsOf (IsThreads (the_word (G.words given.now) name.now) → ⊥)) }
 {
@@ -129,7 +129,10 @@ pub(crate) fn threads_in<'a, G: Given<'a>>(given: &G, name: &'a str) -> Result<u
 }
 
 /// Reads the permissions given for an argument.
-pub(crate) fn permissions_in<'a, G: Given<'a>>(given: &G, name: &'a str) -> Result<u16, Fault<'a>>
+pub(crate) fn permissions_in<'a, G: Given<'a>>(
+    given: &G,
+    name: &'a str,
+) -> Result<u16, WordFault<'a>>
     ensures read { IfOk result (λ number. IsOctalGiven 4095 (the_word (G.words given.now) name.now) number) }
     ensures refused { IfErr result (TellsOf (IsOctalUpTo 4095 (the_word (G.words given.now) name.now) → ⊥)) }
 {
@@ -138,7 +141,10 @@ pub(crate) fn permissions_in<'a, G: Given<'a>>(given: &G, name: &'a str) -> Resu
 }
 
 /// Reads the time, or returns the program's clock if it was left out.
-pub(crate) fn moment_in<'a, G: Given<'a>>(given: &G, clock: Option<u32>) -> Result<u32, Fault<'a>>
+pub(crate) fn moment_in<'a, G: Given<'a>>(
+    given: &G,
+    clock: Option<u32>,
+) -> Result<u32, WordFault<'a>>
     ensures read { IfOk result (IsMomentGiven clock (G.words given.now (codes "NOW"))) }
     ensures refused { IfErr result (TellsOf (IsValue clock kinds.Moment (G.words given.now (codes "NOW")) → ⊥)) }
 {
@@ -155,14 +161,14 @@ const MOST_SCRIPTS: usize = 64;
 pub(crate) fn scripts_in<'a, G: Given<'a>>(
     alloc: Global,
     given: &G,
-) -> Result<Vec<&'a str>, Fault<'a>>
+) -> Result<Vec<&'a str>, WordFault<'a>>
     ensures read { IfOk result (λ scripts. (map (λ script. script.now) scripts.items ≡ G.words given.now (codes "SCRIPT"))
         × (1 ≤ length scripts.items) × (length scripts.items ≤ 64)) }
     ensures refused { IfErr result (TellsOf (IsValue None kinds.Scripts (G.words given.now (codes "SCRIPT")) → ⊥)) }
 {
     let scripts = given.all(alloc, "SCRIPT")?;
     if scripts.is_empty() || scripts.len() > MOST_SCRIPTS {
-        return Err(Fault::Wrong(WrongWord {
+        return Err(WordFault::Wrong(WrongWord {
             name: "SCRIPT",
             said: Said::Words(scripts.len()),
             wanted: texts::SCRIPTS,
@@ -172,10 +178,10 @@ pub(crate) fn scripts_in<'a, G: Given<'a>>(
 }
 
 /// Returns the fault for the argument `name` when it has no word.
-pub(crate) fn missing<'a>(name: &'a str, wanted: &'a str) -> Fault<'a>
+pub(crate) fn missing<'a>(name: &'a str, wanted: &'a str) -> WordFault<'a>
     ensures { IsWrong result }
 {
-    Fault::Wrong(WrongWord {
+    WordFault::Wrong(WrongWord {
         name,
         said: Said::Nothing,
         wanted,
@@ -183,10 +189,10 @@ pub(crate) fn missing<'a>(name: &'a str, wanted: &'a str) -> Fault<'a>
 }
 
 /// Returns the fault for a word that isn't valid for the argument `name`.
-pub(crate) fn wrong<'a>(name: &'a str, word: &'a str, wanted: &'a str) -> Fault<'a>
+pub(crate) fn wrong<'a>(name: &'a str, word: &'a str, wanted: &'a str) -> WordFault<'a>
     ensures { IsWrong result }
 {
-    Fault::Wrong(WrongWord {
+    WordFault::Wrong(WrongWord {
         name,
         said: Said::Word(word),
         wanted,

@@ -14,9 +14,9 @@ mod several;
 pub mod texts;
 pub mod verbs;
 
-pub use fault::{Fault, Said, WrongWord};
+pub use fault::{Said, WordFault, WrongWord};
 pub use given::Given;
 pub use invocation::{Copying, Invocation, MadeFile, Moment, VolumeFile, Work};
-pub use parameters::{Kind, Need, Parameter, ValueName};
+pub use parameters::{Need, Parameter, ValueName, WordKind};
 pub use reading::read;
 pub use verbs::{VERBS, Verb};

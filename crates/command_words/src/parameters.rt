@@ -3,7 +3,7 @@ use crate::texts;
 
 /// The kind of words that an argument takes.
 #[derive(Clone, Copy, Debug, PartialEq, Eq)]
-pub enum Kind {
+pub enum WordKind {
     /// An edition, `6` or `7`.
     Edition,
     /// Any word.
@@ -72,7 +72,7 @@ pub struct Parameter {
     /// Its name, as the help shows it.
     pub name: &'static str,
     /// The kind of its words.
-    pub kind: Kind,
+    pub kind: WordKind,
     /// The number of its words.
     pub need: Need,
     /// Its text in the help.
@@ -84,322 +84,322 @@ pub static EDITIONS: [&str; 2] = ["6", "7"];
 
 const EDITION: Parameter = Parameter {
     name: "EDITION",
-    kind: Kind::Edition,
+    kind: WordKind::Edition,
     need: Need::Once,
     help: texts::EDITION,
 };
 
 const IMAGE: Parameter = Parameter {
     name: "IMAGE",
-    kind: Kind::Text,
+    kind: WordKind::Text,
     need: Need::Once,
     help: texts::IMAGE,
 };
 
 const NEW_IMAGE: Parameter = Parameter {
     name: "IMAGE",
-    kind: Kind::Text,
+    kind: WordKind::Text,
     need: Need::Once,
     help: texts::NEW_IMAGE,
 };
 
 const INO: Parameter = Parameter {
     name: "INO",
-    kind: Kind::Word,
+    kind: WordKind::Word,
     need: Need::Once,
     help: texts::INO,
 };
 
 const WORKERS: Parameter = Parameter {
     name: "WORKERS",
-    kind: Kind::Threads,
+    kind: WordKind::Threads,
     need: Need::Once,
     help: texts::WORKERS,
 };
 
 const BLOCKS: Parameter = Parameter {
     name: "FSIZE",
-    kind: Kind::Long,
+    kind: WordKind::Long,
     need: Need::Once,
     help: texts::BLOCKS,
 };
 
 const DISK_BLOCKS: Parameter = Parameter {
     name: "FSIZE",
-    kind: Kind::Blocks,
+    kind: WordKind::Blocks,
     need: Need::Once,
     help: texts::DISK_BLOCKS,
 };
 
 const MADE_LIST_BLOCKS: Parameter = Parameter {
     name: "IBLOCKS",
-    kind: Kind::WordOr,
+    kind: WordKind::WordOr,
     need: Need::Maybe,
     help: texts::MADE_LIST_BLOCKS,
 };
 
 const LIST_BLOCKS: Parameter = Parameter {
     name: "IBLOCKS",
-    kind: Kind::Word,
+    kind: WordKind::Word,
     need: Need::Once,
     help: texts::LIST_BLOCKS,
 };
 
 const UID: Parameter = Parameter {
     name: "UID",
-    kind: Kind::WordOr,
+    kind: WordKind::WordOr,
     need: Need::Maybe,
     help: texts::UID,
 };
 
 const GID: Parameter = Parameter {
     name: "GID",
-    kind: Kind::WordOr,
+    kind: WordKind::WordOr,
     need: Need::Maybe,
     help: texts::GID,
 };
 
 const NEW_UID: Parameter = Parameter {
     name: "UID",
-    kind: Kind::Word,
+    kind: WordKind::Word,
     need: Need::Once,
     help: texts::NEW_UID,
 };
 
 const NEW_GID: Parameter = Parameter {
     name: "GID",
-    kind: Kind::Word,
+    kind: WordKind::Word,
     need: Need::Once,
     help: texts::NEW_GID,
 };
 
 const MADE_NOW: Parameter = Parameter {
     name: "NOW",
-    kind: Kind::Moment,
+    kind: WordKind::Moment,
     need: Need::Maybe,
     help: texts::NOW,
 };
 
 const CALL_NOW: Parameter = Parameter {
     name: "NOW",
-    kind: Kind::Moment,
+    kind: WordKind::Moment,
     need: Need::Maybe,
     help: texts::CALL_NOW,
 };
 
 const MIGRATED: Parameter = Parameter {
     name: "NOW",
-    kind: Kind::Moment,
+    kind: WordKind::Moment,
     need: Need::Maybe,
     help: texts::MIGRATED,
 };
 
 const DIRECTORY: Parameter = Parameter {
     name: "PATH",
-    kind: Kind::Text,
+    kind: WordKind::Text,
     need: Need::Once,
     help: texts::DIRECTORY,
 };
 
 const REGULAR: Parameter = Parameter {
     name: "PATH",
-    kind: Kind::Text,
+    kind: WordKind::Text,
     need: Need::Once,
     help: texts::REGULAR,
 };
 
 const NAMED: Parameter = Parameter {
     name: "PATH",
-    kind: Kind::Text,
+    kind: WordKind::Text,
     need: Need::Once,
     help: texts::NAMED,
 };
 
 const OWNED: Parameter = Parameter {
     name: "PATH",
-    kind: Kind::Text,
+    kind: WordKind::Text,
     need: Need::Once,
     help: texts::OWNED,
 };
 
 const TOUCHED: Parameter = Parameter {
     name: "PATH",
-    kind: Kind::Text,
+    kind: WordKind::Text,
     need: Need::Once,
     help: texts::touch::PATH,
 };
 
 const FIRST_PUT: Parameter = Parameter {
     name: "PATH",
-    kind: Kind::Text,
+    kind: WordKind::Text,
     need: Need::Once,
     help: texts::FIRST_PUT,
 };
 
 const FILE: Parameter = Parameter {
     name: "FILE",
-    kind: Kind::Text,
+    kind: WordKind::Text,
     need: Need::Maybe,
     help: texts::FILE,
 };
 
 const PUT_NOW: Parameter = Parameter {
     name: "NOW",
-    kind: Kind::Text,
+    kind: WordKind::Text,
     need: Need::Maybe,
     help: texts::CALL_NOW,
 };
 
 const MORE_PUT: Parameter = Parameter {
     name: "MORE",
-    kind: Kind::Text,
+    kind: WordKind::Text,
     need: Need::Any,
     help: texts::MORE_PUT,
 };
 
 const TARGET: Parameter = Parameter {
     name: "target-directory",
-    kind: Kind::Text,
+    kind: WordKind::Text,
     need: Need::Value('t', ValueName::Directory),
     help: texts::TARGET,
 };
 
 const MORE_GOT: Parameter = Parameter {
     name: "MORE",
-    kind: Kind::Text,
+    kind: WordKind::Text,
     need: Need::Any,
     help: texts::MORE_GOT,
 };
 
 const OUTPUT: Parameter = Parameter {
     name: "output",
-    kind: Kind::Text,
+    kind: WordKind::Text,
     need: Need::Value('o', ValueName::Folder),
     help: texts::OUTPUT,
 };
 
 const FROM: Parameter = Parameter {
     name: "FROM",
-    kind: Kind::Text,
+    kind: WordKind::Text,
     need: Need::Once,
     help: texts::NAMED,
 };
 
 const TO: Parameter = Parameter {
     name: "TO",
-    kind: Kind::Text,
+    kind: WordKind::Text,
     need: Need::Once,
     help: texts::NEW_NAME,
 };
 
 const PERM: Parameter = Parameter {
     name: "PERM",
-    kind: Kind::Permissions,
+    kind: WordKind::Permissions,
     need: Need::Once,
     help: texts::PERM,
 };
 
 const BELOW: Parameter = Parameter {
     name: "PATH",
-    kind: Kind::Text,
+    kind: WordKind::Text,
     need: Need::Maybe,
     help: texts::BELOW,
 };
 
 const LISTED: Parameter = Parameter {
     name: "PATH",
-    kind: Kind::Text,
+    kind: WordKind::Text,
     need: Need::Maybe,
     help: texts::LISTED,
 };
 
 const IMPORTED: Parameter = Parameter {
     name: "PATH",
-    kind: Kind::Text,
+    kind: WordKind::Text,
     need: Need::Maybe,
     help: texts::IMPORTED,
 };
 
 const LONG: Parameter = Parameter {
     name: "long",
-    kind: Kind::Flag,
+    kind: WordKind::Flag,
     need: Need::Flag(Some('l')),
     help: texts::LONG_LINES,
 };
 
 const ALL_BELOW: Parameter = Parameter {
     name: "recursive",
-    kind: Kind::Flag,
+    kind: WordKind::Flag,
     need: Need::Flag(Some('R')),
     help: texts::ALL_BELOW,
 };
 
 const ITSELF: Parameter = Parameter {
     name: "directory",
-    kind: Kind::Flag,
+    kind: WordKind::Flag,
     need: Need::Flag(Some('d')),
     help: texts::ITSELF,
 };
 
 const RECURSIVE: Parameter = Parameter {
     name: "recursive",
-    kind: Kind::Flag,
+    kind: WordKind::Flag,
     need: Need::Flag(Some('r')),
     help: texts::RECURSIVE,
 };
 
 const PARENTS: Parameter = Parameter {
     name: "parents",
-    kind: Kind::Flag,
+    kind: WordKind::Flag,
     need: Need::Flag(Some('p')),
     help: texts::PARENTS,
 };
 
 const JSON: Parameter = Parameter {
     name: "json",
-    kind: Kind::Flag,
+    kind: WordKind::Flag,
     need: Need::Flag(None),
     help: texts::JSON,
 };
 
 const UNREPLACED: Parameter = Parameter {
     name: "new",
-    kind: Kind::Flag,
+    kind: WordKind::Flag,
     need: Need::Flag(None),
     help: texts::UNREPLACED,
 };
 
 const SVG: Parameter = Parameter {
     name: "svg",
-    kind: Kind::Flag,
+    kind: WordKind::Flag,
     need: Need::Flag(None),
     help: texts::SVG,
 };
 
 const READ_ONLY: Parameter = Parameter {
     name: "read-only",
-    kind: Kind::Wanted,
+    kind: WordKind::Wanted,
     need: Need::Flag(None),
     help: texts::READ_ONLY,
 };
 
 const SCRIPT: Parameter = Parameter {
     name: "SCRIPT",
-    kind: Kind::Scripts,
+    kind: WordKind::Scripts,
     need: Need::Several,
     help: texts::SCRIPT,
 };
 
 const OLD: Parameter = Parameter {
     name: "OLD",
-    kind: Kind::Text,
+    kind: WordKind::Text,
     need: Need::Once,
     help: texts::OLD,
 };
 
 const NEW: Parameter = Parameter {
     name: "NEW",
-    kind: Kind::Text,
+    kind: WordKind::Text,
     need: Need::Once,
     help: texts::NEW_IMAGE,
 };

@@ -2,11 +2,11 @@
 ghost use Rattle.std.specs.Prelude.{◌≡◌, ℕ, None, Option, IfOk, IfErr, codes};
 ghost use Rattle.command_words.specs.Asking.{AreLinesGiven, AsksFor, AsksForNothing, IsDepthGiven, IsFormGiven, IsMadeGiven, IsOneWrong, IsPictureGiven, IsValue, IsVolumeGiven, TellsOf, checker_verb};
 ghost use Rattle.command_words.specs.Verbs.{arguments_of, of_checker};
-ghost use Rattle.command_words.specs.declared.parameters.Kind.TheVariants as kinds;
+ghost use Rattle.command_words.specs.declared.parameters.WordKind.TheVariants as kinds;
 ghost use Rattle.command_words.specs.declared.verbs.Verb.TheVariants as verbs;
 
 use crate::disks::list_default;
-use crate::fault::Fault;
+use crate::fault::WordFault;
 use crate::given::{
     Given, blocks_in, edition_in, flag_in, long_in, moment_in, option_in, permissions_in,
     scripts_in, text_in, threads_in, word_in, word_or,
@@ -16,10 +16,10 @@ use crate::several::{PutFiles, file_in, files_in, no_more, not_empty, paths_in};
 use crate::texts;
 use crate::verbs::Verb;
 use command_changes::{Change, Migration};
-use command_reads::{Form, Look, Picture};
+use command_reads::{Look, OutputForm, Picture};
 use std::alloc::Global;
 use vol_check::Checker;
-use vol_listing::{Depth, Lines, Listing};
+use vol_listing::{Depth, Lines, ListOptions};
 use vol_mkfs::NewVolume;
 
 /// Reads the words after a command. `clock` is the time of the program's clock, in seconds since the beginning of 1970, if
@@ -31,7 +31,7 @@ pub fn read<'a, G: Given<'a>>(
     verb: Verb,
     given: &G,
     clock: Option<u32>,
-) -> Result<Invocation<'a>, Fault<'a>>
+) -> Result<Invocation<'a>, WordFault<'a>>
     ensures read { IfOk result (AsksFor clock verb (G.words given.now)) }
     ensures refused { IfErr result (TellsOf (AsksForNothing clock verb (G.words given.now))) }
 {
@@ -66,7 +66,7 @@ pub fn read<'a, G: Given<'a>>(
 }
 
 /// Reads the words of `cat`.
-fn read_cat<'a, G: Given<'a>>(given: &G) -> Result<Invocation<'a>, Fault<'a>>
+fn read_cat<'a, G: Given<'a>>(given: &G) -> Result<Invocation<'a>, WordFault<'a>>
     ensures read { IfOk result (AsksFor None verbs.Cat (G.words given.now)) }
     ensures refused { IfErr result (TellsOf (IsOneWrong None (G.words given.now) (arguments_of verbs.Cat))) }
 {
@@ -76,13 +76,13 @@ fn read_cat<'a, G: Given<'a>>(given: &G) -> Result<Invocation<'a>, Fault<'a>>
 }
 
 /// Reads the words of `ls`.
-fn read_ls<'a, G: Given<'a>>(given: &G) -> Result<Invocation<'a>, Fault<'a>>
+fn read_ls<'a, G: Given<'a>>(given: &G) -> Result<Invocation<'a>, WordFault<'a>>
     ensures read { IfOk result (AsksFor None verbs.Ls (G.words given.now)) }
     ensures refused { IfErr result (TellsOf (IsOneWrong None (G.words given.now) (arguments_of verbs.Ls))) }
 {
     let volume = volume_in(given)?;
     let path = text_in(given, "PATH");
-    let listing = Listing {
+    let listing = ListOptions {
         lines: lines_in(given),
         depth: depth_in(given),
     };
@@ -119,7 +119,7 @@ fn depth_in<'a, G: Given<'a>>(given: &G) -> Depth
 }
 
 /// Reads the words of `get`.
-fn read_get<'a, G: Given<'a>>(alloc: Global, given: &G) -> Result<Invocation<'a>, Fault<'a>>
+fn read_get<'a, G: Given<'a>>(alloc: Global, given: &G) -> Result<Invocation<'a>, WordFault<'a>>
     ensures read { IfOk result (AsksFor None verbs.Get (G.words given.now)) }
     ensures refused { (clock : Option ℕ) → IfErr result (TellsOf (AsksForNothing clock verbs.Get (G.words given.now))) }
 {
@@ -140,7 +140,7 @@ fn read_get<'a, G: Given<'a>>(alloc: Global, given: &G) -> Result<Invocation<'a>
 }
 
 /// Reads the words of `export`.
-fn read_export<'a, G: Given<'a>>(given: &G) -> Result<Invocation<'a>, Fault<'a>>
+fn read_export<'a, G: Given<'a>>(given: &G) -> Result<Invocation<'a>, WordFault<'a>>
     ensures read { IfOk result (AsksFor None verbs.Export (G.words given.now)) }
     ensures refused { IfErr result (TellsOf (IsOneWrong None (G.words given.now) (arguments_of verbs.Export))) }
 {
@@ -153,7 +153,7 @@ fn read_export<'a, G: Given<'a>>(given: &G) -> Result<Invocation<'a>, Fault<'a>>
 }
 
 /// Reads the words of `inode`.
-fn read_inode<'a, G: Given<'a>>(given: &G) -> Result<Invocation<'a>, Fault<'a>>
+fn read_inode<'a, G: Given<'a>>(given: &G) -> Result<Invocation<'a>, WordFault<'a>>
     ensures read { IfOk result (AsksFor None verbs.Inode (G.words given.now)) }
     ensures refused { IfErr result (TellsOf (IsOneWrong None (G.words given.now) (arguments_of verbs.Inode))) }
 {
@@ -167,7 +167,7 @@ fn read_inode<'a, G: Given<'a>>(given: &G) -> Result<Invocation<'a>, Fault<'a>>
 }
 
 /// Reads the words of `super`.
-fn read_super<'a, G: Given<'a>>(given: &G) -> Result<Invocation<'a>, Fault<'a>>
+fn read_super<'a, G: Given<'a>>(given: &G) -> Result<Invocation<'a>, WordFault<'a>>
     ensures read { IfOk result (AsksFor None verbs.Super (G.words given.now)) }
     ensures refused { IfErr result (TellsOf (IsOneWrong None (G.words given.now) (arguments_of verbs.Super))) }
 {
@@ -180,7 +180,7 @@ fn read_super<'a, G: Given<'a>>(given: &G) -> Result<Invocation<'a>, Fault<'a>>
 }
 
 /// Reads the words of `map`.
-fn read_map<'a, G: Given<'a>>(given: &G) -> Result<Invocation<'a>, Fault<'a>>
+fn read_map<'a, G: Given<'a>>(given: &G) -> Result<Invocation<'a>, WordFault<'a>>
     ensures read { IfOk result (AsksFor None verbs.Map (G.words given.now)) }
     ensures refused { IfErr result (TellsOf (IsOneWrong None (G.words given.now) (arguments_of verbs.Map))) }
 {
@@ -193,7 +193,7 @@ fn read_map<'a, G: Given<'a>>(given: &G) -> Result<Invocation<'a>, Fault<'a>>
 }
 
 /// Reads the words of `check`.
-fn read_check<'a, G: Given<'a>>(given: &G) -> Result<Invocation<'a>, Fault<'a>>
+fn read_check<'a, G: Given<'a>>(given: &G) -> Result<Invocation<'a>, WordFault<'a>>
     ensures read { IfOk result (AsksFor None verbs.Check (G.words given.now)) }
     ensures refused { IfErr result (TellsOf (IsOneWrong None (G.words given.now) (arguments_of verbs.Check))) }
 {
@@ -205,13 +205,13 @@ fn read_check<'a, G: Given<'a>>(given: &G) -> Result<Invocation<'a>, Fault<'a>>
 }
 
 /// Reads the form of a report.
-fn form_in<'a, G: Given<'a>>(given: &G) -> Form
+fn form_in<'a, G: Given<'a>>(given: &G) -> OutputForm
     ensures { IsFormGiven (G.words given.now) result }
 {
     if flag_in(given, "json") {
-        Form::Json
+        OutputForm::Json
     } else {
-        Form::Text
+        OutputForm::Text
     }
 }
 
@@ -227,7 +227,10 @@ fn picture_in<'a, G: Given<'a>>(given: &G) -> Picture
 }
 
 /// Reads the words of `mkfs`.
-fn read_mkfs<'a, G: Given<'a>>(given: &G, clock: Option<u32>) -> Result<Invocation<'a>, Fault<'a>>
+fn read_mkfs<'a, G: Given<'a>>(
+    given: &G,
+    clock: Option<u32>,
+) -> Result<Invocation<'a>, WordFault<'a>>
     ensures read { IfOk result (AsksFor clock verbs.Mkfs (G.words given.now)) }
     ensures refused { IfErr result (TellsOf (IsOneWrong clock (G.words given.now) (arguments_of verbs.Mkfs))) }
 {
@@ -259,7 +262,7 @@ fn made_in<'a, G: Given<'a>>(given: &G, name: &str) -> MadeFile<'a>
 fn read_migrate<'a, G: Given<'a>>(
     given: &G,
     clock: Option<u32>,
-) -> Result<Invocation<'a>, Fault<'a>>
+) -> Result<Invocation<'a>, WordFault<'a>>
     ensures read { IfOk result (AsksFor clock verbs.Migrate (G.words given.now)) }
     ensures refused { IfErr result (TellsOf (IsOneWrong clock (G.words given.now) (arguments_of verbs.Migrate))) }
 {
@@ -282,7 +285,7 @@ fn read_put<'a, G: Given<'a>>(
     alloc: Global,
     given: &G,
     clock: Option<u32>,
-) -> Result<Invocation<'a>, Fault<'a>>
+) -> Result<Invocation<'a>, WordFault<'a>>
     ensures read { IfOk result (AsksFor clock verbs.Put (G.words given.now)) }
     ensures refused { IfErr result (TellsOf (AsksForNothing clock verbs.Put (G.words given.now))) }
 {
@@ -310,7 +313,10 @@ fn read_put<'a, G: Given<'a>>(
 }
 
 /// Reads the words of `import`.
-fn read_import<'a, G: Given<'a>>(given: &G, clock: Option<u32>) -> Result<Invocation<'a>, Fault<'a>>
+fn read_import<'a, G: Given<'a>>(
+    given: &G,
+    clock: Option<u32>,
+) -> Result<Invocation<'a>, WordFault<'a>>
     ensures read { IfOk result (AsksFor clock verbs.Import (G.words given.now)) }
     ensures refused { IfErr result (TellsOf (IsOneWrong clock (G.words given.now) (arguments_of verbs.Import))) }
 {
@@ -324,7 +330,7 @@ fn read_import<'a, G: Given<'a>>(given: &G, clock: Option<u32>) -> Result<Invoca
 }
 
 /// Reads the words of `rm`.
-fn read_rm<'a, G: Given<'a>>(given: &G, clock: Option<u32>) -> Result<Invocation<'a>, Fault<'a>>
+fn read_rm<'a, G: Given<'a>>(given: &G, clock: Option<u32>) -> Result<Invocation<'a>, WordFault<'a>>
     ensures read { IfOk result (AsksFor clock verbs.Rm (G.words given.now)) }
     ensures refused { IfErr result (TellsOf (IsOneWrong clock (G.words given.now) (arguments_of verbs.Rm))) }
 {
@@ -344,7 +350,10 @@ fn read_rm<'a, G: Given<'a>>(given: &G, clock: Option<u32>) -> Result<Invocation
 }
 
 /// Reads the words of `rmdir`.
-fn read_rmdir<'a, G: Given<'a>>(given: &G, clock: Option<u32>) -> Result<Invocation<'a>, Fault<'a>>
+fn read_rmdir<'a, G: Given<'a>>(
+    given: &G,
+    clock: Option<u32>,
+) -> Result<Invocation<'a>, WordFault<'a>>
     ensures read { IfOk result (AsksFor clock verbs.Rmdir (G.words given.now)) }
     ensures refused { IfErr result (TellsOf (IsOneWrong clock (G.words given.now) (arguments_of verbs.Rmdir))) }
 {
@@ -358,7 +367,10 @@ fn read_rmdir<'a, G: Given<'a>>(given: &G, clock: Option<u32>) -> Result<Invocat
 }
 
 /// Reads the words of `mkdir`.
-fn read_mkdir<'a, G: Given<'a>>(given: &G, clock: Option<u32>) -> Result<Invocation<'a>, Fault<'a>>
+fn read_mkdir<'a, G: Given<'a>>(
+    given: &G,
+    clock: Option<u32>,
+) -> Result<Invocation<'a>, WordFault<'a>>
     ensures read { IfOk result (AsksFor clock verbs.Mkdir (G.words given.now)) }
     ensures refused { IfErr result (TellsOf (IsOneWrong clock (G.words given.now) (arguments_of verbs.Mkdir))) }
 {
@@ -378,7 +390,7 @@ fn read_mkdir<'a, G: Given<'a>>(given: &G, clock: Option<u32>) -> Result<Invocat
 }
 
 /// Reads the words of `ln`.
-fn read_ln<'a, G: Given<'a>>(given: &G, clock: Option<u32>) -> Result<Invocation<'a>, Fault<'a>>
+fn read_ln<'a, G: Given<'a>>(given: &G, clock: Option<u32>) -> Result<Invocation<'a>, WordFault<'a>>
     ensures read { IfOk result (AsksFor clock verbs.Ln (G.words given.now)) }
     ensures refused { IfErr result (TellsOf (IsOneWrong clock (G.words given.now) (arguments_of verbs.Ln))) }
 {
@@ -393,7 +405,7 @@ fn read_ln<'a, G: Given<'a>>(given: &G, clock: Option<u32>) -> Result<Invocation
 }
 
 /// Reads the words of `mv`.
-fn read_mv<'a, G: Given<'a>>(given: &G, clock: Option<u32>) -> Result<Invocation<'a>, Fault<'a>>
+fn read_mv<'a, G: Given<'a>>(given: &G, clock: Option<u32>) -> Result<Invocation<'a>, WordFault<'a>>
     ensures read { IfOk result (AsksFor clock verbs.Mv (G.words given.now)) }
     ensures refused { IfErr result (TellsOf (IsOneWrong clock (G.words given.now) (arguments_of verbs.Mv))) }
 {
@@ -408,7 +420,10 @@ fn read_mv<'a, G: Given<'a>>(given: &G, clock: Option<u32>) -> Result<Invocation
 }
 
 /// Reads the words of `chmod`.
-fn read_chmod<'a, G: Given<'a>>(given: &G, clock: Option<u32>) -> Result<Invocation<'a>, Fault<'a>>
+fn read_chmod<'a, G: Given<'a>>(
+    given: &G,
+    clock: Option<u32>,
+) -> Result<Invocation<'a>, WordFault<'a>>
     ensures read { IfOk result (AsksFor clock verbs.Chmod (G.words given.now)) }
     ensures refused { IfErr result (TellsOf (IsOneWrong clock (G.words given.now) (arguments_of verbs.Chmod))) }
 {
@@ -423,7 +438,10 @@ fn read_chmod<'a, G: Given<'a>>(given: &G, clock: Option<u32>) -> Result<Invocat
 }
 
 /// Reads the words of `chown`.
-fn read_chown<'a, G: Given<'a>>(given: &G, clock: Option<u32>) -> Result<Invocation<'a>, Fault<'a>>
+fn read_chown<'a, G: Given<'a>>(
+    given: &G,
+    clock: Option<u32>,
+) -> Result<Invocation<'a>, WordFault<'a>>
     ensures read { IfOk result (AsksFor clock verbs.Chown (G.words given.now)) }
     ensures refused { IfErr result (TellsOf (IsOneWrong clock (G.words given.now) (arguments_of verbs.Chown))) }
 {
@@ -444,7 +462,10 @@ fn read_chown<'a, G: Given<'a>>(given: &G, clock: Option<u32>) -> Result<Invocat
 }
 
 /// Reads the words of `touch`.
-fn read_touch<'a, G: Given<'a>>(given: &G, clock: Option<u32>) -> Result<Invocation<'a>, Fault<'a>>
+fn read_touch<'a, G: Given<'a>>(
+    given: &G,
+    clock: Option<u32>,
+) -> Result<Invocation<'a>, WordFault<'a>>
     ensures read { IfOk result (AsksFor clock verbs.Touch (G.words given.now)) }
     ensures refused { IfErr result (TellsOf (IsOneWrong clock (G.words given.now) (arguments_of verbs.Touch))) }
 {
@@ -458,7 +479,7 @@ fn read_touch<'a, G: Given<'a>>(given: &G, clock: Option<u32>) -> Result<Invocat
 }
 
 /// Reads the words of `salvage`.
-fn read_salvage<'a, G: Given<'a>>(given: &G) -> Result<Invocation<'a>, Fault<'a>>
+fn read_salvage<'a, G: Given<'a>>(given: &G) -> Result<Invocation<'a>, WordFault<'a>>
     ensures read { IfOk result (AsksFor None verbs.Salvage (G.words given.now)) }
     ensures refused { IfErr result (TellsOf (IsOneWrong None (G.words given.now) (arguments_of verbs.Salvage))) }
 {
@@ -470,7 +491,10 @@ fn read_salvage<'a, G: Given<'a>>(given: &G) -> Result<Invocation<'a>, Fault<'a>
 }
 
 /// Reads the words of a checker's command.
-fn read_checker<'a, G: Given<'a>>(given: &G, checker: Checker) -> Result<Invocation<'a>, Fault<'a>>
+fn read_checker<'a, G: Given<'a>>(
+    given: &G,
+    checker: Checker,
+) -> Result<Invocation<'a>, WordFault<'a>>
     ensures read { IfOk result (AsksFor None (checker_verb checker) (G.words given.now)) }
     ensures refused { IfErr result (TellsOf (IsOneWrong None (G.words given.now) of_checker)) }
 {
@@ -481,7 +505,7 @@ fn read_checker<'a, G: Given<'a>>(given: &G, checker: Checker) -> Result<Invocat
 }
 
 /// Reads the words of `play`.
-fn read_play<'a, G: Given<'a>>(alloc: Global, given: &G) -> Result<Invocation<'a>, Fault<'a>>
+fn read_play<'a, G: Given<'a>>(alloc: Global, given: &G) -> Result<Invocation<'a>, WordFault<'a>>
     ensures read { IfOk result (AsksFor None verbs.Play (G.words given.now)) }
     ensures refused { IfErr result (TellsOf (IsOneWrong None (G.words given.now) (arguments_of verbs.Play))) }
 {
@@ -492,7 +516,7 @@ fn read_play<'a, G: Given<'a>>(alloc: Global, given: &G) -> Result<Invocation<'a
 }
 
 /// Reads the words of `serve`.
-fn read_serve<'a, G: Given<'a>>(given: &G) -> Result<Invocation<'a>, Fault<'a>>
+fn read_serve<'a, G: Given<'a>>(given: &G) -> Result<Invocation<'a>, WordFault<'a>>
     ensures read { IfOk result (AsksFor None verbs.Serve (G.words given.now)) }
     ensures refused { IfErr result (TellsOf (IsOneWrong None (G.words given.now) (arguments_of verbs.Serve))) }
 {
@@ -502,7 +526,7 @@ fn read_serve<'a, G: Given<'a>>(given: &G) -> Result<Invocation<'a>, Fault<'a>>
 }
 
 /// Reads the edition and the file of the volume.
-fn volume_in<'a, G: Given<'a>>(given: &G) -> Result<VolumeFile<'a>, Fault<'a>>
+fn volume_in<'a, G: Given<'a>>(given: &G) -> Result<VolumeFile<'a>, WordFault<'a>>
     ensures read { IfOk result (IsVolumeGiven (G.words given.now)) }
     ensures refused { IfErr result (TellsOf (IsValue None kinds.Edition (G.words given.now (codes "EDITION")) → ⊥)) }
 {

@@ -2,7 +2,7 @@
 ghost use Rattle.std.specs.Prelude.{◌≡◌, ◌≢◌, ◌≤◌, ◌-◌, ◌∷◌, [], None, ℕ, List, Option, Some, false, true, IfErr, IfOk, IfSome, codes, flat_map, length, map, option_map, take};
 ghost use Rattle.command_words.specs.Asking.{AreFilesGiven, ArePathsGiven, EndsInMoment, IsFirstWord, IsLeftOut, IsMomentAfter, TellsOf, are_apart, are_distinct, get_words, last_names, put_words};
 
-use crate::fault::{Fault, Said, WrongWord};
+use crate::fault::{Said, WordFault, WrongWord};
 use crate::given::{Given, missing, wrong};
 use crate::invocation::Moment;
 use crate::moment::moment_of;
@@ -21,7 +21,7 @@ pub(crate) struct PutFiles<'a> {
 }
 
 /// Returns the one file to put.
-pub(crate) fn file_in<'a, G: Given<'a>>(given: &G) -> Result<&'a str, Fault<'a>>
+pub(crate) fn file_in<'a, G: Given<'a>>(given: &G) -> Result<&'a str, WordFault<'a>>
     ensures read { IfOk result (λ file. IsFirstWord (G.words given.now) (codes "FILE") file.now) }
     ensures refused { IfErr result (TellsOf (IsLeftOut (G.words given.now) (codes "FILE"))) }
 {
@@ -32,7 +32,7 @@ pub(crate) fn file_in<'a, G: Given<'a>>(given: &G) -> Result<&'a str, Fault<'a>>
 }
 
 /// Succeeds if there is no further word; otherwise `wanted` names the option that is missing.
-pub(crate) fn no_more<'a, G: Given<'a>>(given: &G, wanted: &'a str) -> Result<(), Fault<'a>>
+pub(crate) fn no_more<'a, G: Given<'a>>(given: &G, wanted: &'a str) -> Result<(), WordFault<'a>>
     ensures none { IfOk result (λ _. IsLeftOut (G.words given.now) (codes "MORE")) }
     ensures refused { IfErr result (TellsOf (IsLeftOut (G.words given.now) (codes "MORE") → ⊥)) }
 {
@@ -53,7 +53,7 @@ pub(crate) fn files_in<'a, G: Given<'a>>(
     alloc: Global,
     given: &G,
     clock: Option<u32>,
-) -> Result<PutFiles<'a>, Fault<'a>>
+) -> Result<PutFiles<'a>, WordFault<'a>>
     ensures read { IfOk result (λ found. AreFilesGiven clock (put_words (G.words given.now)) (map (λ file. file.now) found.files.items)
         found.now.seconds (option_map (λ word. word.now) found.now.word)) }
     ensures refused { IfErr result (TellsOf ((files : List (List ℕ)) (now : ℕ) (word : Option (List ℕ))
@@ -70,7 +70,7 @@ pub(crate) fn files_in<'a, G: Given<'a>>(
 pub(crate) fn paths_in<'a, G: Given<'a>>(
     alloc: Global,
     given: &G,
-) -> Result<Vec<&'a str>, Fault<'a>>
+) -> Result<Vec<&'a str>, WordFault<'a>>
     ensures read { IfOk result (λ paths. ArePathsGiven (get_words (G.words given.now)) (map (λ path. path.now) paths.items)) }
     ensures refused { IfErr result (TellsOf ((paths : List (List ℕ)) → ArePathsGiven (get_words (G.words given.now)) paths → ⊥)) }
 {
@@ -97,7 +97,7 @@ fn words_in<'a, G: Given<'a>>(
 }
 
 /// Returns the files among some words, and the time after them, or that of the program's clock.
-fn with_moment<'a>(words: Vec<&'a str>, clock: Option<u32>) -> Result<PutFiles<'a>, Fault<'a>>
+fn with_moment<'a>(words: Vec<&'a str>, clock: Option<u32>) -> Result<PutFiles<'a>, WordFault<'a>>
     ensures read { IfOk result (λ found. IsMomentAfter clock (map (λ word. word.now) words.entry.items) (map (λ file. file.now) found.files.items)
         found.now.seconds (option_map (λ word. word.now) found.now.word)) }
     ensures refused { IfErr result (TellsOf ((files : List (List ℕ)) (now : ℕ) (word : Option (List ℕ))
@@ -135,7 +135,11 @@ fn moment_after(words: &[&str]) -> Option<u32>
 }
 
 /// Succeeds if the word for an option isn't empty.
-pub(crate) fn not_empty<'a>(name: &'a str, word: &'a str, wanted: &'a str) -> Result<(), Fault<'a>>
+pub(crate) fn not_empty<'a>(
+    name: &'a str,
+    word: &'a str,
+    wanted: &'a str,
+) -> Result<(), WordFault<'a>>
     ensures some { IfOk result (λ _. word.now ≢ []) }
     ensures refused { IfErr result (TellsOf (word.now ≡ [])) }
 {
@@ -146,7 +150,7 @@ pub(crate) fn not_empty<'a>(name: &'a str, word: &'a str, wanted: &'a str) -> Re
 }
 
 /// Succeeds if there is at least one path.
-fn one_or_more<'a>(name: &'a str, paths: &[&'a str]) -> Result<(), Fault<'a>>
+fn one_or_more<'a>(name: &'a str, paths: &[&'a str]) -> Result<(), WordFault<'a>>
     ensures some { IfOk result (λ _. 1 ≤ length paths.now) }
     ensures refused { IfErr result (TellsOf (length paths.now ≡ 0)) }
 {
@@ -157,7 +161,7 @@ fn one_or_more<'a>(name: &'a str, paths: &[&'a str]) -> Result<(), Fault<'a>>
 }
 
 /// Succeeds if no two paths have the same last name, under which they are copied.
-fn apart<'a>(alloc: Global, name: &'a str, paths: &[&'a str]) -> Result<(), Fault<'a>>
+fn apart<'a>(alloc: Global, name: &'a str, paths: &[&'a str]) -> Result<(), WordFault<'a>>
     ensures apart { IfOk result (λ _. are_apart (map (λ path. path.now) paths.now) ≡ true) }
     ensures refused { IfErr result (TellsOf (are_apart (map (λ path. path.now) paths.now) ≡ false)) }
 {

@@ -8,7 +8,7 @@ use Rattle.fuse_words.specs.declared.directory.EntryKind.{EntryKind}
 use Rattle.fuse_words.specs.declared.operation.Operation.{Operation}
 use Rattle.fuse_words.specs.declared.operation.Operation.TheVariants.{Init, Destroy, Lookup, Forget, BatchForget, GetAttr, SetAttr, MkNod, MkDir, Unlink, RmDir, Rename, Rename2, Link, Open, Read, Write, Release, StatFs, OpenDir, ReadDir, ReleaseDir, Fsync, FsyncDir, Flush, Interrupt, Other}
 use Rattle.fuse_words.specs.declared.reply.Attributes.{Attributes}
-use Rattle.fuse_words.specs.declared.reply.Entry.{Entry}
+use Rattle.fuse_words.specs.declared.reply.EntryReply.{EntryReply}
 use Rattle.fuse_words.specs.declared.reply.Settings.{Settings}
 use Rattle.fuse_words.specs.declared.reply.Statistics.{Statistics}
 use Rattle.fuse_words.specs.declared.request.Header.{Header}
@@ -187,7 +187,7 @@ RequestsAreReadBack =
 -- replies have 16 bytes of header and their struct, and their headers give this length (fuse.h)
 abbrev pub RepliesHaveTheirLengths : Type 0
 RepliesHaveTheirLengths =
-    (unique errno seconds handle flags size : ℕ) (settings : Settings) (entry : Entry) (attributes : Attributes) (sizes : Statistics) (content : List ℕ)
+    (unique errno seconds handle flags size : ℕ) (settings : Settings) (entry : EntryReply) (attributes : Attributes) (sizes : Statistics) (content : List ℕ)
     → (length (status_message unique errno) ≡ 16)
     × (length (init_message unique settings) ≡ 16 + 64)
     × (length (entry_message unique entry) ≡ 16 + 128)

@@ -5,7 +5,7 @@ use Rattle.byteorder.specs.Endian.{little_bytes}
 use Rattle.fuse_words.specs.declared.directory.EntryKind.{EntryKind}
 use Rattle.fuse_words.specs.declared.directory.EntryKind.TheVariants.{Unknown, Character, Directory, Block, Regular}
 use Rattle.fuse_words.specs.declared.reply.Attributes.{Attributes}
-use Rattle.fuse_words.specs.declared.reply.Entry.{Entry}
+use Rattle.fuse_words.specs.declared.reply.EntryReply.{EntryReply}
 use Rattle.fuse_words.specs.declared.reply.Settings.{Settings}
 use Rattle.fuse_words.specs.declared.reply.Statistics.{Statistics}
 
@@ -76,7 +76,7 @@ no_attributes = record {
 }
 
 -- the reply to LOOKUP, MKNOD, MKDIR and LINK (fuse_entry_out, 128 bytes)
-unfoldable pub entry_message : ℕ → Entry → List ℕ
+unfoldable pub entry_message : ℕ → EntryReply → List ℕ
 entry_message unique entry =
     with_attributes
     (reply_header 128 unique

@@ -19,7 +19,8 @@ pub use name::{Content, Name};
 pub use opcode::SYMLINK;
 pub use operation::Operation;
 pub use reply::{
-    ASYNC_READ, Attributes, BIG_WRITES, CACHE_DIRECTORY, Entry, KEEP_CACHE, Settings, Statistics,
+    ASYNC_READ, Attributes, BIG_WRITES, CACHE_DIRECTORY, EntryReply, KEEP_CACHE, Settings,
+    Statistics,
 };
 pub use reply_buffer::{MOST_DATA, ReplyBuffer};
 pub use request::{Header, ROOT, Request, RequestFault, read_header, read_request};

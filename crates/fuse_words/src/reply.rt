@@ -64,7 +64,7 @@ pub struct Attributes {
 
 /// A directory entry in LOOKUP's reply.
 #[derive(Clone, Copy, Debug, PartialEq, Eq)]
-pub struct Entry {
+pub struct EntryReply {
     /// The node, or 0 if there is no such entry.
     pub node: u64,
     /// The node's generation. The same number with another generation is another file.
@@ -98,12 +98,12 @@ pub struct Statistics {
     pub fragment_size: u32,
 }
 
-impl Entry {
+impl EntryReply {
     /// Returns the entry that says that the name doesn't exist, which the kernel may keep for `seconds`.
-    pub fn missing(seconds: u64) -> Entry
+    pub fn missing(seconds: u64) -> EntryReply
         ensures { result ≡ record { node = 0; generation = 0; name_seconds = seconds; attribute_seconds = 0; attributes = no_attributes } }
     {
-        Entry {
+        EntryReply {
             node: 0,
             generation: 0,
             name_seconds: seconds,

@@ -2,7 +2,7 @@
 ghost use Rattle.std.specs.Prelude.{◌≤◌, vec_capacity};
 
 use crate::pushing::{begin, push, push_attributes, push_u16, push_u32, push_u64};
-use crate::reply::{Attributes, Entry, Settings, Statistics};
+use crate::reply::{Attributes, EntryReply, Settings, Statistics};
 use std::alloc::{AllocError, Global};
 use std::marker::Model;
 
@@ -79,7 +79,7 @@ impl ReplyBuffer {
 
     /// Makes the reply to LOOKUP, MKNOD, MKDIR and LINK.
     #[tactic(auto, unfolding(crate::specs::Replies::entry_message))]
-    pub fn put_entry(&mut self, unique: u64, entry: &Entry)
+    pub fn put_entry(&mut self, unique: u64, entry: &EntryReply)
         ensures { self.new ≡ entry_message unique entry.now }
     {
         begin(&mut self.bytes, unique, 128);

@@ -2,7 +2,7 @@
 use Rattle.std.specs.Prelude.{◌≢◌, ℕ, List, Option}
 use Rattle.vol_layout.specs.declared.edition.Edition.{Edition}
 use Rattle.host_files.specs.Reading.{IsReadUpTo, up_to_kept}
-use Rattle.host_files.specs.declared.image_file.Kind.TheVariants as kinds
+use Rattle.host_files.specs.declared.image_file.FileKind.TheVariants as kinds
 use Rattle.host_files.specs.declared.image_file.Stamp.{Stamp}
 use Rattle.host_files.specs.declared.image_file.Try.{Try}
 use Rattle.host_files.specs.declared.image_file.Try.TheVariants.{Open}

@@ -6,8 +6,8 @@ use Rattle.vol_layout.specs.Geometry.{block_count, is_whole}
 use Rattle.vol_layout.specs.declared.edition.Edition.{Edition}
 use Rattle.pdp_words.specs.Devices.{IsReadWhole}
 use Rattle.host_files.specs.Archives.{IsArchiveRead, IsLong}
-use Rattle.host_files.specs.declared.image_file.Kind.{Kind}
-use Rattle.host_files.specs.declared.image_file.Kind.TheVariants as kinds
+use Rattle.host_files.specs.declared.image_file.FileKind.{FileKind}
+use Rattle.host_files.specs.declared.image_file.FileKind.TheVariants as kinds
 use Rattle.host_files.specs.declared.volume_front.UpTo.{UpTo}
 use Rattle.host_files.specs.declared.volume_front.UpTo.TheVariants.{End, Volume, Archive}
 
@@ -36,7 +36,7 @@ IsReadUpTo (Volume edition) old new bytes = IsVolumeRead edition old new bytes
 IsReadUpTo (Archive blocks) old new bytes = IsArchiveRead blocks old new bytes
 
 -- the point up to which the file of an image to change is read: a regular file to its end, as the bytes after the volume are kept (this project)
-abbrev pub up_to_kept : Edition → Kind → UpTo
+abbrev pub up_to_kept : Edition → FileKind → UpTo
 up_to_kept edition kinds.Regular = End
 up_to_kept edition _ = Volume edition
 

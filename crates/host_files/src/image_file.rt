@@ -22,7 +22,7 @@ const PATIENCE: u32 = 100;
 
 /// The kind of a file.
 #[derive(Clone, Copy, PartialEq, Eq)]
-pub enum Kind {
+pub enum FileKind {
     /// A regular file.
     Regular,
     /// A block or character device, but no terminal.
@@ -33,21 +33,21 @@ pub enum Kind {
     Stream,
 }
 
-impl Kind {
+impl FileKind {
     /// Returns the kind that the system reports. A terminal counts as a device here.
-    fn of(metadata: &Metadata) -> Kind
-        ensures regular { (result ≡ Kind.Regular) ↔ IsFile (file_type metadata.now) }
-        ensures directory { (result ≡ Kind.Directory) ↔ IsDir (file_type metadata.now) }
+    fn of(metadata: &Metadata) -> FileKind
+        ensures regular { (result ≡ FileKind.Regular) ↔ IsFile (file_type metadata.now) }
+        ensures directory { (result ≡ FileKind.Directory) ↔ IsDir (file_type metadata.now) }
     {
         let file_type = metadata.file_type();
         if file_type.is_file() {
-            Kind::Regular
+            FileKind::Regular
         } else if file_type.is_dir() {
-            Kind::Directory
+            FileKind::Directory
         } else if file_type.is_block_device() || file_type.is_char_device() {
-            Kind::Device
+            FileKind::Device
         } else {
-            Kind::Stream
+            FileKind::Stream
         }
     }
 }
@@ -57,7 +57,7 @@ impl Kind {
 #[derive(Clone, Copy, PartialEq, Eq)]
 pub struct Stamp {
     /// The kind of the file.
-    pub kind: Kind,
+    pub kind: FileKind,
     /// The device that it is on.
     pub device: u64,
     /// Its i-number on the device.
@@ -73,12 +73,12 @@ pub struct Stamp {
 impl Stamp {
     /// Returns the stamp of a file, from what the system reports.
     fn of(metadata: &Metadata) -> Stamp
-        ensures regular { (result.kind ≡ Kind.Regular) ↔ IsFile (file_type metadata.now) }
-        ensures directory { (result.kind ≡ Kind.Directory) ↔ IsDir (file_type metadata.now) }
+        ensures regular { (result.kind ≡ FileKind.Regular) ↔ IsFile (file_type metadata.now) }
+        ensures directory { (result.kind ≡ FileKind.Directory) ↔ IsDir (file_type metadata.now) }
         ensures size { result.size ≡ metadata_len metadata.now }
     {
         Stamp {
-            kind: Kind::of(metadata),
+            kind: FileKind::of(metadata),
             device: metadata.dev(),
             ino: metadata.ino(),
             size: metadata.len(),
@@ -139,7 +139,7 @@ impl ImageFiles for HostRuntime {
     fn stamp_of(&self, file: &File) -> io::Result<Stamp> {
         let stamp = Stamp::of(&file.metadata()?);
         let kind = if file.is_terminal() {
-            Kind::Stream
+            FileKind::Stream
         } else {
             stamp.kind
         };
@@ -258,11 +258,11 @@ fn try_open<R: ImageFiles>(rt: &R, path: &str) -> io::Result<Try<R::File>>
 fn open_kept<R: ImageFiles>(rt: &R, path: &str) -> io::Result<Option<(R::File, Stamp)>>
     ensures { IfOk result (λ kept. IfSome kept (λ opened. OpensTo R.had opened.0 opened.1)) }
 {
-    if rt.stamp_at(path)?.kind == Kind::Stream {
+    if rt.stamp_at(path)?.kind == FileKind::Stream {
         return Ok(None);
     }
     let (file, stamp) = open_stamped(rt, path)?;
-    if stamp.kind == Kind::Stream {
+    if stamp.kind == FileKind::Stream {
         return Ok(None);
     }
     Ok(Some((file, stamp)))

@@ -3,7 +3,7 @@ ghost use Rattle.std.specs.Prelude.{◌≡◌, true, IfOk, IfSome, OnErr, OnOk};
 ghost use Rattle.std.specs.Path.{path_bytes, path_buf_bytes};
 ghost use Rattle.host_files.specs.Saving.{IsBeside, Grows, Saves, IsPlaced, Holds};
 
-use crate::image_file::{ImageFiles, Kind, Stamp};
+use crate::image_file::{FileKind, ImageFiles, Stamp};
 use crate::noted::noted_writer;
 use pdp_words::{SaveFault, Sink, write_all};
 use std::fs::{self, Files, Metadata, OpenFile, OpenOptions, Permissions};
@@ -223,7 +223,7 @@ pub fn is_pipe<R: ImageFiles + AllocGlobal>(rt: &R, path: &str) -> bool {
         return false;
     };
     match rt.stamp_of_name(place.as_path().as_str()) {
-        Ok(stamp) => stamp.kind == Kind::Stream,
+        Ok(stamp) => stamp.kind == FileKind::Stream,
         Err(_) => false,
     }
 }

@@ -4,7 +4,7 @@ ghost use Rattle.pdp_words.specs.Devices.{LosesFront};
 ghost use Rattle.host_files.specs.Reading.{IsEndless, IsPast, IsReadOn, IsReadUpTo, IsSkipped, IsVolumeRead, up_to_kept};
 
 use crate::archive_front::read_archive;
-use crate::image_file::Kind;
+use crate::image_file::FileKind;
 use pdp_words::{BLOCK, Image, LoadFault, Source, load};
 use std::alloc::Global;
 use std::io;
@@ -24,12 +24,12 @@ pub enum UpTo {
 impl UpTo {
     /// Returns the point up to which the file of an image to change is read. A regular file is read whole, since the bytes after its
     /// volume are kept.
-    pub fn kept(edition: Edition, kind: Kind) -> UpTo
+    pub fn kept(edition: Edition, kind: FileKind) -> UpTo
         ensures { result ≡ up_to_kept edition kind }
     {
         match kind {
-            Kind::Regular => UpTo::End,
-            Kind::Device | Kind::Directory | Kind::Stream => UpTo::Volume(edition),
+            FileKind::Regular => UpTo::End,
+            FileKind::Device | FileKind::Directory | FileKind::Stream => UpTo::Volume(edition),
         }
     }
 }

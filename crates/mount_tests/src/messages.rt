@@ -1,6 +1,6 @@
 //! Requests that a kernel sent, and replies that it took, field by field.
 use fuse_words::{
-    AttributeChanges, Entry, EntryKind, NewTime, Operation, ReplyBuffer, Settings, Statistics,
+    AttributeChanges, EntryKind, EntryReply, NewTime, Operation, ReplyBuffer, Settings, Statistics,
     push_entry, read_request,
 };
 use std::test::Fail;
@@ -165,7 +165,7 @@ fn all_other_replies(rt: HostRuntime) -> Result<(), Fail> {
         name_length: 14,
         fragment_size: 512,
     };
-    let missing = Entry::missing(9);
+    let missing = EntryReply::missing(9);
     let mut reply = ReplyBuffer::new(rt.alloc())?;
     reply.put_init(2, &settings);
     assert_eq!(rt; reply.as_slice().len(), 80);

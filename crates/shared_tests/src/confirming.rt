@@ -8,7 +8,7 @@ use std::test::Fail;
 use vol_dir::Refusal;
 use vol_layout::Edition;
 use vol_receipts::{
-    Asked, ConfirmFault, Confirmed, Finding, Outcome, Receipt, change, confirm, confirm_all,
+    Asked, ConfirmFault, Confirmed, Outcome, Receipt, ReceiptStatus, change, confirm, confirm_all,
     find_all, reply,
 };
 use vol_volume::{Bytes, Call, Done, Listing, Query, Reply, Volume};
@@ -247,21 +247,21 @@ fn what_is_cut_is_gone(rt: HostRuntime) -> Result<(), Fail> {
     })?;
     let found = find_all(&volume, alloc, &receipts)?;
     let wanted = [
-        Finding::Agrees,
-        Finding::Agrees,
-        Finding::Agrees,
-        Finding::Gone,
-        Finding::Gone,
-        Finding::Differs,
+        ReceiptStatus::Agrees,
+        ReceiptStatus::Agrees,
+        ReceiptStatus::Agrees,
+        ReceiptStatus::Gone,
+        ReceiptStatus::Gone,
+        ReceiptStatus::Differs,
     ];
     assert_eq!(rt; found.as_slice(), wanted.as_slice());
     let confirmed = confirm_all(&volume, alloc, &receipts)?;
     assert_eq!(rt; confirmed, Confirmed { agree: 3, gone: 2 });
     for (receipt, finding) in receipts.iter().zip(wanted) {
         let wanted = match finding {
-            Finding::Agrees => Ok(true),
-            Finding::Differs => Ok(false),
-            Finding::Gone => Err(ConfirmFault::Cut),
+            ReceiptStatus::Agrees => Ok(true),
+            ReceiptStatus::Differs => Ok(false),
+            ReceiptStatus::Gone => Err(ConfirmFault::Cut),
         };
         check(&rt, alloc, &volume, receipt, wanted);
     }

@@ -35,7 +35,7 @@
 pub use pdp_words::{
     BLOCK, FromRead, Image, IntoWrite, LoadFault, SaveFault, Sink, Source, load, save, write_all,
 };
-pub use vol_archive::{Start, StartFault, WriteFault, export, start_of};
+pub use vol_archive::{ExportStart, StartFault, WriteFault, export, start_of};
 pub use vol_check::{
     CheckSeat, Checker, Gate, MOST_WORKERS, Open, Piece, SalvageFault, Sweep, dcheck, icheck,
     ncheck, salvage,
@@ -48,7 +48,7 @@ pub use vol_migrate::{MigrateFault, migrate};
 pub use vol_mkfs::mkfs::mkfs;
 pub use vol_mkfs::{BlankVolume, MkfsFault, NewVolume};
 pub use vol_receipts::{
-    Asked, ConfirmFault, Confirmed, Finding, Outcome, Receipt, confirm, confirm_all, find_all,
+    Asked, ConfirmFault, Confirmed, Outcome, Receipt, ReceiptStatus, confirm, confirm_all, find_all,
 };
 pub use vol_reports::{FreeFault, Line, Report, Total};
 pub use vol_shared::{Closed, MOST_SESSIONS, OpenFault, Session, Shared};

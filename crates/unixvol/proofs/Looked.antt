@@ -2,7 +2,7 @@
 use Rattle.std.proofs.Common.{◌≡◌, ℕ, ◌≤◌, ◌==◌, Bool, true, false, if◌then◌else◌, List, [], ◌∷◌, length, Option, Result, Ok, Err, inl, inr, sym, ap, subst, ◌∙◌, arith}
 use Rattle.std.proofs.lemmas.Bool.{ne_eqb}
 use Rattle.vol_archive.specs.Exporting.{start_of}
-use Rattle.vol_archive.specs.declared.exporting.Start.{Start}
+use Rattle.vol_archive.specs.declared.exporting.ExportStart.{ExportStart}
 use Rattle.vol_archive.specs.declared.exporting.StartFault.{StartFault}
 use Rattle.command_faults.proofs.Concluded.{fault_few}
 use Rattle.command_faults.specs.Faults.{no_memory}
@@ -50,19 +50,19 @@ ends_lines streams status (line ∷ lines) working said is =
     let one : status ≡ 1 = is ∙ ap (λ (b : Bool). if b then 0 else 1) some in
     ends_badly streams status (omega (arith, one)) (omega (arith, one))
 
-ends_below : (edition : Edition) (image : List ℕ) (start : Start) (streams : Streams) (status : ℕ) → ExportsBelow edition image start streams status
+ends_below : (edition : Edition) (image : List ℕ) (start : ExportStart) (streams : Streams) (status : ℕ) → ExportsBelow edition image start streams status
     → IsEnd streams status
 ends_below edition image start streams status (whole founds walk is) = ends_lines streams status is.lines is.working is.said is.status
 ends_below edition image start streams status (broken founds walk is) = ends_broken streams _ status is
 ends_below edition image start streams status (short founds walk is) = ends_badly streams status (omega (arith, is.status)) (omega (arith, is.status))
 ends_below edition image start streams status (unbegun told) = ends_told streams no_memory status told
 
-ends_to : (edition : Edition) (image : List ℕ) (start : Start) (streams : Streams) (status : ℕ) (screen : Screen)
+ends_to : (edition : Edition) (image : List ℕ) (start : ExportStart) (streams : Streams) (status : ℕ) (screen : Screen)
     → ExportsTo edition image start streams status screen → IsEnd streams status
 ends_to edition image start streams status screens.Stream exports = ends_below edition image start streams status exports
 ends_to edition image start streams status (screens.Terminal columns colours) told = ends_told streams _ status told
 
-ends_from : (edition : Edition) (image : List ℕ) (screen : Screen) (streams : Streams) (status : ℕ) (found : Result Start StartFault)
+ends_from : (edition : Edition) (image : List ℕ) (screen : Screen) (streams : Streams) (status : ℕ) (found : Result ExportStart StartFault)
     → ExportsFrom edition image screen streams status found → IsEnd streams status
 ends_from edition image screen streams status (Ok start) exports = ends_to edition image start streams status screen exports
 ends_from edition image screen streams status (Err fault) told = ends_told streams _ status told

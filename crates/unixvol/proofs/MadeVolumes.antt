@@ -8,7 +8,7 @@ use Rattle.command_faults.specs.Streams.{ErrorStream, Hears, says, Streams}
 use Rattle.command_faults.specs.Faults.{line_after}
 use Rattle.command_changes.specs.Mkfs.{mkfs_line_at}
 use Rattle.command_faults.specs.declared.fault.Fault.{Fault}
-use Rattle.command_changes.specs.declared.mkfs.Made.{Made}
+use Rattle.command_changes.specs.declared.mkfs.MadeVolume.{MadeVolume}
 use Rattle.vol_mkfs.specs.declared.blank.NewVolume.{NewVolume}
 use Rattle.unixvol.specs.Running.{IsStatusOfFileOrMemory, MadeSaved, RunsMkfs}
 
@@ -38,7 +38,7 @@ told_at volume status known fault errors line hears is =
     subst (λ n. says errors (mkfs_line_at (is_size volume.edition volume.blocks volume.list_blocks) n)) is (subst (says errors) line hears)
 
 -- the result of `mkfs`, whether the volume was saved or not
-pub runs_by : (streams : Streams) (taken : List ℕ → Type 0) (volume : NewVolume) (made : Made) (status : ℕ)
+pub runs_by : (streams : Streams) (taken : List ℕ → Type 0) (volume : NewVolume) (made : MadeVolume) (status : ℕ)
     → IfSome made.volume (λ blank. blank ≡ blank_of volume)
     → (made.status ≡ 0 ↔ IsSome made.volume)
     → (made.status ≡ 1 ↔ ((is_size volume.edition volume.blocks volume.list_blocks ≡ false) ⊎ (is_bad_id volume.edition volume.uid volume.gid ≡ true)))

@@ -35,7 +35,7 @@ use Rattle.command_words.specs.declared.invocation.Invocation.TheVariants as inv
 use Rattle.command_words.specs.declared.invocation.Work.{Work}
 use Rattle.command_words.specs.declared.invocation.Work.TheVariants as works
 use Rattle.vol_check.specs.declared.checker.Checker.{Checker}
-use Rattle.command_changes.specs.declared.mkfs.Made.{Made}
+use Rattle.command_changes.specs.declared.mkfs.MadeVolume.{MadeVolume}
 use Rattle.command_changes.specs.declared.migrate.Migration.{Migration}
 use Rattle.vol_mkfs.specs.declared.blank.NewVolume.{NewVolume}
 use Rattle.host_files.specs.Opening.{IsOpened}
@@ -135,7 +135,7 @@ abbrev pub EndsPlayed : (List ℕ → Type 0) → Answer → ℕ → Type 0
 EndsPlayed taken answer status = EndsSaved taken answer status × (answer.status ≡ 3 → status ≡ 3)
 
 -- the status after `mkfs`: its own if the volume that it made, if any, was taken, or that of a file (this project)
-abbrev pub MadeSaved : (List ℕ → Type 0) → Made → ℕ → Type 0
+abbrev pub MadeSaved : (List ℕ → Type 0) → MadeVolume → ℕ → Type 0
 MadeSaved taken made status =
     ((status ≡ made.status) × IfSome made.volume (λ blank. (bytes : List ℕ) × IsMade blank bytes × taken bytes))
     ⊎ (IsSome made.volume × IsStatusOfFileOrMemory status)

@@ -4,8 +4,8 @@ ghost use Rattle.std.specs.Process.{exit_status};
 ghost use Rattle.command_faults.specs.Streams.{ErrorStream, Hears, still};
 ghost use Rattle.unixvol.specs.Running.{ChangesToEnd, Ends, GaveArchive, GaveBytes, IsGivenTo, IsUngiven, IsUnread, RunsChange, host_files, host_input, wants_terminal};
 
-use crate::explaining::{Named, explain_unread, finish, tell_fault};
-use crate::host::Host;
+use crate::explaining::{NamedFile, explain_unread, finish, tell_fault};
+use crate::host::Surroundings;
 use crate::reading::{Begun, begin, read_file, read_open};
 use crate::saving::save_answer;
 use crate::subject::Subject;
@@ -13,7 +13,7 @@ use command_changes::Change;
 use command_changes::changing::perform;
 use command_faults::Ending;
 use command_line::VolumeFile;
-use host_files::{ImageFiles, Kind, UpTo};
+use host_files::{FileKind, ImageFiles, UpTo};
 use pdp_words::IntoWrite;
 use std::io::{self, Read, Write};
 use std::process::ExitCode;
@@ -41,7 +41,7 @@ pub fn run_to_end<
     O: Write + Drop,
     E: Write + Drop,
 >(
-    host: &Host<'_, R>,
+    host: &Surroundings<'_, R>,
     input: I,
     is_terminal: bool,
     output: O,
@@ -61,7 +61,7 @@ pub fn run_to_end<
 
 /// Changes the volume in a file, saves it, and returns how the run ends.
 fn run<R: ImageFiles + Clock + Eprint + AllocGlobal, I: Read + Drop>(
-    host: &Host<'_, R>,
+    host: &Surroundings<'_, R>,
     input: I,
     is_terminal: bool,
     volume: VolumeFile<'_>,
@@ -74,7 +74,7 @@ fn run<R: ImageFiles + Clock + Eprint + AllocGlobal, I: Read + Drop>(
 {
     if wants_terminal(is_terminal, change) {
         return Ending {
-            status: explain_unread(host, Named::Input, io::Error::other(TERMINAL)),
+            status: explain_unread(host, NamedFile::Input, io::Error::other(TERMINAL)),
             fault: None,
         };
     }
@@ -114,7 +114,7 @@ fn wants_terminal(is_terminal: bool, change: Change<'_>) -> bool
 
 /// Returns the bytes of the file to put, or of the archive to import; none for another change.
 fn given_to<R: ImageFiles + Eprint + AllocGlobal, I: Read + Drop>(
-    host: &Host<'_, R>,
+    host: &Surroundings<'_, R>,
     image: &str,
     input: I,
     change: Change<'_>,
@@ -126,7 +126,7 @@ fn given_to<R: ImageFiles + Eprint + AllocGlobal, I: Read + Drop>(
         Change::Put { file, .. } => read_file(host, file),
         Change::Import { .. } => {
             let blocks = archive_room(host.rt, image);
-            Ok(read_open(host, Named::Input, UpTo::Archive(blocks), input)?.bytes)
+            Ok(read_open(host, NamedFile::Input, UpTo::Archive(blocks), input)?.bytes)
         }
         _ => Ok(Vec::new(host.rt.alloc())),
     }
@@ -138,7 +138,7 @@ fn archive_room<R: ImageFiles>(rt: &R, path: &str) -> u32
     ensures { 131072 ≤ result }
 {
     match rt.stamp_at(path) {
-        Ok(stamp) if stamp.kind == Kind::Regular => room_for(stamp.size),
+        Ok(stamp) if stamp.kind == FileKind::Regular => room_for(stamp.size),
         _ => room_for(u64::MAX),
     }
 }

@@ -7,7 +7,7 @@ ghost use Rattle.unixvol.specs.Running.{IsPlainCommand, IsUnread, Gave, PrintsBo
 ghost use Rattle.host_files.specs.Saving.{IsTaken};
 
 use crate::explaining::{explain_cat, explain_command_line, finish, tell_fault};
-use crate::host::Host;
+use crate::host::Surroundings;
 use crate::looks::run_get;
 use crate::reading::{read_stamped, read_volume};
 use crate::saving::{save_made, save_migrated};
@@ -31,7 +31,7 @@ use vol_mkfs::NewVolume;
 /// Runs the command line that was read, and returns the exit code. Output is written to `output`, which is standard output; a fault is
 /// one line on standard error, or clap's text. `errors` writes to standard error too.
 pub fn run_to_end<R: ImageFiles + Clock + Eprint + AllocGlobal, O: Write + Drop, E: Write + Drop>(
-    host: &Host<'_, R>,
+    host: &Surroundings<'_, R>,
     output: O,
     errors: E,
     read: Result<Invocation<'_>, Error>,
@@ -49,7 +49,7 @@ pub fn run_to_end<R: ImageFiles + Clock + Eprint + AllocGlobal, O: Write + Drop,
 
 /// Runs the command line that was read, and returns how the run ends if [`finish`] succeeds.
 fn run<R: ImageFiles + Clock + Eprint + AllocGlobal, O: Sink>(
-    host: &Host<'_, R>,
+    host: &Surroundings<'_, R>,
     output: &mut O,
     read: Result<Invocation<'_>, Error>,
 ) -> Ending
@@ -70,7 +70,7 @@ fn run<R: ImageFiles + Clock + Eprint + AllocGlobal, O: Sink>(
 
 /// Runs a command, and returns how the run ends.
 fn carry_out<R: ImageFiles + Clock + Eprint + AllocGlobal, O: Sink>(
-    host: &Host<'_, R>,
+    host: &Surroundings<'_, R>,
     output: &mut O,
     invocation: Invocation<'_>,
 ) -> Ending
@@ -102,7 +102,7 @@ fn carry_out<R: ImageFiles + Clock + Eprint + AllocGlobal, O: Sink>(
 
 /// Prints the body of i-node `ino` of the volume in a file, and returns the exit status.
 fn run_cat<R: ImageFiles + Eprint + AllocGlobal, O: Sink>(
-    host: &Host<'_, R>,
+    host: &Surroundings<'_, R>,
     output: &mut O,
     volume: VolumeFile<'_>,
     ino: u16,
@@ -125,7 +125,7 @@ fn run_cat<R: ImageFiles + Eprint + AllocGlobal, O: Sink>(
 
 /// Makes a new volume, saves it in a file, and returns how the run ends.
 fn run_mkfs<R: ImageFiles + Clock + Eprint + AllocGlobal>(
-    host: &Host<'_, R>,
+    host: &Surroundings<'_, R>,
     image: MadeFile<'_>,
     volume: NewVolume,
 ) -> Ending
@@ -142,7 +142,7 @@ fn run_mkfs<R: ImageFiles + Clock + Eprint + AllocGlobal>(
 
 /// Makes a volume of the seventh edition from the one in the file `old`, saves it in a file, and returns how the run ends.
 fn run_migrate<R: ImageFiles + Clock + Eprint + AllocGlobal>(
-    host: &Host<'_, R>,
+    host: &Surroundings<'_, R>,
     old: &str,
     new: MadeFile<'_>,
     migration: Migration,

@@ -7,9 +7,9 @@ ghost use Rattle.unixvol.specs.Running.{Ends, GaveBytes, IsStatusOfFileOrMemory,
 ghost use Rattle.host_files.specs.Saving.{IsTaken};
 
 use crate::explaining::{
-    Named, explain_moment, explain_no_memory, explain_unwritten, finish, tell_fault,
+    NamedFile, explain_moment, explain_no_memory, explain_unwritten, finish, tell_fault,
 };
-use crate::host::Host;
+use crate::host::Surroundings;
 use crate::reading::{Begun, begin, read_file, read_stamped};
 use crate::saving::{save_answer, save_new};
 use crate::subject::Subject;
@@ -33,7 +33,7 @@ const PIPE: &str = "it is a pipe or a socket, which keeps no file";
 /// Copies several files between the host and the volume in a file, and returns the exit code. A fault is one line on standard error,
 /// to which `errors` writes too. Nothing is written to `output`, which is standard output.
 pub fn run_to_end<R: ImageFiles + Clock + Eprint + AllocGlobal, O: Write + Drop, E: Write + Drop>(
-    host: &Host<'_, R>,
+    host: &Surroundings<'_, R>,
     output: O,
     errors: E,
     volume: VolumeFile<'_>,
@@ -51,7 +51,7 @@ pub fn run_to_end<R: ImageFiles + Clock + Eprint + AllocGlobal, O: Write + Drop,
 
 /// Copies several files, and returns how the run ends.
 fn run<R: ImageFiles + Clock + Eprint + AllocGlobal>(
-    host: &Host<'_, R>,
+    host: &Surroundings<'_, R>,
     volume: VolumeFile<'_>,
     copying: Copying<'_>,
 ) -> Ending
@@ -73,7 +73,7 @@ fn run<R: ImageFiles + Clock + Eprint + AllocGlobal>(
 /// Puts the files at some paths into a directory of the volume in a file, saves the volume, and returns how the run ends. If a file
 /// exists at the word that was read as the time, the word may be meant as one of the files: then nothing is opened.
 fn run_put<R: ImageFiles + Clock + Eprint + AllocGlobal>(
-    host: &Host<'_, R>,
+    host: &Surroundings<'_, R>,
     volume: VolumeFile<'_>,
     directory: &str,
     paths: &[&str],
@@ -132,7 +132,7 @@ fn moment_file<'a, R: ImageFiles>(rt: &R, now: Moment<'a>) -> Option<&'a str>
 /// Reads the files at some paths, in order, each with the last name of its path. If one can't be read, prints the fault and returns
 /// the status.
 fn read_named<'a, R: Files + Eprint + AllocGlobal>(
-    host: &Host<'_, R>,
+    host: &Surroundings<'_, R>,
     paths: &[&'a str],
 ) -> Result<Vec<NewFile<'a>>, u8>
     ensures given { IfOk result (λ files. All (λ file. GaveBytes R.File.remaining file.bytes.items) files.items) }
@@ -160,7 +160,7 @@ fn name_of(path: &str) -> &str
 /// Reads the files at some paths of the volume in a file, then saves each in a folder under its last name, and returns how the run
 /// ends. Never replaces the file of the volume, whatever its path.
 fn run_get<R: ImageFiles + Clock + Eprint + AllocGlobal>(
-    host: &Host<'_, R>,
+    host: &Surroundings<'_, R>,
     volume: VolumeFile<'_>,
     folder: &str,
     paths: &[&str],
@@ -189,7 +189,7 @@ fn run_get<R: ImageFiles + Clock + Eprint + AllocGlobal>(
 
 /// Saves the files that were read from a volume in a folder, if they were, and returns the exit status.
 fn save_read<R: ImageFiles + Clock + Eprint + AllocGlobal>(
-    host: &Host<'_, R>,
+    host: &Surroundings<'_, R>,
     folder: &str,
     image: Stamp,
     read: &FilesRead<'_>,
@@ -205,7 +205,7 @@ fn save_read<R: ImageFiles + Clock + Eprint + AllocGlobal>(
 /// Saves files of a volume in a folder, each under the last name of its path, and returns the exit status: `status`, or that of the
 /// first file that can't be saved, after which no other is.
 fn save_files<R: ImageFiles + Clock + Eprint + AllocGlobal>(
-    host: &Host<'_, R>,
+    host: &Surroundings<'_, R>,
     folder: &str,
     image: Stamp,
     files: &[FileRead<'_>],
@@ -225,7 +225,7 @@ fn save_files<R: ImageFiles + Clock + Eprint + AllocGlobal>(
 /// Saves a file of a volume in a folder, under the last name of its path, and returns the exit status. A pipe or a socket with this
 /// name is left alone.
 fn save_file_read<R: ImageFiles + Clock + Eprint + AllocGlobal>(
-    host: &Host<'_, R>,
+    host: &Surroundings<'_, R>,
     folder: &str,
     image: Stamp,
     file: &FileRead<'_>,
@@ -237,7 +237,7 @@ fn save_file_read<R: ImageFiles + Clock + Eprint + AllocGlobal>(
     };
     let place = place.as_path().as_str();
     if is_pipe(host.rt, place) {
-        return explain_unwritten(host, Named::File(place), io::Error::other(PIPE));
+        return explain_unwritten(host, NamedFile::File(place), io::Error::other(PIPE));
     }
     save_new(host, place, image, &file.bytes, DONE)
 }

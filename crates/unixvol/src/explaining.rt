@@ -9,7 +9,7 @@ ghost use Rattle.command_reads.specs.Cat.{cat_status};
 ghost use Rattle.command_faults.specs.Streams.{Hears, heard};
 ghost use Rattle.unixvol.specs.Running.{IsStatusOfFileOrMemory};
 
-use crate::host::Host;
+use crate::host::Surroundings;
 use crate::meanings::{self, meaning_of, shown};
 use crate::sizes::{Sizes, sizes_in};
 use crate::subject::Subject;
@@ -28,7 +28,7 @@ const STREAM: &str = "-";
 
 /// A file, or one of the standard streams.
 #[derive(Clone, Copy, Debug, PartialEq, Eq)]
-pub enum Named<'a> {
+pub enum NamedFile<'a> {
     /// The file at a path.
     File(&'a str),
     /// Standard input.
@@ -37,29 +37,29 @@ pub enum Named<'a> {
     Output,
 }
 
-impl<'a> Named<'a> {
+impl<'a> NamedFile<'a> {
     /// Returns its name in the line of a fault.
     fn name(self) -> &'a str {
         match self {
-            Named::File(path) => path,
-            Named::Input | Named::Output => STREAM,
+            NamedFile::File(path) => path,
+            NamedFile::Input | NamedFile::Output => STREAM,
         }
     }
 
     /// Returns its name in the second line.
     fn in_words(self) -> &'a str {
         match self {
-            Named::File(path) => path,
-            Named::Input => "standard input",
-            Named::Output => "standard output",
+            NamedFile::File(path) => path,
+            NamedFile::Input => "standard input",
+            NamedFile::Output => "standard output",
         }
     }
 }
 
 /// Prints that a file can't be read, and returns the status.
 pub fn explain_unread<R: Eprint + AllocGlobal>(
-    host: &Host<'_, R>,
-    file: Named<'_>,
+    host: &Surroundings<'_, R>,
+    file: NamedFile<'_>,
     why: io::Error,
 ) -> u8
     ensures { result ≡ 3 }
@@ -72,8 +72,8 @@ pub fn explain_unread<R: Eprint + AllocGlobal>(
 
 /// Prints that a file can't be written, and returns the status.
 pub fn explain_unwritten<R: Eprint + AllocGlobal>(
-    host: &Host<'_, R>,
-    file: Named<'_>,
+    host: &Surroundings<'_, R>,
+    file: NamedFile<'_>,
     why: io::Error,
 ) -> u8
     ensures { result ≡ 3 }
@@ -85,7 +85,7 @@ pub fn explain_unwritten<R: Eprint + AllocGlobal>(
 }
 
 /// Prints that the word which was read as the time is the path of a file too, and returns the status.
-pub fn explain_moment<R: Eprint>(host: &Host<'_, R>, word: &str) -> u8
+pub fn explain_moment<R: Eprint>(host: &Surroundings<'_, R>, word: &str) -> u8
     ensures { result ≡ 2 }
 {
     let _ = eprintln!(host.rt;
@@ -100,7 +100,11 @@ pub fn reason_of(error: Option<io::Error>) -> io::Error {
 }
 
 /// Prints the second line for a file that failed, if it is wanted.
-fn tell_why<R: Eprint + AllocGlobal>(host: &Host<'_, R>, file: Named<'_>, why: io::Error) {
+fn tell_why<R: Eprint + AllocGlobal>(
+    host: &Surroundings<'_, R>,
+    file: NamedFile<'_>,
+    why: io::Error,
+) {
     if !host.explains {
         return;
     }
@@ -111,7 +115,7 @@ fn tell_why<R: Eprint + AllocGlobal>(host: &Host<'_, R>, file: Named<'_>, why: i
 
 /// Prints the line of a fault, if a run had one, and its second line, if that is wanted.
 pub fn tell_fault<R: ImageFiles + Eprint + AllocGlobal, E: Sink>(
-    host: &Host<'_, R>,
+    host: &Surroundings<'_, R>,
     errors: &mut E,
     fault: &Option<Fault>,
     output: Option<io::Error>,
@@ -126,7 +130,7 @@ pub fn tell_fault<R: ImageFiles + Eprint + AllocGlobal, E: Sink>(
 /// Prints the second line of a run, if it is wanted: the system's error if standard output failed, else the meaning of the fault. A
 /// fault in words has no second line; without memory for it, it is left out.
 fn explain<R: ImageFiles + Eprint + AllocGlobal>(
-    host: &Host<'_, R>,
+    host: &Surroundings<'_, R>,
     fault: &Option<Fault>,
     output: Option<io::Error>,
     subject: Option<Subject<'_>>,
@@ -135,7 +139,7 @@ fn explain<R: ImageFiles + Eprint + AllocGlobal>(
         return;
     }
     if let Some(why) = output {
-        return tell_why(host, Named::Output, why);
+        return tell_why(host, NamedFile::Output, why);
     }
     let Some(subject) = subject else {
         return;
@@ -151,7 +155,7 @@ fn explain<R: ImageFiles + Eprint + AllocGlobal>(
 
 /// Returns the sizes in an image that breaks rule 1 or rule 2.
 fn sizes_of<R: ImageFiles + AllocGlobal>(
-    host: &Host<'_, R>,
+    host: &Surroundings<'_, R>,
     fault: &Fault,
     subject: Subject<'_>,
 ) -> Option<Sizes> {
@@ -169,7 +173,7 @@ fn sizes_of<R: ImageFiles + AllocGlobal>(
 
 /// Prints the line of a fault of `cat`, and returns its status. The second line for standard output is printed when the run has ended.
 pub fn explain_cat<R: ImageFiles + Eprint + AllocGlobal>(
-    host: &Host<'_, R>,
+    host: &Surroundings<'_, R>,
     fault: CatFault,
     subject: Subject<'_>,
 ) -> u8
@@ -184,7 +188,7 @@ pub fn explain_cat<R: ImageFiles + Eprint + AllocGlobal>(
 
 /// Prints the text for a wrong command line, or the requested help, and returns its status.
 pub fn explain_command_line<R: Eprint + AllocGlobal, O: Sink>(
-    host: &Host<'_, R>,
+    host: &Surroundings<'_, R>,
     output: &mut O,
     error: &clap::Error,
 ) -> u8
@@ -215,7 +219,7 @@ pub fn explain_command_line<R: Eprint + AllocGlobal, O: Sink>(
 }
 
 /// Prints the text for a mistake on the command line, reworded if that is better.
-fn tell_mistake<R: Eprint + AllocGlobal>(host: &Host<'_, R>, error: &clap::Error) {
+fn tell_mistake<R: Eprint + AllocGlobal>(host: &Surroundings<'_, R>, error: &clap::Error) {
     let _ = match reworded(host.rt.alloc(), host.words, error) {
         Ok(Some(better)) => host.rt.eprint(&better),
         Ok(None) | Err(_) => host.rt.eprint(error),
@@ -223,7 +227,7 @@ fn tell_mistake<R: Eprint + AllocGlobal>(host: &Host<'_, R>, error: &clap::Error
 }
 
 /// Prints that standard output can't be written, and returns the status. Its second line is printed when the run has ended.
-fn explain_unshown<R: Eprint>(host: &Host<'_, R>) -> u8
+fn explain_unshown<R: Eprint>(host: &Surroundings<'_, R>) -> u8
     ensures { result ≡ 3 }
 {
     let _ = eprintln!(host.rt; "unixvol: cannot write {STREAM}");
@@ -232,7 +236,7 @@ fn explain_unshown<R: Eprint>(host: &Host<'_, R>) -> u8
 
 /// Flushes standard output after a run with status 0, and returns the exit status.
 pub fn finish<R: Eprint + AllocGlobal, W: Write + Drop>(
-    host: &Host<'_, R>,
+    host: &Surroundings<'_, R>,
     output: W,
     status: u8,
 ) -> u8
@@ -246,7 +250,7 @@ pub fn finish<R: Eprint + AllocGlobal, W: Write + Drop>(
 
 /// Flushes standard output as [`finish`] does, after a run that may have printed something with any status.
 pub fn finish_printed<R: Eprint + AllocGlobal, W: Write + Drop>(
-    host: &Host<'_, R>,
+    host: &Surroundings<'_, R>,
     output: W,
     status: u8,
 ) -> u8
@@ -260,7 +264,7 @@ pub fn finish_printed<R: Eprint + AllocGlobal, W: Write + Drop>(
 
 /// Flushes standard output, and returns `status`, or that of a failure.
 fn flush<R: Eprint + AllocGlobal, W: Write + Drop>(
-    host: &Host<'_, R>,
+    host: &Surroundings<'_, R>,
     mut output: W,
     status: u8,
 ) -> u8
@@ -268,7 +272,7 @@ fn flush<R: Eprint + AllocGlobal, W: Write + Drop>(
 {
     match output.flush() {
         Ok(()) => status,
-        Err(why) => explain_unwritten(host, Named::Output, why),
+        Err(why) => explain_unwritten(host, NamedFile::Output, why),
     }
 }
 
@@ -294,7 +298,7 @@ pub fn explain_words(rt: &impl Eprint, error: &io::Error, place: Option<usize>) 
 const NO_MEMORY_LINE: &str = "unixvol: 12 NoMemory";
 
 /// Prints that memory ran out, and returns the status.
-pub fn explain_no_memory<R: Eprint>(host: &Host<'_, R>) -> u8
+pub fn explain_no_memory<R: Eprint>(host: &Surroundings<'_, R>) -> u8
     ensures { result ≡ 4 }
 {
     let _ = eprintln!(host.rt; "{NO_MEMORY_LINE}");

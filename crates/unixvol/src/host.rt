@@ -2,7 +2,7 @@
 
 /// The system that the program runs on, and the user's wishes for messages.
 #[derive(Clone, Copy)]
-pub struct Host<'a, R> {
+pub struct Surroundings<'a, R> {
     /// The system.
     pub rt: &'a R,
     /// The words of the command line, the first of which is the program's own name.

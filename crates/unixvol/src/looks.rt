@@ -6,7 +6,7 @@ ghost use Rattle.command_faults.specs.Streams.{ErrorStream, Hears, streams};
 ghost use Rattle.unixvol.specs.Running.{Ends, IsEnd, IsSeen, IsShownBy, IsUnread, LooksToEnd, RunsGetOne, RunsLook, host_files};
 
 use crate::explaining::{finish_printed, tell_fault};
-use crate::host::Host;
+use crate::host::Surroundings;
 use crate::reading::{read_checked, read_volume};
 use crate::subject::Subject;
 use command_faults::Ending;
@@ -68,7 +68,7 @@ fn terminal_width<R: Env + AllocGlobal>(rt: &R) -> u16
 /// Shows part of the image in a file, and returns the exit code. Output is written to `output`, which is standard output, as `screen`
 /// shows it; a fault is one line on standard error, to which `errors` writes too.
 pub fn run_to_end<R: ImageFiles + Eprint + AllocGlobal, O: Write + Drop, E: Write + Drop>(
-    host: &Host<'_, R>,
+    host: &Surroundings<'_, R>,
     screen: Screen,
     output: O,
     errors: E,
@@ -94,7 +94,7 @@ pub fn run_to_end<R: ImageFiles + Eprint + AllocGlobal, O: Write + Drop, E: Writ
 
 /// Shows part of the image in a file, and returns how the run ends if [`finish_printed`] succeeds.
 fn run<R: ImageFiles + Eprint + AllocGlobal, O: Sink>(
-    host: &Host<'_, R>,
+    host: &Surroundings<'_, R>,
     screen: Screen,
     output: &mut O,
     volume: VolumeFile<'_>,
@@ -119,7 +119,7 @@ fn run<R: ImageFiles + Eprint + AllocGlobal, O: Sink>(
 
 /// Reads the image to show. If it can't be read, prints the fault and returns the status.
 fn read_seen<R: ImageFiles + Eprint + AllocGlobal>(
-    host: &Host<'_, R>,
+    host: &Surroundings<'_, R>,
     volume: VolumeFile<'_>,
     look: Look<'_>,
 ) -> Result<Vec<u8>, u8>
@@ -138,7 +138,7 @@ fn read_seen<R: ImageFiles + Eprint + AllocGlobal>(
 
 /// Prints the file at a path of the volume in a file, and returns how the run ends.
 pub fn run_get<R: ImageFiles + Eprint + AllocGlobal, O: Sink>(
-    host: &Host<'_, R>,
+    host: &Surroundings<'_, R>,
     output: &mut O,
     volume: VolumeFile<'_>,
     path: &str,

@@ -18,7 +18,7 @@ mod threads;
 mod words;
 
 use command_line::Invocation;
-use host::Host;
+use host::Surroundings;
 use std::io::IsTerminal;
 use std::process::ExitCode;
 use std::rt::Clock;
@@ -36,7 +36,7 @@ fn main(rt: HostRuntime) -> ExitCode {
         }
     };
     let is_watched = rt.stderr().is_terminal();
-    let host = Host {
+    let host = Surroundings {
         rt: &rt,
         words: words.as_slice(),
         is_watched,

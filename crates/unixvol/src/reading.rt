@@ -5,11 +5,13 @@ ghost use Rattle.host_files.specs.Opening.{IsOpened};
 ghost use Rattle.host_files.specs.Reading.{IsPast, IsReadUpTo};
 ghost use Rattle.unixvol.specs.Running.{Gave, GaveBytes, GaveImage, IsStatusOfFileOrMemory, IsUnread};
 
-use crate::explaining::{Named, explain_no_memory, explain_unread, explain_unwritten, reason_of};
-use crate::host::Host;
+use crate::explaining::{
+    NamedFile, explain_no_memory, explain_unread, explain_unwritten, reason_of,
+};
+use crate::host::Surroundings;
 use command_line::VolumeFile;
 use host_files::{
-    FrontFault, ImageFiles, Kind, Noted, OpenFault, Stamp, UpTo, expect_image, noted_reader,
+    FileKind, FrontFault, ImageFiles, Noted, OpenFault, Stamp, UpTo, expect_image, noted_reader,
     open_image, open_stamped, read_up_to,
 };
 use pdp_words::Source;
@@ -35,7 +37,7 @@ pub struct ReadFile<F> {
 
 /// Reads a file to its end. If it can't be read, prints the fault and returns the status.
 pub fn read_file<R: Files + Eprint + AllocGlobal>(
-    host: &Host<'_, R>,
+    host: &Surroundings<'_, R>,
     path: &str,
 ) -> Result<Vec<u8>, u8>
     ensures given { IfOk result (λ bytes. GaveBytes R.File.remaining bytes.items) }
@@ -46,7 +48,7 @@ pub fn read_file<R: Files + Eprint + AllocGlobal>(
 
 /// Reads the image of the volume in a file. If it can't be read, prints the fault and returns the status.
 pub fn read_volume<R: Files + Eprint + AllocGlobal>(
-    host: &Host<'_, R>,
+    host: &Surroundings<'_, R>,
     volume: VolumeFile<'_>,
 ) -> Result<Vec<u8>, u8>
     ensures given { IfOk result (λ image. Gave (UpTo.Volume volume.entry.edition) R.File.remaining image.items) }
@@ -58,15 +60,15 @@ pub fn read_volume<R: Files + Eprint + AllocGlobal>(
 /// Reads the image for `check`: the whole of a regular file, whose volume may be of the other edition; otherwise the image of the
 /// volume. If it can't be read, prints the fault and returns the status.
 pub fn read_checked<R: ImageFiles + Eprint + AllocGlobal>(
-    host: &Host<'_, R>,
+    host: &Surroundings<'_, R>,
     volume: VolumeFile<'_>,
 ) -> Result<Vec<u8>, u8>
     ensures given { IfOk result (λ image. GaveImage volume.entry.edition R.File.remaining image.items) }
     ensures fault { IfErr result (IsUnread R.File.remaining) }
 {
-    let named = Named::File(volume.image);
+    let named = NamedFile::File(volume.image);
     match open_stamped(host.rt, volume.image) {
-        Ok((file, stamp)) if stamp.kind == Kind::Regular => {
+        Ok((file, stamp)) if stamp.kind == FileKind::Regular => {
             Ok(read_open(host, named, UpTo::End, file)?.bytes)
         }
         Ok((file, _)) => Ok(read_open(host, named, UpTo::Volume(volume.edition), file)?.bytes),
@@ -76,14 +78,14 @@ pub fn read_checked<R: ImageFiles + Eprint + AllocGlobal>(
 
 /// Reads a file up to `up_to`. If it can't be read, prints the fault and returns the status.
 fn read_so_far<R: Files + Eprint + AllocGlobal>(
-    host: &Host<'_, R>,
+    host: &Surroundings<'_, R>,
     up_to: UpTo,
     path: &str,
 ) -> Result<Vec<u8>, u8>
     ensures given { IfOk result (λ bytes. Gave up_to R.File.remaining bytes.items) }
     ensures fault { IfErr result (IsUnread R.File.remaining) }
 {
-    let named = Named::File(path);
+    let named = NamedFile::File(path);
     match fs::open(host.rt, path) {
         Ok(file) => Ok(read_open(host, named, up_to, file)?.bytes),
         Err(why) => Err(explain_unread(host, named, why)),
@@ -92,7 +94,7 @@ fn read_so_far<R: Files + Eprint + AllocGlobal>(
 
 /// Reads several files, in the order of their paths. If one can't be read, prints the fault and returns the status.
 pub fn read_files<R: Files + Eprint + AllocGlobal>(
-    host: &Host<'_, R>,
+    host: &Surroundings<'_, R>,
     paths: &[&str],
 ) -> Result<Vec<Vec<u8>>, u8>
     ensures given { IfOk result (λ files. All (λ file. GaveBytes R.File.remaining file.items) files.items) }
@@ -112,14 +114,14 @@ pub fn read_files<R: Files + Eprint + AllocGlobal>(
 /// Reads the image of the volume in a file, and returns it with the file's stamp. If it can't be read, prints the fault and returns
 /// the status.
 pub fn read_stamped<R: ImageFiles + Eprint + AllocGlobal>(
-    host: &Host<'_, R>,
+    host: &Surroundings<'_, R>,
     edition: Edition,
     path: &str,
 ) -> Result<(Vec<u8>, Stamp), u8>
     ensures given { IfOk result (λ read. Gave (UpTo.Volume edition) R.File.remaining read.0.items) }
     ensures fault { IfErr result (IsUnread R.File.remaining) }
 {
-    let named = Named::File(path);
+    let named = NamedFile::File(path);
     match open_stamped(host.rt, path) {
         Ok((file, stamp)) => Ok((
             read_open(host, named, UpTo::Volume(edition), file)?.bytes,
@@ -149,14 +151,18 @@ pub fn begin<
     R: ImageFiles + Clock + Eprint + AllocGlobal,
     G: Drop,
     F: FnOnce() -> Result<G, u8> + Drop,
->(host: &Host<'_, R>, volume: VolumeFile<'_>, read_given: F) -> Result<Begun<R::File, G>, u8>
+>(
+    host: &Surroundings<'_, R>,
+    volume: VolumeFile<'_>,
+    read_given: F,
+) -> Result<Begun<R::File, G>, u8>
     requires { F.pre read_given }
     ensures image { IfOk result (λ begun. IsOpened volume.entry.edition R.File.remaining R.had begun.image.items begun.stamp) }
     ensures given { IfOk result (λ begun. F.post read_given (Ok begun.given)) }
     ensures fault { IfErr result (λ status. IsUnread R.File.remaining status ⊎ F.post read_given (Err status)) }
 {
     if let Err(fault) = expect_image(host.rt, volume.image) {
-        return Err(explain_unopened(host, Named::File(volume.image), fault));
+        return Err(explain_unopened(host, NamedFile::File(volume.image), fault));
     }
     let given = read_given()?;
     let (read, stamp) = read_image(host, volume)?;
@@ -172,13 +178,13 @@ pub fn begin<
 /// Reads the image to change, and returns it with its stamp. If it can't be read, or may not be changed, prints the fault and returns
 /// the status.
 fn read_image<R: ImageFiles + Clock + Eprint + AllocGlobal>(
-    host: &Host<'_, R>,
+    host: &Surroundings<'_, R>,
     volume: VolumeFile<'_>,
 ) -> Result<(ReadFile<R::File>, Stamp), u8>
     ensures given { IfOk result (λ image. IsOpened volume.entry.edition R.File.remaining R.had image.0.bytes.items image.1) }
     ensures fault { IfErr result (IsUnread R.File.remaining) }
 {
-    let named = Named::File(volume.image);
+    let named = NamedFile::File(volume.image);
     match open_image(host.rt, volume.image, host.is_watched) {
         Ok((file, stamp)) => {
             let up_to = UpTo::kept(volume.edition, stamp.kind);
@@ -190,8 +196,8 @@ fn read_image<R: ImageFiles + Clock + Eprint + AllocGlobal>(
 
 /// Prints that the file of an image can't be read, or may not be changed, and returns the status.
 fn explain_unopened<R: Eprint + AllocGlobal>(
-    host: &Host<'_, R>,
-    named: Named<'_>,
+    host: &Surroundings<'_, R>,
+    named: NamedFile<'_>,
     fault: OpenFault,
 ) -> u8
     ensures { result ≡ 3 }
@@ -204,8 +210,8 @@ fn explain_unopened<R: Eprint + AllocGlobal>(
 
 /// Reads an open file up to `up_to`. If it can't be read, prints the fault and returns the status.
 pub fn read_open<R: Eprint + AllocGlobal, F: Read + Drop>(
-    host: &Host<'_, R>,
-    named: Named<'_>,
+    host: &Surroundings<'_, R>,
+    named: NamedFile<'_>,
     up_to: UpTo,
     file: F,
 ) -> Result<ReadFile<F>, u8>
@@ -223,8 +229,8 @@ pub fn read_open<R: Eprint + AllocGlobal, F: Read + Drop>(
 /// Reads a source up to `up_to`. If it can't be read, prints the fault and returns the status: that of a file only if the source
 /// failed or is longer than it may be, that of memory only if it didn't fail.
 fn read_source<R: Eprint + AllocGlobal, S: Source>(
-    host: &Host<'_, R>,
-    named: Named<'_>,
+    host: &Surroundings<'_, R>,
+    named: NamedFile<'_>,
     up_to: UpTo,
     source: &mut Noted<S>,
 ) -> Result<Vec<u8>, u8>

@@ -2,10 +2,10 @@
 ghost use Rattle.std.specs.Prelude.{◌≤◌};
 ghost use Rattle.vol_layout.specs.Geometry.{Fits};
 
-use crate::host::Host;
+use crate::host::Surroundings;
 use crate::meanings::shown;
 use command_faults::status::DONE;
-use host_files::{ImageFiles, Kind, UpTo, noted_reader, read_up_to};
+use host_files::{FileKind, ImageFiles, UpTo, noted_reader, read_up_to};
 use pdp_words::Image;
 use std::alloc::AllocError;
 use std::fs;
@@ -38,12 +38,15 @@ pub struct HeldVolume {
 /// if there is no such file, or if it can't be read.
 ///
 /// Reads the file, and takes memory for it and for judging whether a volume is sound.
-pub fn held_at<R: ImageFiles + AllocGlobal>(host: &Host<'_, R>, path: &str) -> Option<Held> {
+pub fn held_at<R: ImageFiles + AllocGlobal>(
+    host: &Surroundings<'_, R>,
+    path: &str,
+) -> Option<Held> {
     if !host.is_watched {
         return None;
     }
     let stamp = host.rt.stamp_at(path).ok()?;
-    if stamp.kind != Kind::Regular {
+    if stamp.kind != FileKind::Regular {
         return None;
     }
     let mut source = noted_reader(fs::open(host.rt, path).ok()?);
@@ -52,7 +55,7 @@ pub fn held_at<R: ImageFiles + AllocGlobal>(host: &Host<'_, R>, path: &str) -> O
 }
 
 /// Returns what some bytes hold; if they are volumes of both editions, prefers a sound one.
-fn held_in<R: AllocGlobal>(host: &Host<'_, R>, image: &Image) -> Result<Held, AllocError> {
+fn held_in<R: AllocGlobal>(host: &Surroundings<'_, R>, image: &Image) -> Result<Held, AllocError> {
     let sixth = volume_in(host, Edition::V6, image)?;
     let seventh = volume_in(host, Edition::V7, image)?;
     Ok(match (sixth, seventh) {
@@ -72,7 +75,7 @@ impl HeldVolume {
 
 /// Returns the volume of an edition in some bytes, if rules 1 and 2 hold for it.
 fn volume_in<R: AllocGlobal>(
-    host: &Host<'_, R>,
+    host: &Surroundings<'_, R>,
     edition: Edition,
     image: &Image,
 ) -> Result<Option<HeldVolume>, AllocError> {
@@ -113,7 +116,7 @@ fn is_file(image: &Image, geometry: &Geometry, i: u16) -> bool
 
 /// Prints the old contents of a file that was replaced, if the status says that it was, and if they are known.
 pub fn tell_replaced<R: Eprint + AllocGlobal>(
-    host: &Host<'_, R>,
+    host: &Surroundings<'_, R>,
     path: &str,
     status: u8,
     held: Option<Held>,
@@ -124,7 +127,7 @@ pub fn tell_replaced<R: Eprint + AllocGlobal>(
 }
 
 /// Prints the old contents of a file.
-fn tell_held<R: Eprint + AllocGlobal>(host: &Host<'_, R>, path: &str, held: Held) {
+fn tell_held<R: Eprint + AllocGlobal>(host: &Surroundings<'_, R>, path: &str, held: Held) {
     let Ok(name) = shown(host.rt.alloc(), path) else {
         return;
     };

@@ -3,14 +3,14 @@ ghost use Rattle.std.specs.Prelude.{◌≡◌, ◌⊎◌, IfErr, IfSome};
 ghost use Rattle.unixvol.specs.Running.{IsStatusOfFileOrMemory, EndsPlayed, EndsSaved, MadeSaved};
 ghost use Rattle.host_files.specs.Saving.{IsTaken, Saves};
 
-use crate::explaining::{Named, explain_no_memory, explain_unwritten};
-use crate::host::Host;
+use crate::explaining::{NamedFile, explain_no_memory, explain_unwritten};
+use crate::host::Surroundings;
 use crate::replaced::{held_at, tell_replaced};
-use command_changes::Made;
+use command_changes::MadeVolume;
 use command_faults::Answer;
 use command_faults::status::BAD_FILE;
 use command_line::MadeFile;
-use host_files::{Content, ImageFiles, Kind, OpenFault, Stamp, open_image, save_file};
+use host_files::{Content, FileKind, ImageFiles, OpenFault, Stamp, open_image, save_file};
 use std::io;
 use std::rt::Clock;
 
@@ -20,7 +20,7 @@ const OLD_VOLUME: &str = "it holds the volume that was read, which is kept";
 /// Saves the result of a command in the file `image`, if there is one and the file still has the stamp `read`, and returns the exit
 /// status.
 pub fn save_answer<R: ImageFiles + Eprint + AllocGlobal>(
-    host: &Host<'_, R>,
+    host: &Surroundings<'_, R>,
     image: &str,
     read: Stamp,
     answer: &Answer,
@@ -42,7 +42,7 @@ pub fn save_answer<R: ImageFiles + Eprint + AllocGlobal>(
 /// Saves the volume on which scripts were played in the file `image`, as [`save_answer`] does. If standard output failed, the exit
 /// status is 3 even if saving fails too, and its line is the only one.
 pub fn save_played<R: ImageFiles + Eprint + AllocGlobal>(
-    host: &Host<'_, R>,
+    host: &Surroundings<'_, R>,
     image: &str,
     read: Stamp,
     answer: &Answer,
@@ -64,9 +64,9 @@ const THERE: &str = "it is there already, and --new replaces no file";
 /// Saves the result of `mkfs` in a file, if there is one, and returns the exit status. A regular file that exists is locked meanwhile,
 /// if it can be opened.
 pub fn save_made<R: ImageFiles + Clock + Eprint + AllocGlobal>(
-    host: &Host<'_, R>,
+    host: &Surroundings<'_, R>,
     file: MadeFile<'_>,
-    made: &Made,
+    made: &MadeVolume,
 ) -> u8
     ensures { MadeSaved (IsTaken R.File.contents) made.now result }
 {
@@ -88,20 +88,20 @@ pub fn save_made<R: ImageFiles + Clock + Eprint + AllocGlobal>(
 }
 
 /// True if something exists at the path of a file that must be new.
-fn is_kept<R: ImageFiles>(host: &Host<'_, R>, file: MadeFile<'_>) -> bool {
+fn is_kept<R: ImageFiles>(host: &Surroundings<'_, R>, file: MadeFile<'_>) -> bool {
     file.is_new && host.rt.is_there(file.path)
 }
 
 /// Prints that something exists at the path of a file that must be new, and returns the status.
-fn explain_there<R: Eprint + AllocGlobal>(host: &Host<'_, R>, path: &str) -> u8
+fn explain_there<R: Eprint + AllocGlobal>(host: &Surroundings<'_, R>, path: &str) -> u8
     ensures { result ≡ 3 }
 {
-    explain_unwritten(host, Named::File(path), io::Error::other(THERE))
+    explain_unwritten(host, NamedFile::File(path), io::Error::other(THERE))
 }
 
 /// Saves the result of `migrate` in a file, if there is one, as [`save_new`] does, and returns the exit status.
 pub fn save_migrated<R: ImageFiles + Clock + Eprint + AllocGlobal>(
-    host: &Host<'_, R>,
+    host: &Surroundings<'_, R>,
     file: MadeFile<'_>,
     old: Stamp,
     answer: &Answer,
@@ -117,7 +117,7 @@ pub fn save_migrated<R: ImageFiles + Clock + Eprint + AllocGlobal>(
 
 /// Saves bytes in the file `path` as [`save_new`] does, and tells a user what was replaced.
 fn save_over<R: ImageFiles + Clock + Eprint + AllocGlobal>(
-    host: &Host<'_, R>,
+    host: &Surroundings<'_, R>,
     path: &str,
     old: Stamp,
     bytes: &[u8],
@@ -134,7 +134,7 @@ fn save_over<R: ImageFiles + Clock + Eprint + AllocGlobal>(
 /// Saves bytes in the file `path`, and returns the exit status: `status` if they are saved. The file with the stamp `old`, from which
 /// they were made, isn't replaced, whatever its path. A regular file that exists is locked meanwhile, if it can be opened.
 pub fn save_new<R: ImageFiles + Clock + Eprint + AllocGlobal>(
-    host: &Host<'_, R>,
+    host: &Surroundings<'_, R>,
     path: &str,
     old: Stamp,
     bytes: &[u8],
@@ -143,7 +143,7 @@ pub fn save_new<R: ImageFiles + Clock + Eprint + AllocGlobal>(
     ensures { ((result ≡ status) × IsTaken R.File.contents bytes.now) ⊎ IsStatusOfFileOrMemory result }
 {
     if stands_at(host.rt, path, old) {
-        return explain_unwritten(host, Named::File(path), io::Error::other(OLD_VOLUME));
+        return explain_unwritten(host, NamedFile::File(path), io::Error::other(OLD_VOLUME));
     }
     let _locked = match lock_replaced(host, path) {
         Ok(locked) => locked,
@@ -163,14 +163,14 @@ fn stands_at<R: ImageFiles>(rt: &R, path: &str, stamp: Stamp) -> bool {
 /// Locks the regular file that will be replaced, if there is one that can be opened. If another program keeps it locked for half a
 /// minute, prints that it can't be written, and returns the status.
 fn lock_replaced<R: ImageFiles + Clock + Eprint + AllocGlobal>(
-    host: &Host<'_, R>,
+    host: &Surroundings<'_, R>,
     path: &str,
 ) -> Result<Option<R::File>, u8>
     ensures { IfErr result IsStatusOfFileOrMemory }
 {
     match open_image(host.rt, path, host.is_watched) {
-        Ok((file, stamp)) if stamp.kind == Kind::Regular => Ok(Some(file)),
-        Err(OpenFault::Locked(why)) => Err(explain_unwritten(host, Named::File(path), why)),
+        Ok((file, stamp)) if stamp.kind == FileKind::Regular => Ok(Some(file)),
+        Err(OpenFault::Locked(why)) => Err(explain_unwritten(host, NamedFile::File(path), why)),
         _ => Ok(None),
     }
 }
@@ -178,7 +178,7 @@ fn lock_replaced<R: ImageFiles + Clock + Eprint + AllocGlobal>(
 /// Saves a content in the file `path`, if that still has the stamp `read`, if one is given, and returns the exit status: `status` if
 /// it is saved.
 fn save<R: ImageFiles + Eprint + AllocGlobal>(
-    host: &Host<'_, R>,
+    host: &Surroundings<'_, R>,
     path: &str,
     read: Option<Stamp>,
     content: Content<'_>,
@@ -189,6 +189,6 @@ fn save<R: ImageFiles + Eprint + AllocGlobal>(
     match save_file(host.rt, path, read, content) {
         Ok(()) => status,
         Err(error) if error.kind() == io::ErrorKind::OutOfMemory => explain_no_memory(host),
-        Err(why) => explain_unwritten(host, Named::File(path), why),
+        Err(why) => explain_unwritten(host, NamedFile::File(path), why),
     }
 }

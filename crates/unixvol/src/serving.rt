@@ -8,9 +8,9 @@ ghost use Rattle.unixvol.specs.Running.{host_files};
 ghost use Rattle.unixvol.specs.Serving.{EndsServe, Measures, RunsServe, ServesToEnd, messages};
 
 use crate::explaining::{
-    Named, explain_no_memory, explain_unread, explain_unwritten, reason_of, tell_fault,
+    NamedFile, explain_no_memory, explain_unread, explain_unwritten, reason_of, tell_fault,
 };
-use crate::host::Host;
+use crate::host::Surroundings;
 use crate::reading::read_volume;
 use crate::subject::Subject;
 use command_faults::Fault;
@@ -37,7 +37,7 @@ pub fn run_to_end<
     I: Read + Drop,
     O: Write + Drop,
     E: Write + Drop,
->(host: &Host<'_, R>, input: I, output: O, errors: E, volume: VolumeFile<'_>) -> ExitCode
+>(host: &Surroundings<'_, R>, input: I, output: O, errors: E, volume: VolumeFile<'_>) -> ExitCode
     ensures { ServesToEnd (host_files R.File.remaining R.File.contents R.had R.stood) (E.contents errors) volume.entry.edition (exit_status result) }
 {
     let mut errors = IntoWrite::new(errors);
@@ -50,7 +50,7 @@ pub fn run_to_end<
 
 /// Serves the volume in a file. The inner result is that of serving; the outer error is the status if nothing was served.
 fn run<R: ImageFiles + Eprint + AllocGlobal, Q: Requests, P: Replies, E: Sink>(
-    host: &Host<'_, R>,
+    host: &Surroundings<'_, R>,
     requests: &mut Q,
     replies: &mut P,
     errors: &mut E,
@@ -67,7 +67,7 @@ fn run<R: ImageFiles + Eprint + AllocGlobal, Q: Requests, P: Replies, E: Sink>(
 /// Returns the geometry of an image that can be served. Prints the line of the first rule that the image breaks, if any. If that is
 /// rule 1 or 2, or memory ran out, which is printed too, returns the status.
 fn measure<R: ImageFiles + Eprint + AllocGlobal, E: Sink>(
-    host: &Host<'_, R>,
+    host: &Surroundings<'_, R>,
     errors: &mut E,
     image: &Image,
     volume: VolumeFile<'_>,
@@ -101,7 +101,7 @@ fn broken(least: Option<u8>) -> Option<Fault>
 /// Returns the exit status. `input` is the error that ended the requests, if any, and `output` that of a reply that couldn't be
 /// written. Prints that a stream failed, or that memory ran out.
 fn status_of<R: Eprint + AllocGlobal>(
-    host: &Host<'_, R>,
+    host: &Surroundings<'_, R>,
     outcome: Result<Result<(), ServeFault>, u8>,
     input: Option<io::Error>,
     output: Option<io::Error>,
@@ -110,20 +110,23 @@ fn status_of<R: Eprint + AllocGlobal>(
 {
     match outcome {
         Ok(Ok(())) => status_at_end(host, input),
-        Ok(Err(ServeFault::Send)) => explain_unwritten(host, Named::Output, reason_of(output)),
+        Ok(Err(ServeFault::Send)) => explain_unwritten(host, NamedFile::Output, reason_of(output)),
         Ok(Err(ServeFault::NoMemory)) => explain_no_memory(host),
-        Ok(Err(ServeFault::Requests)) => explain_unread(host, Named::Input, reason_of(input)),
+        Ok(Err(ServeFault::Requests)) => explain_unread(host, NamedFile::Input, reason_of(input)),
         Err(status) => status,
     }
 }
 
 /// Returns the status after the last request. Prints the fault if a read failed, except because the volume was unmounted.
-fn status_at_end<R: Eprint + AllocGlobal>(host: &Host<'_, R>, input: Option<io::Error>) -> u8
+fn status_at_end<R: Eprint + AllocGlobal>(
+    host: &Surroundings<'_, R>,
+    input: Option<io::Error>,
+) -> u8
     ensures { (result ≡ 0) ⊎ (result ≡ 3) }
 {
     match input {
         Some(why) if why.raw_os_error() != Some(UNMOUNTED) => {
-            explain_unread(host, Named::Input, why)
+            explain_unread(host, NamedFile::Input, why)
         }
         _ => DONE,
     }

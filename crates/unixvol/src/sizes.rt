@@ -1,6 +1,6 @@
 //! The sizes in the file of an image.
 
-use host_files::{ImageFiles, Kind, UpTo, noted_reader, read_up_to};
+use host_files::{FileKind, ImageFiles, UpTo, noted_reader, read_up_to};
 use pdp_words::{BLOCK, Image};
 use std::fs;
 use vol_findings::other_edition;
@@ -29,7 +29,7 @@ pub fn sizes_in<R: ImageFiles + AllocGlobal>(
     edition: Edition,
 ) -> Option<Sizes> {
     let stamp = rt.stamp_at(path).ok()?;
-    if stamp.kind != Kind::Regular {
+    if stamp.kind != FileKind::Regular {
         return None;
     }
     let other = other_edition(edition);

@@ -6,7 +6,7 @@ ghost use Rattle.command_faults.specs.Streams.{ErrorStream, Hears, streams};
 ghost use Rattle.unixvol.specs.Running.{GaveBytes, IsEnd, IsUnread, RunsCheck, RunsPlay, RunsWork, WorksToEnd, host_files};
 
 use crate::explaining::{finish_printed, tell_fault};
-use crate::host::Host;
+use crate::host::Surroundings;
 use crate::reading::{Begun, begin, read_files, read_volume};
 use crate::saving::save_played;
 use crate::subject::Subject;
@@ -31,7 +31,7 @@ pub fn run_to_end<
     O: Write + Drop,
     E: Write + Drop,
 >(
-    host: &Host<'_, R>,
+    host: &Surroundings<'_, R>,
     screen: Screen,
     output: O,
     errors: E,
@@ -58,7 +58,7 @@ pub fn run_to_end<
 
 /// Runs a command with several threads on the volume in a file, and returns how the run ends if [`finish_printed`] succeeds.
 fn run<R: ImageFiles + Clock + Eprint + AllocGlobal + Threads + Wait + Sync, O: Sink>(
-    host: &Host<'_, R>,
+    host: &Surroundings<'_, R>,
     screen: Screen,
     output: &mut O,
     volume: VolumeFile<'_>,
@@ -80,7 +80,7 @@ fn run<R: ImageFiles + Clock + Eprint + AllocGlobal + Threads + Wait + Sync, O: 
 
 /// Prints a checker's findings on the volume in a file, found by `workers` threads, and returns how the run ends.
 fn run_check<R: ImageFiles + Eprint + AllocGlobal + Threads + Wait + Sync, O: Sink>(
-    host: &Host<'_, R>,
+    host: &Surroundings<'_, R>,
     screen: Screen,
     output: &mut O,
     volume: VolumeFile<'_>,
@@ -116,7 +116,7 @@ fn run_check<R: ImageFiles + Eprint + AllocGlobal + Threads + Wait + Sync, O: Si
 /// Plays the scripts in some files on the volume in a file, each in a thread of its own, saves the volume, and returns how the run
 /// ends.
 fn run_play<R: ImageFiles + Clock + Eprint + AllocGlobal + Threads + Wait + Sync, O: Sink>(
-    host: &Host<'_, R>,
+    host: &Surroundings<'_, R>,
     output: &mut O,
     volume: VolumeFile<'_>,
     scripts: &[&str],

@@ -14,10 +14,10 @@ use Rattle.vol_archive.specs.Exporting.{start_of}
 use Rattle.vol_archive.specs.Laws.{is_kept}
 use Rattle.vol_archive.specs.Members.{archive_bytes}
 use Rattle.vol_archive.specs.Walking.{IsWalk}
-use Rattle.vol_archive.specs.declared.exporting.Start.{Start}
+use Rattle.vol_archive.specs.declared.exporting.ExportStart.{ExportStart}
 use Rattle.vol_archive.specs.declared.exporting.StartFault.{StartFault}
 use Rattle.vol_archive.specs.declared.exporting.StartFault.TheVariants.{Unsound, Refused}
-use Rattle.vol_archive.specs.declared.found.Found.{Found}
+use Rattle.vol_archive.specs.declared.found.MetEntry.{MetEntry}
 use Rattle.unixvol_c.specs.Opened.{Opened}
 
 -- the contents before and after have this relation (this project)
@@ -44,19 +44,19 @@ pub record KeepsReport (letter : ℕ) (old new : Opened) : Type 0 where
   pub volume : new.volume ≡ old.volume
 
 -- the number of entries found that aren't members of an archive (this project)
-abbrev pub left_out : List Found → ℕ
-left_out founds = count_by (λ (found : Found). not (is_kept found.role)) founds
+abbrev pub left_out : List MetEntry → ℕ
+left_out founds = count_by (λ (found : MetEntry). not (is_kept found.role)) founds
 
 -- the bytes are the archive of the entries found from a start on, and `count` of them are left out (POSIX ustar)
-pub record IsArchive (start : Start) (image bytes : List ℕ) (count : ℕ) : Type 0 where
-  pub founds : List Found
+pub record IsArchive (start : ExportStart) (image bytes : List ℕ) (count : ℕ) : Type 0 where
+  pub founds : List MetEntry
   pub walked : IsWalk start.geometry image start.inode founds
   pub members : bytes ≡ archive_bytes start.geometry image founds
   pub counted : count ≡ left_out founds
 
 -- the archive of the contents of the directory at a path is the kept answer, and the volume stays (this project)
 pub record KeepsArchive (path : List ℕ) (count : ℕ) (old new : Opened) : Type 0 where
-  pub start : Start
+  pub start : ExportStart
   pub begun : start_of old.volume.edition old.volume.image path ≡ Ok start
   pub archive : IsArchive start old.volume.image new.answer count
   pub volume : new.volume ≡ old.volume

@@ -13,8 +13,8 @@ use Rattle.vol_volume.specs.declared.queries.Reply.TheVariants as replies
 use Rattle.vol_volume.specs.declared.queries.Stat.{Stat}
 use Rattle.unixvol_c.specs.Calls.{IsAnswered}
 use Rattle.unixvol_c.specs.Opened.{Opened}
-use Rattle.unixvol_c.specs.declared.told.About.{About}
-use Rattle.unixvol_c.specs.declared.told.Entry.{Entry}
+use Rattle.unixvol_c.specs.declared.told.VolumeSizes.{VolumeSizes}
+use Rattle.unixvol_c.specs.declared.told.ListedName.{ListedName}
 use Rattle.unixvol_c.specs.declared.told.Node.{Node}
 
 -- the number of a kind (this project)
@@ -44,11 +44,11 @@ pub record TellsNode (held : Option Opened) (query : Query) (node : Node) : Type
   pub told : IsNode stat node
 
 -- a name with its i-number, padded with zero bytes to 14 (manual section 5, directories)
-abbrev pub entry_of : List ℕ × ℕ → Entry
+abbrev pub entry_of : List ℕ × ℕ → ListedName
 entry_of name = record { inode = name.1; name = padded_name (take 14 name.0) }
 
 -- the query for names is answered: the buffer has as many as it has room for, its rest stays, and the count is of all (this project)
-pub record TellsNames (held : Option Opened) (query : Query) (old new : List Entry) (count : ℕ) : Type 0 where
+pub record TellsNames (held : Option Opened) (query : Query) (old new : List ListedName) (count : ℕ) : Type 0 where
   pub names : List (List ℕ × ℕ)
   pub answered : IsAnswered held query (Ok (replies.Names names))
   pub counted : count ≡ length names
@@ -60,7 +60,7 @@ edition_number V6 = 6
 edition_number V7 = 7
 
 -- the sizes of a volume (filsys.h)
-pub record IsAbout (volume : Mounted) (about : About) : Type 0 where
+pub record IsAbout (volume : Mounted) (about : VolumeSizes) : Type 0 where
   pub blocks : about.blocks ≡ (geometry_of volume.edition volume.image).zone_end
   pub data_start : about.data_start ≡ (geometry_of volume.edition volume.image).zone_start
   pub free_blocks : about.free_blocks ≡ free_count (geometry_of volume.edition volume.image) (shapes (geometry_of volume.edition volume.image) volume.image)

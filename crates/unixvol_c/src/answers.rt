@@ -14,7 +14,7 @@ use crate::queries::put_bytes;
 use crate::{CLOSED, DONE, NO_MEMORY, NO_REPORT};
 use pdp_words::{Image, IntoWrite};
 use std::alloc::{AllocError, Global};
-use vol_archive::{Role, Start, StartFault, export, start_of};
+use vol_archive::{ExportStart, Role, StartFault, export, start_of};
 use vol_check::{CheckSeat, Checker, Sweep};
 use vol_layout::{Edition, GeometryFault};
 use vol_reports::Report;
@@ -223,7 +223,7 @@ fn keep_archive(alloc: Global, held: &mut OpenVolume, path: &[u8], left_out: &mu
 }
 
 /// Returns the archive of everything below a start.
-fn archive_of(alloc: Global, image: &Image, start: &Start) -> Result<Archive, AllocError>
+fn archive_of(alloc: Global, image: &Image, start: &ExportStart) -> Result<Archive, AllocError>
     requires fits { Fits start.now.geometry image.now }
     requires directory { IsDirectory start.now.geometry image.now start.now.inode }
     ensures { IfOk result (λ archive. IsArchive start.now image.now archive.bytes.items archive.left_out) }

@@ -27,7 +27,7 @@ pub use opening::{
 };
 pub use queries::{unixvol_about, unixvol_list, unixvol_read, unixvol_stat};
 pub use repairing::{unixvol_explain, unixvol_salvage};
-pub use told::{About, Entry, Node};
+pub use told::{ListedName, Node, VolumeSizes};
 
 /// Done.
 pub const DONE: i32 = 0;

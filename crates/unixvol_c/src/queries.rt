@@ -6,7 +6,7 @@ ghost use Rattle.unixvol_c.specs.Calls.{IsAnswered, RefusesQuery, Replies};
 ghost use Rattle.unixvol_c.specs.Told.{IsAbout, TellsNames, TellsNode, entry_of};
 
 use crate::handle::Handle;
-use crate::told::{About, Entry, Node};
+use crate::told::{ListedName, Node, VolumeSizes};
 use crate::{CLOSED, DONE, NO_MEMORY, NO_ROOM};
 use std::alloc::Global;
 use vol_dir::Cred;
@@ -105,7 +105,7 @@ pub extern "C" fn unixvol_list(
     uid: u16,
     gid: u16,
     path: &[u8],
-    into: &mut [Entry],
+    into: &mut [ListedName],
     count: &mut usize,
 ) -> i32
     ensures told { result ≡ DONE → TellsNames handle.old.sealed.held (asked.List (record { uid = uid; gid = gid }) path.now) into.old into.new count.new }
@@ -133,7 +133,7 @@ pub extern "C" fn unixvol_list(
 
 /// Sets `about` to the edition and the sizes of a volume. Takes no memory.
 #[unsafe(no_mangle)]
-pub extern "C" fn unixvol_about(alloc: Global, handle: &mut Handle, about: &mut About) -> i32
+pub extern "C" fn unixvol_about(alloc: Global, handle: &mut Handle, about: &mut VolumeSizes) -> i32
     ensures closed { handle.old.sealed.held ≡ None → (result ≡ CLOSED) × (about.new ≡ about.old) }
     ensures held { IfSome handle.old.sealed.held (λ held. (result ≡ DONE) × IsAbout held.volume about.new) }
     ensures same { handle.new.sealed.held ≡ handle.old.sealed.held }
@@ -141,7 +141,7 @@ pub extern "C" fn unixvol_about(alloc: Global, handle: &mut Handle, about: &mut 
     let Some(held) = handle.take(alloc) else {
         return CLOSED;
     };
-    *about = About::of(held.volume());
+    *about = VolumeSizes::of(held.volume());
     handle.put(held);
     DONE
 }
@@ -193,13 +193,13 @@ pub(crate) fn put_text(text: &[u8], into: &mut [u8], count: &mut usize) -> i32
 }
 
 /// Puts names into a buffer, as many as it has room for, and returns the number of all.
-fn put_names(names: &[(Bytes, u16)], into: &mut [Entry]) -> usize
+fn put_names(names: &[(Bytes, u16)], into: &mut [ListedName]) -> usize
     ensures count { result ≡ length names.now }
     ensures front { into.new ≡ map entry_of (take (length into.old) names.now) ++ drop (length names.now) into.old }
 {
     let count = names.len().min(into.len());
     for i in 0..count {
-        into[i] = Entry::of(&names[i]);
+        into[i] = ListedName::of(&names[i]);
     }
     names.len()
 }

@@ -1,11 +1,11 @@
 //! Each export once, with success.
 use crate::{
-    About, DONE, Entry, Handle, Node, unixvol_about, unixvol_answer, unixvol_answer_size,
-    unixvol_chmod, unixvol_chown, unixvol_close, unixvol_create, unixvol_cut, unixvol_explain,
-    unixvol_export, unixvol_image, unixvol_judge, unixvol_link, unixvol_list, unixvol_mkdir,
-    unixvol_mkfs, unixvol_name, unixvol_open, unixvol_read, unixvol_report, unixvol_rmdir,
-    unixvol_salvage, unixvol_size, unixvol_stat, unixvol_times, unixvol_truncate, unixvol_unlink,
-    unixvol_write,
+    DONE, Handle, ListedName, Node, VolumeSizes, unixvol_about, unixvol_answer,
+    unixvol_answer_size, unixvol_chmod, unixvol_chown, unixvol_close, unixvol_create, unixvol_cut,
+    unixvol_explain, unixvol_export, unixvol_image, unixvol_judge, unixvol_link, unixvol_list,
+    unixvol_mkdir, unixvol_mkfs, unixvol_name, unixvol_open, unixvol_read, unixvol_report,
+    unixvol_rmdir, unixvol_salvage, unixvol_size, unixvol_stat, unixvol_times, unixvol_truncate,
+    unixvol_unlink, unixvol_write,
 };
 use std::alloc::Global;
 use std::process::Abort;
@@ -92,7 +92,7 @@ const NO_NODE: Node = Node {
 };
 
 /// No entry.
-const NO_ENTRY: Entry = Entry {
+const NO_ENTRY: ListedName = ListedName {
     inode: 0,
     name: [0; 14],
 };
@@ -106,7 +106,7 @@ fn each_export_succeeds(rt: HostRuntime) {
         assert_eq!(rt; answer, DONE);
     }
     ask(&rt, alloc, &mut handle);
-    let mut about = About {
+    let mut about = VolumeSizes {
         blocks: 0,
         data_start: 0,
         free_blocks: 0,

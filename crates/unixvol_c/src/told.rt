@@ -6,7 +6,7 @@ use vol_volume::{Bytes, Stat, Volume};
 /// A name in a directory.
 #[repr(C)]
 #[derive(Clone, Copy)]
-pub struct Entry {
+pub struct ListedName {
     /// The i-number.
     pub inode: u16,
     /// The name, ended by zeros if it has fewer than 14 bytes.
@@ -44,7 +44,7 @@ pub struct Node {
 /// The sizes of a volume.
 #[repr(C)]
 #[derive(Clone, Copy)]
-pub struct About {
+pub struct VolumeSizes {
     /// The number of blocks of 512 bytes.
     pub blocks: u32,
     /// The first block after the i-list.
@@ -84,29 +84,29 @@ impl Node {
     }
 }
 
-impl Entry {
+impl ListedName {
     ghost use Rattle.std.specs.Prelude.{◌≡◌};
     ghost use Rattle.unixvol_c.specs.Told.{entry_of};
 
     /// Returns a name with its i-number.
-    pub(crate) fn of(name: &(Bytes, u16)) -> Entry
+    pub(crate) fn of(name: &(Bytes, u16)) -> ListedName
         ensures { result ≡ entry_of name.now }
     {
         let bytes = name.0.as_slice();
         let Slot { inode, name } = Slot::new(name.1, &bytes[..bytes.len().min(14)]);
-        Entry { inode, name }
+        ListedName { inode, name }
     }
 }
 
-impl About {
+impl VolumeSizes {
     ghost use Rattle.unixvol_c.specs.Told.{IsAbout};
 
     /// Returns the sizes of a volume.
-    pub(crate) fn of(volume: &Volume) -> About
+    pub(crate) fn of(volume: &Volume) -> VolumeSizes
         ensures { IsAbout volume.now result }
     {
         let geometry = volume.geometry();
-        About {
+        VolumeSizes {
             blocks: geometry.zone_end,
             data_start: geometry.zone_start,
             free_blocks: volume.free_blocks(),

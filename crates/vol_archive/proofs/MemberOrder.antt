@@ -14,7 +14,7 @@ use Rattle.vol_dir.specs.Walk.{components}
 use Rattle.vol_dir.proofs.NameMaps.{sorted}
 use Rattle.vol_archive.specs.Laws.{is_kept, members_of, MembersAscend, MembersDiffer}
 use Rattle.vol_archive.specs.Walking.{Walks, is_plain, path_below, pending_below, met, below, entries_below, role_of, first_met, IsWalk}
-use Rattle.vol_archive.specs.declared.found.Found.{Found}
+use Rattle.vol_archive.specs.declared.found.MetEntry.{MetEntry}
 use Rattle.vol_archive.specs.declared.found.Role.{Role}
 use Rattle.vol_archive.specs.declared.found.Role.TheVariants as roles
 use Rattle.vol_archive.specs.declared.pending.Pending.{Pending}
@@ -76,7 +76,7 @@ abbrev pub IsAfter : List (List ℕ) → Pending → Type 0
 IsAfter names entry = entry.is_plain ≡ true → order names (components entry.path) ≡ Less
 
 -- what holds of each entry of a directory that was met holds of each below the entry met
-pub each_inside : (P : Pending → Type 0) (g : Geometry) (image : List ℕ) (found : Found) (role : Role)
+pub each_inside : (P : Pending → Type 0) (g : Geometry) (image : List ℕ) (found : MetEntry) (role : Role)
     → (role ≡ roles.Directory → Each P (entries_below g image found.path found.inode)) → Each P (below g image found role)
 each_inside P g image found roles.Directory h = h refl
 each_inside P g image found roles.File h = tt
@@ -92,7 +92,7 @@ inside_after g image names path d h =
     (λ entry named plain. ap (order names) (named plain).parts ∙ h (named plain).name) (entries_below g image path d) (entries_named g image path d)
 
 -- an entry before all pending ones is before all that are pending after the next step
-pub step_after : (g : Geometry) (image : List ℕ) (start : ℕ) (founds : List Found) (entry : Pending) (rest : List Pending) (names : List (List ℕ))
+pub step_after : (g : Geometry) (image : List ℕ) (start : ℕ) (founds : List MetEntry) (entry : Pending) (rest : List Pending) (names : List (List ℕ))
     → Each (IsAfter names) (entry ∷ rest)
     → Each (IsAfter names) (below g image (met g image start founds entry) (met g image start founds entry).role ++ rest)
 step_after g image start founds entry rest names h =
@@ -102,9 +102,9 @@ step_after g image start founds entry rest names h =
     (λ name. before_below names (components entry.path) name (h.0 (member_plain g image start (first_met entry.inode founds) founds entry (ap is_kept is)))))) h.1
 
 -- an entry before all pending ones is before all members that are met
-rest_after : {g : Geometry} {image : List ℕ} {start : ℕ} {founds : List Found} {pending : List Pending} {all : List Found}
+rest_after : {g : Geometry} {image : List ℕ} {start : ℕ} {founds : List MetEntry} {pending : List Pending} {all : List MetEntry}
     → (walks : Walks g image start founds pending all) (names : List (List ℕ)) → Each (IsAfter names) pending
-    → Each (λ (found : Found). is_kept found.role ≡ true → order names (components found.path) ≡ Less) (rest_of walks)
+    → Each (λ (found : MetEntry). is_kept found.role ≡ true → order names (components found.path) ≡ Less) (rest_of walks)
 unfolding rest_of
 rest_after (Walks.ends founds) names h = tt
 rest_after {g = g} {image = image} {start = start} (Walks.meets founds entry rest all walks) names h =
@@ -116,7 +116,7 @@ rest_after {g = g} {image = image} {start = start} (Walks.meets founds entry res
     )
 
 -- the entries below one that was met, each before the later ones
-pairs_inside : (g : Geometry) (image : List ℕ) (found : Found) (role : Role) → Pairs Precedes (below g image found role)
+pairs_inside : (g : Geometry) (image : List ℕ) (found : MetEntry) (role : Role) → Pairs Precedes (below g image found role)
 pairs_inside g image found roles.Directory = entries_beside g image found.path found.inode
 pairs_inside g image found roles.File = tt
 pairs_inside g image found roles.Special = tt
@@ -136,7 +136,7 @@ inside_before g image entry rest plain h =
     (entries_below g image entry.path entry.inode) (entries_named g image entry.path entry.inode)
 
 -- a member is before all that is pending after it
-pub met_before : (g : Geometry) (image : List ℕ) (start : ℕ) (founds : List Found) (entry : Pending) (rest : List Pending) → Each (Precedes entry) rest
+pub met_before : (g : Geometry) (image : List ℕ) (start : ℕ) (founds : List MetEntry) (entry : Pending) (rest : List Pending) → Each (Precedes entry) rest
     → is_kept (met g image start founds entry).role ≡ true
     → Each (IsAfter (components entry.path)) (below g image (met g image start founds entry) (met g image start founds entry).role ++ rest)
 met_before g image start founds entry rest h kept =
@@ -148,7 +148,7 @@ met_before g image start founds entry rest h kept =
     (each_map (Precedes entry) (IsAfter names) (λ other clears other_plain. clear_before names (components other.path) (clears plain other_plain)) rest h)
 
 -- if the pending entries are in order, so are those after the next step
-pub step_beside : (g : Geometry) (image : List ℕ) (start : ℕ) (founds : List Found) (entry : Pending) (rest : List Pending) → Pairs Precedes (entry ∷ rest)
+pub step_beside : (g : Geometry) (image : List ℕ) (start : ℕ) (founds : List MetEntry) (entry : Pending) (rest : List Pending) → Pairs Precedes (entry ∷ rest)
     → Pairs Precedes (below g image (met g image start founds entry) (met g image start founds entry).role ++ rest)
 step_beside g image start founds entry rest h =
     let found = met g image start founds entry in
@@ -158,11 +158,11 @@ step_beside g image start founds entry rest h =
     pairs_append Precedes (below g image found found.role) rest (pairs_inside g image found found.role) h.1 across
 
 -- a member is before another
-abbrev pub AreInOrder : Found → Found → Type 0
+abbrev pub AreInOrder : MetEntry → MetEntry → Type 0
 AreInOrder found other = is_kept found.role ≡ true → is_kept other.role ≡ true → order (components found.path) (components other.path) ≡ Less
 
 -- if the pending entries are in order, so are the members that are met
-rest_ordered : {g : Geometry} {image : List ℕ} {start : ℕ} {founds : List Found} {pending : List Pending} {all : List Found}
+rest_ordered : {g : Geometry} {image : List ℕ} {start : ℕ} {founds : List MetEntry} {pending : List Pending} {all : List MetEntry}
     → (walks : Walks g image start founds pending all) → Pairs Precedes pending → Pairs AreInOrder (rest_of walks)
 unfolding rest_of
 rest_ordered (Walks.ends founds) h = tt
@@ -172,19 +172,19 @@ rest_ordered {g = g} {image = image} {start = start} (Walks.meets founds entry r
       rest_ordered walks (step_beside g image start founds entry rest h),
     )
   where
-    before : (found : Found) (others : List Found)
-        → (is_kept found.role ≡ true → Each (λ (other : Found). is_kept other.role ≡ true → order (components found.path) (components other.path) ≡ Less) others)
+    before : (found : MetEntry) (others : List MetEntry)
+        → (is_kept found.role ≡ true → Each (λ (other : MetEntry). is_kept other.role ≡ true → order (components found.path) (components other.path) ≡ Less) others)
         → Each (AreInOrder found) others
     before found [] h = tt
     before found (other ∷ others) h = (λ kept other_kept. (h kept).0 other_kept, before found others (λ kept. (h kept).1))
 
 -- members ascend
-pub walk_ordered : (g : Geometry) (image : List ℕ) (start : ℕ) (founds : List Found) → IsWalk g image start founds → Pairs AreInOrder founds
+pub walk_ordered : (g : Geometry) (image : List ℕ) (start : ℕ) (founds : List MetEntry) → IsWalk g image start founds → Pairs AreInOrder founds
 walk_ordered g image start founds walks = subst (Pairs AreInOrder) (walk_is walks) (rest_ordered walks (entries_beside g image [] start))
 
 pub members_ascend : MembersAscend
 members_ascend g image start founds walks =
-    all_pairs_kept (λ (found : Found). is_kept found.role) (λ (found other : Found). order (components found.path) (components other.path) ≡ Less) founds
+    all_pairs_kept (λ (found : MetEntry). is_kept found.role) (λ (found other : MetEntry). order (components found.path) (components other.path) ≡ Less) founds
     (walk_ordered g image start founds walks)
 
 -- so no path is met twice

@@ -15,7 +15,7 @@ use Rattle.vol_dir.specs.Walk.{components}
 use Rattle.vol_judge.specs.Directories.{IsTree}
 use Rattle.vol_archive.specs.Laws.{is_kept, DirectoriesAreMetOnce}
 use Rattle.vol_archive.specs.Walking.{Walks, path_below, is_first, first_met, met, below, entries_below}
-use Rattle.vol_archive.specs.declared.found.Found.{Found}
+use Rattle.vol_archive.specs.declared.found.MetEntry.{MetEntry}
 use Rattle.vol_archive.specs.declared.found.Role.{Role}
 use Rattle.vol_archive.specs.declared.found.Role.TheVariants as roles
 use Rattle.vol_archive.specs.declared.found.Reason.TheVariants as reasons
@@ -29,7 +29,7 @@ use Rattle.vol_archive.proofs.Roles.{directory_new, again_why}
 use Rattle.vol_archive.proofs.TreeMembers.{rest_of, walk_is, met_directory}
 
 -- a member for an i-number, to which later names of it link
-abbrev IsFirstFor : ℕ → Found → Type 0
+abbrev IsFirstFor : ℕ → MetEntry → Type 0
 IsFirstFor i found = (found.inode ≡ i) × (is_first found.role ≡ true)
 
 -- both of two tests pass
@@ -38,30 +38,30 @@ both_of true b e = (refl, e)
 both_of false b e = absurd (true≢false (sym e))
 
 -- if the first member for an i-number has a place, there is one
-first_there : (i : ℕ) (founds : List Found) → is_some (first_met i founds) ≡ true → Has (IsFirstFor i) founds
+first_there : (i : ℕ) (founds : List MetEntry) → is_some (first_met i founds) ≡ true → Has (IsFirstFor i) founds
 unfolding first_met
 first_there i founds e = placed (position test founds) refl e
   where
-    test : Found → Bool
+    test : MetEntry → Bool
     test found = (found.inode == i) && is_first found.role
 
-    none : Found
+    none : MetEntry
     none = record { path = []; inode = 0; role = roles.File }
 
     placed : (place : Option ℕ) → position test founds ≡ place → is_some place ≡ true → Has (IsFirstFor i) founds
     placed None is e = absurd (true≢false (sym e))
     placed (Some k) is e =
         let at = position-Some test founds k none is in
-        has_map (λ (f : Found). test f ≡ true) (IsFirstFor i)
+        has_map (λ (f : MetEntry). test f ≡ true) (IsFirstFor i)
         (λ f passes. let parts = both_of (f.inode == i) (is_first f.role) passes in (grind (arith, nat_tests), parts.1)) founds
-        (has_at (λ (f : Found). test f ≡ true) founds k none at.0 at.1)
+        (has_at (λ (f : MetEntry). test f ≡ true) founds k none at.0 at.1)
 
 -- if there is one, it has a place
-there_first : (i : ℕ) (founds : List Found) → Has (IsFirstFor i) founds → is_some (first_met i founds) ≡ true
+there_first : (i : ℕ) (founds : List MetEntry) → Has (IsFirstFor i) founds → is_some (first_met i founds) ≡ true
 unfolding first_met
 there_first i founds h = is_within _ _ ∙ within founds h
   where
-    test : Found → Bool
+    test : MetEntry → Bool
     test found = (found.inode == i) && is_first found.role
 
     is_within : (b : Bool) (k : ℕ) → is_some (cond b (Some k) None) ≡ b
@@ -77,7 +77,7 @@ there_first i founds h = is_within _ _ ∙ within founds h
     one_later : (k n : ℕ) → nat_lt k n ≡ true → nat_lt (1 + k) (suc n) ≡ true
     one_later k n e = grind (arith, nat_tests)
 
-    within : (fs : List Found) → Has (IsFirstFor i) fs → nat_lt (position_or_len test fs) (length fs) ≡ true
+    within : (fs : List MetEntry) → Has (IsFirstFor i) fs → nat_lt (position_or_len test fs) (length fs) ≡ true
     within [] h = absurd h
     within (f ∷ fs) (inl is) =
         let passes : test f ≡ true = ap (λ n. (n == i) && is_first f.role) is.0 ∙ (ap (λ b. b && is_first f.role) (itself i) ∙ is.1) in
@@ -89,11 +89,11 @@ there_first i founds h = is_within _ _ ∙ within founds h
         ]
 
 -- a directory is met at a path
-abbrev IsMetAt : List Found → ℕ → List ℕ → Type 0
-IsMetAt founds d path = Has (λ (found : Found). (found.inode ≡ d) × (found.path ≡ path) × (found.role ≡ roles.Directory)) founds
+abbrev IsMetAt : List MetEntry → ℕ → List ℕ → Type 0
+IsMetAt founds d path = Has (λ (found : MetEntry). (found.inode ≡ d) × (found.path ≡ path) × (found.role ≡ roles.Directory)) founds
 
 -- an i-number has a name in the directory where the walk began, or in one below it that is met; the path is that of this name
-record Comes (g : Geometry) (image : List ℕ) (start : ℕ) (founds : List Found) (path : List ℕ) (i : ℕ) : Type 0 where
+record Comes (g : Geometry) (image : List ℕ) (start : ℕ) (founds : List MetEntry) (path : List ℕ) (i : ℕ) : Type 0 where
   parent : ℕ
   above : List ℕ
   name : List ℕ
@@ -103,7 +103,7 @@ record Comes (g : Geometry) (image : List ℕ) (start : ℕ) (founds : List Foun
   from : ((parent ≡ start) × (above ≡ [])) ⊎ IsMetAt founds parent above
 
 -- so it has if one more is met
-comes_more : (g : Geometry) (image : List ℕ) (start : ℕ) (founds : List Found) (found : Found) (path : List ℕ) (i : ℕ)
+comes_more : (g : Geometry) (image : List ℕ) (start : ℕ) (founds : List MetEntry) (found : MetEntry) (path : List ℕ) (i : ℕ)
     → Comes g image start founds path i → Comes g image start (founds ++ found ∷ []) path i
 comes_more g image start founds found path i c = record {
   parent = c.parent;
@@ -114,12 +114,12 @@ comes_more g image start founds found path i c = record {
   under = c.under;
   from = elim c.from [
     | inl begun ↦ inl begun
-    | inr met ↦ inr (has_front (λ (f : Found). (f.inode ≡ c.parent) × (f.path ≡ c.above) × (f.role ≡ roles.Directory)) founds (found ∷ []) met)
+    | inr met ↦ inr (has_front (λ (f : MetEntry). (f.inode ≡ c.parent) × (f.path ≡ c.above) × (f.role ≡ roles.Directory)) founds (found ∷ []) met)
   ];
 }
 
 -- the entries of such a directory
-entries_come : (g : Geometry) (image : List ℕ) (start : ℕ) (founds : List Found) (path : List ℕ) (d : ℕ) → IsDirectory g image d → IsUnder g image start d
+entries_come : (g : Geometry) (image : List ℕ) (start : ℕ) (founds : List MetEntry) (path : List ℕ) (d : ℕ) → IsDirectory g image d → IsUnder g image start d
     → ((d ≡ start) × (path ≡ [])) ⊎ IsMetAt founds d path
     → Each (λ (entry : Pending). Comes g image start founds entry.path entry.inode) (entries_below g image path d)
 entries_come g image start founds path d directory under from =
@@ -135,25 +135,25 @@ entries_come g image start founds path d directory under from =
     }) (names_of (slots g image d)) (directory_found g image d)
 
 -- the facts before each step of a walk in a tree
-record Goes (g : Geometry) (image : List ℕ) (start : ℕ) (founds : List Found) (pending : List Pending) : Type 0 where
+record Goes (g : Geometry) (image : List ℕ) (start : ℕ) (founds : List MetEntry) (pending : List Pending) : Type 0 where
   ahead : Each (λ (entry : Pending). Comes g image start founds entry.path entry.inode) pending
-  behind : Each (λ (found : Found). Comes g image start founds found.path found.inode) founds
+  behind : Each (λ (found : MetEntry). Comes g image start founds found.path found.inode) founds
   once : (d : ℕ) (path other : List ℕ) → IsMetAt founds d path → IsMetAt founds d other → path ≡ other
   apart : (path : List ℕ) → IsMetAt founds start path → ⊥
-  ordered : Each (λ (found : Found). is_kept found.role ≡ true → Each (IsAfter (components found.path)) pending) founds
+  ordered : Each (λ (found : MetEntry). is_kept found.role ≡ true → Each (IsAfter (components found.path)) pending) founds
   beside : Pairs Precedes pending
 
 -- an entry that is met as a directory was not met before
-met_new : (g : Geometry) (image : List ℕ) (start : ℕ) (founds : List Found) (entry : Pending) (path : List ℕ)
+met_new : (g : Geometry) (image : List ℕ) (start : ℕ) (founds : List MetEntry) (entry : Pending) (path : List ℕ)
     → (met g image start founds entry).role ≡ roles.Directory → IsMetAt founds entry.inode path → ⊥
 met_new g image start founds entry path is met_at =
     let new = directory_new g image start (first_met entry.inode founds) founds entry is in
     true≢false (sym (there_first entry.inode founds
-    (has_map (λ (f : Found). (f.inode ≡ entry.inode) × (f.path ≡ path) × (f.role ≡ roles.Directory)) (IsFirstFor entry.inode)
+    (has_map (λ (f : MetEntry). (f.inode ≡ entry.inode) × (f.path ≡ path) × (f.role ≡ roles.Directory)) (IsFirstFor entry.inode)
     (λ f h. (h.0, ap is_first h.2)) founds met_at)) ∙ new.1)
 
 -- it holds before the next step
-goes_on : (g : Geometry) (image : List ℕ) (start : ℕ) (founds : List Found) (entry : Pending) (rest : List Pending)
+goes_on : (g : Geometry) (image : List ℕ) (start : ℕ) (founds : List MetEntry) (entry : Pending) (rest : List Pending)
     → Goes g image start founds (entry ∷ rest)
     → Goes g image start (founds ++ met g image start founds entry ∷ []) (below g image (met g image start founds entry) (met g image start founds entry).role ++ rest)
 goes_on g image start founds entry rest h =
@@ -165,13 +165,13 @@ goes_on g image start founds entry rest h =
     each_inside (λ (e : Pending). Comes g image start more e.path e.inode) g image found found.role
     (λ is. entries_come g image start more entry.path entry.inode (met_directory g image start (first_met entry.inode founds) founds entry is)
     (IsUnder.onwards c.parent slot.0 entry.inode c.under (c.name, slot.1, c.named.proper))
-    (inr (has_behind (λ (f : Found). (f.inode ≡ entry.inode) × (f.path ≡ entry.path) × (f.role ≡ roles.Directory)) founds (found ∷ []) (inl (refl, refl, is))))) in
+    (inr (has_behind (λ (f : MetEntry). (f.inode ≡ entry.inode) × (f.path ≡ entry.path) × (f.role ≡ roles.Directory)) founds (found ∷ []) (inl (refl, refl, is))))) in
     record {
       ahead = each_append (λ (e : Pending). Comes g image start more e.path e.inode) (below g image found found.role) rest inside
           (each_map (λ (e : Pending). Comes g image start founds e.path e.inode) (λ (e : Pending). Comes g image start more e.path e.inode)
           (λ e k. comes_more g image start founds found e.path e.inode k) rest h.ahead.1);
-      behind = each_append (λ (f : Found). Comes g image start more f.path f.inode) founds (found ∷ [])
-          (each_map (λ (f : Found). Comes g image start founds f.path f.inode) (λ (f : Found). Comes g image start more f.path f.inode)
+      behind = each_append (λ (f : MetEntry). Comes g image start more f.path f.inode) founds (found ∷ [])
+          (each_map (λ (f : MetEntry). Comes g image start founds f.path f.inode) (λ (f : MetEntry). Comes g image start more f.path f.inode)
           (λ f k. comes_more g image start founds found f.path f.inode k) founds h.behind)
           (comes_more g image start founds found entry.path entry.inode c, tt);
       once = λ d path other one two. both d path other (split d path one) (split d other two);
@@ -179,9 +179,9 @@ goes_on g image start founds entry rest h =
         | inl old ↦ h.apart path old
         | inr new ↦ (directory_new g image start (first_met entry.inode founds) founds entry new.2).0 new.0
       ];
-      ordered = each_append (λ (f : Found). is_kept f.role ≡ true → Each (IsAfter (components f.path)) (below g image found found.role ++ rest)) founds (found ∷ [])
-          (each_map (λ (f : Found). is_kept f.role ≡ true → Each (IsAfter (components f.path)) (entry ∷ rest))
-          (λ (f : Found). is_kept f.role ≡ true → Each (IsAfter (components f.path)) (below g image found found.role ++ rest))
+      ordered = each_append (λ (f : MetEntry). is_kept f.role ≡ true → Each (IsAfter (components f.path)) (below g image found found.role ++ rest)) founds (found ∷ [])
+          (each_map (λ (f : MetEntry). is_kept f.role ≡ true → Each (IsAfter (components f.path)) (entry ∷ rest))
+          (λ (f : MetEntry). is_kept f.role ≡ true → Each (IsAfter (components f.path)) (below g image found found.role ++ rest))
           (λ f after kept. step_after g image start founds entry rest (components f.path) (after kept)) founds h.ordered)
           (met_before g image start founds entry rest h.beside.0, tt);
       beside = step_beside g image start founds entry rest h.beside;
@@ -192,7 +192,7 @@ goes_on g image start founds entry rest h =
 
     split : (d : ℕ) (path : List ℕ) → IsMetAt (founds ++ met g image start founds entry ∷ []) d path → IsMetAt founds d path ⊎ IsNew d path
     split d path at =
-        elim (has_either (λ (f : Found). (f.inode ≡ d) × (f.path ≡ path) × (f.role ≡ roles.Directory)) founds (met g image start founds entry ∷ []) at) [
+        elim (has_either (λ (f : MetEntry). (f.inode ≡ d) × (f.path ≡ path) × (f.role ≡ roles.Directory)) founds (met g image start founds entry ∷ []) at) [
           | inl old ↦ inl old
           | inr (inl new) ↦ inr new
           | inr (inr none) ↦ absurd none
@@ -208,7 +208,7 @@ goes_on g image start founds entry rest h =
     both d path other (inr one) (inr two) = sym one.1 ∙ two.1
 
 -- in a tree a directory is at one path, whether it was met or the walk began there
-one_path : (g : Geometry) (image : List ℕ) (start : ℕ) (founds : List Found) (pending : List Pending) (path other : List ℕ) (i : ℕ)
+one_path : (g : Geometry) (image : List ℕ) (start : ℕ) (founds : List MetEntry) (pending : List Pending) (path other : List ℕ) (i : ℕ)
     → IsTree g image → IsDirectory g image i → Goes g image start founds pending
     → Comes g image start founds path i → Comes g image start founds other i → path ≡ other
 one_path g image start founds pending path other i tree directory h c k =
@@ -223,18 +223,18 @@ one_path g image start founds pending path other i tree directory h c k =
     above d e a b same (inr one) (inr two) = h.once e a b (subst (λ n. IsMetAt founds n a) same one) two
 
 -- the next entry isn't left out as met before
-next_once : (g : Geometry) (image : List ℕ) (start : ℕ) (founds : List Found) (entry : Pending) (rest : List Pending) → IsTree g image → IsDirectory g image start
+next_once : (g : Geometry) (image : List ℕ) (start : ℕ) (founds : List MetEntry) (entry : Pending) (rest : List Pending) → IsTree g image → IsDirectory g image start
     → Goes g image start founds (entry ∷ rest) → (met g image start founds entry).role ≡ roles.Left reasons.Again → ⊥
 next_once g image start founds entry rest tree directory h is =
     let why = again_why g image start (first_met entry.inode founds) founds entry is in
     elim why.2 [
       | inl same ↦ ring same
       | inr some ↦ has_each (IsFirstFor entry.inode) Known ⊥ (λ f first known. twice why.0 why.1 f first known) founds (first_there entry.inode founds some)
-          (each_both (λ (f : Found). Comes g image start founds f.path f.inode)
-          (λ (f : Found). is_kept f.role ≡ true → Each (IsAfter (components f.path)) (entry ∷ rest)) founds h.behind h.ordered)
+          (each_both (λ (f : MetEntry). Comes g image start founds f.path f.inode)
+          (λ (f : MetEntry). is_kept f.role ≡ true → Each (IsAfter (components f.path)) (entry ∷ rest)) founds h.behind h.ordered)
     ]
   where
-    Known : Found → Type 0
+    Known : MetEntry → Type 0
     Known f = Comes g image start founds f.path f.inode × (is_kept f.role ≡ true → Each (IsAfter (components f.path)) (entry ∷ rest))
 
     ring : entry.inode ≡ start → ⊥
@@ -254,7 +254,7 @@ next_once g image start founds entry rest tree directory h is =
     never : Equal ≡ Less → ⊥
     never e = cc
 
-    twice : entry.is_plain ≡ true → IsDirectory g image entry.inode → (f : Found) → IsFirstFor entry.inode f → Known f → ⊥
+    twice : entry.is_plain ≡ true → IsDirectory g image entry.inode → (f : MetEntry) → IsFirstFor entry.inode f → Known f → ⊥
     twice plain dir f first known =
         let there : Comes g image start founds f.path entry.inode = subst (λ i. Comes g image start founds f.path i) first.0 known.0 in
         let same = one_path g image start founds (entry ∷ rest) f.path entry.path entry.inode tree dir h there h.ahead.0 in
@@ -262,9 +262,9 @@ next_once g image start founds entry rest tree directory h is =
         never (sym (tied_itself order_total (components entry.path)) ∙ (ap (λ path. order (components path) (components entry.path)) (sym same) ∙ less))
 
 -- nor is all that is met from there on
-rest_once : {g : Geometry} {image : List ℕ} {start : ℕ} {founds : List Found} {pending : List Pending} {all : List Found} → IsTree g image → IsDirectory g image start
+rest_once : {g : Geometry} {image : List ℕ} {start : ℕ} {founds : List MetEntry} {pending : List Pending} {all : List MetEntry} → IsTree g image → IsDirectory g image start
     → (walks : Walks g image start founds pending all) → Goes g image start founds pending
-    → Each (λ (found : Found). found.role ≢ roles.Left reasons.Again) (rest_of walks)
+    → Each (λ (found : MetEntry). found.role ≢ roles.Left reasons.Again) (rest_of walks)
 unfolding rest_of
 rest_once tree directory (Walks.ends founds) h = tt
 rest_once {g = g} {image = image} {start = start} tree directory (Walks.meets founds entry rest all walks) h = (
@@ -275,8 +275,8 @@ rest_once {g = g} {image = image} {start = start} tree directory (Walks.meets fo
 -- in a tree each directory is met once
 pub met_once : DirectoriesAreMetOnce
 met_once g image start founds tree directory walks =
-    each_all (λ (found : Found). found.role ≢ roles.Left reasons.Again) founds
-    (subst (Each (λ (found : Found). found.role ≢ roles.Left reasons.Again)) (walk_is walks)
+    each_all (λ (found : MetEntry). found.role ≢ roles.Left reasons.Again) founds
+    (subst (Each (λ (found : MetEntry). found.role ≢ roles.Left reasons.Again)) (walk_is walks)
     (rest_once tree directory walks (record {
       ahead = entries_come g image start [] [] start directory IsUnder.itself (inl (refl, refl));
       behind = tt;

@@ -18,7 +18,7 @@ use Rattle.vol_dir.specs.Tree.{is_number}
 use Rattle.vol_dir.proofs.WalkLaws.{found_in_use}
 use Rattle.vol_archive.specs.Laws.{EntriesHaveNodes}
 use Rattle.vol_archive.specs.Walking.{Walks, is_plain, met, below, entries_below, role_of, node_role, file_role, role_after, link_role, has_room, first_met}
-use Rattle.vol_archive.specs.declared.found.Found.{Found}
+use Rattle.vol_archive.specs.declared.found.MetEntry.{MetEntry}
 use Rattle.vol_archive.specs.declared.found.Role.{Role}
 use Rattle.vol_archive.specs.declared.found.Role.TheVariants as roles
 use Rattle.vol_archive.specs.declared.found.Reason.TheVariants as reasons
@@ -80,7 +80,7 @@ abbrev IsFit : Role → Type 0
 IsFit role = (role ≢ roles.Left reasons.BadName) × (role ≢ roles.Left reasons.NoNode)
 
 -- the role of such an entry
-fits_role : (g : Geometry) (image : List ℕ) (start : ℕ) (first : Option ℕ) (founds : List Found) (entry : Pending) → HasKinds g image → IsForNode g image entry
+fits_role : (g : Geometry) (image : List ℕ) (start : ℕ) (first : Option ℕ) (founds : List MetEntry) (entry : Pending) → HasKinds g image → IsForNode g image entry
     → IsFit (role_of g image start first founds entry)
 fits_role g image start first founds entry known node =
     let low : 1 ≤ entry.inode = let root = root_first g.edition in let least = node.1.first in omega arith in
@@ -89,7 +89,7 @@ fits_role g image start first founds entry known node =
     ∙ ap (λ b. cond b (node_role start first founds entry (kind_at g image entry.inode)) (roles.Left reasons.NoNode)) number))
     (kinded (kind_at g image entry.inode) node.1.allocated (known.known entry.inode low node.1.last))
   where
-    linked : (k : ℕ) (found : Option Found) → IsFit (link_role k found)
+    linked : (k : ℕ) (found : Option MetEntry) → IsFit (link_role k found)
     linked k None = (λ e. cc, λ e. cc)
     linked k (Some f) = elim (nat_le (length f.path) 100) as (λ b. IsFit (cond b (roles.Link k) (roles.Left reasons.LongLink))) [
       | true ↦ (λ e. cc, λ e. cc)
@@ -119,9 +119,9 @@ fits_role g image start first founds entry known node =
     kinded kinds.Directory free odd = either _ _
 
 -- if all that is pending has a node, all that is met has
-rest_fits : {g : Geometry} {image : List ℕ} {start : ℕ} {founds : List Found} {pending : List Pending} {all : List Found}
+rest_fits : {g : Geometry} {image : List ℕ} {start : ℕ} {founds : List MetEntry} {pending : List Pending} {all : List MetEntry}
     → HasKinds g image → HasEntries g image → (walks : Walks g image start founds pending all) → Each (IsForNode g image) pending
-    → Each (λ (found : Found). IsFit found.role) (rest_of walks)
+    → Each (λ (found : MetEntry). IsFit found.role) (rest_of walks)
 unfolding rest_of
 rest_fits known entries (Walks.ends founds) h = tt
 rest_fits {g = g} {image = image} {start = start} known entries (Walks.meets founds entry rest all walks) h =
@@ -136,6 +136,6 @@ rest_fits {g = g} {image = image} {start = start} known entries (Walks.meets fou
 -- all that is met has a name and an i-node
 pub entries_have_nodes : EntriesHaveNodes
 entries_have_nodes g image start founds known entries directory walks =
-    each_all (λ (found : Found). (found.role ≢ roles.Left reasons.BadName) × (found.role ≢ roles.Left reasons.NoNode)) founds
-    (subst (Each (λ (found : Found). IsFit found.role)) (walk_is walks)
+    each_all (λ (found : MetEntry). (found.role ≢ roles.Left reasons.BadName) × (found.role ≢ roles.Left reasons.NoNode)) founds
+    (subst (Each (λ (found : MetEntry). IsFit found.role)) (walk_is walks)
     (rest_fits known entries walks (entries_have g image [] start entries directory)))

@@ -12,7 +12,7 @@ use Rattle.vol_dir.specs.Entries.{IsDirectory}
 use Rattle.vol_dir.specs.Tree.{is_number}
 use Rattle.vol_archive.specs.Laws.{is_kept}
 use Rattle.vol_archive.specs.Walking.{role_of, node_role, file_role, role_after, link_role, has_room}
-use Rattle.vol_archive.specs.declared.found.Found.{Found}
+use Rattle.vol_archive.specs.declared.found.MetEntry.{MetEntry}
 use Rattle.vol_archive.specs.declared.found.Role.{Role}
 use Rattle.vol_archive.specs.declared.found.Role.TheVariants as roles
 use Rattle.vol_archive.specs.declared.found.Reason.TheVariants as reasons
@@ -24,7 +24,7 @@ abbrev as_directory : Bool → Bool → Role
 as_directory again room = cond again (roles.Left reasons.Again) (cond room roles.Directory (roles.Left reasons.LongPath))
 
 -- the role of an entry with a plain name for an i-number of the volume
-role_numbered : (g : Geometry) (image : List ℕ) (start : ℕ) (first : Option ℕ) (founds : List Found) (entry : Pending)
+role_numbered : (g : Geometry) (image : List ℕ) (start : ℕ) (first : Option ℕ) (founds : List MetEntry) (entry : Pending)
     → entry.is_plain ≡ true → is_number g entry.inode ≡ true
     → role_of g image start first founds entry ≡ node_role start first founds entry (kind_at g image entry.inode)
 role_numbered g image start first founds entry plain number =
@@ -32,7 +32,7 @@ role_numbered g image start first founds entry plain number =
     ∙ ap (λ b. cond b (node_role start first founds entry (kind_at g image entry.inode)) (roles.Left reasons.NoNode)) number
 
 -- the role of a directory with a plain name
-directory_role : (g : Geometry) (image : List ℕ) (start : ℕ) (first : Option ℕ) (founds : List Found) (entry : Pending)
+directory_role : (g : Geometry) (image : List ℕ) (start : ℕ) (first : Option ℕ) (founds : List MetEntry) (entry : Pending)
     → entry.is_plain ≡ true → IsDirectory g image entry.inode
     → role_of g image start first founds entry ≡ as_directory ((entry.inode == start) || is_some first) (has_room (entry.path ++ 47 ∷ []))
 directory_role g image start first founds entry plain directory =
@@ -42,7 +42,7 @@ directory_role g image start first founds entry plain directory =
     role_numbered g image start first founds entry plain number ∙ ap (node_role start first founds entry) directory.kind
 
 -- an entry that is met as a directory isn't the one where the walk began, and is met for the first time
-pub directory_new : (g : Geometry) (image : List ℕ) (start : ℕ) (first : Option ℕ) (founds : List Found) (entry : Pending)
+pub directory_new : (g : Geometry) (image : List ℕ) (start : ℕ) (first : Option ℕ) (founds : List MetEntry) (entry : Pending)
     → role_of g image start first founds entry ≡ roles.Directory → (entry.inode ≢ start) × (is_some first ≡ false)
 directory_new g image start first founds entry is =
     let plain : entry.is_plain ≡ true = member_plain g image start first founds entry (ap is_kept is) in
@@ -59,7 +59,7 @@ directory_new g image start first founds entry is =
     new false false test e = (λ same. true≢false (sym (eq-eqb entry.inode start same) ∙ test), refl)
 
 -- a directory that is a member is met as one
-pub directory_kept : (g : Geometry) (image : List ℕ) (start : ℕ) (first : Option ℕ) (founds : List Found) (entry : Pending)
+pub directory_kept : (g : Geometry) (image : List ℕ) (start : ℕ) (first : Option ℕ) (founds : List MetEntry) (entry : Pending)
     → is_kept (role_of g image start first founds entry) ≡ true → IsDirectory g image entry.inode
     → role_of g image start first founds entry ≡ roles.Directory
 directory_kept g image start first founds entry kept directory =
@@ -72,7 +72,7 @@ directory_kept g image start first founds entry kept directory =
     only false false e = absurd (true≢false (sym e))
 
 -- an entry that is left out as met before has a plain name, is a directory, and is the one where the walk began or was met
-pub again_why : (g : Geometry) (image : List ℕ) (start : ℕ) (first : Option ℕ) (founds : List Found) (entry : Pending)
+pub again_why : (g : Geometry) (image : List ℕ) (start : ℕ) (first : Option ℕ) (founds : List MetEntry) (entry : Pending)
     → role_of g image start first founds entry ≡ roles.Left reasons.Again
     → (entry.is_plain ≡ true) × IsDirectory g image entry.inode × ((entry.inode ≡ start) ⊎ (is_some first ≡ true))
 again_why g image start first founds entry is =
@@ -91,7 +91,7 @@ again_why g image start first founds entry is =
     numbered true e = refl
     numbered false e = cc
 
-    link_other : (k : ℕ) (found : Option Found) → link_role k found ≡ roles.Left reasons.Again → ⊥
+    link_other : (k : ℕ) (found : Option MetEntry) → link_role k found ≡ roles.Left reasons.Again → ⊥
     link_other k None e = cc
     link_other k (Some f) e =
         elim (nat_le (length f.path) 100) as (λ b. cond b (roles.Link k) (roles.Left reasons.LongLink) ≡ roles.Left reasons.Again → ⊥) [

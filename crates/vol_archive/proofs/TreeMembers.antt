@@ -20,7 +20,7 @@ use Rattle.vol_dir.specs.declared.refusal.Refusal.TheVariants as refusals
 use Rattle.vol_dir.specs.Access.{user}
 use Rattle.vol_archive.specs.Laws.{is_kept, MembersAreOfTree}
 use Rattle.vol_archive.specs.Walking.{Walks, IsWalk, met, below, entries_below, role_of, node_role, file_role, role_after, link_role, has_room, first_met}
-use Rattle.vol_archive.specs.declared.found.Found.{Found}
+use Rattle.vol_archive.specs.declared.found.MetEntry.{MetEntry}
 use Rattle.vol_archive.specs.declared.found.Role.{Role}
 use Rattle.vol_archive.specs.declared.found.Role.TheVariants as roles
 use Rattle.vol_archive.specs.declared.found.Reason.TheVariants as reasons
@@ -29,7 +29,7 @@ use Rattle.vol_archive.proofs.Each.{Each, each_map, each_append, all_kept}
 use Rattle.vol_archive.proofs.EntryLists.{IsNamed, entries_named}
 
 -- a member has a plain name
-pub member_plain : (g : Geometry) (image : List ℕ) (start : ℕ) (first : Option ℕ) (founds : List Found) (entry : Pending)
+pub member_plain : (g : Geometry) (image : List ℕ) (start : ℕ) (first : Option ℕ) (founds : List MetEntry) (entry : Pending)
     → is_kept (role_of g image start first founds entry) ≡ true → entry.is_plain ≡ true
 member_plain g image start first founds entry kept =
     elim entry.is_plain as (λ b. is_kept (cond b (cond (is_number g entry.inode) (node_role start first founds entry (kind_at g image entry.inode)) (roles.Left reasons.NoNode)) (roles.Left reasons.BadName)) ≡ true → b ≡ true) [
@@ -38,13 +38,13 @@ member_plain g image start first founds entry kept =
     ] kept
 
 -- the entries that a walk continues to meet
-unfoldable pub rest_of : {g : Geometry} {image : List ℕ} {start : ℕ} {founds : List Found} {pending : List Pending} {all : List Found}
-    → Walks g image start founds pending all → List Found
+unfoldable pub rest_of : {g : Geometry} {image : List ℕ} {start : ℕ} {founds : List MetEntry} {pending : List Pending} {all : List MetEntry}
+    → Walks g image start founds pending all → List MetEntry
 rest_of (Walks.ends founds) = []
 rest_of {g = g} {image = image} {start = start} (Walks.meets founds entry rest all walks) = met g image start founds entry ∷ rest_of walks
 
 -- they follow those met before
-pub rest_is : {g : Geometry} {image : List ℕ} {start : ℕ} {founds : List Found} {pending : List Pending} {all : List Found}
+pub rest_is : {g : Geometry} {image : List ℕ} {start : ℕ} {founds : List MetEntry} {pending : List Pending} {all : List MetEntry}
     → (walks : Walks g image start founds pending all) → all ≡ founds ++ rest_of walks
 unfolding rest_of
 rest_is (Walks.ends founds) = sym (append-nil founds)
@@ -52,7 +52,7 @@ rest_is {g = g} {image = image} {start = start} (Walks.meets founds entry rest a
     rest_is walks ∙ append_assoc founds (met g image start founds entry ∷ []) (rest_of walks)
 
 -- an entry that is met as a directory is one
-pub met_directory : (g : Geometry) (image : List ℕ) (start : ℕ) (first : Option ℕ) (founds : List Found) (entry : Pending)
+pub met_directory : (g : Geometry) (image : List ℕ) (start : ℕ) (first : Option ℕ) (founds : List MetEntry) (entry : Pending)
     → role_of g image start first founds entry ≡ roles.Directory → IsDirectory g image entry.inode
 met_directory g image start first founds entry is =
     let plain : entry.is_plain ≡ true = member_plain g image start first founds entry (ap is_kept is) in
@@ -68,7 +68,7 @@ met_directory g image start first founds entry is =
           | false ↦ λ e. true≢false (sym (ap is_kept e))
         ] e
       where
-        link_other : (k : ℕ) (found : Option Found) → link_role k found ≡ roles.Directory → ⊥
+        link_other : (k : ℕ) (found : Option MetEntry) → link_role k found ≡ roles.Directory → ⊥
         link_other k None e = true≢false (sym (ap is_kept e))
         link_other k (Some f) e =
             elim (nat_le (length f.path) 100) as (λ b. cond b (roles.Link k) (roles.Left reasons.LongLink) ≡ roles.Directory → ⊥) [
@@ -127,7 +127,7 @@ entries_lead g image start d path directory leads =
     (entries_below g image path d) (entries_named g image path d)
 
 -- the entries below one that is met, whatever it is
-below_lead : (g : Geometry) (image : List ℕ) (start : ℕ) (found : Found) (role : Role)
+below_lead : (g : Geometry) (image : List ℕ) (start : ℕ) (found : MetEntry) (role : Role)
     → (role ≡ roles.Directory → IsDirectory g image found.inode × WalksTo g image start (components found.path) found.inode)
     → Each (PendingWalksTo g image start) (below g image found role)
 below_lead g image start found roles.Directory h = let d = h refl in entries_lead g image start found.inode found.path d.0 d.1
@@ -137,9 +137,9 @@ below_lead g image start found (roles.Link k) h = tt
 below_lead g image start found (roles.Left reason) h = tt
 
 -- if all that is pending leads there, all members that are met do
-rest_leads : {g : Geometry} {image : List ℕ} {start : ℕ} {founds : List Found} {pending : List Pending} {all : List Found}
+rest_leads : {g : Geometry} {image : List ℕ} {start : ℕ} {founds : List MetEntry} {pending : List Pending} {all : List MetEntry}
     → (walks : Walks g image start founds pending all) → Each (PendingWalksTo g image start) pending
-    → Each (λ (found : Found). is_kept found.role ≡ true → WalksTo g image start (components found.path) found.inode) (rest_of walks)
+    → Each (λ (found : MetEntry). is_kept found.role ≡ true → WalksTo g image start (components found.path) found.inode) (rest_of walks)
 unfolding rest_of
 rest_leads (Walks.ends founds) h = tt
 rest_leads {g = g} {image = image} {start = start} (Walks.meets founds entry rest all walks) h =
@@ -153,12 +153,12 @@ rest_leads {g = g} {image = image} {start = start} (Walks.meets founds entry res
     )
 
 -- all that a walk meets
-pub walk_is : {g : Geometry} {image : List ℕ} {start : ℕ} {all : List Found} → (walks : IsWalk g image start all) → rest_of walks ≡ all
+pub walk_is : {g : Geometry} {image : List ℕ} {start : ℕ} {all : List MetEntry} → (walks : IsWalk g image start all) → rest_of walks ≡ all
 walk_is walks = sym (rest_is walks)
 
 -- the path of each member leads to its i-number
 pub members_lead : MembersAreOfTree
 members_lead g image start founds directory walks =
-    all_kept (λ (found : Found). is_kept found.role) (λ (found : Found). walk_from (tree g image) user start (components found.path) ≡ Ok found.inode) founds
-    (subst (Each (λ (found : Found). is_kept found.role ≡ true → WalksTo g image start (components found.path) found.inode)) (walk_is walks)
+    all_kept (λ (found : MetEntry). is_kept found.role) (λ (found : MetEntry). walk_from (tree g image) user start (components found.path) ≡ Ok found.inode) founds
+    (subst (Each (λ (found : MetEntry). is_kept found.role ≡ true → WalksTo g image start (components found.path) found.inode)) (walk_is walks)
     (rest_leads walks (entries_lead g image start start [] directory (ap (λ names. walk_from (tree g image) user start names) components-nil))))

@@ -11,22 +11,22 @@ use Rattle.vol_dir.specs.Entries.{slots}
 use Rattle.vol_dir.specs.Names.{Names, get, names_of, is_dots}
 use Rattle.vol_archive.specs.Laws.{HasMet, HasMetAllOf, DirectoriesAreWhole}
 use Rattle.vol_archive.specs.Walking.{Walks, is_plain, path_below, entry_below, pending_below, met, below, entries_below}
-use Rattle.vol_archive.specs.declared.found.Found.{Found}
+use Rattle.vol_archive.specs.declared.found.MetEntry.{MetEntry}
 use Rattle.vol_archive.specs.declared.found.Role.TheVariants as roles
 use Rattle.vol_archive.specs.declared.pending.Pending.{Pending}
 use Rattle.vol_archive.proofs.Each.{Each, Has, each_map, each_all, each_front, each_back, has_map, has_behind, has_any, has_each}
 use Rattle.vol_archive.proofs.TreeMembers.{rest_of, walk_is}
 
 -- an entry is met
-abbrev IsMetAmong : List Found → Pending → Type 0
-IsMetAmong founds entry = Has (λ (found : Found). (found.path ≡ entry.path) × (found.inode ≡ entry.inode)) founds
+abbrev IsMetAmong : List MetEntry → Pending → Type 0
+IsMetAmong founds entry = Has (λ (found : MetEntry). (found.path ≡ entry.path) × (found.inode ≡ entry.inode)) founds
 
 -- an entry that was met is still met if more are met before it
-meets_more : (first : Found) (founds : List Found) (entries : List Pending) → Each (IsMetAmong founds) entries → Each (IsMetAmong (first ∷ founds)) entries
+meets_more : (first : MetEntry) (founds : List MetEntry) (entries : List Pending) → Each (IsMetAmong founds) entries → Each (IsMetAmong (first ∷ founds)) entries
 meets_more first founds entries h = each_map (IsMetAmong founds) (IsMetAmong (first ∷ founds)) (λ entry m. inr m) entries h
 
 -- all that is pending is met
-pending_met : {g : Geometry} {image : List ℕ} {start : ℕ} {founds : List Found} {pending : List Pending} {all : List Found}
+pending_met : {g : Geometry} {image : List ℕ} {start : ℕ} {founds : List MetEntry} {pending : List Pending} {all : List MetEntry}
     → (walks : Walks g image start founds pending all) → Each (IsMetAmong (rest_of walks)) pending
 unfolding rest_of
 pending_met (Walks.ends founds) = tt
@@ -38,11 +38,11 @@ pending_met {g = g} {image = image} {start = start} (Walks.meets founds entry re
     )
 
 -- a directory all of whose entries are met
-abbrev IsWholeIn : Geometry → List ℕ → List Found → Found → Type 0
+abbrev IsWholeIn : Geometry → List ℕ → List MetEntry → MetEntry → Type 0
 IsWholeIn g image founds found = found.role ≡ roles.Directory → Each (IsMetAmong founds) (entries_below g image found.path found.inode)
 
 -- so are the entries of each directory that is met
-whole_met : {g : Geometry} {image : List ℕ} {start : ℕ} {founds : List Found} {pending : List Pending} {all : List Found}
+whole_met : {g : Geometry} {image : List ℕ} {start : ℕ} {founds : List MetEntry} {pending : List Pending} {all : List MetEntry}
     → (walks : Walks g image start founds pending all) → Each (IsWholeIn g image (rest_of walks)) (rest_of walks)
 unfolding rest_of
 whole_met (Walks.ends founds) = tt
@@ -76,12 +76,12 @@ has_entry path (e ∷ es) name i found dots =
     ] refl found
 
 -- if all entries are met, all names are
-names_met : (g : Geometry) (image : List ℕ) (founds : List Found) (path : List ℕ) (d : ℕ) → Each (IsMetAmong founds) (entries_below g image path d)
+names_met : (g : Geometry) (image : List ℕ) (founds : List MetEntry) (path : List ℕ) (d : ℕ) → Each (IsMetAmong founds) (entries_below g image path d)
     → HasMetAllOf g image founds path d
 names_met g image founds path d h name i found dots =
     has_each (IsAt (path_below path name) i) (IsMetAmong founds) (HasMet founds (path_below path name) i)
-    (λ entry at meets. has_any (λ (f : Found). (f.path ≡ path_below path name) × (f.inode ≡ i)) founds
-    (has_map (λ (f : Found). (f.path ≡ entry.path) × (f.inode ≡ entry.inode)) (λ (f : Found). (f.path ≡ path_below path name) × (f.inode ≡ i))
+    (λ entry at meets. has_any (λ (f : MetEntry). (f.path ≡ path_below path name) × (f.inode ≡ i)) founds
+    (has_map (λ (f : MetEntry). (f.path ≡ entry.path) × (f.inode ≡ entry.inode)) (λ (f : MetEntry). (f.path ≡ path_below path name) × (f.inode ≡ i))
     (λ f same. (same.0 ∙ at.0, same.1 ∙ at.1)) founds meets))
     (entries_below g image path d) (has_entry path (names_of (slots g image d)) name i found dots) h
 
@@ -89,8 +89,8 @@ names_met g image founds path d h name i found dots =
 pub directories_whole : DirectoriesAreWhole
 directories_whole g image start founds walks = (
   names_met g image founds [] start (subst (λ all. Each (IsMetAmong all) (entries_below g image [] start)) (walk_is walks) (pending_met walks)),
-  each_all (λ (found : Found). found.role ≡ roles.Directory → HasMetAllOf g image founds found.path found.inode) founds
-      (each_map (IsWholeIn g image founds) (λ (found : Found). found.role ≡ roles.Directory → HasMetAllOf g image founds found.path found.inode)
+  each_all (λ (found : MetEntry). found.role ≡ roles.Directory → HasMetAllOf g image founds found.path found.inode) founds
+      (each_map (IsWholeIn g image founds) (λ (found : MetEntry). found.role ≡ roles.Directory → HasMetAllOf g image founds found.path found.inode)
       (λ found whole is. names_met g image founds found.path found.inode (whole is)) founds
       (subst (λ all. Each (IsWholeIn g image all) all) (walk_is walks) (whole_met walks))),
 )

@@ -21,7 +21,7 @@ use Rattle.vol_dir.specs.declared.refusal.Refusal.TheVariants as refusals
 use Rattle.vol_dir.specs.Access.{user}
 use Rattle.vol_archive.specs.Laws.{is_kept, members_of, HasMetAllOf, MembersAreTheTree}
 use Rattle.vol_archive.specs.Walking.{Walks, is_plain, path_below, first_met}
-use Rattle.vol_archive.specs.declared.found.Found.{Found}
+use Rattle.vol_archive.specs.declared.found.MetEntry.{MetEntry}
 use Rattle.vol_archive.specs.declared.found.Role.{Role}
 use Rattle.vol_archive.specs.declared.found.Role.TheVariants as roles
 use Rattle.vol_archive.specs.declared.found.Reason.{Reason}
@@ -48,11 +48,11 @@ each_got P (e ∷ es) name i found h =
     ] refl found
 
 -- a directory that is a member is met as one
-abbrev IsMetAsItIs : Geometry → List ℕ → Found → Type 0
+abbrev IsMetAsItIs : Geometry → List ℕ → MetEntry → Type 0
 IsMetAsItIs g image found = is_kept found.role ≡ true → IsDirectory g image found.inode → found.role ≡ roles.Directory
 
 -- so is each that is met
-rest_as_is : {g : Geometry} {image : List ℕ} {start : ℕ} {founds : List Found} {pending : List Pending} {all : List Found}
+rest_as_is : {g : Geometry} {image : List ℕ} {start : ℕ} {founds : List MetEntry} {pending : List Pending} {all : List MetEntry}
     → (walks : Walks g image start founds pending all) → Each (IsMetAsItIs g image) (rest_of walks)
 unfolding rest_of
 rest_as_is (Walks.ends founds) = tt
@@ -106,44 +106,44 @@ walked_directory g image d i name names leads = numbered (is_number g d) refl
     numbered false number = nowhere (search-outside g image user d number)
 
 -- the facts about each entry that is met: it is a member, and so are all below it if it is a directory
-abbrev IsKnown : Geometry → List ℕ → List Found → Found → Type 0
+abbrev IsKnown : Geometry → List ℕ → List MetEntry → MetEntry → Type 0
 IsKnown g image founds found =
     (is_kept found.role ≡ true) × IsMetAsItIs g image found × (found.role ≡ roles.Directory → HasMetAllOf g image founds found.path found.inode)
 
 -- a member at the path of some names, for an i-number
-abbrev IsMemberFor : List (List ℕ) → ℕ → Found → Type 0
+abbrev IsMemberFor : List (List ℕ) → ℕ → MetEntry → Type 0
 IsMemberFor names i found = (is_kept found.role ≡ true) × (components found.path ≡ names) × (found.inode ≡ i)
 
 -- the first of some names that lead from a directory, all of whose names are met, is met, and the others lead on from there
-first_met_of : (g : Geometry) (image : List ℕ) (founds : List Found) → HasEntries g image → Each (IsKnown g image founds) founds
+first_met_of : (g : Geometry) (image : List ℕ) (founds : List MetEntry) → HasEntries g image → Each (IsKnown g image founds) founds
     → (names : List (List ℕ)) (name path : List ℕ) (d i : ℕ) → IsDirectory g image d → HasMetAllOf g image founds path d → is_dots name ≡ false
     → WalksTo g image d (name ∷ names) i
-    → Has (λ (f : Found). (components f.path ≡ components path ++ name ∷ []) × WalksTo g image f.inode names i × IsKnown g image founds f) founds
+    → Has (λ (f : MetEntry). (components f.path ≡ components path ++ name ∷ []) × WalksTo g image f.inode names i × IsKnown g image founds f) founds
 first_met_of g image founds entries known names name path d i directory whole proper leads =
     let step = first_step g image d i name names directory leads in
     let plain : is_plain name ≡ true =
     each_got (λ n. is_plain n ≡ true) (names_of (slots g image d)) name step.0 step.1 (names_plain g image d entries directory) in
     let short : IsShort name = each_got IsShort (names_of (slots g image d)) name step.0 step.1 (directory_short g image d) in
-    has_map (λ (f : Found). ((f.path ≡ path_below path name) × (f.inode ≡ step.0)) × IsKnown g image founds f)
-    (λ (f : Found). (components f.path ≡ components path ++ name ∷ []) × WalksTo g image f.inode names i × IsKnown g image founds f)
+    has_map (λ (f : MetEntry). ((f.path ≡ path_below path name) × (f.inode ≡ step.0)) × IsKnown g image founds f)
+    (λ (f : MetEntry). (components f.path ≡ components path ++ name ∷ []) × WalksTo g image f.inode names i × IsKnown g image founds f)
     (λ f h. (ap components h.0.0 ∙ component_below path name plain short, subst (λ k. WalksTo g image k names i) (sym h.0.1) step.2, h.1)) founds
-    (has_both (λ (f : Found). (f.path ≡ path_below path name) × (f.inode ≡ step.0)) (IsKnown g image founds) founds
-    (any_has (λ (f : Found). (f.path ≡ path_below path name) × (f.inode ≡ step.0)) founds (whole name step.0 step.1 proper)) known)
+    (has_both (λ (f : MetEntry). (f.path ≡ path_below path name) × (f.inode ≡ step.0)) (IsKnown g image founds) founds
+    (any_has (λ (f : MetEntry). (f.path ≡ path_below path name) × (f.inode ≡ step.0)) founds (whole name step.0 step.1 proper)) known)
 
 -- names that lead from such a directory are those of a member's path
-leads_to_member : (g : Geometry) (image : List ℕ) (founds : List Found) → HasEntries g image → Each (IsKnown g image founds) founds
+leads_to_member : (g : Geometry) (image : List ℕ) (founds : List MetEntry) → HasEntries g image → Each (IsKnown g image founds) founds
     → (names : List (List ℕ)) (name path : List ℕ) (d i : ℕ) → IsDirectory g image d → HasMetAllOf g image founds path d
     → Each (λ n. is_dots n ≡ false) (name ∷ names) → WalksTo g image d (name ∷ names) i
     → Has (IsMemberFor (components path ++ name ∷ names) i) founds
 leads_to_member g image founds entries known [] name path d i directory whole proper leads =
-    has_map (λ (f : Found). (components f.path ≡ components path ++ name ∷ []) × WalksTo g image f.inode [] i × IsKnown g image founds f)
+    has_map (λ (f : MetEntry). (components f.path ≡ components path ++ name ∷ []) × WalksTo g image f.inode [] i × IsKnown g image founds f)
     (IsMemberFor (components path ++ name ∷ []) i) (λ f h. (h.2.0, h.0, arrived f.inode h.1)) founds
     (first_met_of g image founds entries known [] name path d i directory whole proper.0 leads)
   where
     arrived : (j : ℕ) → WalksTo g image j [] i → j ≡ i
     arrived j e = cc
 leads_to_member g image founds entries known (next ∷ more) name path d i directory whole proper leads =
-    has_each (λ (f : Found). (components f.path ≡ components path ++ name ∷ []) × WalksTo g image f.inode (next ∷ more) i × IsKnown g image founds f)
+    has_each (λ (f : MetEntry). (components f.path ≡ components path ++ name ∷ []) × WalksTo g image f.inode (next ∷ more) i × IsKnown g image founds f)
     (IsKnown g image founds) (Has (IsMemberFor (components path ++ name ∷ next ∷ more) i) founds)
     (λ f h _.
     let inner : IsDirectory g image f.inode = walked_directory g image f.inode i next more h.1 in
@@ -155,56 +155,56 @@ leads_to_member g image founds entries known (next ∷ more) name path d i direc
 -- the members are exactly the tree
 pub members_are_tree : MembersAreTheTree
 members_are_tree g image start founds kinds_known entries tree_is directory walks room names i proper = (
-  λ leads. has_any (λ (f : Found). (components f.path ≡ names) × (f.inode ≡ i)) (members_of founds)
-      (has_kept (λ (f : Found). is_kept f.role) (λ (f : Found). (components f.path ≡ names) × (f.inode ≡ i)) founds (forth names proper.some (each_of_all (λ n. is_dots n ≡ false) names proper.proper) leads)),
-  λ met. has_each (λ (f : Found). (components f.path ≡ names) × (f.inode ≡ i)) (λ (f : Found). walk_from (tree g image) user start (components f.path) ≡ Ok f.inode)
+  λ leads. has_any (λ (f : MetEntry). (components f.path ≡ names) × (f.inode ≡ i)) (members_of founds)
+      (has_kept (λ (f : MetEntry). is_kept f.role) (λ (f : MetEntry). (components f.path ≡ names) × (f.inode ≡ i)) founds (forth names proper.some (each_of_all (λ n. is_dots n ≡ false) names proper.proper) leads)),
+  λ met. has_each (λ (f : MetEntry). (components f.path ≡ names) × (f.inode ≡ i)) (λ (f : MetEntry). walk_from (tree g image) user start (components f.path) ≡ Ok f.inode)
       (walk_from (tree g image) user start names ≡ Ok i)
       (λ f is leads. ap (λ ns. walk_from (tree g image) user start ns) (sym is.0) ∙ (leads ∙ ap Ok is.1))
-      (members_of founds) (any_has (λ (f : Found). (components f.path ≡ names) × (f.inode ≡ i)) (members_of founds) met)
-      (each_of_all (λ (f : Found). walk_from (tree g image) user start (components f.path) ≡ Ok f.inode) (members_of founds) (members_lead g image start founds directory walks)),
+      (members_of founds) (any_has (λ (f : MetEntry). (components f.path ≡ names) × (f.inode ≡ i)) (members_of founds) met)
+      (each_of_all (λ (f : MetEntry). walk_from (tree g image) user start (components f.path) ≡ Ok f.inode) (members_of founds) (members_lead g image start founds directory walks)),
 )
   where
-    IsFit : Found → Type 0
+    IsFit : MetEntry → Type 0
     IsFit f = (f.role ≢ roles.Left reasons.BadName) × (f.role ≢ roles.Left reasons.NoNode)
 
-    IsNew : Found → Type 0
+    IsNew : MetEntry → Type 0
     IsNew f = f.role ≢ roles.Left reasons.Again
 
-    IsRoomy : Found → Type 0
+    IsRoomy : MetEntry → Type 0
     IsRoomy f = (f.role ≢ roles.Left reasons.LongPath) × (f.role ≢ roles.Left reasons.LongLink)
 
-    whole : (HasMetAllOf g image founds [] start) × Each (λ (f : Found). f.role ≡ roles.Directory → HasMetAllOf g image founds f.path f.inode) founds
+    whole : (HasMetAllOf g image founds [] start) × Each (λ (f : MetEntry). f.role ≡ roles.Directory → HasMetAllOf g image founds f.path f.inode) founds
     whole =
         let laws = directories_whole g image start founds walks in
-        (laws.0, each_of_all (λ (f : Found). f.role ≡ roles.Directory → HasMetAllOf g image founds f.path f.inode) founds laws.1)
+        (laws.0, each_of_all (λ (f : MetEntry). f.role ≡ roles.Directory → HasMetAllOf g image founds f.path f.inode) founds laws.1)
 
-    reasoned : (f : Found) → IsFit f → IsNew f → IsRoomy f → (reason : Reason) → f.role ≢ roles.Left reason
+    reasoned : (f : MetEntry) → IsFit f → IsNew f → IsRoomy f → (reason : Reason) → f.role ≢ roles.Left reason
     reasoned f fit new roomy reasons.BadName = fit.0
     reasoned f fit new roomy reasons.NoNode = fit.1
     reasoned f fit new roomy reasons.Again = new
     reasoned f fit new roomy reasons.LongPath = roomy.0
     reasoned f fit new roomy reasons.LongLink = roomy.1
 
-    kept : Each (λ (f : Found). is_kept f.role ≡ true) founds
+    kept : Each (λ (f : MetEntry). is_kept f.role ≡ true) founds
     kept =
-        each_map (λ (f : Found). (IsFit f × IsNew f) × IsRoomy f) (λ (f : Found). is_kept f.role ≡ true)
+        each_map (λ (f : MetEntry). (IsFit f × IsNew f) × IsRoomy f) (λ (f : MetEntry). is_kept f.role ≡ true)
         (λ f h. left_for_none f.role (reasoned f h.0.0 h.0.1 h.1)) founds
-        (each_both (λ (f : Found). IsFit f × IsNew f) IsRoomy founds
+        (each_both (λ (f : MetEntry). IsFit f × IsNew f) IsRoomy founds
         (each_both IsFit IsNew founds (each_of_all IsFit founds (entries_have_nodes g image start founds kinds_known entries directory walks))
         (each_of_all IsNew founds (met_once g image start founds tree_is directory walks)))
         (each_of_all IsRoomy founds room))
 
     known : Each (IsKnown g image founds) founds
     known =
-        each_map (λ (f : Found). ((is_kept f.role ≡ true) × IsMetAsItIs g image f) × (f.role ≡ roles.Directory → HasMetAllOf g image founds f.path f.inode)) (IsKnown g image founds)
+        each_map (λ (f : MetEntry). ((is_kept f.role ≡ true) × IsMetAsItIs g image f) × (f.role ≡ roles.Directory → HasMetAllOf g image founds f.path f.inode)) (IsKnown g image founds)
         (λ f h. (h.0.0, h.0.1, h.1)) founds
-        (each_both (λ (f : Found). (is_kept f.role ≡ true) × IsMetAsItIs g image f) (λ (f : Found). f.role ≡ roles.Directory → HasMetAllOf g image founds f.path f.inode) founds
-        (each_both (λ (f : Found). is_kept f.role ≡ true) (IsMetAsItIs g image) founds kept (subst (Each (IsMetAsItIs g image)) (walk_is walks) (rest_as_is walks))) whole.1)
+        (each_both (λ (f : MetEntry). (is_kept f.role ≡ true) × IsMetAsItIs g image f) (λ (f : MetEntry). f.role ≡ roles.Directory → HasMetAllOf g image founds f.path f.inode) founds
+        (each_both (λ (f : MetEntry). is_kept f.role ≡ true) (IsMetAsItIs g image) founds kept (subst (Each (IsMetAsItIs g image)) (walk_is walks) (rest_as_is walks))) whole.1)
 
     forth : (names : List (List ℕ)) → names ≢ [] → Each (λ n. is_dots n ≡ false) names → WalksTo g image start names i
-        → Has (λ (f : Found). (is_kept f.role ≡ true) × ((components f.path ≡ names) × (f.inode ≡ i))) founds
+        → Has (λ (f : MetEntry). (is_kept f.role ≡ true) × ((components f.path ≡ names) × (f.inode ≡ i))) founds
     forth [] some proper leads = absurd (some refl)
     forth (name ∷ more) some proper leads =
-        has_map (IsMemberFor (components [] ++ name ∷ more) i) (λ (f : Found). (is_kept f.role ≡ true) × ((components f.path ≡ name ∷ more) × (f.inode ≡ i)))
+        has_map (IsMemberFor (components [] ++ name ∷ more) i) (λ (f : MetEntry). (is_kept f.role ≡ true) × ((components f.path ≡ name ∷ more) × (f.inode ≡ i)))
         (λ f h. (h.0, (h.1 ∙ ap (λ cs. cs ++ name ∷ more) components-nil, h.2))) founds
         (leads_to_member g image founds entries known more name [] start i directory whole.0 proper leads)

@@ -3,7 +3,7 @@ use Rattle.std.specs.Prelude.{◌≡◌, ◌≢◌, ℕ, ◌↔◌, ◌/◌, ◌
 use Rattle.std.specs.Cmp.Lexicographic.{slice_cmp}
 use Rattle.std.specs.Ordering.{nat_cmp}
 use Rattle.std.specs.declared.cmp.Ordering.TheVariants.{Less}
-use Rattle.ustar.specs.declared.header.Header.{Header}
+use Rattle.ustar.specs.declared.header.MemberHeader.{MemberHeader}
 use Rattle.ustar.specs.declared.header.MemberKind.{MemberKind}
 use Rattle.ustar.specs.declared.header.MemberKind.TheVariants as members
 use Rattle.vol_file.specs.Rules.{HasKinds}
@@ -16,7 +16,7 @@ use Rattle.vol_layout.specs.declared.geometry.Geometry.{Geometry}
 use Rattle.vol_dir.specs.Access.{user}
 use Rattle.vol_archive.specs.Members.{content_at, headed, member_bytes}
 use Rattle.vol_archive.specs.Walking.{path_below, is_first, IsWalk}
-use Rattle.vol_archive.specs.declared.found.Found.{Found}
+use Rattle.vol_archive.specs.declared.found.MetEntry.{MetEntry}
 use Rattle.vol_archive.specs.declared.found.Role.{Role}
 use Rattle.vol_archive.specs.declared.found.Role.TheVariants as roles
 use Rattle.vol_archive.specs.declared.found.Reason.TheVariants as reasons
@@ -30,55 +30,55 @@ is_kept (roles.Link k) = true
 is_kept (roles.Left reason) = false
 
 -- the members among the entries that were met (POSIX, ustar interchange format)
-abbrev pub members_of : List Found → List Found
-members_of founds = filter (λ (found : Found). is_kept found.role) founds
+abbrev pub members_of : List MetEntry → List MetEntry
+members_of founds = filter (λ (found : MetEntry). is_kept found.role) founds
 
 -- the path of each member leads from the directory, as user 0 walks it, to the member's i-number (Lions on namei)
 abbrev pub MembersAreOfTree : Type 0
-MembersAreOfTree = (geometry : Geometry) (image : List ℕ) (start : ℕ) (founds : List Found)
+MembersAreOfTree = (geometry : Geometry) (image : List ℕ) (start : ℕ) (founds : List MetEntry)
     → IsDirectory geometry image start → IsWalk geometry image start founds
-    → All (λ (found : Found). walk_from (tree geometry image) user start (components found.path) ≡ Ok found.inode) (members_of founds)
+    → All (λ (found : MetEntry). walk_from (tree geometry image) user start (components found.path) ≡ Ok found.inode) (members_of founds)
 
 -- members are in ascending order: the names of a path are before those of a later one, by the bytes of the first name in which they differ; so a directory is before the entries in it (this project)
 abbrev pub MembersAscend : Type 0
-MembersAscend = (geometry : Geometry) (image : List ℕ) (start : ℕ) (founds : List Found) → IsWalk geometry image start founds
-    → AllPairs (λ (found later : Found). slice_cmp (slice_cmp nat_cmp) (components found.path) (components later.path) ≡ Less) (members_of founds)
+MembersAscend = (geometry : Geometry) (image : List ℕ) (start : ℕ) (founds : List MetEntry) → IsWalk geometry image start founds
+    → AllPairs (λ (found later : MetEntry). slice_cmp (slice_cmp nat_cmp) (components found.path) (components later.path) ≡ Less) (members_of founds)
 
 -- no two members have the same path (this project)
 abbrev pub MembersDiffer : Type 0
-MembersDiffer = (geometry : Geometry) (image : List ℕ) (start : ℕ) (founds : List Found) → IsWalk geometry image start founds
-    → AllPairs (λ (found later : Found). found.path ≢ later.path) (members_of founds)
+MembersDiffer = (geometry : Geometry) (image : List ℕ) (start : ℕ) (founds : List MetEntry) → IsWalk geometry image start founds
+    → AllPairs (λ (found later : MetEntry). found.path ≢ later.path) (members_of founds)
 
 -- an entry at a path, for an i-number, was met (this project)
-abbrev pub HasMet : List Found → List ℕ → ℕ → Type 0
-HasMet founds path i = Any (λ (found : Found). (found.path ≡ path) × (found.inode ≡ i)) founds
+abbrev pub HasMet : List MetEntry → List ℕ → ℕ → Type 0
+HasMet founds path i = Any (λ (found : MetEntry). (found.path ≡ path) × (found.inode ≡ i)) founds
 
 -- each name of directory d, other than `.` and `..`, was met below its path, for the i-number that a search finds (Lions on namei)
-abbrev pub HasMetAllOf : Geometry → List ℕ → List Found → List ℕ → ℕ → Type 0
+abbrev pub HasMetAllOf : Geometry → List ℕ → List MetEntry → List ℕ → ℕ → Type 0
 HasMetAllOf geometry image founds path d =
     (name : List ℕ) (i : ℕ) → get (names_of (slots geometry image d)) name ≡ Some i → is_dots name ≡ false → HasMet founds (path_below path name) i
 
 -- all names of the directory where the walk began are met, and all names of each directory that is a member (this project)
 abbrev pub DirectoriesAreWhole : Type 0
-DirectoriesAreWhole = (geometry : Geometry) (image : List ℕ) (start : ℕ) (founds : List Found) → IsWalk geometry image start founds
+DirectoriesAreWhole = (geometry : Geometry) (image : List ℕ) (start : ℕ) (founds : List MetEntry) → IsWalk geometry image start founds
     → HasMetAllOf geometry image founds [] start
-    × All (λ (found : Found). found.role ≡ roles.Directory → HasMetAllOf geometry image founds found.path found.inode) founds
+    × All (λ (found : MetEntry). found.role ≡ roles.Directory → HasMetAllOf geometry image founds found.path found.inode) founds
 
 -- in an image where rules 3 and 9 hold, no entry that is met is left out for its name, or because it has no i-node (manual section 5, directories)
 abbrev pub EntriesHaveNodes : Type 0
-EntriesHaveNodes = (geometry : Geometry) (image : List ℕ) (start : ℕ) (founds : List Found) → HasKinds geometry image → HasEntries geometry image
+EntriesHaveNodes = (geometry : Geometry) (image : List ℕ) (start : ℕ) (founds : List MetEntry) → HasKinds geometry image → HasEntries geometry image
     → IsDirectory geometry image start → IsWalk geometry image start founds
-    → All (λ (found : Found). (found.role ≢ roles.Left reasons.BadName) × (found.role ≢ roles.Left reasons.NoNode)) founds
+    → All (λ (found : MetEntry). (found.role ≢ roles.Left reasons.BadName) × (found.role ≢ roles.Left reasons.NoNode)) founds
 
 -- in an image where rule 11 holds, no directory that is met is left out because it was met before: each is met once (ncheck)
 abbrev pub DirectoriesAreMetOnce : Type 0
-DirectoriesAreMetOnce = (geometry : Geometry) (image : List ℕ) (start : ℕ) (founds : List Found) → IsTree geometry image
+DirectoriesAreMetOnce = (geometry : Geometry) (image : List ℕ) (start : ℕ) (founds : List MetEntry) → IsTree geometry image
     → IsDirectory geometry image start → IsWalk geometry image start founds
-    → All (λ (found : Found). found.role ≢ roles.Left reasons.Again) founds
+    → All (λ (found : MetEntry). found.role ≢ roles.Left reasons.Again) founds
 
 -- no path that is met is too long for a header, nor for the header of a link to it (POSIX, ustar interchange format)
-abbrev pub HasRoomForAll : List Found → Type 0
-HasRoomForAll founds = All (λ (found : Found). (found.role ≢ roles.Left reasons.LongPath) × (found.role ≢ roles.Left reasons.LongLink)) founds
+abbrev pub HasRoomForAll : List MetEntry → Type 0
+HasRoomForAll founds = All (λ (found : MetEntry). (found.role ≢ roles.Left reasons.LongPath) × (found.role ≢ roles.Left reasons.LongLink)) founds
 
 -- one or more names, none of them `.` or `..` (manual section 5, directories)
 pub record AreProper (names : List (List ℕ)) : Type 0 where
@@ -87,15 +87,15 @@ pub record AreProper (names : List (List ℕ)) : Type 0 where
 
 -- in an image where rules 3, 9 and 11 hold, as in each sound one, the members are exactly the tree below the directory, if all paths fit headers: names lead to an i-number, as user 0 walks them, if and only if the path of a member for it has these names (Lions on namei)
 abbrev pub MembersAreTheTree : Type 0
-MembersAreTheTree = (geometry : Geometry) (image : List ℕ) (start : ℕ) (founds : List Found)
+MembersAreTheTree = (geometry : Geometry) (image : List ℕ) (start : ℕ) (founds : List MetEntry)
     → HasKinds geometry image → HasEntries geometry image → IsTree geometry image
     → IsDirectory geometry image start → IsWalk geometry image start founds → HasRoomForAll founds
     → (names : List (List ℕ)) (i : ℕ) → AreProper names
     → (walk_from (tree geometry image) user start names ≡ Ok i)
-    ↔ Any (λ (found : Found). (components found.path ≡ names) × (found.inode ≡ i)) (members_of founds)
+    ↔ Any (λ (found : MetEntry). (components found.path ≡ names) × (found.inode ≡ i)) (members_of founds)
 
 -- the header of a member for a node, with the number of bytes after it and the number of a device: the permissions, owner, group and time are those that a Stat of its path returns (POSIX, ustar interchange format; stat)
-abbrev pub header_for : Node → MemberKind → ℕ → ℕ → Header
+abbrev pub header_for : Node → MemberKind → ℕ → ℕ → MemberHeader
 header_for node kind size device = record {
   kind = kind;
   permissions = node.permissions;
@@ -112,7 +112,7 @@ abbrev pub device_kind : ℕ → MemberKind
 device_kind type = if type / 2 % 4 == 3 then members.Block else members.Character
 
 -- a member for a node with this role has these bytes: for a regular file the header and the bytes of the file, for another name the path of the first one (POSIX, ustar interchange format)
-abbrev pub IsForNode : List Found → Found → Node → Role → List ℕ → Type 0
+abbrev pub IsForNode : List MetEntry → MetEntry → Node → Role → List ℕ → Type 0
 IsForNode founds found node roles.File bytes =
     (content : List ℕ) × (node.content ≡ Body content)
     × (bytes ≡ headed (header_for node members.File (length content) 0) found.path [] ++ content_at found.path content)
@@ -122,12 +122,12 @@ IsForNode founds found node roles.Special bytes =
     (type : ℕ) × (addresses : List ℕ) × (node.content ≡ Device type addresses)
     × (bytes ≡ headed (header_for node (device_kind type) 0 (slice_index addresses 0 % 65536)) found.path [])
 IsForNode founds found node (roles.Link k) bytes =
-    (first : Found) × (slice_get founds k ≡ Some first) × (first.inode ≡ found.inode) × (is_first first.role ≡ true)
+    (first : MetEntry) × (slice_get founds k ≡ Some first) × (first.inode ≡ found.inode) × (is_first first.role ≡ true)
     × (bytes ≡ headed (header_for node members.Link 0 0) found.path first.path)
 IsForNode founds found node (roles.Left reason) bytes = ⊥
 
 -- each member is for the node of the tree with its i-number, with the bytes that it has in the archive (POSIX, ustar interchange format; stat, read)
 abbrev pub MembersHaveNodes : Type 0
-MembersHaveNodes = (geometry : Geometry) (image : List ℕ) (start : ℕ) (founds : List Found) → IsWalk geometry image start founds
-    → All (λ (found : Found). (node : Node) × ((tree geometry image).nodes found.inode ≡ Some node)
+MembersHaveNodes = (geometry : Geometry) (image : List ℕ) (start : ℕ) (founds : List MetEntry) → IsWalk geometry image start founds
+    → All (λ (found : MetEntry). (node : Node) × ((tree geometry image).nodes found.inode ≡ Some node)
     × IsForNode founds found node found.role (member_bytes geometry image founds found)) (members_of founds)

@@ -45,7 +45,7 @@ impl Role {
 
 /// An entry that was met below a directory.
 #[derive(Debug, Drop)]
-pub struct Found {
+pub struct MetEntry {
     /// Its path, from that directory on, without a slash at its front or its end.
     pub path: Bytes,
     /// Its i-number.

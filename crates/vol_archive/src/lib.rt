@@ -10,8 +10,8 @@ mod pending;
 pub mod walking;
 pub mod writing;
 
-pub use exporting::{Start, StartFault, export, start_of};
-pub use found::{Found, Reason, Role};
+pub use exporting::{ExportStart, StartFault, export, start_of};
+pub use found::{MetEntry, Reason, Role};
 pub use members::{device_number, put_archive, special_kind};
 pub use names::is_plain;
 pub use walking::{walk, walk_lost};

@@ -5,7 +5,7 @@ use Rattle.std.specs.List.{count_by}
 use Rattle.vol_layout.specs.Places.{places}
 use Rattle.vol_layout.specs.declared.edition.Edition.{Edition}
 use Rattle.vol_layout.specs.declared.edition.Edition.TheVariants.{V6, V7}
-use Rattle.vol_layout.specs.declared.block_map.Form.TheVariants.{Small, Deep}
+use Rattle.vol_layout.specs.declared.block_map.BlockMap.TheVariants.{Small, Deep}
 use Rattle.vol_file.specs.Need.{need_of, missing_count}
 use Rattle.vol_file.specs.Shape.{is_on_ways}
 use Rattle.vol_file.proofs.PlaceLists.{count_none}

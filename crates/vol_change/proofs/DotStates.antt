@@ -3,7 +3,7 @@ use Rattle.std.proofs.Common.{◌≡◌, ◌≢◌, ◌∙◌, sym, ap, refl, �
 use Rattle.std.specs.Prelude.{◌||◌}
 use Rattle.vol_layout.specs.declared.edition.Edition.{Edition}
 use Rattle.vol_layout.specs.declared.edition.Edition.TheVariants.{V6, V7}
-use Rattle.vol_layout.specs.declared.block_map.Form.TheVariants.{Small, Deep}
+use Rattle.vol_layout.specs.declared.block_map.BlockMap.TheVariants.{Small, Deep}
 use Rattle.vol_file.specs.Shape.{is_on_ways}
 use Rattle.vol_dir.specs.Names.{Names, dot, dot_dot, insert}
 use Rattle.vol_dir.specs.Searching.{new_slot}

@@ -10,7 +10,7 @@ use Rattle.vol_layout.specs.declared.edition.Edition.{Edition}
 use Rattle.vol_layout.specs.declared.edition.Edition.TheVariants.{V6, V7}
 use Rattle.vol_layout.specs.declared.i_node.Inode.{Inode}
 use Rattle.vol_layout.specs.declared.mode.Kind.TheVariants as kinds
-use Rattle.vol_layout.specs.declared.block_map.Form.TheVariants.{Small, Large}
+use Rattle.vol_layout.specs.declared.block_map.BlockMap.TheVariants.{Small, Large}
 use Rattle.vol_layout.proofs.CopyLaws.{IsCopy, word_copied, long_copied}
 use Rattle.vol_layout.proofs.KindLaws.{file_allocated, form_file}
 use Rattle.vol_file.specs.Changes.{is_kept_byte, truncated_mode}

@@ -15,8 +15,8 @@ use Rattle.vol_layout.specs.declared.edition.Edition.TheVariants.{V6, V7}
 use Rattle.vol_layout.specs.declared.geometry.Geometry.{Geometry}
 use Rattle.vol_layout.specs.declared.mode.Kind.{Kind}
 use Rattle.vol_layout.specs.declared.mode.Kind.TheVariants as kinds
-use Rattle.vol_layout.specs.declared.block_map.Form.{Form}
-use Rattle.vol_layout.specs.declared.block_map.Form.TheVariants.{Bare}
+use Rattle.vol_layout.specs.declared.block_map.BlockMap.{BlockMap}
+use Rattle.vol_layout.specs.declared.block_map.BlockMap.TheVariants.{Bare}
 use Rattle.vol_layout.specs.Super.{free_head}
 use Rattle.vol_layout.proofs.NameLaws.{holds_named}
 use Rattle.pdp_words.specs.Words.{word}
@@ -102,7 +102,7 @@ blocks_length geometry image i (p ∷ ps) =
     ]
 
 -- a test counted over the places alone gives the same as over all places of a form
-test_places : (form : Form) (names : List ℕ → Bool) → count_by (λ p. is_place form p && names p) (places form) ≡ count_by names (places form)
+test_places : (form : BlockMap) (names : List ℕ → Bool) → count_by (λ p. is_place form p && names p) (places form) ≡ count_by names (places form)
 test_places form names =
     count_among (λ p. is_place form p && names p) names (places form) (λ p among.
     let place : is_place form p ≡ true = place_test form p (among_places form p among) in ap (λ t. t && names p) place)

@@ -12,8 +12,8 @@ use Rattle.vol_layout.specs.Places.{levels, last_place, places_from, places}
 use Rattle.vol_layout.specs.declared.edition.Edition.{Edition}
 use Rattle.vol_layout.specs.declared.edition.Edition.TheVariants.{V6, V7}
 use Rattle.vol_layout.specs.declared.geometry.Geometry.{Geometry}
-use Rattle.vol_layout.specs.declared.block_map.Form.{Form}
-use Rattle.vol_layout.specs.declared.block_map.Form.TheVariants.{Small, Large, Deep, Bare}
+use Rattle.vol_layout.specs.declared.block_map.BlockMap.{BlockMap}
+use Rattle.vol_layout.specs.declared.block_map.BlockMap.TheVariants.{Small, Large, Deep, Bare}
 use Rattle.vol_file.specs.Laws.{IsAmong}
 use Rattle.vol_file.specs.Missing.{missing_from}
 use Rattle.vol_file.specs.Need.{missing_count, need_of}
@@ -144,7 +144,7 @@ count_large names =
     counted_flat t f (range_with_len 0 8) ∙ omega (arith, small, first, rest, step)
 
 -- before blocks are added a file has the places it had, and one more if it becomes large
-count_fit : (form : Form) (names : List ℕ → Bool) (blocks : List ℕ)
+count_fit : (form : BlockMap) (names : List ℕ → Bool) (blocks : List ℕ)
     → count_by (fit_names form names blocks) (places (fit_form form blocks)) ≡ count_by names (places form) + (if grows_large form blocks then 1 else 0)
 count_fit Large names blocks = omega arith
 count_fit Deep names blocks = omega arith
@@ -159,7 +159,7 @@ count_fit Small names blocks = elim (cases_Bool (grows_large Small blocks)) [
 ]
 
 -- the places that name a block once blocks are touched: those that did, and those that were missing
-count_filled : (form : Form) (names : List ℕ → Bool) (blocks : List ℕ)
+count_filled : (form : BlockMap) (names : List ℕ → Bool) (blocks : List ℕ)
     → count_by (filled form names blocks) (places (fit_form form blocks)) ≡ count_by names (places form) + need_of form names blocks
 unfolding need_of missing_count
 count_filled form names blocks =
@@ -199,7 +199,7 @@ unfolding place_count
 gone_count edition shape name = refl
 
 -- the first logical block of an empty file
-first_needed : (form : Form) → form ≢ Bare → form ≢ Large → need_of form (λ p. false) (0 ∷ []) ≡ 1
+first_needed : (form : BlockMap) → form ≢ Bare → form ≢ Large → need_of form (λ p. false) (0 ∷ []) ≡ 1
 unfolding missing_from last_place
 first_needed Small some small = need_some Small (λ p. false) 0 1 0 (omega arith) refl
 first_needed Deep some small = need_some Deep (λ p. false) 0 1 0 (omega arith) refl

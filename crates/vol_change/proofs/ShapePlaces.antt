@@ -8,8 +8,8 @@ use Rattle.std.specs.Str.{bytes_eq}
 use Rattle.std.proofs.lemmas.Bool.{cases_Bool, cases_eq}
 use Rattle.std.proofs.lemmas.Bool.Decides.{nat_tests}
 use Rattle.vol_layout.specs.Places.{IsPlace, last_place, places, fronts, way}
-use Rattle.vol_layout.specs.declared.block_map.Form.{Form}
-use Rattle.vol_layout.specs.declared.block_map.Form.TheVariants.{Small, Large, Deep, Bare}
+use Rattle.vol_layout.specs.declared.block_map.BlockMap.{BlockMap}
+use Rattle.vol_layout.specs.declared.block_map.BlockMap.TheVariants.{Small, Large, Deep, Bare}
 use Rattle.vol_layout.proofs.PlaceLaws.{last_leaf, place_front}
 use Rattle.vol_file.specs.Need.{missing_count, need_of}
 use Rattle.vol_file.specs.Shape.{is_on_ways, grows_large, moved_down, fit_form, fit_names, filled}
@@ -18,7 +18,7 @@ use Rattle.vol_dir.specs.Tree.{is_place}
 use Rattle.vol_dir.proofs.PlaceTests.{place_test}
 
 -- the names of places alone
-abbrev pub at_places : Form → (List ℕ → Bool) → List ℕ → Bool
+abbrev pub at_places : BlockMap → (List ℕ → Bool) → List ℕ → Bool
 at_places form names p = is_place form p && names p
 
 -- tests that agree if another passes
@@ -68,14 +68,14 @@ moved_places names (k ∷ (a ∷ [])) = moved_entry names k a
 moved_places names (j ∷ (k ∷ (a ∷ p))) = and_none (is_place Large (j ∷ (k ∷ (a ∷ p))))
 
 -- only a small file is made large
-grows_small : (form : Form) (blocks : List ℕ) → grows_large form blocks ≡ true → form ≡ Small
+grows_small : (form : BlockMap) (blocks : List ℕ) → grows_large form blocks ≡ true → form ≡ Small
 grows_small Small blocks h = refl
 grows_small Large blocks h = absurd (true≢false (sym h))
 grows_small Deep blocks h = absurd (true≢false (sym h))
 grows_small Bare blocks h = absurd (true≢false (sym h))
 
 -- the places alone that name a block before blocks are touched
-pub fit_places : (form : Form) (names : List ℕ → Bool) (blocks p : List ℕ)
+pub fit_places : (form : BlockMap) (names : List ℕ → Bool) (blocks p : List ℕ)
     → fit_names form (at_places form names) blocks p ≡ (is_place (fit_form form blocks) p && fit_names form names blocks p)
 fit_places form names blocks p = elim (cases_Bool (grows_large form blocks)) [
   | inl grows ↦
@@ -97,7 +97,7 @@ front_passed p (j ∷ q) h = elim (cases_Bool (bytes_eq p (j ∷ q))) [
 ]
 
 -- a list of indexes on the way of a block is a place
-way_place : (form : Form) (b : ℕ) (p : List ℕ) → list_any (bytes_eq p) (way form b) ≡ true → IsPlace form p
+way_place : (form : BlockMap) (b : ℕ) (p : List ℕ) → list_any (bytes_eq p) (way form b) ≡ true → IsPlace form p
 way_place form b p h =
     elim (last_place form b) as (λ o. last_place form b ≡ o → list_any (bytes_eq p) (option_map_or fronts o []) ≡ true → IsPlace form p) [
       | None ↦ λ e passes. absurd (true≢false (sym passes))
@@ -105,7 +105,7 @@ way_place form b p h =
     ] refl h
 
 -- a list of indexes on the ways of blocks is a place
-pub ways_place : (form : Form) (blocks p : List ℕ) → is_on_ways form blocks p ≡ true → IsPlace form p
+pub ways_place : (form : BlockMap) (blocks p : List ℕ) → is_on_ways form blocks p ≡ true → IsPlace form p
 ways_place form [] p h = absurd (true≢false (sym h))
 ways_place form (b ∷ blocks) p h = elim (cases_Bool (list_any (bytes_eq p) (way form b))) [
   | inl here ↦ way_place form b p here
@@ -113,7 +113,7 @@ ways_place form (b ∷ blocks) p h = elim (cases_Bool (list_any (bytes_eq p) (wa
 ]
 
 -- the places alone that name a block once blocks are touched
-pub filled_places : (form : Form) (names : List ℕ → Bool) (blocks p : List ℕ)
+pub filled_places : (form : BlockMap) (names : List ℕ → Bool) (blocks p : List ℕ)
     → filled form (at_places form names) blocks p ≡ (is_place (fit_form form blocks) p && filled form names blocks p)
 filled_places form names blocks p =
     let fit = fit_form form blocks in
@@ -122,7 +122,7 @@ filled_places form names blocks p =
     (λ on. place_test fit p (ways_place fit blocks p on)))
 
 -- a file needs the same number of blocks whether all lists of indexes are checked or places alone
-pub need_places : (form : Form) (names : List ℕ → Bool) (blocks : List ℕ) → need_of form (at_places form names) blocks ≡ need_of form names blocks
+pub need_places : (form : BlockMap) (names : List ℕ → Bool) (blocks : List ℕ) → need_of form (at_places form names) blocks ≡ need_of form names blocks
 unfolding need_of missing_count
 need_places form names blocks =
     let fit = fit_form form blocks in

@@ -8,8 +8,8 @@ use Rattle.vol_layout.specs.Inode.{inode_place, inode_of, is_large}
 use Rattle.vol_layout.specs.Names.{mode_of, form_at, IsFile}
 use Rattle.vol_layout.specs.Places.{places}
 use Rattle.vol_layout.specs.declared.geometry.Geometry.{Geometry}
-use Rattle.vol_layout.specs.declared.block_map.Form.{Form}
-use Rattle.vol_layout.specs.declared.block_map.Form.TheVariants.{Large}
+use Rattle.vol_layout.specs.declared.block_map.BlockMap.{BlockMap}
+use Rattle.vol_layout.specs.declared.block_map.BlockMap.TheVariants.{Large}
 use Rattle.vol_file.specs.Changes.{Writes}
 use Rattle.vol_file.specs.Laws.{IsAmong}
 use Rattle.vol_file.specs.Need.{missing_count, need_of}
@@ -70,7 +70,7 @@ none_counted t p (q ∷ ps) none among =
     ]
 
 -- the blocks needed if the file is made large
-pub grown_need : (form : Form) (names : List ℕ → Bool) (blocks : List ℕ) → need_of form names blocks ≡ 0 → grows_large form blocks ≡ false
+pub grown_need : (form : BlockMap) (names : List ℕ → Bool) (blocks : List ℕ) → need_of form names blocks ≡ 0 → grows_large form blocks ≡ false
 unfolding need_of
 grown_need form names blocks none = elim (cases_Bool (grows_large form blocks)) [
   | inl grows ↦
@@ -85,7 +85,7 @@ or_named false true h = h refl
 or_named false false h = refl
 
 -- if no block is needed, the places that name something stay
-pub filled_none : (form : Form) (names : List ℕ → Bool) (blocks p : List ℕ) → need_of form names blocks ≡ 0
+pub filled_none : (form : BlockMap) (names : List ℕ → Bool) (blocks p : List ℕ) → need_of form names blocks ≡ 0
     → filled form names blocks p ≡ names p
 unfolding need_of missing_count
 filled_none form names blocks p none =

@@ -11,8 +11,8 @@ use Rattle.vol_layout.specs.declared.edition.Edition.TheVariants.{V6, V7}
 use Rattle.vol_layout.specs.Geometry.{in_zone, Fits}
 use Rattle.vol_layout.specs.Names.{form_at, pointer_in}
 use Rattle.vol_layout.specs.Places.{first_count, levels}
-use Rattle.vol_layout.specs.declared.block_map.Form.{Form}
-use Rattle.vol_layout.specs.declared.block_map.Form.TheVariants.{Small, Large, Deep, Bare}
+use Rattle.vol_layout.specs.declared.block_map.BlockMap.{BlockMap}
+use Rattle.vol_layout.specs.declared.block_map.BlockMap.TheVariants.{Small, Large, Deep, Bare}
 use Rattle.vol_layout.specs.declared.geometry.Geometry.{Geometry}
 use Rattle.vol_layout.specs.declared.mode.Kind.{Kind}
 use Rattle.vol_layout.specs.declared.mode.Kind.TheVariants as kinds
@@ -100,13 +100,13 @@ most_grows (suc (suc zero)) le = omega arith
 most_grows (suc (suc (suc zero))) le = omega arith
 most_grows (suc (suc (suc (suc n)))) le = absurd (omega arith)
 
-few_levels : (form : Form) (k : ℕ) → k < first_count form → levels form k ≤ 3
+few_levels : (form : BlockMap) (k : ℕ) → k < first_count form → levels form k ≤ 3
 few_levels Small k lt = omega arith
 few_levels Large k lt = grind arith
 few_levels Deep k lt = omega arith
 few_levels Bare k lt = omega arith
 
-few_firsts : (form : Form) → first_count form ≤ 13
+few_firsts : (form : BlockMap) → first_count form ≤ 13
 few_firsts Small = omega arith
 few_firsts Large = omega arith
 few_firsts Deep = omega arith

@@ -11,7 +11,7 @@ use Rattle.count_table.specs.declared.rule.Mark.{Mark}
 use Rattle.count_table.specs.declared.rule.SeatView.{SeatView}
 use Rattle.count_table.specs.declared.words.Tally.{Tally}
 use Rattle.count_table.specs.Sums.{total, below}
-use Rattle.vol_check.specs.declared.levels.Named.{Named}
+use Rattle.vol_check.specs.declared.levels.NamedBlock.{NamedBlock}
 use Rattle.vol_check.specs.Pieces.{place_weight}
 use Rattle.vol_check.specs.Levels.{below_block, by_times, below_named, below_all, KeepsDraws}
 use Rattle.vol_check.proofs.Weights.{weigh_zero, weigh_leaf, weigh_block, weigh_outside, entry_weight}
@@ -66,17 +66,17 @@ module _ (g : Geometry) (image : List ℕ) (weight : ℕ → ℕ) where
       ∙ spread n (weight b) (below_block g image weight d b)
 
 module _ (g : Geometry) (image : List ℕ) (i : ℕ) (weight : Mark → ℕ) where
-  leaf_named : (n : Named) → below_named g image i weight 0 n ≡ 0
+  leaf_named : (n : NamedBlock) → below_named g image i weight 0 n ≡ 0
   leaf_named n = ap (λ x. n.times * x) (below_leaf g image (place_weight g weight i) n.number) ∙ no_times n.times
 
   -- nothing is left below any block if there are no levels
-  pub all_leaves : (named : List Named) → below_all g image i weight 0 named ≡ 0
+  pub all_leaves : (named : List NamedBlock) → below_all g image i weight 0 named ≡ 0
   all_leaves [] = refl
   all_leaves (n ∷ named) =
       let h = all_leaves named in let l = leaf_named n in let c = sum_by-cons (below_named g image i weight 0) n named in omega arith
 
 -- one block of two that are the same
-pub times_both : (f : ℕ → ℕ) (x y both : Named) → both.number ≡ x.number → both.number ≡ y.number → both.times ≡ x.times + y.times
+pub times_both : (f : ℕ → ℕ) (x y both : NamedBlock) → both.number ≡ x.number → both.number ≡ y.number → both.times ≡ x.times + y.times
     → by_times f both ≡ by_times f x + by_times f y
 times_both f x y both first second sum =
     let e = ap (λ n. n * f both.number) sum in

@@ -12,11 +12,11 @@ use Rattle.count_table.specs.declared.rule.SeatView.{SeatView}
 use Rattle.count_table.specs.declared.words.Tally.{Tally}
 use Rattle.count_table.specs.Sums.{total, below}
 use Rattle.count_table.specs.Tallies.{IsSeatAt}
-use Rattle.vol_check.specs.declared.levels.Named.{Named}
+use Rattle.vol_check.specs.declared.levels.NamedBlock.{NamedBlock}
 use Rattle.vol_check.specs.Pieces.{place_weight}
 
 -- a data block that at least one place names (this project)
-abbrev pub IsNamed : Geometry → Named → Type 0
+abbrev pub IsNamed : Geometry → NamedBlock → Type 0
 IsNamed g n = (in_zone g n.number ≡ true) × (1 ≤ n.times)
 
 -- the weight of the numbers below block b, in d levels of indirect blocks including its own (this project)
@@ -25,15 +25,15 @@ below_block g image weight zero b = 0
 below_block g image weight (suc d) b = below (λ j. total weight (blocks_from g image d (pointer_in g image b j))) (constants g.edition).pointers
 
 -- a weight of a block's number, times the places that name it (this project)
-abbrev pub by_times : (ℕ → ℕ) → Named → ℕ
+abbrev pub by_times : (ℕ → ℕ) → NamedBlock → ℕ
 by_times f n = n.times * f n.number
 
 -- the weight below a block, times the places that name it (this project)
-abbrev pub below_named : Geometry → List ℕ → ℕ → (Mark → ℕ) → ℕ → Named → ℕ
+abbrev pub below_named : Geometry → List ℕ → ℕ → (Mark → ℕ) → ℕ → NamedBlock → ℕ
 below_named g image i weight d = by_times (below_block g image (place_weight g weight i) d)
 
 -- the weight below some blocks, each times the places that name it (this project)
-abbrev pub below_all : Geometry → List ℕ → ℕ → (Mark → ℕ) → ℕ → List Named → ℕ
+abbrev pub below_all : Geometry → List ℕ → ℕ → (Mark → ℕ) → ℕ → List NamedBlock → ℕ
 below_all g image i weight d named = sum_by (below_named g image i weight d) named
 
 -- a seat belongs to the table as before, and has the draws that it had (this project)

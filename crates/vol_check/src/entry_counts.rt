@@ -13,7 +13,7 @@ ghost use Rattle.vol_check.specs.Pieces.{Adds};
 ghost use Rattle.vol_check.specs.Slots.{entry_weight, entries_of};
 ghost use Rattle.vol_check.specs.Levels.{IsNamed, KeepsDraws, by_times};
 
-use crate::levels::{Named, each_once};
+use crate::levels::{NamedBlock, each_once};
 use crate::slots::SLOTS;
 use count_table::{Tally, TallySeat};
 use pdp_words::{BLOCK, Image};
@@ -65,7 +65,7 @@ fn stored_blocks(
     d: u16,
     from: u32,
     end: u32,
-) -> Result<Vec<Named>, AllocError>
+) -> Result<Vec<NamedBlock>, AllocError>
     requires fits { Fits geometry.now image.now }
     requires first { 1 ≤ d }
     requires last { d ≤ geometry.now.last_inode }
@@ -90,7 +90,7 @@ fn push_next(
     image: &Image,
     geometry: &Geometry,
     numbers: &mut BlockNumbers,
-    named: &mut Vec<Named>,
+    named: &mut Vec<NamedBlock>,
     d: u16,
     b: u32,
     end: u32,
@@ -115,12 +115,18 @@ fn push_next(
     if !geometry.in_zone(number) {
         return Ok(b + 1);
     }
-    named.push(Named { number, times: 1 })?;
+    named.push(NamedBlock { number, times: 1 })?;
     Ok(b + 1)
 }
 
 /// Counts the entries of a block, once for each of its places.
-fn count_block(tally: &Tally, seat: &mut TallySeat, image: &Image, geometry: &Geometry, n: Named)
+fn count_block(
+    tally: &Tally,
+    seat: &mut TallySeat,
+    image: &Image,
+    geometry: &Geometry,
+    n: NamedBlock,
+)
     requires fits { Fits geometry.now image.now }
     requires words { HasEntryWords geometry.now (table_shape tally.now) }
     requires own { IsSeatAt tally.now seat.old }

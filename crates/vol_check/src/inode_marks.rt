@@ -14,7 +14,7 @@ use count_table::{Tally, TallySeat};
 use pdp_words::Image;
 use std::alloc::{AllocError, Global};
 use vol_layout::i_list::{address, kind, mode};
-use vol_layout::{Form, Geometry, Kind};
+use vol_layout::{BlockMap, Geometry, Kind};
 use vol_reports::words::kind_word;
 
 /// Marks the places and the kind of i-node `i`.
@@ -77,7 +77,7 @@ fn mark_places(
     ensures kept { KeepsDraws tally.now seat.old seat.new }
     ensures ok { IfOk result (λ _. Adds tally.now seat.old seat.new (λ weight. total (place_weight geometry.now weight i) (blocks_of geometry.now image.now i))) }
 {
-    let form = Form::of(geometry.edition, mode(image, geometry, i));
+    let form = BlockMap::of(geometry.edition, mode(image, geometry, i));
     for k in 0..form.address_count() {
         let b = address(image, geometry, i, k);
         mark_from(alloc, tally, seat, image, geometry, i, b, form.levels(k))?;

@@ -18,14 +18,14 @@ use vol_reports::words::{bad_word, least_word, place_word};
 
 /// A data block, and the number of places of an i-node that name it.
 #[derive(Clone, Copy, Debug)]
-pub(crate) struct Named {
+pub(crate) struct NamedBlock {
     pub(crate) number: u32,
     pub(crate) times: u64,
 }
 
-impl Named {
+impl NamedBlock {
     /// Returns both as one if they are the same block, or `None` if not or if the sum doesn't fit a `u64`.
-    fn with(self, other: Named) -> Option<Named>
+    fn with(self, other: NamedBlock) -> Option<NamedBlock>
         ensures some { IfSome result (λ both. (both.number ≡ self.number) × (both.number ≡ other.number) × (both.times ≡ self.times + other.times)) }
         ensures none { IfNone result (self.number ≡ other.number → 2 ^ 64 ≤ self.times + other.times) }
     {
@@ -33,7 +33,7 @@ impl Named {
             return None;
         }
         let times = self.times.checked_add(other.times)?;
-        Some(Named {
+        Some(NamedBlock {
             number: self.number,
             times,
         })
@@ -43,7 +43,10 @@ impl Named {
 /// Returns the same blocks, each once with all its places; in two entries only if these are 2^64 or more.
 ///
 /// Costs sorting them. Takes sixteen bytes for each.
-pub(crate) fn each_once(alloc: Global, mut named: Vec<Named>) -> Result<Vec<Named>, AllocError>
+pub(crate) fn each_once(
+    alloc: Global,
+    mut named: Vec<NamedBlock>,
+) -> Result<Vec<NamedBlock>, AllocError>
     ensures named { IfOk result (λ once. (geometry : Geometry) → All (IsNamed geometry) named.items → All (IsNamed geometry) once.items) }
     ensures same { IfOk result (λ once. (f : ℕ → ℕ) → sum_by (by_times f) once.items ≡ sum_by (by_times f) named.items) }
 {
@@ -56,7 +59,7 @@ pub(crate) fn each_once(alloc: Global, mut named: Vec<Named>) -> Result<Vec<Name
 }
 
 /// Adds a block, or adds its places to those of the last one if that is the same.
-fn push_once(once: &mut Vec<Named>, n: Named) -> Result<(), AllocError>
+fn push_once(once: &mut Vec<NamedBlock>, n: NamedBlock) -> Result<(), AllocError>
     ensures named { IfOk result (λ _. (geometry : Geometry) → All (IsNamed geometry) once.old.items → IsNamed geometry n → All (IsNamed geometry) once.new.items) }
     ensures same { IfOk result (λ _. (f : ℕ → ℕ) → sum_by (by_times f) once.new.items ≡ sum_by (by_times f) once.old.items + by_times f n) }
 {
@@ -114,9 +117,9 @@ fn mark_level(
     image: &Image,
     geometry: &Geometry,
     i: u16,
-    named: Vec<Named>,
+    named: Vec<NamedBlock>,
     level: u8,
-) -> Result<Vec<Named>, AllocError>
+) -> Result<Vec<NamedBlock>, AllocError>
     requires fits { Fits geometry.now image.now }
     requires first { 1 ≤ i }
     requires last { i ≤ geometry.now.last_inode }
@@ -145,8 +148,8 @@ fn mark_entries(
     image: &Image,
     geometry: &Geometry,
     i: u16,
-    next: &mut Vec<Named>,
-    n: Named,
+    next: &mut Vec<NamedBlock>,
+    n: NamedBlock,
     level: u8,
 ) -> Result<(), AllocError>
     requires fits { Fits geometry.now image.now }
@@ -183,7 +186,7 @@ fn mark_found(
     image: &Image,
     geometry: &Geometry,
     i: u16,
-    next: &mut Vec<Named>,
+    next: &mut Vec<NamedBlock>,
     b: u32,
     times: u64,
     level: u8,
@@ -213,7 +216,7 @@ fn mark_found(
     if !geometry.in_zone(b) {
         return Ok(());
     }
-    next.push(Named { number: b, times })?;
+    next.push(NamedBlock { number: b, times })?;
     Ok(())
 }
 

@@ -2,14 +2,14 @@
 ghost use Rattle.std.specs.Prelude.{◌≤◌};
 ghost use Rattle.vol_layout.specs.Geometry.{Fits};
 
-use crate::levels::{Named, each_once};
+use crate::levels::{NamedBlock, each_once};
 use pdp_words::{BLOCK, Image};
 use std::alloc::{AllocError, Global};
 use vol_dir::is_dots;
 use vol_layout::i_list::{address, kind, mode, size};
 use vol_layout::slot::SLOT;
-use vol_layout::{Edition, Form, Geometry, Kind, Slot, number};
-use vol_reports::{Entered, Line};
+use vol_layout::{BlockMap, Edition, Geometry, Kind, Slot, number};
+use vol_reports::{EnteredName, Line};
 
 /// Takes the least memory that the lines of an image's name report need, all at once, and frees it. So a report that doesn't
 /// fit is refused before the memory is filled.
@@ -36,7 +36,7 @@ pub(crate) fn try_room(alloc: Global, edition: Edition, image: &Image) -> Result
 /// Takes the memory for `count` entries, paths and lines in one allocation, and frees it: a system that grants more than it has
 /// in small steps refuses it as a whole.
 fn try_lines(alloc: Global, count: u64) -> Result<(), AllocError> {
-    let mut room: Vec<(Entered, (u16, Vec<u8>), Line)> = Vec::new(alloc);
+    let mut room: Vec<(EnteredName, (u16, Vec<u8>), Line)> = Vec::new(alloc);
     room.reserve_exact(count as usize)?;
     Ok(())
 }
@@ -47,7 +47,7 @@ fn entry_count(alloc: Global, image: &Image, geometry: &Geometry, d: u16) -> Res
     requires first { 1 ≤ d }
     requires last { d ≤ geometry.now.last_inode }
 {
-    let form = Form::of(geometry.edition, mode(image, geometry, d));
+    let form = BlockMap::of(geometry.edition, mode(image, geometry, d));
     let bytes = size(image, geometry, d).min(geometry.edition.constants().greatest);
     let mut left = u64::from(bytes / BLOCK as u32);
     let mut count: u64 = 0;
@@ -86,7 +86,7 @@ fn count_first(
 ) -> Result<u64, AllocError>
     requires fits { Fits geometry.now image.now }
 {
-    let mut first = Named {
+    let mut first = NamedBlock {
         number: top,
         times: 1,
     };
@@ -113,7 +113,7 @@ fn count_below(
     alloc: Global,
     image: &Image,
     geometry: &Geometry,
-    mut named: Vec<Named>,
+    mut named: Vec<NamedBlock>,
     levels: u8,
 ) -> Result<u64, AllocError>
     requires fits { Fits geometry.now image.now }
@@ -139,8 +139,8 @@ fn count_below(
 fn push_entries(
     image: &Image,
     geometry: &Geometry,
-    block: Named,
-    next: &mut Vec<Named>,
+    block: NamedBlock,
+    next: &mut Vec<NamedBlock>,
 ) -> Result<(), AllocError>
     requires fits { Fits geometry.now image.now }
 {
@@ -150,7 +150,7 @@ fn push_entries(
     for j in 0..geometry.edition.constants().pointers {
         let at = BLOCK * block.number as usize;
         let number = number(image, geometry.edition, at, j as usize);
-        next.push(Named { number, ..block })?;
+        next.push(NamedBlock { number, ..block })?;
     }
     Ok(())
 }

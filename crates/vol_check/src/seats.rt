@@ -1,6 +1,6 @@
 //! The part of a sweep that one thread holds.
 use count_table::TallySeat;
-use vol_reports::{Entered, FreeFault};
+use vol_reports::{EnteredName, FreeFault};
 
 /// A thread's place in a sweep.
 #[derive(Drop)]
@@ -9,7 +9,7 @@ pub struct CheckSeat {
     /// The fault that ended the walk over the free list, if this seat did that walk.
     pub(crate) fault: Option<(FreeFault, u32)>,
     /// The entries that it met in a sweep for names.
-    pub(crate) entries: Vec<Entered>,
+    pub(crate) entries: Vec<EnteredName>,
     /// True if it drew a number past the pieces.
     pub(crate) ended: bool,
     /// True if it ran out of memory.

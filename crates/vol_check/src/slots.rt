@@ -27,7 +27,7 @@ use vol_file::{block_at, next_block};
 use vol_layout::i_list::{kind, size};
 use vol_layout::slot::SLOT;
 use vol_layout::{Geometry, Kind, Slot};
-use vol_reports::Entered;
+use vol_reports::EnteredName;
 use vol_reports::words::{name_word, rank};
 
 /// The number of slots in a block.
@@ -242,7 +242,7 @@ impl Sweep {
                 count_entry(&self.tally, &mut seat.seat, geometry, slot.inode, 1);
                 Ok(())
             }
-            Checker::Names => keep_entry(&self.tally, seat, geometry, Entered::new(d, s, slot)),
+            Checker::Names => keep_entry(&self.tally, seat, geometry, EnteredName::new(d, s, slot)),
         }
     }
 }
@@ -252,7 +252,7 @@ fn keep_entry(
     tally: &Tally,
     seat: &mut CheckSeat,
     geometry: &Geometry,
-    entry: Entered,
+    entry: EnteredName,
 ) -> Result<(), AllocError>
     requires words { HasNameWords geometry.now (table_shape tally.now) }
     requires own { IsSeatAt tally.now seat.old.seat }
@@ -272,7 +272,7 @@ fn keep_entry(
 }
 
 /// Offers an entry's rank to its i-number, unless that is past the last.
-fn give_rank(tally: &Tally, seat: &mut TallySeat, geometry: &Geometry, entry: &Entered)
+fn give_rank(tally: &Tally, seat: &mut TallySeat, geometry: &Geometry, entry: &EnteredName)
     requires words { HasNameWords geometry.now (table_shape tally.now) }
     requires own { IsSeatAt tally.now seat.old }
     requires parts { 1 ≤ seat.old.me.0.parts }

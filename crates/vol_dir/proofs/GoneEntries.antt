@@ -16,8 +16,8 @@ use Rattle.vol_layout.proofs.BodyLaws.{length-body}
 use Rattle.vol_layout.proofs.NameLaws.{named_stops, zero_out, zone_some, stored_is, stored_none}
 use Rattle.vol_layout.proofs.PlaceLaws.{has_no_way}
 use Rattle.vol_layout.specs.declared.geometry.Geometry.{Geometry}
-use Rattle.vol_layout.specs.declared.block_map.Form.{Form}
-use Rattle.vol_layout.specs.declared.block_map.Form.TheVariants.{Small, Large, Deep, Bare}
+use Rattle.vol_layout.specs.declared.block_map.BlockMap.{BlockMap}
+use Rattle.vol_layout.specs.declared.block_map.BlockMap.TheVariants.{Small, Large, Deep, Bare}
 use Rattle.vol_file.specs.Changes.{spliced, Writes}
 use Rattle.vol_file.specs.Need.{missing_count, need, need_of}
 use Rattle.vol_file.specs.Rules.{size_of, Rules3To7With}
@@ -47,7 +47,7 @@ fronts_named geometry image i p (j ∷ (a ∷ q)) fits some on = elim (or_cases 
 ]
 
 -- a file doesn't become large at a block that has a way
-grows_not : (form : Form) (b : ℕ) (p : List ℕ) → last_place form b ≡ Some p → grows_large form (b ∷ []) ≡ false
+grows_not : (form : BlockMap) (b : ℕ) (p : List ℕ) → last_place form b ≡ Some p → grows_large form (b ∷ []) ≡ false
 grows_not Small b p e = elim (cases_lt b 8) [
   | inl low ↦ ap (λ t. t || false) (lt-leb 8 b low)
   | inr high ↦ absurd (true≢false (ap is_some (sym e ∙ has_no_way Small b high)))
@@ -70,7 +70,7 @@ passes_not true k some = ap (λ b. not (not b)) (ne_eqb k 0 (some refl))
 passes_not false k some = refl
 
 -- nothing is missing on the way of a block whose last place names something
-none_missing : (geometry : Geometry) (image : List ℕ) (i b : ℕ) (form : Form) (q : List ℕ) → Fits geometry image → last_place form b ≡ Some q
+none_missing : (geometry : Geometry) (image : List ℕ) (i b : ℕ) (form : BlockMap) (q : List ℕ) → Fits geometry image → last_place form b ≡ Some q
     → named geometry image i q ≢ 0 → missing_count form (is_named geometry image i) (b ∷ []) ≡ 0
 unfolding missing_count
 none_missing geometry image i b form q fits e some =

@@ -4,11 +4,11 @@ use Rattle.std.specs.Prelude.{nat_le}
 use Rattle.std.proofs.lemmas.Bool.{and_parts, leb-true, ltb-true}
 use Rattle.std.proofs.lemmas.Bool.Decides.{nat_tests}
 use Rattle.vol_layout.specs.Places.{IsPlace, first_count, pointer_count, levels_below}
-use Rattle.vol_layout.specs.declared.block_map.Form.{Form}
+use Rattle.vol_layout.specs.declared.block_map.BlockMap.{BlockMap}
 use Rattle.vol_dir.specs.Tree.{is_place}
 
 -- a list that passes the test for places is a place
-pub place_passed : (form : Form) (p : List ℕ) → is_place form p ≡ true → IsPlace form p
+pub place_passed : (form : BlockMap) (p : List ℕ) → is_place form p ≡ true → IsPlace form p
 place_passed form [] h = absurd (true≢false (sym h))
 place_passed form (k ∷ []) h = ltb-true k (first_count form) h
 place_passed form (j ∷ (a ∷ p)) h =
@@ -17,7 +17,7 @@ place_passed form (j ∷ (a ∷ p)) h =
     (ltb-true j (pointer_count form) low.0, leb-true 1 (levels_below form (a ∷ p)) deep.0, place_passed form (a ∷ p) deep.1)
 
 -- a place passes the test for places
-pub place_test : (form : Form) (p : List ℕ) → IsPlace form p → is_place form p ≡ true
+pub place_test : (form : BlockMap) (p : List ℕ) → IsPlace form p → is_place form p ≡ true
 place_test form [] place = absurd place
 place_test form (k ∷ []) place = grind (arith, nat_tests)
 place_test form (j ∷ (a ∷ p)) place =

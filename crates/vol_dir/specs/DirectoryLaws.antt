@@ -5,7 +5,7 @@ use Rattle.std.specs.FinMap.Entries.{is_sorted}
 use Rattle.std.specs.Ordering.{nat_cmp}
 use Rattle.std.specs.Option.{option_map}
 use Rattle.vol_layout.specs.Places.{IsPlace}
-use Rattle.vol_layout.specs.declared.block_map.Form.{Form}
+use Rattle.vol_layout.specs.declared.block_map.BlockMap.{BlockMap}
 use Rattle.vol_dir.specs.Names.{get, names_of}
 use Rattle.vol_dir.specs.Searching.{slot_named}
 use Rattle.vol_dir.specs.Tree.{is_place}
@@ -21,4 +21,4 @@ AscendsByName = (slots : List (Option (List ℕ × ℕ))) → T (is_sorted (slic
 
 -- exactly the places pass the test for places (this project)
 abbrev pub TestsPlaces : Type 0
-TestsPlaces = (form : Form) (p : List ℕ) → (is_place form p ≡ true) ↔ IsPlace form p
+TestsPlaces = (form : BlockMap) (p : List ℕ) → (is_place form p ≡ true) ↔ IsPlace form p

@@ -17,8 +17,8 @@ use Rattle.vol_layout.specs.declared.geometry.Geometry.{Geometry}
 use Rattle.vol_layout.specs.declared.i_node.Inode.{Inode}
 use Rattle.vol_layout.specs.declared.mode.Kind.{Kind}
 use Rattle.vol_layout.specs.declared.mode.Kind.TheVariants as kinds
-use Rattle.vol_layout.specs.declared.block_map.Form.{Form}
-use Rattle.vol_layout.specs.declared.block_map.Form.TheVariants.{Small, Large, Deep}
+use Rattle.vol_layout.specs.declared.block_map.BlockMap.{BlockMap}
+use Rattle.vol_layout.specs.declared.block_map.BlockMap.TheVariants.{Small, Large, Deep}
 
 -- the content of a node: a regular file's bytes, a directory's map, or a special file's type bits of the mode and its
 -- addresses, which nothing interprets (manual section 5, file system)
@@ -62,12 +62,12 @@ pub record State : Type 0 where
   pub shapes : ℕ → Shape
 
 -- the form of a file, large or not (manual section 5, file system)
-abbrev pub form_in : Edition → Bool → Form
+abbrev pub form_in : Edition → Bool → BlockMap
 form_in V6 large = if large then Large else Small
 form_in V7 large = Deep
 
 -- true if a list of indexes is a place of the form (Lions on bmap; ino.h)
-abbrev pub is_place : Form → List ℕ → Bool
+abbrev pub is_place : BlockMap → List ℕ → Bool
 is_place form [] = false
 is_place form (k ∷ []) = nat_lt k (first_count form)
 is_place form (j ∷ (a ∷ p)) = nat_lt j (pointer_count form) && (nat_le 1 (levels_below form (a ∷ p)) && is_place form (a ∷ p))

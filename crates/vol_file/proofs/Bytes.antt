@@ -9,7 +9,7 @@ use Rattle.vol_layout.specs.Places.{IsPlace, levels_below, last_place}
 use Rattle.vol_layout.specs.Names.{mode_of, form_at, IsFile, IsPlaceOf, named, stored, NamesBlock}
 use Rattle.vol_layout.specs.Body.{body_byte, zone_byte}
 use Rattle.vol_layout.specs.declared.geometry.Geometry.{Geometry}
-use Rattle.vol_layout.specs.declared.block_map.Form.{Form}
+use Rattle.vol_layout.specs.declared.block_map.BlockMap.{BlockMap}
 use Rattle.pdp_words.proofs.Outside.{widen}
 use Rattle.vol_layout.proofs.CopyLaws.{copy_block}
 use Rattle.vol_layout.proofs.InodeLaws.{KeepsInode, mode_kept, size_kept}
@@ -248,7 +248,7 @@ stored_zone geometry image blocks i b sound file =
     ] refl
 
 -- stored numbers stay if the names do
-pub stored_same : (geometry : Geometry) (old new blocks : List ℕ) (i lo hi b : ℕ) (form : Form) (content : ℕ → ℕ) → IsFile geometry old i
+pub stored_same : (geometry : Geometry) (old new blocks : List ℕ) (i lo hi b : ℕ) (form : BlockMap) (content : ℕ → ℕ) → IsFile geometry old i
     → form ≡ form_at geometry old i → Rewrites geometry old new i lo hi content blocks → stored geometry new i form b ≡ stored geometry old i form b
 stored_same geometry old new blocks i lo hi b form content file is r =
     stored_kept geometry old new i form b

@@ -9,7 +9,7 @@ use Rattle.vol_layout.specs.Places.{IsPlace, has_places, levels, levels_below, l
 use Rattle.vol_layout.specs.Names.{mode_of, form_at, IsFile, IsPlaceOf, named, stored, NamesBlock}
 use Rattle.vol_layout.specs.Body.{body_byte, zone_byte}
 use Rattle.vol_layout.specs.declared.geometry.Geometry.{Geometry}
-use Rattle.vol_layout.specs.declared.block_map.Form.TheVariants.{Small, Large}
+use Rattle.vol_layout.specs.declared.block_map.BlockMap.TheVariants.{Small, Large}
 use Rattle.vol_layout.proofs.InodeLaws.{mode_kept, size_kept, form_kept}
 use Rattle.vol_layout.proofs.PlaceLaws.{IsLeaf, leaf_block, last_leaf, has_no_way, large_levels, small_levels}
 use Rattle.vol_layout.proofs.BodyLaws.{body_byte_is, zone_byte_out}

@@ -12,7 +12,7 @@ use Rattle.vol_layout.specs.Names.{mode_of, form_at, IsFile, IsPlaceOf, named, p
 use Rattle.vol_layout.specs.declared.edition.Edition.{Edition}
 use Rattle.vol_layout.specs.declared.edition.Edition.TheVariants.{V6, V7}
 use Rattle.vol_layout.specs.declared.geometry.Geometry.{Geometry}
-use Rattle.vol_layout.specs.declared.block_map.Form.TheVariants.{Small, Large, Deep, Bare}
+use Rattle.vol_layout.specs.declared.block_map.BlockMap.TheVariants.{Small, Large, Deep, Bare}
 use Rattle.vol_layout.proofs.InodeLaws.{KeepsInode, place_from, place_room, mode_kept, size_kept, address_kept}
 use Rattle.vol_layout.proofs.AddressLaws.{address_others, addresses_before, size_behind, size_above}
 use Rattle.vol_layout.proofs.BodyLaws.{zone_bounds}

@@ -12,8 +12,8 @@ use Rattle.vol_layout.specs.Names.{mode_of, form_at, IsFile, IsPlaceOf, named}
 use Rattle.vol_layout.specs.declared.geometry.Geometry.{Geometry}
 use Rattle.vol_layout.specs.declared.edition.Edition.{Edition}
 use Rattle.vol_layout.specs.declared.edition.Edition.TheVariants.{V6, V7}
-use Rattle.vol_layout.specs.declared.block_map.Form.{Form}
-use Rattle.vol_layout.specs.declared.block_map.Form.TheVariants.{Small, Large, Deep, Bare}
+use Rattle.vol_layout.specs.declared.block_map.BlockMap.{BlockMap}
+use Rattle.vol_layout.specs.declared.block_map.BlockMap.TheVariants.{Small, Large, Deep, Bare}
 use Rattle.vol_layout.proofs.InodeLaws.{form_same}
 use Rattle.vol_file.specs.Shape.{is_named, is_on_ways, grows_large, moved_down}
 use Rattle.vol_file.specs.Laws.{IsAmong}
@@ -48,7 +48,7 @@ lacking_none geometry old new i wanted file mode names =
     ∙ count_none (λ p. false) (places (form_at geometry new i)) (λ p. refl)
 
 -- the places lacking on some ways are those missing there
-lacking_missing : (geometry : Geometry) (image : List ℕ) (i : ℕ) (form : Form) (names : List ℕ → Bool) (touches : List ℕ)
+lacking_missing : (geometry : Geometry) (image : List ℕ) (i : ℕ) (form : BlockMap) (names : List ℕ → Bool) (touches : List ℕ)
     → form_at geometry image i ≡ form → ((p : List ℕ) → IsPlace form p → is_named geometry image i p ≡ names p)
     → lacking geometry image i (is_on_ways form touches) ≡ missing_count form names touches
 unfolding lacking missing_count
@@ -58,28 +58,28 @@ lacking_missing geometry image i form names touches is same =
     (λ p among. ap (λ t. is_on_ways form touches p && not t) (same p (among_places form p among)))
 
 -- a file that becomes large is a small one, and its ninth block or a later one is touched
-pub grows_small : (form : Form) (last : ℕ) → grows_at form last ≡ true → (form ≡ Small) × (8 ≤ last)
+pub grows_small : (form : BlockMap) (last : ℕ) → grows_at form last ≡ true → (form ≡ Small) × (8 ≤ last)
 grows_small Small last e = (refl, grind (arith, nat_tests))
 grows_small Large last e = absurd (cc)
 grows_small Deep last e = absurd (cc)
 grows_small Bare last e = absurd (cc)
 
 -- of a small file that doesn't become large one of the first eight blocks is touched
-pub grows_few : (form : Form) (last : ℕ) → grows_at form last ≡ false → form ≡ Small → last < 8
+pub grows_few : (form : BlockMap) (last : ℕ) → grows_at form last ≡ false → form ≡ Small → last < 8
 grows_few Small last e small = grind (arith, nat_tests)
 grows_few Large last e small = absurd (cc)
 grows_few Deep last e small = absurd (cc)
 grows_few Bare last e small = absurd (cc)
 
 -- the need if the file keeps its form
-need_plain : (form : Form) (names : List ℕ → Bool) (touches : List ℕ) → grows_large form touches ≡ false
+need_plain : (form : BlockMap) (names : List ℕ → Bool) (touches : List ℕ) → grows_large form touches ≡ false
     → need_of form names touches ≡ missing_count form names touches
 unfolding need_of
 need_plain form names touches grows =
     rw grows (omega arith)
 
 -- the need if the file becomes large
-need_large : (form : Form) (names : List ℕ → Bool) (touches : List ℕ) → grows_large form touches ≡ true
+need_large : (form : BlockMap) (names : List ℕ → Bool) (touches : List ℕ) → grows_large form touches ≡ true
     → need_of form names touches ≡ missing_count Large (moved_down names) touches + 1
 unfolding need_of
 need_large form names touches grows = rw grows refl
@@ -106,13 +106,13 @@ taken_count : (blocks taken rest : List ℕ) → blocks ≡ taken ++ rest → le
 taken_count blocks taken rest e = ap length e ∙ length-append taken rest
 
 -- the places for which blocks are taken if the file keeps its form
-taken_plain : (form : Form) (names : List ℕ → Bool) (touches : List ℕ) → grows_large form touches ≡ false
+taken_plain : (form : BlockMap) (names : List ℕ → Bool) (touches : List ℕ) → grows_large form touches ≡ false
     → places_taken form names touches ≡ missing_places form names touches
 taken_plain form names touches grows =
     ap (λ t. (if t then (0 ∷ []) ∷ [] else []) ++ missing_places (if t then Large else form) (if t then moved_down names else names) touches) grows
 
 -- the places for which blocks are taken if the file becomes large
-taken_large : (form : Form) (names : List ℕ → Bool) (touches : List ℕ) → grows_large form touches ≡ true
+taken_large : (form : BlockMap) (names : List ℕ → Bool) (touches : List ℕ) → grows_large form touches ≡ true
     → places_taken form names touches ≡ (0 ∷ []) ∷ missing_places Large (moved_down names) touches
 taken_large form names touches grows =
     ap (λ t. (if t then (0 ∷ []) ∷ [] else []) ++ missing_places (if t then Large else form) (if t then moved_down names else names) touches) grows
@@ -248,14 +248,14 @@ high_run from (suc (suc n)) some h =
     ap (λ t. leb 8 from || t) (high_run (from + 1) (suc n) (omega arith) (omega arith)) ∙ or_true (leb 8 from)
 
 -- a run within the first eight blocks, or of a file that isn't small, makes no file large
-pub grows_not : (form : Form) (from n : ℕ) → (form ≡ Small → from + n ≤ 8) → grows_large form (range_with_len from n) ≡ false
+pub grows_not : (form : BlockMap) (from n : ℕ) → (form ≡ Small → from + n ≤ 8) → grows_large form (range_with_len from n) ≡ false
 grows_not Small from n low = low_run from n (low refl)
 grows_not Large from n low = refl
 grows_not Deep from n low = refl
 grows_not Bare from n low = refl
 
 -- a run past the first eight blocks makes a small file large
-pub grows_then : (form : Form) (from n : ℕ) → form ≡ Small → 1 ≤ n → 8 < from + n → grows_large form (range_with_len from n) ≡ true
+pub grows_then : (form : BlockMap) (from n : ℕ) → form ≡ Small → 1 ≤ n → 8 < from + n → grows_large form (range_with_len from n) ≡ true
 grows_then form from n is some high = ap (λ f. grows_large f (range_with_len from n)) is ∙ high_run from n some high
 
 -- the bound on blocks that the greatest size gives
@@ -288,6 +288,6 @@ enlarged_file geometry old mid i blocks file enlarged =
     record { first = file.first; last = file.last; kind = large_kind geometry.edition (mode_of geometry mid i) enlarged.form }
 
 -- if the file becomes large a block is needed
-pub room_some : (form : Form) (names : List ℕ → Bool) (touches blocks : List ℕ) → grows_large form touches ≡ true
+pub room_some : (form : BlockMap) (names : List ℕ → Bool) (touches blocks : List ℕ) → grows_large form touches ≡ true
     → need_of form names touches ≤ length blocks → 1 ≤ length blocks
 room_some form names touches blocks grows room = let need = need_large form names touches grows in omega (arith, need, room)

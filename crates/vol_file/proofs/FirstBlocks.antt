@@ -7,28 +7,28 @@ use Rattle.vol_layout.specs.Places.{pointer_count, levels_below, IsPlace}
 use Rattle.vol_layout.specs.Laws.{IsFront}
 use Rattle.vol_layout.specs.declared.edition.Edition.{Edition}
 use Rattle.vol_layout.specs.declared.edition.Edition.TheVariants.{V6, V7}
-use Rattle.vol_layout.specs.declared.block_map.Form.{Form}
-use Rattle.vol_layout.specs.declared.block_map.Form.TheVariants.{Small, Large, Deep, Bare}
+use Rattle.vol_layout.specs.declared.block_map.BlockMap.{BlockMap}
+use Rattle.vol_layout.specs.declared.block_map.BlockMap.TheVariants.{Small, Large, Deep, Bare}
 use Rattle.vol_file.specs.Clears.{first_block, is_past}
 
 -- a place is past the kept blocks if its first block is
-pub past_true : (form : Form) (kept : ℕ) (q : List ℕ) → kept ≤ first_block form q → is_past form kept q ≡ true
+pub past_true : (form : BlockMap) (kept : ℕ) (q : List ℕ) → kept ≤ first_block form q → is_past form kept q ≡ true
 past_true form kept q h = grind (arith, nat_tests, h)
 
 -- a place isn't past them if its first block is kept
-pub past_false : (form : Form) (kept : ℕ) (q : List ℕ) → first_block form q < kept → is_past form kept q ≡ false
+pub past_false : (form : BlockMap) (kept : ℕ) (q : List ℕ) → first_block form q < kept → is_past form kept q ≡ false
 past_false form kept q h = grind (arith, nat_tests, h)
 
 -- a place past the kept blocks has its first block past them
-pub past_from : (form : Form) (kept : ℕ) (q : List ℕ) → is_past form kept q ≡ true → kept ≤ first_block form q
+pub past_from : (form : BlockMap) (kept : ℕ) (q : List ℕ) → is_past form kept q ≡ true → kept ≤ first_block form q
 past_from form kept q h = grind (arith, nat_tests, h)
 
 -- a place that isn't past them has its first block among them
-pub past_within : (form : Form) (kept : ℕ) (q : List ℕ) → is_past form kept q ≡ false → first_block form q < kept
+pub past_within : (form : BlockMap) (kept : ℕ) (q : List ℕ) → is_past form kept q ≡ false → first_block form q < kept
 past_within form kept q h = grind (arith, nat_tests, h)
 
 -- the first block below a place is no earlier than that of a front
-pub first_front : (form : Form) (a : ℕ) (p q : List ℕ) → IsFront (a ∷ p) q → first_block form (a ∷ p) ≤ first_block form q
+pub first_front : (form : BlockMap) (a : ℕ) (p q : List ℕ) → IsFront (a ∷ p) q → first_block form (a ∷ p) ≤ first_block form q
 first_front form a p [] front = absurd front
 first_front form a p (j ∷ r) (inl e) = subst (λ x. first_block form (a ∷ p) ≤ first_block form x) e (omega arith)
 first_front form a p (j ∷ []) (inr front) = absurd front
@@ -37,18 +37,18 @@ first_front form a p (j ∷ (b ∷ r)) (inr front) =
     omega (arith, above)
 
 -- a place with a front past the kept blocks is past them
-pub past_front : (form : Form) (kept a : ℕ) (p q : List ℕ) → is_past form kept (a ∷ p) ≡ true → IsFront (a ∷ p) q → is_past form kept q ≡ true
+pub past_front : (form : BlockMap) (kept a : ℕ) (p q : List ℕ) → is_past form kept (a ∷ p) ≡ true → IsFront (a ∷ p) q → is_past form kept q ≡ true
 past_front form kept a p q on front =
     let here = past_from form kept (a ∷ p) on in
     let later = first_front form a p q front in
     past_true form kept q (omega (arith, here, later))
 
 -- the number of logical blocks at or below a place
-abbrev pub spread_of : Form → List ℕ → ℕ
+abbrev pub spread_of : BlockMap → List ℕ → ℕ
 spread_of form q = pointer_count form ^ levels_below form q
 
 -- a form with a place has pointers
-pub some_pointers : (form : Form) (p : List ℕ) → IsPlace form p → 1 ≤ pointer_count form
+pub some_pointers : (form : BlockMap) (p : List ℕ) → IsPlace form p → 1 ≤ pointer_count form
 some_pointers Small p place = omega arith
 some_pointers Large p place = omega arith
 some_pointers Deep p place = omega arith
@@ -57,20 +57,20 @@ some_pointers Bare (k ∷ []) place = absurd (omega (arith, place))
 some_pointers Bare (j ∷ (a ∷ p)) place = absurd (omega (arith, place.0))
 
 -- at least one block lies at or below a place
-pub spread_some : (form : Form) (p : List ℕ) → IsPlace form p → 1 ≤ spread_of form p
+pub spread_some : (form : BlockMap) (p : List ℕ) → IsPlace form p → 1 ≤ spread_of form p
 spread_some form p place =
     let some = some_pointers form p place in
     one-le-pow (levels_below form p) (pointer_count form) (omega (arith, some))
 
 -- an entry has its part of the blocks below its block
-spread_entry : (form : Form) (j a : ℕ) (p : List ℕ) → IsPlace form (j ∷ (a ∷ p))
+spread_entry : (form : BlockMap) (j a : ℕ) (p : List ℕ) → IsPlace form (j ∷ (a ∷ p))
     → spread_of form (a ∷ p) ≡ spread_of form (j ∷ (a ∷ p)) * pointer_count form
 spread_entry form j a p place =
     let next : levels_below form (a ∷ p) ≡ suc (levels_below form (j ∷ (a ∷ p))) = omega (arith, place.1) in
     ap (λ d. pointer_count form ^ d) next ∙ pow-suc (pointer_count form) (levels_below form (j ∷ (a ∷ p)))
 
 -- the blocks below a place end no later than those below a front
-pub spread_front : (form : Form) (a : ℕ) (p q : List ℕ) → IsPlace form q → IsFront (a ∷ p) q
+pub spread_front : (form : BlockMap) (a : ℕ) (p q : List ℕ) → IsPlace form q → IsFront (a ∷ p) q
     → first_block form q + spread_of form q ≤ first_block form (a ∷ p) + spread_of form (a ∷ p)
 spread_front form a p [] place front = absurd front
 spread_front form a p (j ∷ r) place (inl e) =
@@ -86,7 +86,7 @@ spread_front form a p (j ∷ (b ∷ r)) place (inr front) =
     omega (arith, above, whole, part, split, turn)
 
 -- the first block below an entry, by the numbers of its edition
-pub entry_first : (form : Form) (n level j a : ℕ) (p : List ℕ) → pointer_count form ≡ n → levels_below form (a ∷ p) ≡ level
+pub entry_first : (form : BlockMap) (n level j a : ℕ) (p : List ℕ) → pointer_count form ≡ n → levels_below form (a ∷ p) ≡ level
     → first_block form (j ∷ (a ∷ p)) ≡ first_block form (a ∷ p) + j * n ^ (level - 1)
 entry_first form n level j a p many deep =
     ap (λ c. first_block form (a ∷ p) + j * c ^ levels_below form (j ∷ (a ∷ p))) many
@@ -97,22 +97,22 @@ sub_more : (bound first more kept rest : ℕ) → kept ≡ bound - first → res
 sub_more bound first more kept rest e f = omega arith
 
 -- the number of kept blocks below an entry, or after it
-pub entry_rest : (form : Form) (n level j a bound kept rest : ℕ) (p : List ℕ) → pointer_count form ≡ n → levels_below form (a ∷ p) ≡ level
+pub entry_rest : (form : BlockMap) (n level j a bound kept rest : ℕ) (p : List ℕ) → pointer_count form ≡ n → levels_below form (a ∷ p) ≡ level
     → kept ≡ bound - first_block form (a ∷ p) → rest ≡ kept - j * n ^ (level - 1) → rest ≡ bound - first_block form (j ∷ (a ∷ p))
 entry_rest form n level j a bound kept rest p many deep e f =
     sub_more bound (first_block form (a ∷ p)) (j * n ^ (level - 1)) kept rest e f
     ∙ ap (λ x. bound - x) (sym (entry_first form n level j a p many deep))
 
 -- if no kept blocks are left at a place, it is past them
-pub rest_past : (form : Form) (bound rest : ℕ) (q : List ℕ) → rest ≡ bound - first_block form q → rest ≡ 0 → is_past form bound q ≡ true
+pub rest_past : (form : BlockMap) (bound rest : ℕ) (q : List ℕ) → rest ≡ bound - first_block form q → rest ≡ 0 → is_past form bound q ≡ true
 rest_past form bound rest q e none = past_true form bound q (omega arith)
 
 -- if some are left, it isn't
-pub rest_kept : (form : Form) (bound rest : ℕ) (q : List ℕ) → rest ≡ bound - first_block form q → (rest ≡ 0 → ⊥) → is_past form bound q ≡ false
+pub rest_kept : (form : BlockMap) (bound rest : ℕ) (q : List ℕ) → rest ≡ bound - first_block form q → (rest ≡ 0 → ⊥) → is_past form bound q ≡ false
 rest_kept form bound rest q e some = past_false form bound q (omega arith)
 
 -- entries before that in which the kept blocks end have nothing past them
-pub entry_kept : (form : Form) (n level x j a bound kept : ℕ) (p q : List ℕ) → pointer_count form ≡ n → levels_below form (a ∷ p) ≡ level
+pub entry_kept : (form : BlockMap) (n level x j a bound kept : ℕ) (p q : List ℕ) → pointer_count form ≡ n → levels_below form (a ∷ p) ≡ level
     → kept ≡ bound - first_block form (a ∷ p) → x < j → j ≤ kept / n ^ (level - 1)
     → IsPlace form q → IsFront (x ∷ (a ∷ p)) q → is_past form bound q ≡ false
 entry_kept form n level x j a bound kept p q many deep e less within place front =
@@ -129,7 +129,7 @@ entry_kept form n level x j a bound kept p q many deep e less within place front
     past_false form bound q (omega (arith, low, some, split, first, second, third, e))
 
 -- no place has more than three levels below it
-pub levels_few : (form : Form) (p : List ℕ) → IsPlace form p → levels_below form p ≤ 3
+pub levels_few : (form : BlockMap) (p : List ℕ) → IsPlace form p → levels_below form p ≤ 3
 levels_few form [] place = absurd place
 levels_few Small (k ∷ []) place = omega arith
 levels_few Large (k ∷ []) place = grind (arith, nat_tests)

@@ -4,28 +4,28 @@ use Rattle.vol_layout.specs.Edition.{constants}
 use Rattle.vol_layout.specs.Places.{first_count, pointer_count, last_place, place_to, end_of}
 use Rattle.vol_layout.specs.Names.{mode_of, form_at, pointer_in, named}
 use Rattle.vol_layout.specs.declared.geometry.Geometry.{Geometry}
-use Rattle.vol_layout.specs.declared.block_map.Form.{Form}
-use Rattle.vol_layout.specs.declared.block_map.Form.TheVariants.{Small, Large, Deep, Bare}
-use Rattle.vol_layout.specs.declared.block_map.Way.{Way}
+use Rattle.vol_layout.specs.declared.block_map.BlockMap.{BlockMap}
+use Rattle.vol_layout.specs.declared.block_map.BlockMap.TheVariants.{Small, Large, Deep, Bare}
+use Rattle.vol_layout.specs.declared.block_map.BlockPath.{BlockPath}
 use Rattle.vol_layout.proofs.CopyLaws.{number_room}
 use Rattle.vol_layout.proofs.FrameLaws.{pointers_of}
 use Rattle.vol_layout.proofs.PlaceLaws.{way_place, entry_to}
 
 -- an i-node has at most 13 addresses
-first_few : (form : Form) → first_count form ≤ 13
+first_few : (form : BlockMap) → first_count form ≤ 13
 first_few Small = omega arith
 first_few Large = omega arith
 first_few Deep = omega arith
 first_few Bare = omega arith
 
 -- the address on a way is one of an i-node
-pub way_address : (form : Form) (b : ℕ) (way : Way) → Some (end_of way) ≡ last_place form b → way.address < 13
+pub way_address : (form : BlockMap) (b : ℕ) (way : BlockPath) → Some (end_of way) ≡ last_place form b → way.address < 13
 way_address form b way e =
     let place : way.address < first_count form = way_place form b way 0 e (omega arith) in
     omega (arith, place, first_few form)
 
 -- an entry on a way is one of an indirect block
-pub way_entry : (geometry : Geometry) (image : List ℕ) (i : ℕ) (form : Form) (b : ℕ) (way : Way) (d : ℕ)
+pub way_entry : (geometry : Geometry) (image : List ℕ) (i : ℕ) (form : BlockMap) (b : ℕ) (way : BlockPath) (d : ℕ)
     → form ≡ form_at geometry image i → Some (end_of way) ≡ last_place form b → d < way.depth
     → (constants geometry.edition).number_bytes * (slice_index way.entries d + 1) ≤ 512
 way_entry geometry image i form b way d same e h =

@@ -10,8 +10,8 @@ use Rattle.vol_layout.specs.Places.{levels, levels_below, IsPlace, block_limit, 
 use Rattle.vol_layout.specs.Laws.{IsFront}
 use Rattle.vol_layout.specs.Names.{form_at}
 use Rattle.vol_layout.specs.declared.geometry.Geometry.{Geometry}
-use Rattle.vol_layout.specs.declared.block_map.Form.{Form}
-use Rattle.vol_layout.specs.declared.block_map.Form.TheVariants.{Small, Large, Deep, Bare}
+use Rattle.vol_layout.specs.declared.block_map.BlockMap.{BlockMap}
+use Rattle.vol_layout.specs.declared.block_map.BlockMap.TheVariants.{Small, Large, Deep, Bare}
 use Rattle.vol_layout.proofs.PlaceLaws.{leaf_block, small_levels, last_leaf, front_above}
 use Rattle.vol_layout.proofs.LastPlaces.{last_small, last_large, last_huge, last_direct, last_single, last_double, last_triple}
 use Rattle.vol_file.specs.Shape.{is_on_ways}
@@ -69,7 +69,7 @@ deep_long (k ∷ []) place = omega (arith, place)
 deep_long (j ∷ (a ∷ p)) place = let above = deep_long (a ∷ p) place.2 in omega (arith, above, place.1)
 
 -- the first logical block at a place with nothing below it is the one that ends there
-pub first_leaf : (form : Form) (q : List ℕ) → IsPlace form q → levels_below form q ≡ 0 → first_block form q ≡ leaf_block form q
+pub first_leaf : (form : BlockMap) (q : List ℕ) → IsPlace form q → levels_below form q ≡ 0 → first_block form q ≡ leaf_block form q
 first_leaf form [] place bottom = absurd place
 first_leaf Small (k ∷ []) place bottom = refl
 first_leaf Small (j ∷ (a ∷ p)) place bottom = let none = small_levels (a ∷ p) in absurd (omega (arith, place.1, none))
@@ -108,7 +108,7 @@ first_leaf Bare (k ∷ []) place bottom = refl
 first_leaf Bare (j ∷ (a ∷ p)) place bottom = absurd (omega (arith, place.0))
 
 -- of a place with nothing below it, and a logical block that a file can have, the way of the block ends there
-last_at : (form : Form) (q : List ℕ) → IsPlace form q → levels_below form q ≡ 0 → leaf_block form q < block_limit form
+last_at : (form : BlockMap) (q : List ℕ) → IsPlace form q → levels_below form q ≡ 0 → leaf_block form q < block_limit form
     → last_place form (leaf_block form q) ≡ Some q
 last_at form [] place bottom low = absurd place
 last_at Small (k ∷ []) place bottom low = last_small k low
@@ -146,7 +146,7 @@ last_at Bare (k ∷ []) place bottom low = absurd (omega (arith, place))
 last_at Bare (j ∷ (a ∷ p)) place bottom low = absurd (omega (arith, place.0))
 
 -- the first place with nothing below it that has a place as a front, and the same first logical block
-record Bottom (form : Form) (p : List ℕ) : Type 0 where
+record Bottom (form : BlockMap) (p : List ℕ) : Type 0 where
   leaf : List ℕ
   place : IsPlace form leaf
   bottom : levels_below form leaf ≡ 0
@@ -154,7 +154,7 @@ record Bottom (form : Form) (p : List ℕ) : Type 0 where
   same : first_block form leaf ≡ first_block form p
 
 -- if the first place below another has the property, so has the other
-bottom_above : (form : Form) (a : ℕ) (p : List ℕ) → Bottom form (0 ∷ (a ∷ p)) → Bottom form (a ∷ p)
+bottom_above : (form : BlockMap) (a : ℕ) (p : List ℕ) → Bottom form (0 ∷ (a ∷ p)) → Bottom form (a ∷ p)
 bottom_above form a p next =
     let start : first_block form (0 ∷ (a ∷ p)) ≡ first_block form (a ∷ p) = omega arith in
     record {
@@ -166,7 +166,7 @@ bottom_above form a p next =
     }
 
 -- each place has one
-bottom_of : (form : Form) (d a : ℕ) (p : List ℕ) → IsPlace form (a ∷ p) → levels_below form (a ∷ p) ≡ d → Bottom form (a ∷ p)
+bottom_of : (form : BlockMap) (d a : ℕ) (p : List ℕ) → IsPlace form (a ∷ p) → levels_below form (a ∷ p) ≡ d → Bottom form (a ∷ p)
 bottom_of form zero a p place deep = record { leaf = a ∷ p; place = place; bottom = deep; front = inl refl; same = refl }
 bottom_of form (suc d) a p place deep =
     let some = some_pointers form (a ∷ p) place in
@@ -174,7 +174,7 @@ bottom_of form (suc d) a p place deep =
     bottom_above form a p (bottom_of form d 0 (a ∷ p) entry (omega (arith, deep)))
 
 -- a place is on the way of its first logical block
-on_first : (form : Form) (a : ℕ) (p : List ℕ) → IsPlace form (a ∷ p) → first_block form (a ∷ p) < block_limit form
+on_first : (form : BlockMap) (a : ℕ) (p : List ℕ) → IsPlace form (a ∷ p) → first_block form (a ∷ p) < block_limit form
     → list_any (bytes_eq (a ∷ p)) (way form (first_block form (a ∷ p))) ≡ true
 on_first form a p place low =
     let q = bottom_of form (levels_below form (a ∷ p)) a p place refl in
@@ -184,7 +184,7 @@ on_first form a p place low =
     ap (list_any (bytes_eq (a ∷ p))) (way_is form (first_block form (a ∷ p)) q.leaf end) ∙ front_true q.leaf (a ∷ p) q.front
 
 -- a place is on the way of no logical block before its first
-off_before : (form : Form) (a : ℕ) (p : List ℕ) (b : ℕ) → b < first_block form (a ∷ p) → list_any (bytes_eq (a ∷ p)) (way form b) ≡ false
+off_before : (form : BlockMap) (a : ℕ) (p : List ℕ) (b : ℕ) → b < first_block form (a ∷ p) → list_any (bytes_eq (a ∷ p)) (way form b) ≡ false
 off_before form a p b low =
     elim (last_place form b) as (λ o. last_place form b ≡ o → list_any (bytes_eq (a ∷ p)) (way form b) ≡ false) [
       | None ↦ λ e. ap (λ o. list_any (bytes_eq (a ∷ p)) (option_map_or fronts o [])) e
@@ -201,7 +201,7 @@ off_before form a p b low =
     ] refl
 
 -- a place on the way of no block of a run is on no way of the run
-off_run : (form : Form) (p : List ℕ) (a n : ℕ) → ((b : ℕ) → a ≤ b → b < a + n → list_any (bytes_eq p) (way form b) ≡ false)
+off_run : (form : BlockMap) (p : List ℕ) (a n : ℕ) → ((b : ℕ) → a ≤ b → b < a + n → list_any (bytes_eq p) (way form b) ≡ false)
     → is_on_ways form (range_with_len a n) p ≡ false
 off_run form p a zero off = refl
 off_run form p a (suc n) off =
@@ -209,7 +209,7 @@ off_run form p a (suc n) off =
     ∙ off_run form p (a + 1) n (λ b from low. off b (omega arith) (omega arith))
 
 -- the places on the ways of the first blocks are those that aren't past them
-kept_first : (form : Form) (kept a : ℕ) (p : List ℕ) → IsPlace form (a ∷ p) → kept ≤ block_limit form
+kept_first : (form : BlockMap) (kept a : ℕ) (p : List ℕ) → IsPlace form (a ∷ p) → kept ≤ block_limit form
     → is_on_ways form (range_with_len 0 kept) (a ∷ p) ≡ not (is_past form kept (a ∷ p))
 kept_first form kept a p place few =
     elim (cases_lt (first_block form (a ∷ p)) kept) [
@@ -224,7 +224,7 @@ kept_first form kept a p place few =
     ]
 
 -- the kept places are those that aren't past the kept blocks
-pub kept_is : (form : Form) (left : ℕ) (p : List ℕ) → IsPlace form p → whole_blocks left ≤ block_limit form
+pub kept_is : (form : BlockMap) (left : ℕ) (p : List ℕ) → IsPlace form p → whole_blocks left ≤ block_limit form
     → is_kept form left p ≡ not (is_past form (whole_blocks left) p)
 kept_is form left [] place few = absurd place
 kept_is form left (a ∷ p) place few = kept_first form (whole_blocks left) a p place few

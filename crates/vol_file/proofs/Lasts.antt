@@ -8,8 +8,8 @@ use Rattle.vol_layout.specs.Places.{last_place, place_to, end_of, fronts, way}
 use Rattle.vol_layout.specs.Laws.{IsFront}
 use Rattle.vol_layout.specs.Names.{form_at}
 use Rattle.vol_layout.specs.declared.geometry.Geometry.{Geometry}
-use Rattle.vol_layout.specs.declared.block_map.Form.{Form}
-use Rattle.vol_layout.specs.declared.block_map.Way.{Way}
+use Rattle.vol_layout.specs.declared.block_map.BlockMap.{BlockMap}
+use Rattle.vol_layout.specs.declared.block_map.BlockPath.{BlockPath}
 use Rattle.vol_layout.proofs.PlaceLaws.{front_to, way_place}
 use Rattle.vol_file.specs.Steps.{Reaches, IsWanted, MayName, NamesNext, MayNameEntry, MayNameWay, WantsWay, NamesWay, has_front, unnamed_of}
 use Rattle.vol_file.specs.Shape.{is_named}
@@ -28,15 +28,15 @@ front_true (j ∷ q) s (inl e) = ap (λ t. t || has_front q s) (bytes_same s (j 
 front_true (j ∷ q) s (inr front) = ap (λ t. bytes_eq s (j ∷ q) || t) (front_true q s front) ∙ or_true (bytes_eq s (j ∷ q))
 
 -- the way of a logical block is the fronts of its last place
-pub way_is : (form : Form) (b : ℕ) (q : List ℕ) → last_place form b ≡ Some q → way form b ≡ fronts q
+pub way_is : (form : BlockMap) (b : ℕ) (q : List ℕ) → last_place form b ≡ Some q → way form b ≡ fronts q
 way_is form b q e = ap (λ o. option_map_or fronts o []) e
 
 -- the last place by the form of a file
-way_end : (form at : Form) (b : ℕ) (way : Way) → form ≡ at → Some (end_of way) ≡ last_place form b → last_place at b ≡ Some (end_of way)
+way_end : (form at : BlockMap) (b : ℕ) (way : BlockPath) → form ≡ at → Some (end_of way) ≡ last_place form b → last_place at b ≡ Some (end_of way)
 way_end form at b way is end = ap (λ f. last_place f b) (sym is) ∙ sym end
 
 -- each place on the way is wanted
-pub way_wanted : (geometry : Geometry) (image : List ℕ) (i : ℕ) (form : Form) (wanted : List ℕ → Bool) (b : ℕ) (blocks : List ℕ) (way : Way) (d : ℕ)
+pub way_wanted : (geometry : Geometry) (image : List ℕ) (i : ℕ) (form : BlockMap) (wanted : List ℕ → Bool) (b : ℕ) (blocks : List ℕ) (way : BlockPath) (d : ℕ)
     → form ≡ form_at geometry image i → Some (end_of way) ≡ last_place form b → WantsWay geometry image i wanted b blocks → d ≤ way.depth
     → IsWanted geometry image i wanted (place_to way.address way.entries d) blocks
 way_wanted geometry image i form wanted b blocks way d is end wants h =
@@ -50,7 +50,7 @@ way_wanted geometry image i form wanted b blocks way d is end wants h =
     }
 
 -- if all its entries are named the way is named
-pub way_named : (geometry : Geometry) (old new : List ℕ) (i : ℕ) (form : Form) (wanted : List ℕ → Bool) (b : ℕ) (blocks : List ℕ) (way : Way) (d k : ℕ)
+pub way_named : (geometry : Geometry) (old new : List ℕ) (i : ℕ) (form : BlockMap) (wanted : List ℕ → Bool) (b : ℕ) (blocks : List ℕ) (way : BlockPath) (d k : ℕ)
     → form ≡ form_at geometry old i → Some (end_of way) ≡ last_place form b → d ≡ way.depth
     → Reaches geometry old new i wanted (place_to way.address way.entries d) blocks k → NamesWay geometry old new i wanted b blocks
 way_named geometry old new i form wanted b blocks way d k is end all reached =
@@ -64,13 +64,13 @@ way_named geometry old new i form wanted b blocks way d k is end all reached =
     }
 
 -- the address of the way may be named
-pub may_first : (geometry : Geometry) (image : List ℕ) (i : ℕ) (form : Form) (b : ℕ) (way : Way) → form ≡ form_at geometry image i
+pub may_first : (geometry : Geometry) (image : List ℕ) (i : ℕ) (form : BlockMap) (b : ℕ) (way : BlockPath) → form ≡ form_at geometry image i
     → Some (end_of way) ≡ last_place form b → MayNameWay geometry image i b → MayName geometry image i (way.address ∷ [])
 may_first geometry image i form b way is end may =
     record { wanted = may.wanted; blocks = may.blocks; is = way_wanted geometry image i form may.wanted b may.blocks way 0 is end may.is (omega arith) }
 
 -- the next entry of the way may be named
-pub may_next : (geometry : Geometry) (old mid : List ℕ) (i : ℕ) (form : Form) (b : ℕ) (way : Way) (d m : ℕ) → form ≡ form_at geometry old i
+pub may_next : (geometry : Geometry) (old mid : List ℕ) (i : ℕ) (form : BlockMap) (b : ℕ) (way : BlockPath) (d m : ℕ) → form ≡ form_at geometry old i
     → Some (end_of way) ≡ last_place form b → (may : MayNameWay geometry old i b) → d < way.depth
     → Reaches geometry old mid i may.wanted (place_to way.address way.entries d) may.blocks m → MayNameEntry geometry mid m (slice_index way.entries d)
 may_next geometry old mid i form b way zero m is end may h reached = record {
@@ -93,7 +93,7 @@ may_next geometry old mid i form b way (suc d) m is end may h reached = record {
 }
 
 -- the effect of naming the next entry
-pub way_next : (geometry : Geometry) (old mid new : List ℕ) (i : ℕ) (form : Form) (wanted : List ℕ → Bool) (b : ℕ) (blocks : List ℕ) (way : Way) (d m k : ℕ)
+pub way_next : (geometry : Geometry) (old mid new : List ℕ) (i : ℕ) (form : BlockMap) (wanted : List ℕ → Bool) (b : ℕ) (blocks : List ℕ) (way : BlockPath) (d m k : ℕ)
     → form ≡ form_at geometry old i → Some (end_of way) ≡ last_place form b → WantsWay geometry old i wanted b blocks → d < way.depth
     → Reaches geometry old mid i wanted (place_to way.address way.entries d) blocks m
     → ((a : ℕ) (p : List ℕ) → NamesNext geometry old mid i wanted (slice_index way.entries d) a p blocks m

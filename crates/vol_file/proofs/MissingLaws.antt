@@ -11,8 +11,8 @@ use Rattle.std.specs.Prelude.{nat_le, nat_lt}
 use Rattle.std.proofs.Math.Bool.{or-false, or_assoc}
 use Rattle.vol_layout.specs.Places.{pointer_count, levels, levels_below, IsPlace, block_limit, last_place, place_to, fronts, way, places}
 use Rattle.vol_layout.specs.Laws.{IsFront}
-use Rattle.vol_layout.specs.declared.block_map.Form.{Form}
-use Rattle.vol_layout.specs.declared.block_map.Form.TheVariants.{Small, Large, Deep, Bare}
+use Rattle.vol_layout.specs.declared.block_map.BlockMap.{BlockMap}
+use Rattle.vol_layout.specs.declared.block_map.BlockMap.TheVariants.{Small, Large, Deep, Bare}
 use Rattle.vol_layout.proofs.PlaceLaws.{last_leaf, has_no_way}
 use Rattle.vol_file.specs.Shape.{touched, is_on_ways, moved_down, grows_large}
 use Rattle.vol_file.specs.Need.{missing_count, need_of}
@@ -135,7 +135,7 @@ count_if true s names qs n h = h
 count_if false s names qs n h = count_none (λ q. false) qs (λ q. refl)
 
 -- of a form's places, those that count on the way to p and name nothing are as many as the recursion says
-pub count_new : (form : Form) (names : List ℕ → Bool) (whole : Bool) (p : List ℕ) → IsPlace form p
+pub count_new : (form : BlockMap) (names : List ℕ → Bool) (whole : Bool) (p : List ℕ) → IsPlace form p
     → count_by (λ q. is_new whole p q && not (names q)) (places form) ≡ missing_to names whole p
 count_new form names whole [] place = absurd place
 count_new form names whole (k ∷ []) place = count_at names (k ∷ []) (places form) (places_once form (k ∷ []) place)
@@ -160,25 +160,25 @@ count_new form names whole (j ∷ (a ∷ p)) place =
 -- The first block through a place
 
 -- the number of logical blocks below a place with d levels below it
-abbrev spread : Form → ℕ → ℕ
+abbrev spread : BlockMap → ℕ → ℕ
 spread form zero = 1
 spread form (suc d) = pointer_count form * spread form d
 
 -- the first logical block through address k
-abbrev first_of : Form → ℕ → ℕ
+abbrev first_of : BlockMap → ℕ → ℕ
 first_of Small k = k
 first_of Large k = if k == 7 then 1792 else 256 * k
 first_of Deep k = if k == 12 then 16522 else if k == 11 then 138 else k
 first_of Bare k = k
 
 -- the first logical block through a place
-abbrev first_through : Form → List ℕ → ℕ
+abbrev first_through : BlockMap → List ℕ → ℕ
 first_through form [] = 0
 first_through form (k ∷ []) = first_of form k
 first_through form (j ∷ (a ∷ p)) = first_through form (a ∷ p) + j * spread form (levels_below form (j ∷ (a ∷ p)))
 
 -- no block before passes through a front
-first_front : (form : Form) (p q : List ℕ) → IsFront q p → first_through form q ≤ first_through form p
+first_front : (form : BlockMap) (p q : List ℕ) → IsFront q p → first_through form q ≤ first_through form p
 first_front form [] q front = absurd front
 first_front form (k ∷ []) q (inl e) = let same : first_through form q ≡ first_through form (k ∷ []) = ap (first_through form) e in omega (arith, same)
 first_front form (k ∷ []) q (inr none) = absurd none
@@ -188,7 +188,7 @@ first_front form (j ∷ (a ∷ p)) q (inr deeper) =
     let above : first_through form q ≤ first_through form (a ∷ p) = first_front form (a ∷ p) q deeper in omega (arith, above)
 
 -- a front that no earlier way has begins with the place
-first_new : (form : Form) (p q : List ℕ) → is_new false p q ≡ true → first_through form q ≡ first_through form p
+first_new : (form : BlockMap) (p q : List ℕ) → is_new false p q ≡ true → first_through form q ≡ first_through form p
 first_new form [] q e = absurd (cc)
 first_new form (k ∷ []) q e = ap (first_through form) (same_bytes q (k ∷ []) e)
 first_new form (j ∷ (a ∷ p)) q e =
@@ -233,11 +233,11 @@ front_same : (q p r : List ℕ) → p ≡ r → IsFront q p → IsFront q r
 front_same q p r e front = subst (IsFront q) e front
 
 -- q is on the way of logical block b
-abbrev pub IsOnWay : Form → ℕ → List ℕ → Type 0
+abbrev pub IsOnWay : BlockMap → ℕ → List ℕ → Type 0
 IsOnWay form b q = (p : List ℕ) × (last_place form b ≡ Some p) × IsFront q p
 
 -- p is the last place of logical block b; b is the first block through it, and its fronts above the zeros are on the way of the block before
-record IsLastOf (form : Form) (b : ℕ) (p : List ℕ) : Type 0 where
+record IsLastOf (form : BlockMap) (b : ℕ) (p : List ℕ) : Type 0 where
   starts : first_through form p ≡ b
   shares : (q : List ℕ) → IsFront q (above p) → (1 ≤ b) × IsOnWay form (b - 1) q
 
@@ -365,11 +365,11 @@ of_triple b l h = record {
 }
 
 -- the same place
-one_place : (form : Form) (b : ℕ) (p r : List ℕ) → last_place form b ≡ Some r → last_place form b ≡ Some p → IsLastOf form b r → IsLastOf form b p
+one_place : (form : BlockMap) (b : ℕ) (p r : List ℕ) → last_place form b ≡ Some r → last_place form b ≡ Some p → IsLastOf form b r → IsLastOf form b p
 one_place form b p r e f last = let same : Some r ≡ Some p = sym e ∙ f in let place : r ≡ p = cc in subst (IsLastOf form b) place last
 
 -- the form of the last place of each logical block
-last_of : (form : Form) (b : ℕ) (p : List ℕ) → last_place form b ≡ Some p → IsLastOf form b p
+last_of : (form : BlockMap) (b : ℕ) (p : List ℕ) → last_place form b ≡ Some p → IsLastOf form b p
 last_of Small b p e =
     one_place Small b p (b ∷ []) (last_small b (last_leaf Small b p e).limit) e (record { starts = refl; shares = λ q none. absurd none })
 last_of Large b p e =
@@ -396,19 +396,19 @@ last_of Bare b p e = let limit : b < 0 = (last_leaf Bare b p e).limit in absurd 
 -- Ways
 
 -- true if a place is on the way of logical block b
-abbrev pub is_on_way : Form → List ℕ → ℕ → Bool
+abbrev pub is_on_way : BlockMap → List ℕ → ℕ → Bool
 is_on_way form q b = list_any (bytes_eq q) (way form b)
 
 -- a place is on no way if there is none
-way_none : (form : Form) (q : List ℕ) (b : ℕ) → last_place form b ≡ None → is_on_way form q b ≡ false
+way_none : (form : BlockMap) (q : List ℕ) (b : ℕ) → last_place form b ≡ None → is_on_way form q b ≡ false
 way_none form q b e = ap (λ o. list_any (bytes_eq q) (option_map_or fronts o [])) e
 
 -- the places on a way are the fronts of its last place
-way_some : (form : Form) (q : List ℕ) (b : ℕ) (p : List ℕ) → last_place form b ≡ Some p → is_on_way form q b ≡ is_new true p q
+way_some : (form : BlockMap) (q : List ℕ) (b : ℕ) (p : List ℕ) → last_place form b ≡ Some p → is_on_way form q b ≡ is_new true p q
 way_some form q b p e = ap (λ o. list_any (bytes_eq q) (option_map_or fronts o [])) e ∙ fronts_new p q
 
 -- the test of a place on a way
-pub on_way_from : (form : Form) (q : List ℕ) (b : ℕ) → is_on_way form q b ≡ true → IsOnWay form b q
+pub on_way_from : (form : BlockMap) (q : List ℕ) (b : ℕ) → is_on_way form q b ≡ true → IsOnWay form b q
 on_way_from form q b passes =
     elim (last_place form b) as (λ o. last_place form b ≡ o → IsOnWay form b q) [
       | None ↦ λ e. let clash : true ≡ false = sym passes ∙ way_none form q b e in absurd (cc)
@@ -416,7 +416,7 @@ on_way_from form q b passes =
     ] refl
 
 -- the converse
-pub on_way : (form : Form) (q : List ℕ) (b : ℕ) → IsOnWay form b q → is_on_way form q b ≡ true
+pub on_way : (form : BlockMap) (q : List ℕ) (b : ℕ) → IsOnWay form b q → is_on_way form q b ≡ true
 on_way form q b on = way_some form q b on.0 on.1 ∙ front_new on.0 q on.2
 
 -- the numbers that pass a test in a range
@@ -447,7 +447,7 @@ any_more t a (suc n) =
     ∙ (sym (or_assoc (t a) (list_any t (range_with_len (a + 1) n)) (t (a + 1 + n))) ∙ ap (λ m. list_any t (range_with_len a (suc n)) || t m) same)
 
 -- a new front of a way is on no earlier way
-new_is_new : (form : Form) (p q : List ℕ) (first n : ℕ) → last_place form (first + n) ≡ Some p → is_new false p q ≡ true
+new_is_new : (form : BlockMap) (p q : List ℕ) (first n : ℕ) → last_place form (first + n) ≡ Some p → is_new false p q ≡ true
     → is_on_ways form (range_with_len first n) q ≡ true → ⊥
 new_is_new form p q first n e new passes =
     let found = any_from (is_on_way form q) first n passes in
@@ -459,7 +459,7 @@ new_is_new form p q first n e new passes =
     omega (arith, begin, low, here, same, found.2)
 
 -- a front of a way that isn't new is on the way of the block before
-old_is_old : (form : Form) (p q : List ℕ) (first n : ℕ) → last_place form (first + suc n) ≡ Some p → is_new true p q ≡ true
+old_is_old : (form : BlockMap) (p q : List ℕ) (first n : ℕ) → last_place form (first + suc n) ≡ Some p → is_new true p q ≡ true
     → is_new false p q ≡ false → is_on_ways form (range_with_len first (suc n)) q ≡ true
 old_is_old form p q first n e on old =
     let before = (last_of form (first + suc n) p e).shares q (front_above_zeros p q (new_front true p q on) old) in
@@ -478,16 +478,16 @@ more_or_new false false true h k = h refl
 more_or_new false false false h k = refl
 
 -- the places missing on the way of a block that has a last place
-missing_some : (form : Form) (names : List ℕ → Bool) (whole : Bool) (b : ℕ) (p : List ℕ) → last_place form b ≡ Some p
+missing_some : (form : BlockMap) (names : List ℕ → Bool) (whole : Bool) (b : ℕ) (p : List ℕ) → last_place form b ≡ Some p
     → missing_at form names whole b ≡ missing_to names whole p
 missing_some form names whole b p e = ap (λ o. option_map_or (missing_to names whole) o 0) e
 
 -- nothing is missing if there is no way
-missing_none : (form : Form) (names : List ℕ → Bool) (whole : Bool) (b : ℕ) → last_place form b ≡ None → missing_at form names whole b ≡ 0
+missing_none : (form : BlockMap) (names : List ℕ → Bool) (whole : Bool) (b : ℕ) → last_place form b ≡ None → missing_at form names whole b ≡ 0
 missing_none form names whole b e = ap (λ o. option_map_or (missing_to names whole) o 0) e
 
 -- the count with one more block, if it has a way and isn't the first
-count_later : (form : Form) (names : List ℕ → Bool) (first n : ℕ) (p : List ℕ) → last_place form (first + suc n) ≡ Some p
+count_later : (form : BlockMap) (names : List ℕ → Bool) (first n : ℕ) (p : List ℕ) → last_place form (first + suc n) ≡ Some p
     → missing_count form names (range_with_len first (suc n)) ≡ missing_from form names first (suc n)
     → count_by (λ q. (is_on_ways form (range_with_len first (suc n)) q || is_on_way form q (first + suc n)) && not (names q)) (places form)
     ≡ missing_from form names first (suc n) + missing_at form names false (first + suc n)
@@ -509,7 +509,7 @@ count_later form names first n p e sofar =
     ∙ omega (arith, sofar, added, at))
 
 -- the count with one more block, if it has a way
-count_way : (form : Form) (names : List ℕ → Bool) (first n : ℕ) (p : List ℕ) → last_place form (first + n) ≡ Some p
+count_way : (form : BlockMap) (names : List ℕ → Bool) (first n : ℕ) (p : List ℕ) → last_place form (first + n) ≡ Some p
     → missing_count form names (range_with_len first n) ≡ missing_from form names first n
     → count_by (λ q. (is_on_ways form (range_with_len first n) q || is_on_way form q (first + n)) && not (names q)) (places form)
     ≡ missing_from form names first n + missing_at form names (n == 0) (first + n)
@@ -525,7 +525,7 @@ count_way form names first (suc n) p e sofar =
     ∙ ap (λ t. missing_from form names first (suc n) + missing_at form names t (first + suc n)) (sym more)
 
 -- the count with one more block
-count_next : (form : Form) (names : List ℕ → Bool) (first n : ℕ)
+count_next : (form : BlockMap) (names : List ℕ → Bool) (first n : ℕ)
     → missing_count form names (range_with_len first n) ≡ missing_from form names first n
     → count_by (λ q. (is_on_ways form (range_with_len first n) q || is_on_way form q (first + n)) && not (names q)) (places form)
     ≡ missing_from form names first n + missing_at form names (n == 0) (first + n)
@@ -545,7 +545,7 @@ count_next form names first n sofar =
     ] refl
 
 -- the count over the list of all places is the count block by block
-pub count_blocks : (form : Form) (names : List ℕ → Bool) (first n : ℕ)
+pub count_blocks : (form : BlockMap) (names : List ℕ → Bool) (first n : ℕ)
     → missing_count form names (range_with_len first n) ≡ missing_from form names first n
 unfolding missing_count missing_from
 count_blocks form names first zero = count_none (λ q. false) (places form) (λ q. refl)
@@ -576,18 +576,18 @@ moved_more names k entries (suc (suc d)) =
     let next : suc (suc d) + 1 ≡ suc (suc (suc d)) = omega arith in rw next (grind (arith, nat_tests))
 
 -- no block has been counted
-pub missing_start : (form : Form) (names : List ℕ → Bool) (first : ℕ) → missing_from form names first (first - first) ≡ 0
+pub missing_start : (form : BlockMap) (names : List ℕ → Bool) (first : ℕ) → missing_from form names first (first - first) ≡ 0
 unfolding missing_from
 missing_start form names first = let none : first - first ≡ 0 = omega arith in ap (missing_from form names first) none
 
 -- one more block, by the number of blocks
-missing_next : (form : Form) (names : List ℕ → Bool) (first n : ℕ)
+missing_next : (form : BlockMap) (names : List ℕ → Bool) (first n : ℕ)
     → missing_from form names first (suc n) ≡ missing_from form names first n + missing_at form names (n == 0) (first + n)
 unfolding missing_from
 missing_next form names first n = refl
 
 -- one more block
-pub missing_more : (form : Form) (names : List ℕ → Bool) (first b : ℕ) → first ≤ b
+pub missing_more : (form : BlockMap) (names : List ℕ → Bool) (first b : ℕ) → first ≤ b
     → missing_from form names first (b + 1 - first) ≡ missing_from form names first (b - first) + missing_at form names (b == first) b
 missing_more form names first b low =
     let count : b + 1 - first ≡ suc (b - first) = omega arith in
@@ -599,7 +599,7 @@ missing_more form names first b low =
     (ap (λ t. missing_at form names t (first + (b - first))) start ∙ ap (missing_at form names (b == first)) place))
 
 -- past the limit no blocks are missing
-missing_past : (form : Form) (names : List ℕ → Bool) (first n k : ℕ) → block_limit form ≤ first + n
+missing_past : (form : BlockMap) (names : List ℕ → Bool) (first n k : ℕ) → block_limit form ≤ first + n
     → missing_from form names first (n + k) ≡ missing_from form names first n
 missing_past form names first n zero h = let same : n + 0 ≡ n = omega arith in ap (missing_from form names first) same
 missing_past form names first n (suc k) h =
@@ -610,7 +610,7 @@ missing_past form names first n (suc k) h =
     ap (missing_from form names first) count ∙ (missing_next form names first (n + k) ∙ omega (arith, none, before))
 
 -- a count up to the end, or to the limit before it, is the whole count
-pub missing_limit : (form : Form) (names : List ℕ → Bool) (first b end : ℕ) → first ≤ b → (b ≤ end) ⊎ (b ≡ first) → (end ≤ b) ⊎ (block_limit form ≤ b)
+pub missing_limit : (form : BlockMap) (names : List ℕ → Bool) (first b end : ℕ) → first ≤ b → (b ≤ end) ⊎ (b ≡ first) → (end ≤ b) ⊎ (block_limit form ≤ b)
     → missing_from form names first (b - first) ≡ missing_from form names first (end - first)
 missing_limit form names first b end low (inl high) (inl done) = let same : b ≡ end = omega arith in ap (λ x. missing_from form names first (x - first)) same
 missing_limit form names first b end low (inr none) (inl done) =
@@ -636,14 +636,14 @@ any_large m a (suc n) =
     ap (λ x. nat_le m a || x) (any_large m (a + 1) n ∙ ap (nat_le m) same) ∙ later m a (a + suc n) (omega arith)
 
 -- a file becomes large depending on the last block touched
-large_by_last : (form : Form) (a n : ℕ) → grows_large form (range_with_len a (suc n)) ≡ grows_at form (a + n)
+large_by_last : (form : BlockMap) (a n : ℕ) → grows_large form (range_with_len a (suc n)) ≡ grows_at form (a + n)
 large_by_last Small a n = any_large 8 a n
 large_by_last Large a n = refl
 large_by_last Deep a n = refl
 large_by_last Bare a n = refl
 
 -- the need of some blocks, by their number
-need_by_count : (form : Form) (names : List ℕ → Bool) (a n : ℕ)
+need_by_count : (form : BlockMap) (names : List ℕ → Bool) (a n : ℕ)
     → need_of form names (range_with_len a (suc n))
     ≡ missing_from (grown_form form (grows_at form (a + n))) (grown_names names (grows_at form (a + n))) a (suc n) + (if grows_at form (a + n) then 1 else 0)
 unfolding need_of
@@ -654,7 +654,7 @@ need_by_count form names a n =
     (count_blocks (grown_form form (grows_at form (a + n))) (grown_names names (grows_at form (a + n))) a (suc n))
 
 -- the need of a write of some bytes
-pub need_some : (form : Form) (names : List ℕ → Bool) (offset len last : ℕ) → 1 ≤ len → last ≡ (offset + (len - 1)) / 512
+pub need_some : (form : BlockMap) (names : List ℕ → Bool) (offset len last : ℕ) → 1 ≤ len → last ≡ (offset + (len - 1)) / 512
     → need_of form names (touched offset len)
     ≡ missing_from (grown_form form (grows_at form last)) (grown_names names (grows_at form last)) (offset / 512) (last + 1 - offset / 512)
     + (if grows_at form last then 1 else 0)
@@ -673,14 +673,14 @@ need_some form names offset (suc n) last some e =
     + (if grows_at form last then 1 else 0)) number))
 
 -- no bytes make no file large
-small_grows_not : (form : Form) → grows_large form [] ≡ false
+small_grows_not : (form : BlockMap) → grows_large form [] ≡ false
 small_grows_not Small = refl
 small_grows_not Large = refl
 small_grows_not Deep = refl
 small_grows_not Bare = refl
 
 -- a write of no bytes needs no blocks
-pub need_nothing : (form : Form) (names : List ℕ → Bool) → need_of form names [] ≡ 0
+pub need_nothing : (form : BlockMap) (names : List ℕ → Bool) → need_of form names [] ≡ 0
 unfolding need_of missing_count
 need_nothing form names = let none : grows_large form [] ≡ false = small_grows_not form in
     ap (λ t. missing_count (grown_form form t) (grown_names names t) [] + (if t then 1 else 0)) none

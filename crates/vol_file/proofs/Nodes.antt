@@ -7,7 +7,7 @@ use Rattle.vol_layout.specs.Places.{places, levels, levels_below, first_count, p
 use Rattle.vol_layout.specs.Laws.{IsFront}
 use Rattle.vol_layout.specs.Names.{mode_of, form_at, IsFile, IsPlaceOf, named}
 use Rattle.vol_layout.specs.declared.geometry.Geometry.{Geometry}
-use Rattle.vol_layout.specs.declared.block_map.Form.{Form}
+use Rattle.vol_layout.specs.declared.block_map.BlockMap.{BlockMap}
 use Rattle.vol_layout.proofs.CopyLaws.{number_room}
 use Rattle.vol_layout.proofs.InodeLaws.{form_same}
 use Rattle.vol_layout.proofs.BodyLaws.{zone_bounds}
@@ -43,7 +43,7 @@ below_form geometry old mid low i bound n level q others mode t =
     (form_same geometry old mid i mode) t
 
 -- a place below one that is past the kept blocks is past them
-under_past : (form : Form) (bound j : ℕ) (p q : List ℕ) → is_past form bound (j ∷ p) ≡ true → IsUnder (j ∷ p) 0 q → is_past form bound q ≡ true
+under_past : (form : BlockMap) (bound j : ℕ) (p q : List ℕ) → is_past form bound (j ∷ p) ≡ true → IsUnder (j ∷ p) 0 q → is_past form bound q ≡ true
 under_past form bound j p q on under = past_front form bound j p q on (under_front j 0 p q under)
 
 -- an entry or address of the last kept blocks is cleared by clearing the places after them below it

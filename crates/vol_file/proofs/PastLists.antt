@@ -6,7 +6,7 @@ use Rattle.vol_layout.specs.Places.{IsPlace, levels_below, pointer_count, places
 use Rattle.vol_layout.specs.Laws.{IsFront}
 use Rattle.vol_layout.specs.Names.{named}
 use Rattle.vol_layout.specs.declared.geometry.Geometry.{Geometry}
-use Rattle.vol_layout.specs.declared.block_map.Form.{Form}
+use Rattle.vol_layout.specs.declared.block_map.BlockMap.{BlockMap}
 use Rattle.vol_layout.proofs.PlaceLaws.{front_above}
 use Rattle.vol_file.specs.Clears.{blocks_at, places_among, places_below}
 use Rattle.vol_file.proofs.BlockLists.{at_nil, at_append, at_zero, at_some, at_same}
@@ -84,7 +84,7 @@ flat_none geometry image i past f from (suc count) n fit none =
     ∙ flat_none geometry image i past f (from + 1) count n (omega arith) none)
 
 -- if the places at or below a place name the same in both images, so do the places from it on
-from_same : (geometry : Geometry) (old new : List ℕ) (i : ℕ) (past : List ℕ → Bool) (form : Form) (n d a : ℕ) (p : List ℕ) → n ≤ pointer_count form
+from_same : (geometry : Geometry) (old new : List ℕ) (i : ℕ) (past : List ℕ → Bool) (form : BlockMap) (n d a : ℕ) (p : List ℕ) → n ≤ pointer_count form
     → IsPlace form (a ∷ p) → d ≤ levels_below form (a ∷ p)
     → ((q : List ℕ) → IsPlace form q → IsFront (a ∷ p) q → named geometry new i q ≡ named geometry old i q)
     → past_at geometry new i past (places_from n (a ∷ p) d) ≡ past_at geometry old i past (places_from n (a ∷ p) d)
@@ -97,7 +97,7 @@ from_same geometry old new i past form n (suc d) a p many place deep same =
     (λ q place_q front. same q place_q (front_above q p x a front))))
 
 -- if the places below a place name the same in both images, so do those listed below it
-pub below_same : (geometry : Geometry) (old new : List ℕ) (i : ℕ) (past : List ℕ → Bool) (form : Form) (n d a : ℕ) (p : List ℕ) → n ≤ pointer_count form
+pub below_same : (geometry : Geometry) (old new : List ℕ) (i : ℕ) (past : List ℕ → Bool) (form : BlockMap) (n d a : ℕ) (p : List ℕ) → n ≤ pointer_count form
     → IsPlace form (a ∷ p) → d ≤ levels_below form (a ∷ p)
     → ((q : List ℕ) → IsPlace form q → IsFront (a ∷ p) q → named geometry new i q ≡ named geometry old i q)
     → past_at geometry new i past (places_below n (a ∷ p) d) ≡ past_at geometry old i past (places_below n (a ∷ p) d)
@@ -108,7 +108,7 @@ below_same geometry old new i past form n (suc d) a p many place deep same =
     (λ q place_q front. same q place_q (front_above q p x a front)))
 
 -- if nothing past the kept blocks is named at or under a place, the places from it on name no blocks
-pub past_none : (geometry : Geometry) (image : List ℕ) (i : ℕ) (past : List ℕ → Bool) (form : Form) (n d a : ℕ) (p : List ℕ) → n ≤ pointer_count form
+pub past_none : (geometry : Geometry) (image : List ℕ) (i : ℕ) (past : List ℕ → Bool) (form : BlockMap) (n d a : ℕ) (p : List ℕ) → n ≤ pointer_count form
     → IsPlace form (a ∷ p) → d ≤ levels_below form (a ∷ p)
     → ((q : List ℕ) → IsPlace form q → IsFront (a ∷ p) q → past q ≡ true → named geometry image i q ≡ 0)
     → past_at geometry image i past (places_from n (a ∷ p) d) ≡ []

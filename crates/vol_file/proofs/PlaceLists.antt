@@ -6,7 +6,7 @@ use Rattle.std.proofs.lemmas.List.Sums.{sum_by-cons, sum_by-append}
 use Rattle.std.proofs.lemmas.Slice.Eq.{bytes_eq-Decides}
 use Rattle.vol_layout.specs.Places.{first_count, pointer_count, levels, levels_below, IsPlace, places_from, places}
 use Rattle.vol_layout.specs.Laws.{IsFront}
-use Rattle.vol_layout.specs.declared.block_map.Form.{Form}
+use Rattle.vol_layout.specs.declared.block_map.BlockMap.{BlockMap}
 use Rattle.vol_layout.proofs.PlaceLaws.{place_front, front_above}
 use Rattle.vol_file.specs.Laws.{IsAmong}
 use Rattle.vol_file.proofs.Fronts.{front_length, fronts_same}
@@ -155,7 +155,7 @@ from_front n j p (suc d) q (inr below) =
     front_above q p found.0 j (from_front n found.0 (j ∷ p) d q found.3)
 
 -- each of the places from a place on, as far down as there are levels, is a place
-pub from_place : (form : Form) (j : ℕ) (p : List ℕ) (d : ℕ) (q : List ℕ) → IsPlace form (j ∷ p) → d ≤ levels_below form (j ∷ p)
+pub from_place : (form : BlockMap) (j : ℕ) (p : List ℕ) (d : ℕ) (q : List ℕ) → IsPlace form (j ∷ p) → d ≤ levels_below form (j ∷ p)
     → IsAmong q (places_from (pointer_count form) (j ∷ p) d) → IsPlace form q
 from_place form j p zero q place deep (inl e) = subst (IsPlace form) (sym e) place
 from_place form j p zero q place deep (inr none) = absurd none
@@ -165,7 +165,7 @@ from_place form j p (suc d) q place deep (inr below) =
     from_place form found.0 (j ∷ p) d q (omega (arith, found.2), omega (arith, deep), place) (omega (arith, deep)) found.3
 
 -- among the places from a place on, as far down as there are levels, each place with that front occurs once
-pub from_once : (form : Form) (j : ℕ) (p : List ℕ) (d : ℕ) (q : List ℕ) → IsPlace form q → IsFront (j ∷ p) q → d ≡ levels_below form (j ∷ p)
+pub from_once : (form : BlockMap) (j : ℕ) (p : List ℕ) (d : ℕ) (q : List ℕ) → IsPlace form q → IsFront (j ∷ p) q → d ≡ levels_below form (j ∷ p)
     → count_by (bytes_eq q) (places_from (pointer_count form) (j ∷ p) d) ≡ 1
 from_once form j p zero q place front deep =
     elim (front_next (j ∷ p) q front) [
@@ -204,13 +204,13 @@ from_once form j p (suc d) q place front deep =
     ]
 
 -- a place has an address as a front
-pub front_first : (form : Form) (p : List ℕ) → IsPlace form p → (k : ℕ) × (k < first_count form) × IsFront (k ∷ []) p
+pub front_first : (form : BlockMap) (p : List ℕ) → IsPlace form p → (k : ℕ) × (k < first_count form) × IsFront (k ∷ []) p
 front_first form [] place = absurd place
 front_first form (k ∷ []) place = (k, place, inl refl)
 front_first form (j ∷ (a ∷ p)) place = let found = front_first form (a ∷ p) place.2 in (found.0, found.1, inr found.2)
 
 -- each place of a form is in the list of its places once
-pub places_once : (form : Form) (p : List ℕ) → IsPlace form p → count_by (bytes_eq p) (places form) ≡ 1
+pub places_once : (form : BlockMap) (p : List ℕ) → IsPlace form p → count_by (bytes_eq p) (places form) ≡ 1
 unfolding places
 places_once form p place =
     let f : ℕ → List (List ℕ) = λ k. places_from (pointer_count form) (k ∷ []) (levels form k) in
@@ -222,11 +222,11 @@ places_once form p place =
     other (fronts_same [] p m first.0 (from_front (pointer_count form) m [] (levels form m) p among) first.2)))
 
 -- a place of a form is in the list of its places
-pub places_among : (form : Form) (p : List ℕ) → IsPlace form p → IsAmong p (places form)
+pub places_among : (form : BlockMap) (p : List ℕ) → IsPlace form p → IsAmong p (places form)
 places_among form p place = let once : count_by (bytes_eq p) (places form) ≡ 1 = places_once form p place in among_counted p (places form) (omega (arith, once))
 
 -- the list of a form's places has only its places
-pub among_places : (form : Form) (p : List ℕ) → IsAmong p (places form) → IsPlace form p
+pub among_places : (form : BlockMap) (p : List ℕ) → IsAmong p (places form) → IsPlace form p
 unfolding places
 among_places form p among =
     let found = among_flat (λ k. places_from (pointer_count form) (k ∷ []) (levels form k)) p 0 (first_count form) among in

@@ -11,7 +11,7 @@ use Rattle.vol_layout.specs.Laws.{IsFront}
 use Rattle.vol_layout.proofs.PlaceLaws.{place_front, last_leaf}
 use Rattle.vol_layout.specs.Names.{form_at}
 use Rattle.vol_layout.specs.declared.geometry.Geometry.{Geometry}
-use Rattle.vol_layout.specs.declared.block_map.Form.{Form}
+use Rattle.vol_layout.specs.declared.block_map.BlockMap.{BlockMap}
 use Rattle.vol_layout.proofs.InodeLaws.{form_same}
 use Rattle.vol_file.specs.Laws.{IsAmong}
 use Rattle.vol_file.specs.Need.{missing_on_way, missing_places}
@@ -22,7 +22,7 @@ use Rattle.vol_file.proofs.PlaceLists.{among_append}
 use Rattle.vol_file.proofs.Reaching.{extends_as, extends_then, extends_none, ready_after}
 
 -- a run with one logical block more
-is_on_suc : (form : Form) (p : List ℕ) (a d : ℕ)
+is_on_suc : (form : BlockMap) (p : List ℕ) (a d : ℕ)
     → is_on_ways form (range_with_len a (suc d)) p ≡ (is_on_ways form (range_with_len a d) p || list_any (bytes_eq p) (way form (a + d)))
 is_on_suc form p a zero =
     let same : a ≡ a + 0 = omega arith in
@@ -34,12 +34,12 @@ is_on_suc form p a (suc d) =
     ∙ sym (or_assoc (list_any (bytes_eq p) (way form a)) (is_on_ways form (range_with_len (a + 1) d) p) (list_any (bytes_eq p) (way form (a + suc d))))
 
 -- the same with a sum
-pub is_on_more : (form : Form) (p : List ℕ) (a d : ℕ)
+pub is_on_more : (form : BlockMap) (p : List ℕ) (a d : ℕ)
     → is_on_ways form (range_with_len a (d + 1)) p ≡ (is_on_ways form (range_with_len a d) p || list_any (bytes_eq p) (way form (a + d)))
 is_on_more form p a d = let next : d + 1 ≡ suc d = omega arith in ap (λ n. is_on_ways form (range_with_len a n) p) next ∙ is_on_suc form p a d
 
 -- a place on the way of one block of a run is on the ways of the run
-pub is_on_at : (form : Form) (p : List ℕ) (a n d : ℕ) → d < n → list_any (bytes_eq p) (way form (a + d)) ≡ true
+pub is_on_at : (form : BlockMap) (p : List ℕ) (a n d : ℕ) → d < n → list_any (bytes_eq p) (way form (a + d)) ≡ true
     → is_on_ways form (range_with_len a n) p ≡ true
 is_on_at form p a zero d h on = absurd (omega arith)
 is_on_at form p a (suc n) zero h on =
@@ -52,7 +52,7 @@ is_on_at form p a (suc n) (suc d) h on =
     ∙ or_true (list_any (bytes_eq p) (way form a))
 
 -- of no blocks no place is missing
-pub missing_nil : (form : Form) (names : List ℕ → Bool) → missing_places form names [] ≡ []
+pub missing_nil : (form : BlockMap) (names : List ℕ → Bool) → missing_places form names [] ≡ []
 unfolding missing_places
 missing_nil form names = refl
 
@@ -80,7 +80,7 @@ among_fronts p (j ∷ q) (inl e) = inl e
 among_fronts p (j ∷ q) (inr above) = inr (among_fronts p q above)
 
 -- each place on the way of a logical block is a place
-pub way_places : (form : Form) (b : ℕ) (p : List ℕ) → IsAmong p (way form b) → IsPlace form p
+pub way_places : (form : BlockMap) (b : ℕ) (p : List ℕ) → IsAmong p (way form b) → IsPlace form p
 way_places form b p among =
     elim (last_place form b) as (λ o. last_place form b ≡ o → IsAmong p (option_map_or fronts o []) → IsPlace form p) [
       | None ↦ λ e none. absurd none
@@ -88,14 +88,14 @@ way_places form b p among =
     ] refl among
 
 -- the places missing on a way depend on which of its places name a block
-pub missing_same : (form : Form) (names same : List ℕ → Bool) (b : ℕ) → ((p : List ℕ) → IsPlace form p → names p ≡ same p)
+pub missing_same : (form : BlockMap) (names same : List ℕ → Bool) (b : ℕ) → ((p : List ℕ) → IsPlace form p → names p ≡ same p)
     → missing_on_way form names b ≡ missing_on_way form same b
 missing_same form names same b equal =
     filter_same (λ p. not (names p)) (λ p. not (same p)) (reverse (way form b))
     (λ p among. ap not (equal p (way_places form b p (among_reverse p (way form b) among))))
 
 -- the same of several ways
-pub missing_all_same : (form : Form) (names same : List ℕ → Bool) (blocks : List ℕ) → ((p : List ℕ) → IsPlace form p → names p ≡ same p)
+pub missing_all_same : (form : BlockMap) (names same : List ℕ → Bool) (blocks : List ℕ) → ((p : List ℕ) → IsPlace form p → names p ≡ same p)
     → missing_places form names blocks ≡ missing_places form same blocks
 unfolding missing_places
 missing_all_same form names same [] equal = refl
@@ -107,7 +107,7 @@ missing_all_same form names same (b ∷ blocks) equal =
     (λ p place. ap (λ t. t || list_any (bytes_eq p) (way form b)) (equal p place)))
 
 -- a run with one more logical block lacks the places that the last way lacks once the ways before are named
-missing_suc : (form : Form) (names : List ℕ → Bool) (a d : ℕ)
+missing_suc : (form : BlockMap) (names : List ℕ → Bool) (a d : ℕ)
     → missing_places form names (range_with_len a (suc d))
     ≡ missing_places form names (range_with_len a d) ++ missing_on_way form (λ p. names p || is_on_ways form (range_with_len a d) p) (a + d)
 unfolding missing_places
@@ -128,7 +128,7 @@ missing_suc form names a (suc d) =
     (missing_on_way form (λ p. names p || is_on_ways form (range_with_len a (suc d)) p) (a + suc d)))
 
 -- the same with a sum
-missing_more : (form : Form) (names : List ℕ → Bool) (a d : ℕ)
+missing_more : (form : BlockMap) (names : List ℕ → Bool) (a d : ℕ)
     → missing_places form names (range_with_len a (d + 1))
     ≡ missing_places form names (range_with_len a d) ++ missing_on_way form (λ p. names p || is_on_ways form (range_with_len a d) p) (a + d)
 missing_more form names a d =

@@ -10,9 +10,9 @@ use Rattle.vol_layout.specs.Edition.{constants}
 use Rattle.vol_layout.specs.Names.{form_at, pointer_in, named, stored}
 use Rattle.vol_layout.specs.Places.{block_limit, pointer_count, last_place, place_to, end_of}
 use Rattle.vol_layout.specs.declared.geometry.Geometry.{Geometry}
-use Rattle.vol_layout.specs.declared.block_map.Form.{Form}
-use Rattle.vol_layout.specs.declared.block_map.Form.TheVariants.{Small, Large, Deep, Bare}
-use Rattle.vol_layout.specs.declared.block_map.Way.{Way}
+use Rattle.vol_layout.specs.declared.block_map.BlockMap.{BlockMap}
+use Rattle.vol_layout.specs.declared.block_map.BlockMap.TheVariants.{Small, Large, Deep, Bare}
+use Rattle.vol_layout.specs.declared.block_map.BlockPath.{BlockPath}
 use Rattle.vol_layout.proofs.PlaceLaws.{has_no_way, last_leaf}
 use Rattle.vol_layout.proofs.LastPlaces.{last_small, last_large, last_huge, last_direct, last_single, last_double, last_triple}
 use Rattle.vol_file.specs.Holes.{blocks_left}
@@ -20,14 +20,14 @@ use Rattle.vol_file.specs.Repeats.{below, PassesBelow, MarksPassed}
 use Rattle.vol_file.proofs.Subtrees.{some_is, drop_to, length_to, pointers_at}
 
 -- logical block t, of those below place p of block b without its last n indexes, has the number found below the block that is named there
-abbrev IsBelow : Geometry → List ℕ → ℕ → Form → ℕ → ℕ → ℕ → List ℕ → ℕ → Type 0
+abbrev IsBelow : Geometry → List ℕ → ℕ → BlockMap → ℕ → ℕ → ℕ → List ℕ → ℕ → Type 0
 IsBelow geometry image i form pointers n b p t =
     t < block_limit form → b + blocks_left pointers n p ≤ t + pointers ^ n → t < b + blocks_left pointers n p
     → stored geometry image i form t
     ≡ below geometry image pointers (named geometry image i (drop n p)) n (t + pointers ^ n - (b + blocks_left pointers n p))
 
 -- the number stored for a logical block, by its last place
-stored_as : (geometry : Geometry) (image : List ℕ) (i : ℕ) (form : Form) (t : ℕ) (q : List ℕ) → last_place form t ≡ Some q
+stored_as : (geometry : Geometry) (image : List ℕ) (i : ℕ) (form : BlockMap) (t : ℕ) (q : List ℕ) → last_place form t ≡ Some q
     → stored geometry image i form t ≡ named geometry image i q
 stored_as geometry image i form t q is = ap (λ o. option_map_or (named geometry image i) o 0) is
 
@@ -106,7 +106,7 @@ below_all_triple geometry image i b t low high limit from within =
     (omega arith) (omega arith))
 
 -- if no level lies below, a block is itself
-below_itself : (geometry : Geometry) (image : List ℕ) (i : ℕ) (form : Form) (pointers b t : ℕ) (p : List ℕ) → last_place form b ≡ Some p
+below_itself : (geometry : Geometry) (image : List ℕ) (i : ℕ) (form : BlockMap) (pointers b t : ℕ) (p : List ℕ) → last_place form b ≡ Some p
     → IsBelow geometry image i form pointers 0 b p t
 below_itself geometry image i form pointers b t p is limit from within =
     let one : pointers ^ 0 ≡ 1 = pow-zero pointers in
@@ -114,12 +114,12 @@ below_itself geometry image i form pointers b t p is limit from within =
     ap (stored geometry image i form) same ∙ stored_as geometry image i form b p is
 
 -- the same, for a place that is another's
-as_place : (geometry : Geometry) (image : List ℕ) (i : ℕ) (form : Form) (pointers n b t : ℕ) (p q : List ℕ) → q ≡ p
+as_place : (geometry : Geometry) (image : List ℕ) (i : ℕ) (form : BlockMap) (pointers n b t : ℕ) (p q : List ℕ) → q ≡ p
     → IsBelow geometry image i form pointers n b q t → IsBelow geometry image i form pointers n b p t
 as_place geometry image i form pointers n b t p q same is = subst (λ r. IsBelow geometry image i form pointers n b r t) same is
 
 -- the numbers below each place of a way, up to two levels above its end
-falls : (geometry : Geometry) (image : List ℕ) (i : ℕ) (form : Form) (n b t : ℕ) (p : List ℕ) → last_place form b ≡ Some p → n < length p → n < 3
+falls : (geometry : Geometry) (image : List ℕ) (i : ℕ) (form : BlockMap) (n b t : ℕ) (p : List ℕ) → last_place form b ≡ Some p → n < length p → n < 3
     → IsBelow geometry image i form (pointer_count form) n b p t
 falls geometry image i form zero b t p e long few = below_itself geometry image i form (pointer_count form) b t p e
 falls geometry image i form (suc (suc (suc n))) b t p e long few = absurd (omega arith)
@@ -179,7 +179,7 @@ falls geometry image i Deep (suc (suc zero)) b t p e long few =
     ]
 
 -- the number stored for a logical block, by the block that the first d entries of another's way name
-pub stored_below : (geometry : Geometry) (image : List ℕ) (i : ℕ) (form : Form) (b d n t : ℕ) (way : Way) → form ≡ form_at geometry image i
+pub stored_below : (geometry : Geometry) (image : List ℕ) (i : ℕ) (form : BlockMap) (b d n t : ℕ) (way : BlockPath) → form ≡ form_at geometry image i
     → Some (end_of way) ≡ last_place form b → n + d ≡ way.depth → n < 3 → t < block_limit form
     → b + blocks_left (constants geometry.edition).pointers n (end_of way) ≤ t + (constants geometry.edition).pointers ^ n
     → t < b + blocks_left (constants geometry.edition).pointers n (end_of way)
@@ -212,7 +212,7 @@ some_pointers V6 = omega arith
 some_pointers V7 = omega arith
 
 -- if everything below the block to which the first d entries of a way lead passes a test, so do the numbers stored for the logical blocks there
-pub stored_passes : (test : ℕ → ℕ → Bool) (geometry : Geometry) (image : List ℕ) (i : ℕ) (form : Form) (b d n t part : ℕ) (way : Way)
+pub stored_passes : (test : ℕ → ℕ → Bool) (geometry : Geometry) (image : List ℕ) (i : ℕ) (form : BlockMap) (b d n t part : ℕ) (way : BlockPath)
     → form ≡ form_at geometry image i → Some (end_of way) ≡ last_place form b → n + d ≡ way.depth → n < 3
     → PassesBelow test geometry image (named geometry image i (place_to way.address way.entries d)) n → ((part : ℕ) → test 0 part ≡ true)
     → b ≤ t → t < b + blocks_left (constants geometry.edition).pointers n (end_of way) → test (stored geometry image i form t) part ≡ true
@@ -226,7 +226,7 @@ stored_passes test geometry image i form b d n t part way is end whole few passe
 ]
 
 -- each of the blocks below the block that the first d entries of a way lead to is one that is stored, if none of them is past the last
-pub passes_stored : (test : ℕ → ℕ → Bool) (geometry : Geometry) (image : List ℕ) (i : ℕ) (form : Form) (b d n from to : ℕ) (way : Way)
+pub passes_stored : (test : ℕ → ℕ → Bool) (geometry : Geometry) (image : List ℕ) (i : ℕ) (form : BlockMap) (b d n from to : ℕ) (way : BlockPath)
     → form ≡ form_at geometry image i → Some (end_of way) ≡ last_place form b → n + d ≡ way.depth → n < 3
     → from + (constants geometry.edition).pointers ^ n ≤ b + blocks_left (constants geometry.edition).pointers n (end_of way)
     → b + blocks_left (constants geometry.edition).pointers n (end_of way) ≤ to → to ≤ block_limit form

@@ -6,9 +6,9 @@ use Rattle.vol_layout.specs.Edition.{constants}
 use Rattle.vol_layout.specs.Names.{form_at, pointer_in, named, stored}
 use Rattle.vol_layout.specs.Places.{pointer_count, last_place, place_to, end_of}
 use Rattle.vol_layout.specs.declared.geometry.Geometry.{Geometry}
-use Rattle.vol_layout.specs.declared.block_map.Form.{Form}
-use Rattle.vol_layout.specs.declared.block_map.Form.TheVariants.{Small, Large, Deep, Bare}
-use Rattle.vol_layout.specs.declared.block_map.Way.{Way}
+use Rattle.vol_layout.specs.declared.block_map.BlockMap.{BlockMap}
+use Rattle.vol_layout.specs.declared.block_map.BlockMap.TheVariants.{Small, Large, Deep, Bare}
+use Rattle.vol_layout.specs.declared.block_map.BlockPath.{BlockPath}
 use Rattle.vol_layout.proofs.PlaceLaws.{last_leaf}
 use Rattle.vol_layout.proofs.LastPlaces.{last_large, last_huge, last_single, last_double, last_triple}
 use Rattle.vol_file.specs.Holes.{direct_count}
@@ -61,15 +61,15 @@ next_triple b t low high within =
     ∙ ap (λ x. Some (((b - 16522) % 128 + t) ∷ (((b - 16522) / 128 % 128) ∷ (x ∷ (12 ∷ []))))) top))
 
 -- the last place of a logical block after the direct ones is a pointer, and the pointers after it are those of the next logical blocks
-pub record IsFollowed (form : Form) (b : ℕ) (p : List ℕ) : Type 0 where
+pub record IsFollowed (form : BlockMap) (b : ℕ) (p : List ℕ) : Type 0 where
   pub deep : 2 ≤ length p
   pub next : (t : ℕ) → head_of p + t < pointer_count form → last_place form (b + t) ≡ Some (moved t p)
 
 -- by what the place is
-followed_as : (form : Form) (b : ℕ) (p q : List ℕ) → last_place form b ≡ Some p → last_place form b ≡ Some q → IsFollowed form b q → IsFollowed form b p
+followed_as : (form : BlockMap) (b : ℕ) (p q : List ℕ) → last_place form b ≡ Some p → last_place form b ≡ Some q → IsFollowed form b q → IsFollowed form b p
 followed_as form b p q e is followed = subst (IsFollowed form b) (some_is q p (sym is ∙ e)) followed
 
-pub followed : (form : Form) (b : ℕ) (p : List ℕ) → direct_count form ≤ b → last_place form b ≡ Some p → IsFollowed form b p
+pub followed : (form : BlockMap) (b : ℕ) (p : List ℕ) → direct_count form ≤ b → last_place form b ≡ Some p → IsFollowed form b p
 followed Small b p behind e = let low : b < 8 = (last_leaf Small b p e).limit in absurd (omega arith)
 followed Large b p behind e = elim (cases_lt b 1792) [
   | inl low ↦ followed_as Large b p _ e (last_large b low) (record { deep = omega arith; next = λ t within. next_large b t low within })
@@ -89,14 +89,14 @@ followed Deep b p behind e =
 followed Bare b p behind e = let limit : b < 0 = (last_leaf Bare b p e).limit in absurd (omega arith)
 
 -- the way of a logical block after the direct ones has an indirect block
-pub deep_way : (form : Form) (b : ℕ) (way : Way) → direct_count form ≤ b → Some (end_of way) ≡ last_place form b → 1 ≤ way.depth
+pub deep_way : (form : BlockMap) (b : ℕ) (way : BlockPath) → direct_count form ≤ b → Some (end_of way) ≡ last_place form b → 1 ≤ way.depth
 deep_way form b way behind e =
     let deep = (followed form b (end_of way) behind (sym e)).deep in
     let long : length (end_of way) ≡ suc way.depth = length_to way.address way.entries way.depth in
     omega arith
 
 -- the number of logical block b + t is stored t pointers after that of b
-pub stored_behind : (geometry : Geometry) (image : List ℕ) (i : ℕ) (form : Form) (b above t : ℕ) (way : Way) → form ≡ form_at geometry image i
+pub stored_behind : (geometry : Geometry) (image : List ℕ) (i : ℕ) (form : BlockMap) (b above t : ℕ) (way : BlockPath) → form ≡ form_at geometry image i
     → direct_count form ≤ b → Some (end_of way) ≡ last_place form b → above + 1 ≡ way.depth
     → slice_index way.entries above + t < (constants geometry.edition).pointers
     → stored geometry image i form (b + t)
@@ -113,7 +113,7 @@ stored_behind geometry image i form b above t way is behind e last within =
     ∙ named_under geometry image i way.address way.entries above (j + t)
 
 -- an i-node has at most ten addresses of data blocks
-pub few_direct : (form : Form) → direct_count form ≤ 10
+pub few_direct : (form : BlockMap) → direct_count form ≤ 10
 few_direct Small = omega arith
 few_direct Large = omega arith
 few_direct Deep = omega arith

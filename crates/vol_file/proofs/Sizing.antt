@@ -11,7 +11,7 @@ use Rattle.vol_layout.specs.Body.{body_byte, zone_byte}
 use Rattle.vol_layout.specs.declared.edition.Edition.{Edition}
 use Rattle.vol_layout.specs.declared.edition.Edition.TheVariants.{V6, V7}
 use Rattle.vol_layout.specs.declared.geometry.Geometry.{Geometry}
-use Rattle.vol_layout.specs.declared.block_map.Form.TheVariants.{Small}
+use Rattle.vol_layout.specs.declared.block_map.BlockMap.TheVariants.{Small}
 use Rattle.vol_layout.proofs.InodeLaws.{place_from, place_room, size_kept, form_kept, form_same}
 use Rattle.vol_layout.proofs.AddressLaws.{size_within, addresses_before, mode_behind}
 use Rattle.vol_layout.proofs.BodyLaws.{zone_bounds}

@@ -8,7 +8,7 @@ use Rattle.vol_layout.specs.Places.{has_places}
 use Rattle.vol_layout.specs.Names.{form_at, IsFile, IsPlaceOf, named}
 use Rattle.vol_layout.specs.declared.geometry.Geometry.{Geometry}
 use Rattle.vol_layout.specs.declared.mode.Kind.TheVariants as kinds
-use Rattle.vol_layout.specs.declared.block_map.Form.TheVariants.{Small}
+use Rattle.vol_layout.specs.declared.block_map.BlockMap.TheVariants.{Small}
 use Rattle.vol_layout.proofs.InodeLaws.{inode_of_kept, mode_kept, size_kept, form_kept}
 use Rattle.vol_free.specs.Stack.{IsIn, IsFree}
 use Rattle.vol_file.specs.Rules.{size_of, kind_at, HasKinds, HasSizes, Rules3To7With}

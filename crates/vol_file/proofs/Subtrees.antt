@@ -10,9 +10,9 @@ use Rattle.vol_layout.specs.Inode.{kind_of, inode_place, address_at}
 use Rattle.vol_layout.specs.Names.{mode_of, form_at, pointer_in, named, stored}
 use Rattle.vol_layout.specs.Places.{form_of, file_form, has_places, block_limit, pointer_count, last_place, place_to, end_of}
 use Rattle.vol_layout.specs.declared.geometry.Geometry.{Geometry}
-use Rattle.vol_layout.specs.declared.block_map.Form.{Form}
-use Rattle.vol_layout.specs.declared.block_map.Form.TheVariants.{Small, Large, Deep, Bare}
-use Rattle.vol_layout.specs.declared.block_map.Way.{Way}
+use Rattle.vol_layout.specs.declared.block_map.BlockMap.{BlockMap}
+use Rattle.vol_layout.specs.declared.block_map.BlockMap.TheVariants.{Small, Large, Deep, Bare}
+use Rattle.vol_layout.specs.declared.block_map.BlockPath.{BlockPath}
 use Rattle.vol_layout.proofs.FrameLaws.{pointers_in}
 use Rattle.vol_layout.proofs.NameLaws.{zero_out, named_stops}
 use Rattle.vol_layout.proofs.PlaceLaws.{has_no_way, last_none, last_leaf, entry_to, way_place}
@@ -39,7 +39,7 @@ pub record HasMore (pointers n : ℕ) (p : List ℕ) (k : ℕ) : Type 0 where
   pub address : tail_of (drop n p) ≡ [] → k ≡ 0
 
 -- the last place of block t lies below p without its last n indexes, or below one of the k that follow it
-abbrev IsAmong : Form → ℕ → List ℕ → ℕ → ℕ → Type 0
+abbrev IsAmong : BlockMap → ℕ → List ℕ → ℕ → ℕ → Type 0
 IsAmong form n p k t = LiesAmong n (tail_of (drop n p)) (head_of (drop n p)) (head_of (drop n p) + k + 1) (last_place form t)
 
 -- equal values are equal under `Some`, and back
@@ -47,12 +47,12 @@ pub some_is : (p q : List ℕ) → Some p ≡ Some q → p ≡ q
 some_is p q e = cc
 
 -- the position of a last place among others
-lies : (form : Form) (n low high x t : ℕ) (above q : List ℕ) → last_place form t ≡ Some q → drop n q ≡ x ∷ above → low ≤ x → x < high
+lies : (form : BlockMap) (n low high x t : ℕ) (above q : List ℕ) → last_place form t ≡ Some q → drop n q ≡ x ∷ above → low ≤ x → x < high
     → LiesAmong n above low high (last_place form t)
 lies form n low high x t above q is top from to = subst (LiesAmong n above low high) (sym is) (x, top, from, to)
 
 -- past the last block nothing lies
-lies_past : (form : Form) (n low high t : ℕ) (above : List ℕ) → block_limit form ≤ t → LiesAmong n above low high (last_place form t)
+lies_past : (form : BlockMap) (n low high t : ℕ) (above : List ℕ) → block_limit form ≤ t → LiesAmong n above low high (last_place form t)
 lies_past form n low high t above past = subst (LiesAmong n above low high) (sym (has_no_way form t past)) tt
 
 -- of a large file, below the indirect blocks
@@ -152,7 +152,7 @@ few_pointers V6 = omega arith
 few_pointers V7 = omega arith
 
 -- the last place of each logical block that is left below a place, or below one of k that follow it
-among : (form : Form) (b t n k : ℕ) (p : List ℕ) → last_place form b ≡ Some p → 2 ≤ length p → n < length p → b ≤ t → HasMore (pointer_count form) n p k
+among : (form : BlockMap) (b t n k : ℕ) (p : List ℕ) → last_place form b ≡ Some p → 2 ≤ length p → n < length p → b ≤ t → HasMore (pointer_count form) n p k
     → t < b + blocks_left (pointer_count form) n p + k * pointer_count form ^ n → IsAmong form n p k t
 among Small b t n k p e deep few from more within =
     let low : b < 8 = (last_leaf Small b p e).limit in
@@ -241,7 +241,7 @@ pointers_by edition mode b p =
     ]
 
 -- the pointers of an indirect block, by the form of a file in which a logical block has a way
-pub pointers_at : (geometry : Geometry) (image : List ℕ) (i : ℕ) (form : Form) (b : ℕ) (way : Way) → form ≡ form_at geometry image i
+pub pointers_at : (geometry : Geometry) (image : List ℕ) (i : ℕ) (form : BlockMap) (b : ℕ) (way : BlockPath) → form ≡ form_at geometry image i
     → Some (end_of way) ≡ last_place form b → pointer_count form ≡ (constants geometry.edition).pointers
 pointers_at geometry image i form b way is end =
     ap pointer_count is
@@ -249,7 +249,7 @@ pointers_at geometry image i form b way is end =
 
 -- nothing is stored for the logical blocks that are left below the place of a way's first `d` entries, nor for those below the
 -- `k` pointers that follow it, if all of these are 0
-pub hole_below : (geometry : Geometry) (image : List ℕ) (i : ℕ) (form : Form) (b d n k : ℕ) (way : Way) → Fits geometry image
+pub hole_below : (geometry : Geometry) (image : List ℕ) (i : ℕ) (form : BlockMap) (b d n k : ℕ) (way : BlockPath) → Fits geometry image
     → form ≡ form_at geometry image i → Some (end_of way) ≡ last_place form b → 1 ≤ way.depth → n + d ≡ way.depth
     → HasMore (constants geometry.edition).pointers n (end_of way) k
     → ((x : ℕ) → head_of (place_to way.address way.entries d) ≤ x → x < head_of (place_to way.address way.entries d) + k + 1
@@ -269,7 +269,7 @@ hole_below geometry image i form b d n k way fits is end deep whole more none = 
     (subst (λ q. (x : ℕ) → head_of q ≤ x → x < head_of q + k + 1 → named geometry image i (x ∷ tail_of q) ≡ 0) (sym front) none)
 
 -- each entry on a way is one of an indirect block
-pub few_entries : (geometry : Geometry) (image : List ℕ) (i : ℕ) (form : Form) (b : ℕ) (way : Way) → form ≡ form_at geometry image i
+pub few_entries : (geometry : Geometry) (image : List ℕ) (i : ℕ) (form : BlockMap) (b : ℕ) (way : BlockPath) → form ≡ form_at geometry image i
     → Some (end_of way) ≡ last_place form b → (k : ℕ) → k < way.depth → slice_index way.entries k < (constants geometry.edition).pointers
 few_entries geometry image i form b way is end k h =
     let low : slice_index way.entries k < pointer_count form = entry_to form way.address way.entries k (way_place form b way (suc k) end (omega arith)) in
@@ -277,18 +277,18 @@ few_entries geometry image i form b way is end k h =
     omega arith
 
 -- the greatest number of logical blocks of a file
-few_blocks : (form : Form) → block_limit form ≤ 2113674
+few_blocks : (form : BlockMap) → block_limit form ≤ 2113674
 few_blocks Small = omega arith
 few_blocks Large = omega arith
 few_blocks Deep = omega arith
 few_blocks Bare = omega arith
 
 -- a logical block that has a way
-pub low_block : (form : Form) (b : ℕ) (p : List ℕ) → last_place form b ≡ Some p → b < 2113674
+pub low_block : (form : BlockMap) (b : ℕ) (p : List ℕ) → last_place form b ≡ Some p → b < 2113674
 low_block form b p e = let limit = (last_leaf form b p e).limit in let few = few_blocks form in omega arith
 
 -- the number stored for one of the first logical blocks is its address
-pub stored_direct : (geometry : Geometry) (image : List ℕ) (i : ℕ) (form : Form) (b : ℕ) → b < direct_count form
+pub stored_direct : (geometry : Geometry) (image : List ℕ) (i : ℕ) (form : BlockMap) (b : ℕ) → b < direct_count form
     → stored geometry image i form b ≡ address_at geometry.edition image (inode_place geometry.edition i) b
 stored_direct geometry image i Small b low = ap (λ o. option_map_or (named geometry image i) o 0) (last_small b low)
 stored_direct geometry image i Large b low = absurd (omega arith)
@@ -296,7 +296,7 @@ stored_direct geometry image i Deep b low = ap (λ o. option_map_or (named geome
 stored_direct geometry image i Bare b low = absurd (omega arith)
 
 -- past the blocks that have a way nothing is stored
-pub hole_past : (geometry : Geometry) (image : List ℕ) (i : ℕ) (form : Form) (b end : ℕ) → last_place form b ≡ None → IsHole geometry image i form b end
+pub hole_past : (geometry : Geometry) (image : List ℕ) (i : ℕ) (form : BlockMap) (b end : ℕ) → last_place form b ≡ None → IsHole geometry image i form b end
 hole_past geometry image i form b end none = λ t from within.
     let past : block_limit form ≤ t = omega (arith, last_none form b none) in
     ap (λ o. option_map_or (named geometry image i) o 0) (has_no_way form t past)
@@ -309,7 +309,7 @@ named_under geometry image i k entries (suc d) x = refl
 
 -- nothing is stored for the logical blocks that are left below an entry of a way, and below the entries that follow it, up to m of them,
 -- if all of these are 0
-pub hole_at_entries : (geometry : Geometry) (image : List ℕ) (i : ℕ) (form : Form) (b d m : ℕ) (way : Way) → Fits geometry image
+pub hole_at_entries : (geometry : Geometry) (image : List ℕ) (i : ℕ) (form : BlockMap) (b d m : ℕ) (way : BlockPath) → Fits geometry image
     → form ≡ form_at geometry image i → Some (end_of way) ≡ last_place form b → d < way.depth → 1 ≤ m
     → slice_index way.entries d + m ≤ (constants geometry.edition).pointers
     → ((x : ℕ) → slice_index way.entries d ≤ x → x < slice_index way.entries d + m

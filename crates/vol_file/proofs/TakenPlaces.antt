@@ -7,8 +7,8 @@ use Rattle.std.specs.Str.{bytes_eq}
 use Rattle.std.proofs.lemmas.Bool.{or_parts, or_cases}
 use Rattle.std.proofs.lemmas.List.{length-append, reverse-reverse}
 use Rattle.vol_layout.specs.Places.{last_place, fronts, way, places}
-use Rattle.vol_layout.specs.declared.block_map.Form.{Form}
-use Rattle.vol_layout.specs.declared.block_map.Form.TheVariants.{Large}
+use Rattle.vol_layout.specs.declared.block_map.BlockMap.{BlockMap}
+use Rattle.vol_layout.specs.declared.block_map.BlockMap.TheVariants.{Large}
 use Rattle.vol_layout.proofs.PlaceLaws.{last_leaf}
 use Rattle.vol_file.specs.Laws.{IsAmong}
 use Rattle.vol_file.specs.Missing.{missing_to}
@@ -77,7 +77,7 @@ not_true true e = absurd (true≢false (sym e))
 not_true false e = refl
 
 -- a missing place is on the ways and names nothing
-pub missing_unnamed : (form : Form) (names : List ℕ → Bool) (blocks p : List ℕ) → IsAmong p (missing_places form names blocks)
+pub missing_unnamed : (form : BlockMap) (names : List ℕ → Bool) (blocks p : List ℕ) → IsAmong p (missing_places form names blocks)
     → (is_on_ways form blocks p ≡ true) × (names p ≡ false)
 unfolding missing_places
 missing_unnamed form names [] p among = absurd among
@@ -97,7 +97,7 @@ missing_unnamed form names (b ∷ blocks) p among =
     ]
 
 -- a place that is on the ways and names nothing is missing
-pub unnamed_missing : (form : Form) (names : List ℕ → Bool) (blocks p : List ℕ) → (is_on_ways form blocks p ≡ true) × (names p ≡ false)
+pub unnamed_missing : (form : BlockMap) (names : List ℕ → Bool) (blocks p : List ℕ) → (is_on_ways form blocks p ≡ true) × (names p ≡ false)
     → IsAmong p (missing_places form names blocks)
 unfolding missing_places
 unnamed_missing form names [] p (on, none) = absurd (true≢false (sym on))
@@ -126,7 +126,7 @@ length_fronts names (j ∷ (a ∷ p)) =
     ∙ (length-append (unnamed_of names (fronts (a ∷ p))) (unnamed_of names ((j ∷ (a ∷ p)) ∷ [])) ∙ omega (arith, rest, one))
 
 -- the places missing on one way are as many as are counted among all places
-length_way : (form : Form) (names : List ℕ → Bool) (b : ℕ)
+length_way : (form : BlockMap) (names : List ℕ → Bool) (b : ℕ)
     → length (missing_on_way form names b) ≡ count_by (λ p. list_any (bytes_eq p) (way form b) && not (names p)) (places form)
 length_way form names b =
     elim (last_place form b) as (λ o. last_place form b ≡ o → length (unnamed_of names (option_map_or fronts o []))
@@ -158,7 +158,7 @@ parts_apart true false n e = refl
 parts_apart false y n e = absurd (true≢false (sym e))
 
 -- the places missing on some ways are as many as are counted among all places
-length_missing : (form : Form) (names : List ℕ → Bool) (blocks : List ℕ) → length (missing_places form names blocks) ≡ missing_count form names blocks
+length_missing : (form : BlockMap) (names : List ℕ → Bool) (blocks : List ℕ) → length (missing_places form names blocks) ≡ missing_count form names blocks
 unfolding missing_places missing_count
 length_missing form names [] = sym (count_none (λ p. false) (places form) (λ p. refl))
 length_missing form names (b ∷ blocks) =
@@ -176,7 +176,7 @@ length_missing form names (b ∷ blocks) =
     (λ p. parts_apart (on p) (is_on_ways form blocks p) (names p))))
 
 -- blocks are taken for as many places as are needed
-pub taken_need : (form : Form) (names : List ℕ → Bool) (blocks : List ℕ) → length (places_taken form names blocks) ≡ need_of form names blocks
+pub taken_need : (form : BlockMap) (names : List ℕ → Bool) (blocks : List ℕ) → length (places_taken form names blocks) ≡ need_of form names blocks
 unfolding need_of
 taken_need form names blocks =
     elim (grows_large form blocks) as (λ t.

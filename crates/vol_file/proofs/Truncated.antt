@@ -16,7 +16,7 @@ use Rattle.vol_layout.specs.Body.{zone_byte, body_byte, body, body_size}
 use Rattle.vol_layout.specs.declared.edition.Edition.{Edition}
 use Rattle.vol_layout.specs.declared.edition.Edition.TheVariants.{V6, V7}
 use Rattle.vol_layout.specs.declared.geometry.Geometry.{Geometry}
-use Rattle.vol_layout.specs.declared.block_map.Form.{Form}
+use Rattle.vol_layout.specs.declared.block_map.BlockMap.{BlockMap}
 use Rattle.vol_layout.proofs.AddressLaws.{addresses_before, size_within, mode_within, size_above}
 use Rattle.vol_layout.proofs.InodeLaws.{place_from, place_room, form_same}
 use Rattle.vol_layout.proofs.PlaceLaws.{last_leaf}
@@ -198,7 +198,7 @@ emptied_to geometry old low new blocks i left none fits file clear end =
     (emptied geometry old low new blocks i fits file (subst (λ n. ClearsPast geometry old low i (whole_blocks n) blocks) none clear) end)
 
 -- a kept place isn't past the kept blocks, and another is
-kept_or : (form : Form) (left : ℕ) (p : List ℕ) → IsPlace form p → whole_blocks left ≤ block_limit form
+kept_or : (form : BlockMap) (left : ℕ) (p : List ℕ) → IsPlace form p → whole_blocks left ≤ block_limit form
     → ((is_kept form left p ≡ true) × (is_past form (whole_blocks left) p ≡ false)) ⊎ ((is_kept form left p ≡ false) × (is_past form (whole_blocks left) p ≡ true))
 kept_or form left p place few =
     elim (is_past form (whole_blocks left) p) as (λ t. is_past form (whole_blocks left) p ≡ t

@@ -11,7 +11,7 @@ use Rattle.vol_file.specs.Shape.{is_named, touched, is_on_ways, grows_large, fil
 use Rattle.vol_file.specs.Need.{need, places_taken}
 use Rattle.vol_file.specs.Rules.{size_of, Rules3To7With, IsCovered}
 use Rattle.vol_free.specs.Stack.{IsIn}
-use Rattle.vol_layout.specs.declared.block_map.Form.{Form}
+use Rattle.vol_layout.specs.declared.block_map.BlockMap.{BlockMap}
 use Rattle.vol_layout.specs.declared.edition.Edition.{Edition}
 use Rattle.vol_layout.specs.declared.edition.Edition.TheVariants.{V6, V7}
 use Rattle.vol_layout.specs.declared.geometry.Geometry.{Geometry}
@@ -58,7 +58,7 @@ mode_after geometry image i blocks =
 
 -- a place of a file after these logical blocks are touched: `[k]` of a small file that becomes large is then entry k of the
 -- block that `[0]` names (Lions on bmap)
-abbrev pub place_after : Form → List ℕ → List ℕ → List ℕ
+abbrev pub place_after : BlockMap → List ℕ → List ℕ → List ℕ
 place_after form blocks p = if grows_large form blocks then p ++ (0 ∷ []) else p
 
 -- a write of at least one byte at an offset of file i, where `blocks` were free: it takes the first of them, as many as it
@@ -92,7 +92,7 @@ abbrev pub whole_blocks : ℕ → ℕ
 whole_blocks size = (size + 511) / 512
 
 -- true if a place is on the way of one of the logical blocks that hold the first `size` bytes (this project)
-abbrev pub is_kept : Form → ℕ → List ℕ → Bool
+abbrev pub is_kept : BlockMap → ℕ → List ℕ → Bool
 is_kept form size p = is_on_ways form (range_with_len 0 (whole_blocks size)) p
 
 -- the blocks that a file names by places past its first `size` bytes, in the order of the places (Lions on itrunc; the size is this project's)

@@ -9,8 +9,8 @@ use Rattle.vol_free.specs.Stack.{IsFree}
 use Rattle.vol_file.specs.Rules.{size_of, Rules3To7With, IsCovered}
 use Rattle.vol_file.specs.Changes.{StaysElsewhere, KeepsBlocks}
 use Rattle.vol_layout.specs.declared.geometry.Geometry.{Geometry}
-use Rattle.vol_layout.specs.declared.block_map.Form.{Form}
-use Rattle.vol_layout.specs.declared.block_map.Form.TheVariants.{Small, Large, Deep, Bare}
+use Rattle.vol_layout.specs.declared.block_map.BlockMap.{BlockMap}
+use Rattle.vol_layout.specs.declared.block_map.BlockMap.TheVariants.{Small, Large, Deep, Bare}
 
 -- q is entry j or a later one of the block that place p names, or is below such an entry (Lions on bmap)
 pub record IsUnder (p : List ℕ) (j : ℕ) (q : List ℕ) : Type 0 where
@@ -19,20 +19,20 @@ pub record IsUnder (p : List ℕ) (j : ℕ) (q : List ℕ) : Type 0 where
   pub front : IsFront (index ∷ p) q
 
 -- the first logical block below address k of an i-node (Lions on bmap; ino.h)
-abbrev pub first_at : Form → ℕ → ℕ
+abbrev pub first_at : BlockMap → ℕ → ℕ
 first_at Small k = k
 first_at Large k = 256 * k
 first_at Deep k = if k == 11 then 138 else if k == 12 then 16522 else k
 first_at Bare k = k
 
 -- the first logical block at or below a place (Lions on bmap)
-abbrev pub first_block : Form → List ℕ → ℕ
+abbrev pub first_block : BlockMap → List ℕ → ℕ
 first_block form [] = 0
 first_block form (k ∷ []) = first_at form k
 first_block form (j ∷ (a ∷ p)) = first_block form (a ∷ p) + j * pointer_count form ^ levels_below form (j ∷ (a ∷ p))
 
 -- true if none of the first `kept` logical blocks is at or below a place (this project)
-abbrev pub is_past : Form → ℕ → List ℕ → Bool
+abbrev pub is_past : BlockMap → ℕ → List ℕ → Bool
 is_past form kept q = nat_le kept (first_block form q)
 
 -- none of the first `kept` logical blocks of file i is at or below place q (this project)

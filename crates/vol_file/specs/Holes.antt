@@ -2,15 +2,15 @@
 use Rattle.std.specs.Prelude.{◌≡◌, ℕ, zero, suc, ◌-◌, ◌*◌, ◌<◌, ◌≤◌, List, [], ◌∷◌}
 use Rattle.vol_layout.specs.Names.{stored}
 use Rattle.vol_layout.specs.declared.geometry.Geometry.{Geometry}
-use Rattle.vol_layout.specs.declared.block_map.Form.{Form}
-use Rattle.vol_layout.specs.declared.block_map.Form.TheVariants.{Small, Large, Deep, Bare}
+use Rattle.vol_layout.specs.declared.block_map.BlockMap.{BlockMap}
+use Rattle.vol_layout.specs.declared.block_map.BlockMap.TheVariants.{Small, Large, Deep, Bare}
 
 -- no number is stored for the logical blocks `from..end` (Lions on bmap)
-abbrev pub IsHole : Geometry → List ℕ → ℕ → Form → ℕ → ℕ → Type 0
+abbrev pub IsHole : Geometry → List ℕ → ℕ → BlockMap → ℕ → ℕ → Type 0
 IsHole geometry image i form from end = (b : ℕ) → from ≤ b → b < end → stored geometry image i form b ≡ 0
 
 -- b is the first logical block in `from..end` for which a number is stored, or else `end` (Lions on bmap)
-pub record IsNextStored (geometry : Geometry) (image : List ℕ) (i : ℕ) (form : Form) (from end b : ℕ) : Type 0 where
+pub record IsNextStored (geometry : Geometry) (image : List ℕ) (i : ℕ) (form : BlockMap) (from end b : ℕ) : Type 0 where
   pub reached : from ≤ b
   pub within : b ≤ end
   pub hole : IsHole geometry image i form from b
@@ -24,7 +24,7 @@ blocks_left pointers (suc n) [] = 1
 blocks_left pointers (suc n) (j ∷ place) = blocks_left pointers n place * pointers - j
 
 -- the number of direct blocks, logical blocks that have an address of the i-node each (Lions on bmap; ino.h of the seventh edition)
-abbrev pub direct_count : Form → ℕ
+abbrev pub direct_count : BlockMap → ℕ
 direct_count Small = 8
 direct_count Large = 0
 direct_count Deep = 10

@@ -8,7 +8,7 @@ use Rattle.vol_file.specs.Shape.{touched, is_on_ways}
 use Rattle.vol_file.specs.Need.{missing_count, need_of, need, missing_places, places_taken}
 use Rattle.vol_file.specs.Missing.{missing_from}
 use Rattle.vol_layout.specs.declared.geometry.Geometry.{Geometry}
-use Rattle.vol_layout.specs.declared.block_map.Form.{Form}
+use Rattle.vol_layout.specs.declared.block_map.BlockMap.{BlockMap}
 
 -- p is one of the places of a list (membership)
 abbrev pub IsAmong : List ℕ → List (List ℕ) → Type 0
@@ -17,16 +17,16 @@ IsAmong p (q ∷ qs) = (p ≡ q) ⊎ IsAmong p qs
 
 -- the list of a form's places contains its places and nothing else (this project)
 abbrev pub ListsPlaces : Type 0
-ListsPlaces = (form : Form) (p : List ℕ) → IsAmong p (places form) ↔ IsPlace form p
+ListsPlaces = (form : BlockMap) (p : List ℕ) → IsAmong p (places form) ↔ IsPlace form p
 
 -- the list of a form's places contains each of them once (this project)
 abbrev pub ListsPlacesOnce : Type 0
-ListsPlacesOnce = (form : Form) (p : List ℕ) → IsPlace form p → count_by (bytes_eq p) (places form) ≡ 1
+ListsPlacesOnce = (form : BlockMap) (p : List ℕ) → IsPlace form p → count_by (bytes_eq p) (places form) ≡ 1
 
 -- the places missing for n logical blocks in a row, counted over the list of all places, are as many as those counted block
 -- by block, where a place on the ways of two blocks is counted at the first (Lions on bmap)
 abbrev pub CountsBlockByBlock : Type 0
-CountsBlockByBlock = (form : Form) (names : List ℕ → Bool) (first n : ℕ)
+CountsBlockByBlock = (form : BlockMap) (names : List ℕ → Bool) (first n : ℕ)
     → missing_count form names (range_with_len first n) ≡ missing_from form names first n
 
 -- a write of no bytes needs nothing (this project)
@@ -35,12 +35,12 @@ NeedsNothingForNothing = (geometry : Geometry) (image : List ℕ) (i offset : �
 
 -- the missing places are exactly those on the ways of some logical blocks that name nothing (this project)
 abbrev pub MissesWhatIsUnnamed : Type 0
-MissesWhatIsUnnamed = (form : Form) (names : List ℕ → Bool) (blocks p : List ℕ)
+MissesWhatIsUnnamed = (form : BlockMap) (names : List ℕ → Bool) (blocks p : List ℕ)
     → IsAmong p (missing_places form names blocks) ↔ ((is_on_ways form blocks p ≡ true) × (names p ≡ false))
 
 -- as many blocks are taken as are needed (this project)
 abbrev pub TakesWhatIsNeeded : Type 0
-TakesWhatIsNeeded = (form : Form) (names : List ℕ → Bool) (blocks : List ℕ) → length (places_taken form names blocks) ≡ need_of form names blocks
+TakesWhatIsNeeded = (form : BlockMap) (names : List ℕ → Bool) (blocks : List ℕ) → length (places_taken form names blocks) ≡ need_of form names blocks
 
 -- a logical block is touched if and only if one of the bytes is in it (Lions on writei)
 abbrev pub TouchesWhereBytesLie : Type 0

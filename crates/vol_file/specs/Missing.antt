@@ -3,8 +3,8 @@ use Rattle.std.specs.Prelude.{ℕ, zero, suc, ◌+◌, ◌==◌, ◌||◌, Bool,
 use Rattle.std.specs.Option.{option_map_or}
 use Rattle.vol_layout.specs.Places.{last_place}
 use Rattle.vol_file.specs.Shape.{moved_down}
-use Rattle.vol_layout.specs.declared.block_map.Form.{Form}
-use Rattle.vol_layout.specs.declared.block_map.Form.TheVariants.{Small, Large, Deep, Bare}
+use Rattle.vol_layout.specs.declared.block_map.BlockMap.{BlockMap}
+use Rattle.vol_layout.specs.declared.block_map.BlockMap.TheVariants.{Small, Large, Deep, Bare}
 
 -- the number of fronts of a place that name nothing: of the whole way, or only of the fronts on the way of no earlier
 -- block, which are those followed by no index but 0 (Lions on bmap)
@@ -16,23 +16,23 @@ missing_to names whole (j ∷ (a ∷ p)) =
 
 -- the number of places on the way of logical block b that name nothing: of the whole way, or only of the places on the way
 -- of no earlier block; 0 if b has no way (Lions on bmap)
-abbrev pub missing_at : Form → (List ℕ → Bool) → Bool → ℕ → ℕ
+abbrev pub missing_at : BlockMap → (List ℕ → Bool) → Bool → ℕ → ℕ
 missing_at form names whole b = option_map_or (missing_to names whole) (last_place form b) 0
 
 -- the number of places on the ways of n logical blocks that name nothing; for the first of them the whole way counts (Lions on bmap)
-unfoldable pub missing_from : Form → (List ℕ → Bool) → ℕ → ℕ → ℕ
+unfoldable pub missing_from : BlockMap → (List ℕ → Bool) → ℕ → ℕ → ℕ
 missing_from form names first zero = 0
 missing_from form names first (suc n) = missing_from form names first n + missing_at form names (n == 0) (first + n)
 
 -- true if a file becomes large when b is the last block touched (Lions on bmap)
-abbrev pub grows_at : Form → ℕ → Bool
+abbrev pub grows_at : BlockMap → ℕ → Bool
 grows_at Small b = nat_le 8 b
 grows_at Large b = false
 grows_at Deep b = false
 grows_at Bare b = false
 
 -- the form of a file, after it has become large if it grows (Lions on bmap)
-abbrev pub grown_form : Form → Bool → Form
+abbrev pub grown_form : BlockMap → Bool → BlockMap
 grown_form form grows = if grows then Large else form
 
 -- the places that name a block, after the file has become large if it grows (Lions on bmap)

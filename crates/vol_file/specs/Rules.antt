@@ -9,7 +9,7 @@ use Rattle.vol_layout.specs.declared.edition.Edition.TheVariants.{V7}
 use Rattle.vol_layout.specs.declared.geometry.Geometry.{Geometry}
 use Rattle.vol_layout.specs.declared.mode.Kind.{Kind}
 use Rattle.vol_layout.specs.declared.mode.Kind.TheVariants as kinds
-use Rattle.vol_layout.specs.declared.block_map.Form.TheVariants.{Small}
+use Rattle.vol_layout.specs.declared.block_map.BlockMap.TheVariants.{Small}
 
 -- the size of i-node i (manual section 5, file system)
 abbrev pub size_of : Geometry → List ℕ → ℕ → ℕ

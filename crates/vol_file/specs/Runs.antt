@@ -4,26 +4,26 @@ use Rattle.vol_layout.specs.Edition.{constants}
 use Rattle.vol_layout.specs.Inode.{inode_place, address_at}
 use Rattle.vol_layout.specs.Names.{form_at, pointer_in, stored}
 use Rattle.vol_layout.specs.declared.geometry.Geometry.{Geometry}
-use Rattle.vol_layout.specs.declared.block_map.Form.{Form}
-use Rattle.vol_file.specs.declared.runs.Source.{Source}
-use Rattle.vol_file.specs.declared.runs.Source.TheVariants.{Nowhere, Inode, Indirect}
+use Rattle.vol_layout.specs.declared.block_map.BlockMap.{BlockMap}
+use Rattle.vol_file.specs.declared.runs.PointerRun.{PointerRun}
+use Rattle.vol_file.specs.declared.runs.PointerRun.TheVariants.{Nowhere, Inode, Indirect}
 use Rattle.vol_file.specs.declared.runs.Run.{Run}
 use Rattle.vol_file.specs.declared.runs.BlockNumbers.{BlockNumbers}
 
 -- block number k of a source: address k of the i-node, or pointer k of an indirect block (manual section 5, file system; Lions on bmap)
-abbrev pub number_from : Geometry → List ℕ → ℕ → Source → ℕ → ℕ
+abbrev pub number_from : Geometry → List ℕ → ℕ → PointerRun → ℕ → ℕ
 number_from geometry image i Nowhere k = 0
 number_from geometry image i Inode k = address_at geometry.edition image (inode_place geometry.edition i) k
 number_from geometry image i (Indirect m) k = pointer_in geometry image m k
 
 -- a source has a block number k: an i-node has at most 13 addresses, and an indirect block as many pointers as the edition says (ino.h; param.h)
-abbrev pub HasNumber : Geometry → Source → ℕ → Type 0
+abbrev pub HasNumber : Geometry → PointerRun → ℕ → Type 0
 HasNumber geometry Nowhere k = Unit {0}
 HasNumber geometry Inode k = k < 13
 HasNumber geometry (Indirect m) k = k < (constants geometry.edition).pointers
 
 -- the numbers of the logical blocks of a run are stored one after another (Lions on bmap)
-pub record IsRun (geometry : Geometry) (image : List ℕ) (i : ℕ) (form : Form) (run : Run) : Type 0 where
+pub record IsRun (geometry : Geometry) (image : List ℕ) (i : ℕ) (form : BlockMap) (run : Run) : Type 0 where
   pub room : (b : ℕ) → run.first ≤ b → b ≤ run.last → HasNumber geometry run.source (run.entry + (b - run.first))
   pub numbers : (b : ℕ) → run.first ≤ b → b ≤ run.last → stored geometry image i form b ≡ number_from geometry image i run.source (run.entry + (b - run.first))
 

@@ -5,8 +5,8 @@ use Rattle.std.specs.Str.{bytes_eq}
 use Rattle.vol_layout.specs.Names.{named}
 use Rattle.vol_layout.specs.Places.{way}
 use Rattle.vol_layout.specs.declared.geometry.Geometry.{Geometry}
-use Rattle.vol_layout.specs.declared.block_map.Form.{Form}
-use Rattle.vol_layout.specs.declared.block_map.Form.TheVariants.{Small, Large, Deep, Bare}
+use Rattle.vol_layout.specs.declared.block_map.BlockMap.{BlockMap}
+use Rattle.vol_layout.specs.declared.block_map.BlockMap.TheVariants.{Small, Large, Deep, Bare}
 
 -- true if a place of i-node i names a block (manual section 5, file system)
 abbrev pub is_named : Geometry → List ℕ → ℕ → List ℕ → Bool
@@ -18,12 +18,12 @@ touched offset zero = []
 touched offset (suc n) = range_with_len (offset / 512) ((offset + n) / 512 - offset / 512 + 1)
 
 -- true if a place is on the way of one of these logical blocks (Lions on bmap)
-abbrev pub is_on_ways : Form → List ℕ → List ℕ → Bool
+abbrev pub is_on_ways : BlockMap → List ℕ → List ℕ → Bool
 is_on_ways form blocks p = list_any (λ b. list_any (bytes_eq p) (way form b)) blocks
 
 -- true if a file becomes large when these blocks are touched: a small file of the sixth edition, at its ninth block or
 -- later (Lions on bmap)
-abbrev pub grows_large : Form → List ℕ → Bool
+abbrev pub grows_large : BlockMap → List ℕ → Bool
 grows_large Small blocks = list_any (λ b. nat_le 8 b) blocks
 grows_large Large blocks = false
 grows_large Deep blocks = false
@@ -37,13 +37,13 @@ moved_down names (k ∷ (a ∷ [])) = (a == 0) && (nat_lt k 8 && names (k ∷ []
 moved_down names (j ∷ (k ∷ (a ∷ p))) = false
 
 -- the form in which the ways of touched blocks are looked up (Lions on bmap)
-abbrev pub fit_form : Form → List ℕ → Form
+abbrev pub fit_form : BlockMap → List ℕ → BlockMap
 fit_form form blocks = if grows_large form blocks then Large else form
 
 -- the places that name a block in that form, before any is added (Lions on bmap)
-abbrev pub fit_names : Form → (List ℕ → Bool) → List ℕ → List ℕ → Bool
+abbrev pub fit_names : BlockMap → (List ℕ → Bool) → List ℕ → List ℕ → Bool
 fit_names form names blocks = if grows_large form blocks then moved_down names else names
 
 -- the places that name a block once all on the ways of touched blocks do (Lions on bmap)
-abbrev pub filled : Form → (List ℕ → Bool) → List ℕ → List ℕ → Bool
+abbrev pub filled : BlockMap → (List ℕ → Bool) → List ℕ → List ℕ → Bool
 filled form names blocks p = fit_names form names blocks p || is_on_ways (fit_form form blocks) blocks p

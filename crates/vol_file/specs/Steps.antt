@@ -12,7 +12,7 @@ use Rattle.vol_file.specs.Need.{need_of, missing_on_way, missing_places, places_
 use Rattle.vol_file.specs.Rules.{size_of, Rules3To7With, IsCovered}
 use Rattle.vol_file.specs.Changes.{StaysElsewhere, mode_after, place_after, KeepsBlocks}
 use Rattle.vol_layout.specs.declared.geometry.Geometry.{Geometry}
-use Rattle.vol_layout.specs.declared.block_map.Form.TheVariants.{Large}
+use Rattle.vol_layout.specs.declared.block_map.BlockMap.TheVariants.{Large}
 
 -- the number of wanted places of file i that name nothing (Lions on bmap)
 unfoldable pub lacking : Geometry → List ℕ → ℕ → (List ℕ → Bool) → ℕ

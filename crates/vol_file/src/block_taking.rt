@@ -18,7 +18,7 @@ ghost use Rattle.vol_file.specs.Steps.{
 use pdp_words::{BLOCK, Image};
 use vol_free::take;
 use vol_layout::i_list::address;
-use vol_layout::{Form, Geometry, number, put_address, put_number};
+use vol_layout::{BlockMap, Geometry, number, put_address, put_number};
 
 /// Returns the block that address `k` of i-node `i` names. If it names none, it gets the first free block.
 fn name_address(image: &mut Image, geometry: &Geometry, i: u16, k: usize) -> u32
@@ -61,7 +61,7 @@ fn name_entry(image: &mut Image, geometry: &Geometry, m: u32, j: u32) -> u32
 }
 
 /// Gives each place on the way of logical block `b` of file `i` that names no block a free one, from the i-node down.
-fn name_way(image: &mut Image, geometry: &Geometry, i: u16, form: Form, b: u32)
+fn name_way(image: &mut Image, geometry: &Geometry, i: u16, form: BlockMap, b: u32)
     requires form { form ≡ form_at geometry.now image.old i }
     requires may { MayNameWay geometry.now image.old i b }
     ensures { (wanted : List ℕ → Bool) (blocks : List ℕ) → WantsWay geometry.now image.old i wanted b blocks
@@ -79,7 +79,7 @@ pub(crate) fn name_ways(
     image: &mut Image,
     geometry: &Geometry,
     i: u16,
-    form: Form,
+    form: BlockMap,
     from: u32,
     to: u32,
 )

@@ -7,7 +7,7 @@ ghost use Rattle.vol_layout.specs.Places.{place_to};
 
 use pdp_words::{BLOCK, Image};
 use vol_layout::i_list::{address, mode};
-use vol_layout::{Form, Geometry, Way, number};
+use vol_layout::{BlockMap, BlockPath, Geometry, number};
 
 /// Returns the number of the block that holds logical block `b` of i-node `i`, from 1 to the last, as its last place stores
 /// it. Returns `None` if nothing is stored there, if `b` is past the blocks that a file can have, or if `i` is no regular
@@ -18,7 +18,7 @@ pub fn block_at(image: &Image, geometry: &Geometry, i: u16, b: u32) -> Option<u3
     requires last { i ≤ geometry.now.last_inode }
     ensures { result ≡ block_named geometry.now image.now i b }
 {
-    let form = Form::of(geometry.edition, mode(image, geometry, i));
+    let form = BlockMap::of(geometry.edition, mode(image, geometry, i));
     match number_at(image, geometry, i, form, b) {
         0 => None,
         k => Some(k),
@@ -42,7 +42,7 @@ pub(crate) fn entry(image: &Image, geometry: &Geometry, m: u32, j: u32) -> u32
 /// Returns the number at the last place of the way of logical block `b`, in a file of some form, or 0 if there is no
 /// way or nothing is named.
 #[tactic(auto, using(crate::proofs::Indexes::way_address, crate::proofs::Indexes::way_entry))]
-pub(crate) fn number_at(image: &Image, geometry: &Geometry, i: u16, form: Form, b: u32) -> u32
+pub(crate) fn number_at(image: &Image, geometry: &Geometry, i: u16, form: BlockMap, b: u32) -> u32
     requires fits { Fits geometry.now image.now }
     requires first { 1 ≤ i }
     requires last { i ≤ geometry.now.last_inode }
@@ -54,7 +54,13 @@ pub(crate) fn number_at(image: &Image, geometry: &Geometry, i: u16, form: Form, 
 }
 
 /// The number that the first `depth` entries of a way lead to.
-pub(crate) fn follow(image: &Image, geometry: &Geometry, i: u16, way: &Way, depth: usize) -> u32
+pub(crate) fn follow(
+    image: &Image,
+    geometry: &Geometry,
+    i: u16,
+    way: &BlockPath,
+    depth: usize,
+) -> u32
     requires fits { Fits geometry.now image.now }
     requires first { 1 ≤ i }
     requires last { i ≤ geometry.now.last_inode }

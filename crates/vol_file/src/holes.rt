@@ -11,7 +11,7 @@ use crate::following::entry;
 use crate::pointers::next_pointer;
 use pdp_words::Image;
 use vol_layout::i_list::{address, mode};
-use vol_layout::{Form, Geometry, Way};
+use vol_layout::{BlockMap, BlockPath, Geometry};
 
 /// Returns the first logical block of i-node `i`, from 1 to the last, in `from..end` for which the block map has a
 /// number, or `end` if there is none. The number may be outside the data zone.
@@ -25,7 +25,7 @@ pub fn next_block(image: &Image, geometry: &Geometry, i: u16, from: u32, end: u3
     requires order { from ≤ end }
     ensures { IsNextStored geometry.now image.now i (form_at geometry.now image.now i) from end result }
 {
-    let form = Form::of(geometry.edition, mode(image, geometry, i));
+    let form = BlockMap::of(geometry.edition, mode(image, geometry, i));
     next_stored(image, geometry, i, form, from, end)
 }
 
@@ -34,7 +34,7 @@ pub(crate) fn next_stored(
     image: &Image,
     geometry: &Geometry,
     i: u16,
-    form: Form,
+    form: BlockMap,
     from: u32,
     end: u32,
 ) -> u32
@@ -59,7 +59,7 @@ pub(crate) fn next_stored(
 /// Returns the end of the hole that starts at logical block `b`, at least as far as zero addresses of direct blocks or zero
 /// pointers of one indirect block reach, or `b` itself if a number is stored for it.
 #[tactic(auto, using(crate::proofs::Indexes::way_address, crate::proofs::Indexes::way_entry))]
-fn hole_end(image: &Image, geometry: &Geometry, i: u16, form: Form, b: u32) -> u32
+fn hole_end(image: &Image, geometry: &Geometry, i: u16, form: BlockMap, b: u32) -> u32
     requires fits { Fits geometry.now image.now }
     requires first { 1 ≤ i }
     requires last { i ≤ geometry.now.last_inode }
@@ -90,13 +90,13 @@ fn hole_end(image: &Image, geometry: &Geometry, i: u16, form: Form, b: u32) -> u
 }
 
 /// Returns the number of direct blocks: logical blocks that have an address of the i-node each.
-pub(crate) fn direct_count(form: Form) -> u32
+pub(crate) fn direct_count(form: BlockMap) -> u32
     ensures { result ≡ direct_count form }
 {
     match form {
-        Form::Small => 8,
-        Form::Deep => 10,
-        Form::Large | Form::Bare => 0,
+        BlockMap::Small => 8,
+        BlockMap::Deep => 10,
+        BlockMap::Large | BlockMap::Bare => 0,
     }
 }
 
@@ -137,7 +137,7 @@ pub(crate) fn blocks_below(geometry: &Geometry, levels: usize) -> u32
 
 /// Returns the number of logical blocks, from the one with this way on, that are below the indirect block to which the
 /// first `d` entries of the way lead.
-pub(crate) fn left_below(geometry: &Geometry, way: &Way, d: usize) -> u32
+pub(crate) fn left_below(geometry: &Geometry, way: &BlockPath, d: usize) -> u32
     requires depth { way.now.depth ≤ 3 }
     requires above { d ≤ way.now.depth }
     requires entries { (k : ℕ) → k < way.now.depth → slice_index way.now.entries k < (constants geometry.now.edition).pointers }

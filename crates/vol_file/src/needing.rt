@@ -9,7 +9,7 @@ ghost use Rattle.vol_file.specs.Missing.{missing_at, missing_from, grows_at, gro
 use crate::following::entry;
 use pdp_words::{BLOCK, Image};
 use vol_layout::i_list::{address, mode};
-use vol_layout::{Form, Geometry};
+use vol_layout::{BlockMap, Geometry};
 
 /// The number of blocks up to which a file of the sixth edition is small.
 const SMALL_BLOCKS: u32 = 8;
@@ -29,7 +29,7 @@ pub fn need(image: &Image, geometry: &Geometry, i: u16, offset: u32, len: u32) -
     if len == 0 {
         return 0;
     }
-    let form = Form::of(geometry.edition, mode(image, geometry, i));
+    let form = BlockMap::of(geometry.edition, mode(image, geometry, i));
     let first = offset / BLOCK as u32;
     let last = ((offset as usize + (len - 1) as usize) / BLOCK) as u32;
     let grows = grows_large(form, last);
@@ -38,11 +38,11 @@ pub fn need(image: &Image, geometry: &Geometry, i: u16, offset: u32, len: u32) -
 }
 
 /// True if a file of some form becomes large when `last` is the last block touched.
-pub(crate) fn grows_large(form: Form, last: u32) -> bool
+pub(crate) fn grows_large(form: BlockMap, last: u32) -> bool
     ensures { result ≡ grows_at form last }
 {
     match form {
-        Form::Small => last >= SMALL_BLOCKS,
+        BlockMap::Small => last >= SMALL_BLOCKS,
         _ => false,
     }
 }
@@ -53,7 +53,7 @@ fn missing_in_range(
     image: &Image,
     geometry: &Geometry,
     i: u16,
-    form: Form,
+    form: BlockMap,
     grows: bool,
     first: u32,
     end: u32,
@@ -62,7 +62,7 @@ fn missing_in_range(
     requires first { 1 ≤ i }
     requires last { i ≤ geometry.now.last_inode }
     requires form { form ≡ form_at geometry.now image.now i }
-    requires small { grows ≡ true → form ≡ Form.Small }
+    requires small { grows ≡ true → form ≡ BlockMap.Small }
     requires range { end ≤ 2 ^ 24 }
     ensures exact { result ≡ missing_from (grown_form form grows)
         (grown_names (is_named geometry.now image.now i) grows) first (end - first) }
@@ -77,10 +77,10 @@ fn missing_in_range(
 }
 
 /// Returns the form of a file, after it has become large if it `grows`.
-fn grown_form(form: Form, grows: bool) -> Form
+fn grown_form(form: BlockMap, grows: bool) -> BlockMap
     ensures { result ≡ grown_form form grows }
 {
-    if grows { Form::Large } else { form }
+    if grows { BlockMap::Large } else { form }
 }
 
 /// Returns the number of places on the way of logical block `b` that name nothing: of the `whole` way, or only of the
@@ -89,7 +89,7 @@ fn missing_at(
     image: &Image,
     geometry: &Geometry,
     i: u16,
-    form: Form,
+    form: BlockMap,
     grows: bool,
     whole: bool,
     b: u32,
@@ -98,7 +98,7 @@ fn missing_at(
     requires first { 1 ≤ i }
     requires last { i ≤ geometry.now.last_inode }
     requires form { form ≡ form_at geometry.now image.now i }
-    requires small { grows ≡ true → form ≡ Form.Small }
+    requires small { grows ≡ true → form ≡ BlockMap.Small }
     ensures exact { result ≡ missing_at (grown_form form grows)
         (grown_names (is_named geometry.now image.now i) grows) whole b }
     ensures bound { result ≤ 4 }
@@ -116,7 +116,7 @@ fn missing_on_way(
     image: &Image,
     geometry: &Geometry,
     i: u16,
-    form: Form,
+    form: BlockMap,
     whole: bool,
     b: u32,
 ) -> u32
@@ -144,10 +144,10 @@ fn missing_once_large(image: &Image, geometry: &Geometry, i: u16, whole: bool, b
     requires fits { Fits geometry.now image.now }
     requires first { 1 ≤ i }
     requires last { i ≤ geometry.now.last_inode }
-    ensures exact { result ≡ missing_at Form.Large (moved_down (is_named geometry.now image.now i)) whole b }
+    ensures exact { result ≡ missing_at BlockMap.Large (moved_down (is_named geometry.now image.now i)) whole b }
     ensures bound { result ≤ 4 }
 {
-    let Some(way) = Form::Large.way(b) else {
+    let Some(way) = BlockMap::Large.way(b) else {
         return 0
     };
     let mut missing = absent(way.address == 0);

@@ -8,10 +8,17 @@ ghost use Rattle.vol_file.specs.Steps.{Rewrites, text_at, zeros_at};
 use crate::following::number_at;
 use crate::holes::next_stored;
 use pdp_words::{BLOCK, Image};
-use vol_layout::{Form, Geometry};
+use vol_layout::{BlockMap, Geometry};
 
 /// Writes `piece` to file `i` from byte `at` on, all in one logical block, which is stored.
-fn put_piece(image: &mut Image, geometry: &Geometry, i: u16, form: Form, at: usize, piece: &[u8])
+fn put_piece(
+    image: &mut Image,
+    geometry: &Geometry,
+    i: u16,
+    form: BlockMap,
+    at: usize,
+    piece: &[u8],
+)
     requires form { form ≡ form_at geometry.now image.old i }
     requires file { IsFile geometry.now image.old i }
     requires sound { Rules3To7 geometry.now image.old }
@@ -27,7 +34,14 @@ fn put_piece(image: &mut Image, geometry: &Geometry, i: u16, form: Form, at: usi
 }
 
 /// Clears `count` bytes of file `i` from byte `at` on, all in one logical block; a hole stays one.
-fn clear_piece(image: &mut Image, geometry: &Geometry, i: u16, form: Form, at: usize, count: usize)
+fn clear_piece(
+    image: &mut Image,
+    geometry: &Geometry,
+    i: u16,
+    form: BlockMap,
+    at: usize,
+    count: usize,
+)
     requires form { form ≡ form_at geometry.now image.old i }
     requires file { IsFile geometry.now image.old i }
     requires sound { Rules3To7 geometry.now image.old }
@@ -48,7 +62,7 @@ pub(crate) fn put_text(
     image: &mut Image,
     geometry: &Geometry,
     i: u16,
-    form: Form,
+    form: BlockMap,
     offset: u32,
     text: &[u8],
 )
@@ -78,7 +92,7 @@ pub(crate) fn clear_between(
     image: &mut Image,
     geometry: &Geometry,
     i: u16,
-    form: Form,
+    form: BlockMap,
     from: u32,
     to: u32,
 )

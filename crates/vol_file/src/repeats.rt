@@ -13,7 +13,7 @@ use crate::holes::{blocks_below, left_below};
 use pdp_words::Image;
 use std::alloc::{AllocError, Global};
 use vol_layout::i_list::{address, mode};
-use vol_layout::{Form, Geometry, Way};
+use vol_layout::{BlockMap, BlockPath, Geometry};
 
 /// The number of marks of each block: for what is 0, 1 and 2 levels below it.
 pub const MARKS: usize = 3;
@@ -43,7 +43,7 @@ pub fn passed_end(image: &Image, geometry: &Geometry, i: u16, b: u32, marks: &[b
     if marks.is_empty() {
         return b;
     }
-    let form = Form::of(geometry.edition, mode(image, geometry, i));
+    let form = BlockMap::of(geometry.edition, mode(image, geometry, i));
     let Some(way) = form.way(b) else { return b };
     let mut block = address(image, geometry, i, way.address);
     for d in 0..way.depth {
@@ -79,7 +79,7 @@ pub fn mark_passed(
     if marks.is_empty() {
         return;
     }
-    let form = Form::of(geometry.edition, mode(image, geometry, i));
+    let form = BlockMap::of(geometry.edition, mode(image, geometry, i));
     let Some(way) = form.way(b) else { return };
     let last = to.min(form.block_limit());
     let mut block = address(image, geometry, i, way.address);
@@ -96,7 +96,7 @@ pub fn mark_passed(
 
 /// True if at most two levels are below the block to which the first `d` entries of the way of logical block `b` lead, and
 /// all logical blocks below it are in `from..to`.
-fn is_between(geometry: &Geometry, way: &Way, d: usize, b: u32, from: u32, to: u32) -> bool
+fn is_between(geometry: &Geometry, way: &BlockPath, d: usize, b: u32, from: u32, to: u32) -> bool
     requires depth { way.now.depth ≤ 3 }
     requires above { d ≤ way.now.depth }
     requires entries { (k : ℕ) → k < way.now.depth → slice_index way.now.entries k < (constants geometry.now.edition).pointers }

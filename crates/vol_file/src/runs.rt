@@ -9,11 +9,11 @@ use crate::following::{entry, follow};
 use crate::holes::{direct_count, next_stored};
 use pdp_words::Image;
 use vol_layout::i_list::{address, mode};
-use vol_layout::{Form, Geometry};
+use vol_layout::{BlockMap, Geometry};
 
 /// Where the numbers of a run of logical blocks are stored.
 #[derive(Clone, Copy, Debug)]
-pub(crate) enum Source {
+pub(crate) enum PointerRun {
     /// Nowhere: a file can't have these blocks.
     Nowhere,
     /// In the i-node, as its addresses.
@@ -30,7 +30,7 @@ pub(crate) struct Run {
     /// The last one; below the first if there is none.
     last: u32,
     /// Where the numbers are stored.
-    source: Source,
+    source: PointerRun,
     /// The index there of the first block's number.
     entry: u32,
 }
@@ -40,7 +40,7 @@ pub(crate) struct Run {
 #[derive(Clone, Copy, Debug)]
 pub struct BlockNumbers {
     inode: u16,
-    form: Form,
+    form: BlockMap,
     run: Run,
 }
 
@@ -55,12 +55,12 @@ impl BlockNumbers {
         let run = Run {
             first: 1,
             last: 0,
-            source: Source::Nowhere,
+            source: PointerRun::Nowhere,
             entry: 0,
         };
         BlockNumbers {
             inode: i,
-            form: Form::of(geometry.edition, mode(image, geometry, i)),
+            form: BlockMap::of(geometry.edition, mode(image, geometry, i)),
             run,
         }
     }
@@ -139,12 +139,12 @@ impl Run {
         ensures { result ≡ stored geometry.now image.now i (form_at geometry.now image.now i) b }
     {
         match self.source {
-            Source::Nowhere => 0,
-            Source::Inode => {
+            PointerRun::Nowhere => 0,
+            PointerRun::Inode => {
                 let k = self.entry + (b - self.first);
                 address(image, geometry, i, k as usize)
             }
-            Source::Indirect(m) => entry(image, geometry, m, self.entry + (b - self.first)),
+            PointerRun::Indirect(m) => entry(image, geometry, m, self.entry + (b - self.first)),
         }
     }
 }
@@ -153,7 +153,7 @@ impl Run {
 /// of data blocks.
 ///
 /// Costs one block-map lookup.
-fn run_from(image: &Image, geometry: &Geometry, i: u16, form: Form, b: u32) -> Run
+fn run_from(image: &Image, geometry: &Geometry, i: u16, form: BlockMap, b: u32) -> Run
     requires fits { Fits geometry.now image.now }
     requires first { 1 ≤ i }
     requires last { i ≤ geometry.now.last_inode }
@@ -167,7 +167,7 @@ fn run_from(image: &Image, geometry: &Geometry, i: u16, form: Form, b: u32) -> R
         return Run {
             first: b,
             last: direct - 1,
-            source: Source::Inode,
+            source: PointerRun::Inode,
             entry: b,
         };
     }
@@ -175,7 +175,7 @@ fn run_from(image: &Image, geometry: &Geometry, i: u16, form: Form, b: u32) -> R
         return Run {
             first: b,
             last: u32::MAX,
-            source: Source::Nowhere,
+            source: PointerRun::Nowhere,
             entry: 0,
         };
     };
@@ -184,7 +184,7 @@ fn run_from(image: &Image, geometry: &Geometry, i: u16, form: Form, b: u32) -> R
     Run {
         first: b,
         last: b + (geometry.edition.constants().pointers - 1 - entry),
-        source: Source::Indirect(follow(image, geometry, i, &way, above)),
+        source: PointerRun::Indirect(follow(image, geometry, i, &way, above)),
         entry,
     }
 }

@@ -10,7 +10,9 @@ use crate::holes::blocks_below;
 use pdp_words::{BLOCK, Image};
 use vol_free::give;
 use vol_layout::i_list::{address, mode};
-use vol_layout::{Edition, Form, Geometry, number, put_address, put_mode, put_number, put_size};
+use vol_layout::{
+    BlockMap, Edition, Geometry, number, put_address, put_mode, put_number, put_size,
+};
 
 /// Truncates file `i` to its first `size` bytes, at most its size, and returns the number of blocks freed. The blocks on
 /// the ways of the logical blocks that hold these bytes are kept. All others are put on the free list, from the last place
@@ -30,7 +32,7 @@ pub fn truncate(image: &mut Image, geometry: &Geometry, i: u16, size: u32) -> u3
     ensures fits { Fits geometry.now image.new }
 {
     let mode = mode(image, geometry, i);
-    let form = Form::of(geometry.edition, mode);
+    let form = BlockMap::of(geometry.edition, mode);
     let kept = (size + (BLOCK as u32 - 1)) / BLOCK as u32;
     let given = clear_addresses(image, geometry, i, form, kept);
     put_size(image, geometry, i, size);
@@ -45,7 +47,7 @@ pub fn truncate(image: &mut Image, geometry: &Geometry, i: u16, size: u32) -> u3
 
 /// Frees what the addresses of file `i` lead to past its first `kept` logical blocks, the last address first, clears the
 /// addresses that lead to nothing else, and returns the number of blocks freed.
-fn clear_addresses(image: &mut Image, geometry: &Geometry, i: u16, form: Form, kept: u32) -> u32
+fn clear_addresses(image: &mut Image, geometry: &Geometry, i: u16, form: BlockMap, kept: u32) -> u32
     requires file { IsFile geometry.now image.old i }
     requires sound { Rules3To7 geometry.now image.old }
     requires form { form ≡ form_at geometry.now image.old i }
@@ -71,14 +73,14 @@ fn clear_addresses(image: &mut Image, geometry: &Geometry, i: u16, form: Form, k
 }
 
 /// Returns the first logical block below address `k` of a file.
-fn first_at(form: Form, k: usize) -> u32
+fn first_at(form: BlockMap, k: usize) -> u32
     requires { k ≤ 12 }
     ensures { result ≡ first_at form k }
 {
     match form {
-        Form::Large => 256 * k as u32,
-        Form::Deep if k == 11 => 138,
-        Form::Deep if k == 12 => 16_522,
+        BlockMap::Large => 256 * k as u32,
+        BlockMap::Deep if k == 11 => 138,
+        BlockMap::Deep if k == 12 => 16_522,
         _ => k as u32,
     }
 }

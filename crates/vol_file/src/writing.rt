@@ -17,13 +17,13 @@ use pdp_words::{BLOCK, Image};
 use vol_free::take;
 use vol_layout::i_list::{mode, size};
 use vol_layout::{
-    Form, Geometry, clear_addresses, copy_addresses, put_address, put_mode, put_size,
+    BlockMap, Geometry, clear_addresses, copy_addresses, put_address, put_mode, put_size,
 };
 
 /// Makes the small file `i` large: its eight addresses move to the first free block, and address 0 then names that
 /// block. Does nothing if no block is free.
 fn make_large(image: &mut Image, geometry: &Geometry, i: u16)
-    requires form { form_at geometry.now image.old i ≡ Form.Small }
+    requires form { form_at geometry.now image.old i ≡ BlockMap.Small }
     requires may { MayEnlarge geometry.now image.old i }
     ensures { (blocks : List ℕ) → Rules3To7With geometry.now image.old blocks → 1 ≤ length blocks
         → Enlarges geometry.now image.old image.new i blocks }
@@ -50,10 +50,10 @@ fn name_blocks(image: &mut Image, geometry: &Geometry, i: u16, from: u32, to: u3
         → Fills geometry.now image.old image.new i (range_with_len from (to - from)) blocks }
     ensures limit { to ≤ block_limit (form_at geometry.now image.new i) }
 {
-    let form = Form::of(geometry.edition, mode(image, geometry, i));
+    let form = BlockMap::of(geometry.edition, mode(image, geometry, i));
     if grows_large(form, to - 1) {
         make_large(image, geometry, i);
-        name_ways(image, geometry, i, Form::Large, from, to);
+        name_ways(image, geometry, i, BlockMap::Large, from, to);
     } else {
         name_ways(image, geometry, i, form, from, to);
     }
@@ -65,13 +65,13 @@ fn put_in_blocks(image: &mut Image, geometry: &Geometry, i: u16, offset: u32, te
     requires file { IsFile geometry.now image.old i }
     requires sound { Rules3To7 geometry.now image.old }
     requires greatest { offset + length text.now ≤ (constants geometry.now.edition).greatest }
-    requires small { form_at geometry.now image.old i ≡ Form.Small → offset + length text.now ≤ 4096 }
+    requires small { form_at geometry.now image.old i ≡ BlockMap.Small → offset + length text.now ≤ 4096 }
     requires zone { (n : ℕ) → n < length text.now
         → in_zone geometry.now (stored geometry.now image.old i (form_at geometry.now image.old i) ((offset + n) / 512)) ≡ true }
     ensures { (blocks : List ℕ) → Rules3To7With geometry.now image.old blocks
         → Puts geometry.now image.old image.new i offset text.now blocks }
 {
-    let form = Form::of(geometry.edition, mode(image, geometry, i));
+    let form = BlockMap::of(geometry.edition, mode(image, geometry, i));
     let before = size(image, geometry, i);
     clear_between(image, geometry, i, form, before.min(offset), offset);
     put_text(image, geometry, i, form, offset, text);

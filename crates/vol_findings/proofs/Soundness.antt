@@ -20,13 +20,13 @@ use Rattle.vol_findings.specs.Outcomes.{Says, Tells, Keeps, HasGeometry}
 use Rattle.vol_findings.specs.Reports.{is_held, lines_of, are_held, first_unheld, rule_number}
 use Rattle.vol_judge.specs.declared.finding.Finding.{Finding}
 use Rattle.vol_judge.specs.declared.finding.Finding.TheVariants.{TooShort, BadSizes}
-use Rattle.vol_findings.specs.declared.outcome.Outcome.{Outcome}
-use Rattle.vol_findings.specs.declared.outcome.Outcome.TheVariants.{Holds, Broken, NotAsked}
-use Rattle.vol_findings.specs.declared.outcome.Outcomes.{Outcomes}
-use Rattle.vol_findings.specs.declared.report.Line.{Line}
+use Rattle.vol_findings.specs.declared.outcome.RuleOutcome.{RuleOutcome}
+use Rattle.vol_findings.specs.declared.outcome.RuleOutcome.TheVariants.{Holds, Broken, NotAsked}
+use Rattle.vol_findings.specs.declared.outcome.RuleOutcomes.{RuleOutcomes}
+use Rattle.vol_findings.specs.declared.report.RuleLine.{RuleLine}
 
 -- the first that fails of a rule that is checked and some others, by the outcome of the rule and the first of the others that fails
-first_said : (rule : Type 0) (first : Finding → Type 0) (reason : Type 0) (outcome : Outcome) (n : ℕ) (facts : List (Type 0)) (answer : Option ℕ)
+first_said : (rule : Type 0) (first : Finding → Type 0) (reason : Type 0) (outcome : RuleOutcome) (n : ℕ) (facts : List (Type 0)) (answer : Option ℕ)
     → Says rule first reason outcome → (reason → ⊥) → (rule → IsFirstBroken (n + 1) facts answer)
     → IsFirstBroken n (rule ∷ facts) (if is_held outcome then answer else Some n)
 first_said rule first reason Holds n facts answer says asked more = inr (says.0, more says.0)
@@ -58,13 +58,13 @@ none_held true answer n is none = none
 none_held false answer n is none = absurd (cc)
 
 -- if all are said to hold, none is the first that isn't, and back
-none_unheld : (lines : List Line) → are_held lines ≡ true → first_unheld lines ≡ None
+none_unheld : (lines : List RuleLine) → are_held lines ≡ true → first_unheld lines ≡ None
 none_unheld [] all = refl
 none_unheld (line ∷ lines) all =
     let both = both_true (is_held line.outcome) (are_held lines) all in
     none_held (is_held line.outcome) (first_unheld lines) (rule_number line.rule) both.0 (none_unheld lines both.1)
 
-all_held : (lines : List Line) → first_unheld lines ≡ None → are_held lines ≡ true
+all_held : (lines : List RuleLine) → first_unheld lines ≡ None → are_held lines ≡ true
 all_held [] none = refl
 all_held (line ∷ lines) none = both_held (is_held line.outcome) (are_held lines) (first_unheld lines) (rule_number line.rule) none (all_held lines)
 
@@ -93,7 +93,7 @@ module _ (edition : Edition) (image : List ℕ) where
   none_judged None judgement sound = refl
   none_judged (Some n) judgement sound = absurd (judgement.broken (sound n))
 
-module _ (edition : Edition) (image : List ℕ) (found : Outcomes) (tells : Tells edition image found) where
+module _ (edition : Edition) (image : List ℕ) (found : RuleOutcomes) (tells : Tells edition image found) where
   -- the first that isn't said to hold is the least that fails
   first_judged : IsJudged true edition image (first_unheld (lines_of found))
   unfolding Rule

@@ -23,9 +23,9 @@ use Rattle.vol_judge.specs.Finds.{Finds}
 use Rattle.vol_findings.specs.Outcomes.{Says, outcome_of, IsTwiceUnasked, TellsVolume, Tells, Keeps, HasGeometry}
 use Rattle.vol_judge.specs.declared.finding.Finding.{Finding}
 use Rattle.vol_judge.specs.declared.finding.Finding.TheVariants.{TooShort, BadSizes}
-use Rattle.vol_findings.specs.declared.outcome.Outcome.{Outcome}
-use Rattle.vol_findings.specs.declared.outcome.Outcome.TheVariants.{Holds, Broken, NotAsked}
-use Rattle.vol_findings.specs.declared.outcome.Outcomes.{Outcomes}
+use Rattle.vol_findings.specs.declared.outcome.RuleOutcome.{RuleOutcome}
+use Rattle.vol_findings.specs.declared.outcome.RuleOutcome.TheVariants.{Holds, Broken, NotAsked}
+use Rattle.vol_findings.specs.declared.outcome.RuleOutcomes.{RuleOutcomes}
 
 -- the result of a search is the outcome of the rule, if it is checked
 said : (rule : Type 0) (first : Finding → Type 0) (reason : Type 0) (found : Option Finding) → (reason → ⊥) → Finds rule first found
@@ -34,12 +34,12 @@ said rule first reason None asked finds = (finds, asked)
 said rule first reason (Some finding) asked finds = (finds.0, finds.1, asked)
 
 -- the same, when it is passed on
-pub said_as : (rule : Type 0) (first : Finding → Type 0) (reason : Type 0) (found : Option Finding) (outcome : Outcome) → (reason → ⊥)
+pub said_as : (rule : Type 0) (first : Finding → Type 0) (reason : Type 0) (found : Option Finding) (outcome : RuleOutcome) → (reason → ⊥)
     → Finds rule first found → outcome ≡ outcome_of found → Says rule first reason outcome
 said_as rule first reason found outcome asked finds is = subst (Says rule first reason) (sym is) (said rule first reason found asked finds)
 
 -- replacing a reason by an equivalent one
-said_for : (rule : Type 0) (first : Finding → Type 0) (reason other : Type 0) (outcome : Outcome) → (reason → other) → (other → reason)
+said_for : (rule : Type 0) (first : Finding → Type 0) (reason other : Type 0) (outcome : RuleOutcome) → (reason → other) → (other → reason)
     → Says rule first reason outcome → Says rule first other outcome
 said_for rule first reason other Holds from back says = (says.0, λ there. says.1 (back there))
 said_for rule first reason other (Broken finding) from back says = (says.0, says.1, λ there. says.2 (back there))
@@ -69,7 +69,7 @@ chosen_ok true false g other e = absurd (cc)
 chosen_ok false b g other e = absurd (cc)
 
 -- the outcomes for an image without a geometry
-abbrev unread : Outcome → Outcome → Outcomes
+abbrev unread : RuleOutcome → RuleOutcome → RuleOutcomes
 unread whole bounded = record {
   whole = whole;
   bounded = bounded;
@@ -126,7 +126,7 @@ tells_bounds edition image e =
     }
 
 -- the outcomes for its volume, if it has a geometry
-tells_own : (edition : Edition) (image : List ℕ) (found : Outcomes) → is_whole edition image ≡ true → is_bounded edition image ≡ true
+tells_own : (edition : Edition) (image : List ℕ) (found : RuleOutcomes) → is_whole edition image ≡ true → is_bounded edition image ≡ true
     → TellsVolume (geometry_of edition image) image found → Tells edition image found
 unfolding Rule
 tells_own edition image found whole bounded volume =
@@ -157,7 +157,7 @@ tells_own edition image found whole bounded volume =
       links = said_for (HasLinks g image) (IsFirstLink g image) ⊥ Unread found.links (λ none. absurd none) asked volume.links;
     }
 
-pub tells_volume : (edition : Edition) (image : List ℕ) (g : Geometry) (found : Outcomes) → geometry_read edition image ≡ Ok g
+pub tells_volume : (edition : Edition) (image : List ℕ) (g : Geometry) (found : RuleOutcomes) → geometry_read edition image ≡ Ok g
     → TellsVolume g image found → Tells edition image found
 unfolding geometry_read
 tells_volume edition image g found e volume =
@@ -165,7 +165,7 @@ tells_volume edition image g found e volume =
     tells_own edition image found chosen.0 chosen.1 (subst (λ x. TellsVolume x image found) (sym chosen.2) volume)
 
 -- the same for the result of a check, if memory doesn't run out
-pub if_tells : (edition : Edition) (image : List ℕ) (g : Geometry) (result : Result Outcomes AllocError) → geometry_read edition image ≡ Ok g
+pub if_tells : (edition : Edition) (image : List ℕ) (g : Geometry) (result : Result RuleOutcomes AllocError) → geometry_read edition image ≡ Ok g
     → IfOk result (TellsVolume g image) → IfOk result (Tells edition image)
 if_tells edition image g (Ok found) e tells = tells_volume edition image g found e tells
 if_tells edition image g (Err refused) e tells = tt

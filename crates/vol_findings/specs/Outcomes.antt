@@ -20,18 +20,18 @@ use Rattle.vol_judge.specs.Zones.{IsFirstOutside}
 use Rattle.vol_judge.specs.declared.finding.Finding.{Finding}
 use Rattle.vol_judge.specs.declared.finding.Finding.TheVariants.{TooShort, BadSizes}
 use Rattle.vol_findings.specs.declared.blocks.BlockOutcomes.{BlockOutcomes}
-use Rattle.vol_findings.specs.declared.outcome.Outcome.{Outcome}
-use Rattle.vol_findings.specs.declared.outcome.Outcome.TheVariants.{Holds, Broken, NotAsked}
-use Rattle.vol_findings.specs.declared.outcome.Outcomes.{Outcomes}
+use Rattle.vol_findings.specs.declared.outcome.RuleOutcome.{RuleOutcome}
+use Rattle.vol_findings.specs.declared.outcome.RuleOutcome.TheVariants.{Holds, Broken, NotAsked}
+use Rattle.vol_findings.specs.declared.outcome.RuleOutcomes.{RuleOutcomes}
 
 -- the outcome of a rule: that it isn't checked, if and only if there is a reason; else that it holds, or its first violation (this project)
-abbrev pub Says : Type 0 → (Finding → Type 0) → Type 0 → Outcome → Type 0
+abbrev pub Says : Type 0 → (Finding → Type 0) → Type 0 → RuleOutcome → Type 0
 Says rule first reason Holds = rule × (reason → ⊥)
 Says rule first reason (Broken finding) = first finding × (rule → ⊥) × (reason → ⊥)
 Says rule first reason NotAsked = reason
 
 -- the outcome of a rule, from the result of a search for its first violation (this project)
-abbrev pub outcome_of : Option Finding → Outcome
+abbrev pub outcome_of : Option Finding → RuleOutcome
 outcome_of None = Holds
 outcome_of (Some finding) = Broken finding
 
@@ -47,7 +47,7 @@ pub record TellsBlocks (geometry : Geometry) (image : List ℕ) (found : BlockOu
   pub covered : Says (IsNoneLost geometry image) (IsFirstUncovered geometry image) (HasStack geometry image → ⊥) found.covered
 
 -- the outcomes of the rules of a volume whose geometry is known: 7 isn't checked for the reason above, nor 8 if 6 fails, nor 10 if 9 does (this project)
-pub record TellsVolume (geometry : Geometry) (image : List ℕ) (found : Outcomes) : Type 0 where
+pub record TellsVolume (geometry : Geometry) (image : List ℕ) (found : RuleOutcomes) : Type 0 where
   pub whole : found.whole ≡ Holds
   pub bounded : found.bounded ≡ Holds
   pub kinds : Says (HasKinds geometry image) (IsFirstKind geometry image) ⊥ found.kinds
@@ -70,7 +70,7 @@ abbrev pub HasGeometry : Edition → List ℕ → Type 0
 HasGeometry edition image = Keeps edition image 1 × Keeps edition image 2
 
 -- the outcomes of the twelve rules of an image: a rule isn't checked if and only if one that it needs fails; 7 needs 6 only if no two places name one block (this project)
-pub record Tells (edition : Edition) (image : List ℕ) (found : Outcomes) : Type 0 where
+pub record Tells (edition : Edition) (image : List ℕ) (found : RuleOutcomes) : Type 0 where
   pub whole : Says (Keeps edition image 1) (λ finding. finding ≡ TooShort) ⊥ found.whole
   pub bounded : Says (Keeps edition image 2) (λ finding. finding ≡ BadSizes) (Keeps edition image 1 → ⊥) found.bounded
   pub kinds : Says (Keeps edition image 3) (IsFirstKind (geometry_of edition image) image) (HasGeometry edition image → ⊥) found.kinds

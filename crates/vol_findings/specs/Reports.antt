@@ -8,10 +8,10 @@ use Rattle.vol_layout.specs.declared.edition.Edition.{Edition}
 use Rattle.vol_layout.specs.declared.edition.Edition.TheVariants.{V6, V7}
 use Rattle.vol_findings.specs.Outcomes.{Tells}
 use Rattle.vol_findings.specs.Texts.{outcome_text}
-use Rattle.vol_findings.specs.declared.outcome.Outcome.{Outcome}
-use Rattle.vol_findings.specs.declared.outcome.Outcome.TheVariants.{Holds, Broken, NotAsked}
-use Rattle.vol_findings.specs.declared.outcome.Outcomes.{Outcomes}
-use Rattle.vol_findings.specs.declared.report.Line.{Line}
+use Rattle.vol_findings.specs.declared.outcome.RuleOutcome.{RuleOutcome}
+use Rattle.vol_findings.specs.declared.outcome.RuleOutcome.TheVariants.{Holds, Broken, NotAsked}
+use Rattle.vol_findings.specs.declared.outcome.RuleOutcomes.{RuleOutcomes}
+use Rattle.vol_findings.specs.declared.report.RuleLine.{RuleLine}
 use Rattle.vol_findings.specs.declared.rules.Rule.{Rule}
 use Rattle.vol_findings.specs.declared.rules.Rule.TheVariants as rules
 
@@ -46,20 +46,20 @@ rule_sentence rules.Tree = codes "each directory is entered once and reached fro
 rule_sentence rules.Links = codes "each link count is the number of entries"
 
 -- the line of a rule: its number, what it requires, and its outcome (this project)
-abbrev pub line_text : Line → List ℕ
+abbrev pub line_text : RuleLine → List ℕ
 line_text line =
     decimal (rule_number line.rule) ++ (codes " " ++ (rule_sentence line.rule ++ (codes ": " ++ (outcome_text line.outcome ++ codes "\n"))))
 
 -- the lines of some rules (this project)
-unfoldable pub lines_text : List Line → List ℕ
+unfoldable pub lines_text : List RuleLine → List ℕ
 lines_text lines = flat_map line_text lines
 
 -- a rule with its outcome (this project)
-abbrev pub line : Rule → Outcome → Line
+abbrev pub line : Rule → RuleOutcome → RuleLine
 line rule outcome = record { rule = rule; outcome = outcome }
 
 -- the twelve rules, in order, each with its outcome (this project)
-abbrev pub lines_of : Outcomes → List Line
+abbrev pub lines_of : RuleOutcomes → List RuleLine
 lines_of found =
     line rules.Whole found.whole
     ∷ line rules.Bounded found.bounded
@@ -76,17 +76,17 @@ lines_of found =
     ∷ []
 
 -- true if a rule is said to hold (this project)
-abbrev pub is_held : Outcome → Bool
+abbrev pub is_held : RuleOutcome → Bool
 is_held Holds = true
 is_held (Broken finding) = false
 is_held NotAsked = false
 
 -- true if all of some rules are said to hold (this project)
-abbrev pub are_held : List Line → Bool
-are_held lines = list_all (λ (line : Line). is_held line.outcome) lines
+abbrev pub are_held : List RuleLine → Bool
+are_held lines = list_all (λ (line : RuleLine). is_held line.outcome) lines
 
 -- the number of the first of some lines that doesn't say that its rule holds, or None if each says so (this project)
-abbrev pub first_unheld : List Line → Option ℕ
+abbrev pub first_unheld : List RuleLine → Option ℕ
 first_unheld [] = None
 first_unheld (line ∷ lines) = if is_held line.outcome then first_unheld lines else Some (rule_number line.rule)
 
@@ -108,12 +108,12 @@ note_text edition image =
     else []
 
 -- the text of a report, by its outcomes (this project)
-abbrev pub report_text : Edition → List ℕ → Outcomes → List ℕ
+abbrev pub report_text : Edition → List ℕ → RuleOutcomes → List ℕ
 report_text edition image found = lines_text (lines_of found) ++ note_text edition image
 
 -- a text is the report on an image: its first line that doesn't say 'holds' has the number that `judge` returns, and the truth value says if all twelve rules hold (this project)
 pub record IsReport (edition : Edition) (image text : List ℕ) (sound : Bool) : Type 0 where
-  pub found : Outcomes
+  pub found : RuleOutcomes
   pub tells : Tells edition image found
   pub words : text ≡ report_text edition image found
   pub least : (number : Option ℕ) → IsJudged true edition image number ↔ (number ≡ first_unheld (lines_of found))

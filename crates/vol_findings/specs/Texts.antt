@@ -3,8 +3,8 @@ use Rattle.std.specs.Prelude.{ℕ, List, [], ◌++◌, codes, decimal}
 use Rattle.vol_free.specs.FreeWalk.{fault_word}
 use Rattle.vol_judge.specs.declared.finding.Finding.{Finding}
 use Rattle.vol_judge.specs.declared.finding.Finding.TheVariants as findings
-use Rattle.vol_findings.specs.declared.outcome.Outcome.{Outcome}
-use Rattle.vol_findings.specs.declared.outcome.Outcome.TheVariants.{Holds, Broken, NotAsked}
+use Rattle.vol_findings.specs.declared.outcome.RuleOutcome.{RuleOutcome}
+use Rattle.vol_findings.specs.declared.outcome.RuleOutcome.TheVariants.{Holds, Broken, NotAsked}
 use Rattle.vol_findings.specs.declared.texts.Spot.{Spot}
 use Rattle.vol_findings.specs.declared.texts.Spot.TheVariants as spots
 
@@ -76,7 +76,7 @@ spot_text (spots.Links i entries links) =
     codes ": i-node " ++ (decimal i ++ (codes ", entries " ++ (decimal entries ++ (codes ", links " ++ decimal links))))
 
 -- the text of an outcome: that the rule holds, its violation and the position of that, or that it isn't checked (this project)
-abbrev pub outcome_text : Outcome → List ℕ
+abbrev pub outcome_text : RuleOutcome → List ℕ
 outcome_text Holds = codes "holds"
 outcome_text (Broken finding) = words_of finding ++ spot_text (spot_of finding)
 outcome_text NotAsked = codes "not asked"

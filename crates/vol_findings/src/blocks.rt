@@ -14,7 +14,7 @@ ghost use Rattle.vol_judge.specs.Sound.{IsFreeApart, IsNoneLost};
 ghost use Rattle.vol_judge.specs.Zones.{IsFirstOutside};
 ghost use Rattle.vol_findings.specs.Outcomes.{Says, IsTwiceUnasked, TellsBlocks};
 
-use crate::outcome::Outcome;
+use crate::outcome::RuleOutcome;
 use pdp_words::Image;
 use std::alloc::{AllocError, Global};
 use vol_judge::{Finding, FreeStack, find_fault, find_lost, find_outside, find_twice, mark_named};
@@ -24,13 +24,13 @@ use vol_layout::Geometry;
 #[derive(Clone, Copy, Debug)]
 pub(crate) struct BlockOutcomes {
     /// Rule 5: each number that is named is that of a data block.
-    pub zoned: Outcome,
+    pub zoned: RuleOutcome,
     /// Rule 6: the free list is a stack.
-    pub listed: Outcome,
+    pub listed: RuleOutcome,
     /// Rule 7: no block is used twice.
-    pub apart: Outcome,
+    pub apart: RuleOutcome,
     /// Rule 8: no block is lost.
-    pub covered: Outcome,
+    pub covered: RuleOutcome,
 }
 
 /// Checks the rules about blocks. Reads the free list once. Takes two bytes for each block.
@@ -61,10 +61,10 @@ fn check_marks(
     requires clear { (k : ℕ) → slice_index_or free.old k false ≡ false }
     ensures { TellsBlocks geometry.now image.now result }
 {
-    let zoned = Outcome::of(find_outside(image, geometry, named));
+    let zoned = RuleOutcome::of(find_outside(image, geometry, named));
     let files = check_files(image, geometry, zoned, named);
     let list = find_fault(image, geometry, named, free);
-    let listed = Outcome::of(list.err());
+    let listed = RuleOutcome::of(list.err());
     let apart = check_apart(files, list);
     let covered = check_covered(image, geometry, list, named, free);
     BlockOutcomes {
@@ -76,34 +76,39 @@ fn check_marks(
 }
 
 /// Checks rule 7 for files alone, given the outcome of rule 5. If rule 7 holds, the blocks that files name are marked.
-fn check_files(image: &Image, geometry: &Geometry, zoned: Outcome, named: &mut [u8]) -> Outcome
+fn check_files(
+    image: &Image,
+    geometry: &Geometry,
+    zoned: RuleOutcome,
+    named: &mut [u8],
+) -> RuleOutcome
     requires fits { Fits geometry.now image.now }
     requires room { length named.old ≡ geometry.now.zone_end }
     requires zoned { Says (IsZoned geometry.now image.now) (IsFirstOutside geometry.now image.now) ⊥ zoned }
     ensures files { Says (IsApart geometry.now image.now) (IsFirstTwice geometry.now image.now) (IsZoned geometry.now image.now → ⊥) result }
-    ensures marks { result ≡ Outcome.Holds → MarksNamed geometry.now image.now named.new }
+    ensures marks { result ≡ RuleOutcome.Holds → MarksNamed geometry.now image.now named.new }
 {
     match zoned {
-        Outcome::Holds => Outcome::of(find_twice(image, geometry, named)),
-        Outcome::Broken(_) | Outcome::NotAsked => Outcome::NotAsked,
+        RuleOutcome::Holds => RuleOutcome::of(find_twice(image, geometry, named)),
+        RuleOutcome::Broken(_) | RuleOutcome::NotAsked => RuleOutcome::NotAsked,
     }
 }
 
 /// Returns the outcome of rule 7, from that for files alone and the free list. Two places that name one block break it even if
 /// the free list is broken.
-fn check_apart(files: Outcome, list: Result<FreeStack, Finding>) -> Outcome
+fn check_apart(files: RuleOutcome, list: Result<FreeStack, Finding>) -> RuleOutcome
     ensures { (geometry : Geometry) (image : List ℕ)
         → Says (IsApart geometry image) (IsFirstTwice geometry image) (IsZoned geometry image → ⊥) files
         → Finds (HasStack geometry image) (IsFirstFault geometry image) (result_err list)
-        → IfOk list (λ stack. files ≡ Outcome.Holds → Finds (IsFreeApart geometry image) (IsFirstTwice geometry image) stack.named)
+        → IfOk list (λ stack. files ≡ RuleOutcome.Holds → Finds (IsFreeApart geometry image) (IsFirstTwice geometry image) stack.named)
         → Says (IsUsedOnce geometry image) (IsFirstTwice geometry image) (IsTwiceUnasked geometry image) result }
 {
     match files {
-        Outcome::Holds => match list {
-            Ok(stack) => Outcome::of(stack.named),
-            Err(_) => Outcome::NotAsked,
+        RuleOutcome::Holds => match list {
+            Ok(stack) => RuleOutcome::of(stack.named),
+            Err(_) => RuleOutcome::NotAsked,
         },
-        Outcome::Broken(_) | Outcome::NotAsked => files,
+        RuleOutcome::Broken(_) | RuleOutcome::NotAsked => files,
     }
 }
 
@@ -115,7 +120,7 @@ fn check_covered(
     list: Result<FreeStack, Finding>,
     named: &mut [u8],
     free: &[bool],
-) -> Outcome
+) -> RuleOutcome
     requires fits { Fits geometry.now image.now }
     requires room { length named.old ≡ geometry.now.zone_end }
     requires free_room { length free.now ≡ geometry.now.zone_end }
@@ -126,8 +131,8 @@ fn check_covered(
     match list {
         Ok(_) => {
             mark_named(image, geometry, named);
-            Outcome::of(find_lost(geometry, named, free))
+            RuleOutcome::of(find_lost(geometry, named, free))
         }
-        Err(_) => Outcome::NotAsked,
+        Err(_) => RuleOutcome::NotAsked,
     }
 }

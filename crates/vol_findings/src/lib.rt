@@ -7,7 +7,7 @@ mod report;
 mod rules;
 mod texts;
 
-pub use outcome::{Outcome, Outcomes, check_rules};
-pub use report::{Line, Report, edition_number, make_report, other_edition};
+pub use outcome::{RuleOutcome, RuleOutcomes, check_rules};
+pub use report::{RuleLine, RuleReport, edition_number, make_report, other_edition};
 pub use rules::Rule;
 pub use vol_judge::Finding;

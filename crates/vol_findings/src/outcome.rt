@@ -19,7 +19,7 @@ use vol_layout::{Edition, Geometry, GeometryFault};
 
 /// The outcome of a rule.
 #[derive(Clone, Copy, Debug, PartialEq, Eq)]
-pub enum Outcome {
+pub enum RuleOutcome {
     /// The rule holds.
     Holds,
     /// The rule doesn't hold; this is its first violation.
@@ -30,31 +30,31 @@ pub enum Outcome {
 
 /// The outcomes of the twelve rules, in order.
 #[derive(Clone, Copy, Debug)]
-pub struct Outcomes {
+pub struct RuleOutcomes {
     /// Rule 1: the image has all blocks of the volume.
-    pub whole: Outcome,
+    pub whole: RuleOutcome,
     /// Rule 2: the sizes are within their limits. Needs rule 1, and all others need both.
-    pub bounded: Outcome,
+    pub bounded: RuleOutcome,
     /// Rule 3: the kinds of i-nodes.
-    pub kinds: Outcome,
+    pub kinds: RuleOutcome,
     /// Rule 4: the sizes and link counts of i-nodes.
-    pub sizes: Outcome,
+    pub sizes: RuleOutcome,
     /// Rule 5: each number that is named is that of a data block.
-    pub zoned: Outcome,
+    pub zoned: RuleOutcome,
     /// Rule 6: the free list is a stack.
-    pub listed: Outcome,
+    pub listed: RuleOutcome,
     /// Rule 7: no block is used twice. Needs rule 5, and, if no two places of files name one block, rule 6.
-    pub apart: Outcome,
+    pub apart: RuleOutcome,
     /// Rule 8: no block is lost. Needs rule 6.
-    pub covered: Outcome,
+    pub covered: RuleOutcome,
     /// Rule 9: the entries of directories.
-    pub entries: Outcome,
+    pub entries: RuleOutcome,
     /// Rule 10: the entries `.` and `..`. Needs rule 9.
-    pub dots: Outcome,
+    pub dots: RuleOutcome,
     /// Rule 11: the tree of directories.
-    pub tree: Outcome,
+    pub tree: RuleOutcome,
     /// Rule 12: the link counts.
-    pub links: Outcome,
+    pub links: RuleOutcome,
 }
 
 /// Returns the outcome of each of the twelve rules: that the image keeps it, its first violation, or that a rule which it needs
@@ -63,54 +63,58 @@ pub struct Outcomes {
 /// The time grows with the image's blocks, with the entries of its directories, counted as often as these name their blocks,
 /// and with sorting the names of each directory. The memory is a few bytes for each block and i-number, and the names of one
 /// directory at a time. Fails only if memory runs out.
-pub fn check_rules(alloc: Global, edition: Edition, image: &Image) -> Result<Outcomes, AllocError>
+pub fn check_rules(
+    alloc: Global,
+    edition: Edition,
+    image: &Image,
+) -> Result<RuleOutcomes, AllocError>
     ensures { IfOk result (Tells edition image.now) }
 {
     match Geometry::read(edition, image) {
         Ok(geometry) => check_volume(alloc, image, &geometry),
-        Err(GeometryFault::Short) => Ok(Outcomes::unread(
-            Outcome::Broken(Finding::TooShort),
-            Outcome::NotAsked,
+        Err(GeometryFault::Short) => Ok(RuleOutcomes::unread(
+            RuleOutcome::Broken(Finding::TooShort),
+            RuleOutcome::NotAsked,
         )),
-        Err(GeometryFault::Bounds) => Ok(Outcomes::unread(
-            Outcome::Holds,
-            Outcome::Broken(Finding::BadSizes),
+        Err(GeometryFault::Bounds) => Ok(RuleOutcomes::unread(
+            RuleOutcome::Holds,
+            RuleOutcome::Broken(Finding::BadSizes),
         )),
     }
 }
 
-impl Outcome {
+impl RuleOutcome {
     /// Returns the outcome of a rule that is checked.
-    pub(crate) fn of(found: Option<Finding>) -> Outcome
+    pub(crate) fn of(found: Option<Finding>) -> RuleOutcome
         ensures { result ≡ outcome_of found }
     {
         match found {
-            None => Outcome::Holds,
-            Some(finding) => Outcome::Broken(finding),
+            None => RuleOutcome::Holds,
+            Some(finding) => RuleOutcome::Broken(finding),
         }
     }
 }
 
-impl Outcomes {
+impl RuleOutcomes {
     /// Returns the outcomes for an image without a geometry.
-    fn unread(whole: Outcome, bounded: Outcome) -> Outcomes
+    fn unread(whole: RuleOutcome, bounded: RuleOutcome) -> RuleOutcomes
         ensures { result ≡ record {
           whole = whole;
           bounded = bounded;
-          kinds = Outcome.NotAsked;
-          sizes = Outcome.NotAsked;
-          zoned = Outcome.NotAsked;
-          listed = Outcome.NotAsked;
-          apart = Outcome.NotAsked;
-          covered = Outcome.NotAsked;
-          entries = Outcome.NotAsked;
-          dots = Outcome.NotAsked;
-          tree = Outcome.NotAsked;
-          links = Outcome.NotAsked;
+          kinds = RuleOutcome.NotAsked;
+          sizes = RuleOutcome.NotAsked;
+          zoned = RuleOutcome.NotAsked;
+          listed = RuleOutcome.NotAsked;
+          apart = RuleOutcome.NotAsked;
+          covered = RuleOutcome.NotAsked;
+          entries = RuleOutcome.NotAsked;
+          dots = RuleOutcome.NotAsked;
+          tree = RuleOutcome.NotAsked;
+          links = RuleOutcome.NotAsked;
         } }
     {
-        let rest = Outcome::NotAsked;
-        Outcomes {
+        let rest = RuleOutcome::NotAsked;
+        RuleOutcomes {
             whole,
             bounded,
             kinds: rest,
@@ -128,22 +132,26 @@ impl Outcomes {
 }
 
 /// Checks the rules of a volume whose geometry is known.
-fn check_volume(alloc: Global, image: &Image, geometry: &Geometry) -> Result<Outcomes, AllocError>
+fn check_volume(
+    alloc: Global,
+    image: &Image,
+    geometry: &Geometry,
+) -> Result<RuleOutcomes, AllocError>
     requires { Fits geometry.now image.now }
     ensures { IfOk result (TellsVolume geometry.now image.now) }
 {
-    let kinds = Outcome::of(find_kind(image, geometry));
-    let sizes = Outcome::of(find_size(image, geometry));
+    let kinds = RuleOutcome::of(find_kind(image, geometry));
+    let sizes = RuleOutcome::of(find_size(image, geometry));
     let blocks = check_blocks(alloc, image, geometry)?;
-    let entries = Outcome::of(find_entry(alloc, image, geometry)?);
+    let entries = RuleOutcome::of(find_entry(alloc, image, geometry)?);
     let ups = ups_of(alloc, image, geometry, entries)?;
     let found = find_entered(alloc, image, geometry, &ups.numbers)?;
     let dots = check_dots(image, geometry, entries, &ups, &found.parents);
-    let tree = Outcome::of(find_tree(alloc, image, geometry, found.again, &found.parents)?);
-    let links = Outcome::of(find_link(image, geometry, &found.counts));
-    Ok(Outcomes {
-        whole: Outcome::Holds,
-        bounded: Outcome::Holds,
+    let tree = RuleOutcome::of(find_tree(alloc, image, geometry, found.again, &found.parents)?);
+    let links = RuleOutcome::of(find_link(image, geometry, &found.counts));
+    Ok(RuleOutcomes {
+        whole: RuleOutcome::Holds,
+        bounded: RuleOutcome::Holds,
         kinds,
         sizes,
         zoned: blocks.zoned,
@@ -162,7 +170,7 @@ fn ups_of(
     alloc: Global,
     image: &Image,
     geometry: &Geometry,
-    entries: Outcome,
+    entries: RuleOutcome,
 ) -> Result<Ups, AllocError>
     requires fits { Fits geometry.now image.now }
     requires entries { Says (HasEntries geometry.now image.now) (IsFirstEntry geometry.now image.now) ⊥ entries }
@@ -170,8 +178,8 @@ fn ups_of(
     ensures known { IfOk result (λ ups. HasEntries geometry.now image.now → KnowsDots geometry.now image.now ups.numbers.items ups.nameless) }
 {
     match entries {
-        Outcome::Holds => find_ups(alloc, image, geometry),
-        Outcome::Broken(_) | Outcome::NotAsked => {
+        RuleOutcome::Holds => find_ups(alloc, image, geometry),
+        RuleOutcome::Broken(_) | RuleOutcome::NotAsked => {
             let numbers = vec![in alloc; None; geometry.last_inode as usize + 1]?;
             Ok(Ups {
                 numbers,
@@ -186,10 +194,10 @@ fn ups_of(
 fn check_dots(
     image: &Image,
     geometry: &Geometry,
-    entries: Outcome,
+    entries: RuleOutcome,
     ups: &Ups,
     parents: &[Option<u16>],
-) -> Outcome
+) -> RuleOutcome
     requires fits { Fits geometry.now image.now }
     requires entries { Says (HasEntries geometry.now image.now) (IsFirstEntry geometry.now image.now) ⊥ entries }
     requires ups { HasEntries geometry.now image.now → KnowsDots geometry.now image.now ups.now.numbers.items ups.now.nameless }
@@ -197,7 +205,7 @@ fn check_dots(
     ensures { Says (HasDots geometry.now image.now) (IsFirstDots geometry.now image.now) (HasEntries geometry.now image.now → ⊥) result }
 {
     match entries {
-        Outcome::Holds => Outcome::of(find_dots(image, geometry, ups, parents)),
-        Outcome::Broken(_) | Outcome::NotAsked => Outcome::NotAsked,
+        RuleOutcome::Holds => RuleOutcome::of(find_dots(image, geometry, ups, parents)),
+        RuleOutcome::Broken(_) | RuleOutcome::NotAsked => RuleOutcome::NotAsked,
     }
 }

@@ -3,7 +3,7 @@ ghost use Rattle.std.specs.Prelude.{◌≡◌, ◌++◌, Some, IfOk, OnOk, strin
 ghost use Rattle.vol_layout.specs.Edition.{constants};
 ghost use Rattle.vol_findings.specs.Reports.{line_text, lines_of, report_text, note_text, other_edition, edition_number, are_held, lines_text, IsReport};
 
-use crate::outcome::{Outcome, Outcomes, check_rules};
+use crate::outcome::{RuleOutcome, RuleOutcomes, check_rules};
 use crate::rules::Rule;
 use pdp_words::Image;
 use std::alloc::{AllocError, Global};
@@ -12,23 +12,23 @@ use vol_layout::{Edition, Geometry};
 
 /// A rule and its outcome.
 #[derive(Clone, Copy, Debug, Drop)]
-pub struct Line {
+pub struct RuleLine {
     /// The rule.
     pub rule: Rule,
     /// Its outcome.
-    pub outcome: Outcome,
+    pub outcome: RuleOutcome,
 }
 
 /// A report on an image.
 #[derive(Drop)]
-pub struct Report {
+pub struct RuleReport {
     /// Its lines.
     pub text: String,
     /// True if all twelve rules hold.
     pub is_sound: bool,
 }
 
-impl fmt::Display for Line {
+impl fmt::Display for RuleLine {
     ghost output = { λ line. Some (line_text line) };
 
     fn fmt<W: fmt::Write>(&self, f: &mut fmt::Formatter<W>) -> fmt::Result {
@@ -44,7 +44,7 @@ impl fmt::Display for Line {
 /// [`judge`](vol_judge::judge) returns.
 ///
 /// Costs and takes memory for what [`check_rules`] does, and for the text.
-pub fn make_report(alloc: Global, edition: Edition, image: &Image) -> Result<Report, AllocError>
+pub fn make_report(alloc: Global, edition: Edition, image: &Image) -> Result<RuleReport, AllocError>
     ensures { IfOk result (λ report. IsReport edition image.now (string_bytes report.text) report.is_sound) }
 {
     let found = check_rules(alloc, edition, image)?;
@@ -52,14 +52,14 @@ pub fn make_report(alloc: Global, edition: Edition, image: &Image) -> Result<Rep
     let mut text = String::new(alloc);
     push_lines(&mut text, &lines)?;
     push_note(&mut text, edition, image)?;
-    Ok(Report {
+    Ok(RuleReport {
         text,
         is_sound: are_held(&lines),
     })
 }
 
 /// Returns the rules in order, each with its outcome.
-fn lines_of(found: &Outcomes) -> [Line; 12]
+fn lines_of(found: &RuleOutcomes) -> [RuleLine; 12]
     ensures { result ≡ lines_of found.now }
 {
     [
@@ -79,23 +79,23 @@ fn lines_of(found: &Outcomes) -> [Line; 12]
 }
 
 /// Returns a rule with its outcome.
-fn line_of(rule: Rule, outcome: Outcome) -> Line
+fn line_of(rule: Rule, outcome: RuleOutcome) -> RuleLine
     ensures { result ≡ record { rule = rule; outcome = outcome } }
 {
-    Line { rule, outcome }
+    RuleLine { rule, outcome }
 }
 
 /// True if all of some rules hold.
-fn are_held(lines: &[Line]) -> bool
+fn are_held(lines: &[RuleLine]) -> bool
     ensures { result ≡ are_held lines.now }
 {
     lines
         .iter()
-        .all(|line| matches!(line.outcome, Outcome::Holds))
+        .all(|line| matches!(line.outcome, RuleOutcome::Holds))
 }
 
 /// Appends some lines.
-fn push_lines(text: &mut String, lines: &[Line]) -> Result<(), AllocError>
+fn push_lines(text: &mut String, lines: &[RuleLine]) -> Result<(), AllocError>
     ensures { OnOk result (string_bytes text.new ≡ string_bytes text.old ++ lines_text lines.now) }
 {
     for line in lines {

@@ -2,7 +2,7 @@
 ghost use Rattle.std.specs.Prelude.{◌≡◌, Some};
 ghost use Rattle.vol_findings.specs.Texts.{words_of, spot_of, spot_text, outcome_text};
 
-use crate::outcome::Outcome;
+use crate::outcome::RuleOutcome;
 use std::fmt;
 use vol_judge::Finding;
 
@@ -49,18 +49,18 @@ impl fmt::Display for Spot {
     }
 }
 
-impl fmt::Display for Outcome {
+impl fmt::Display for RuleOutcome {
     ghost output = { λ outcome. Some (outcome_text outcome) };
 
     fn fmt<W: fmt::Write>(&self, f: &mut fmt::Formatter<W>) -> fmt::Result {
         match *self {
-            Outcome::Holds => write!(f, "holds"),
-            Outcome::Broken(finding) => {
+            RuleOutcome::Holds => write!(f, "holds"),
+            RuleOutcome::Broken(finding) => {
                 let words = words_of(finding);
                 let spot = spot_of(finding);
                 write!(f, "{words}{spot}")
             }
-            Outcome::NotAsked => write!(f, "not asked"),
+            RuleOutcome::NotAsked => write!(f, "not asked"),
         }
     }
 }

@@ -16,8 +16,8 @@ use Rattle.vol_volume.specs.declared.calls.Call.{Call}
 use Rattle.vol_volume.specs.declared.calls.Call.TheVariants as calls
 use Rattle.vol_import.specs.MadeMembers.{is_among, is_for, is_made_at}
 use Rattle.vol_import.specs.Plan.{Drafted, and_next, and_then, below, check, check_link, check_path, directory_calls, file_calls, given_calls, is_crowded, is_dot_dot, is_known, is_long, is_long_path, is_there, joined, made_as, moment_of, names_of, onto, owner_of, permissions_of, plan_onto, steps_of, way_of, with_made, with_path, with_way}
-use Rattle.vol_import.specs.declared.checking.Made.{Made}
-use Rattle.vol_import.specs.declared.checking.Made.TheVariants.{File, Directory, Link}
+use Rattle.vol_import.specs.declared.checking.MadeAs.{MadeAs}
+use Rattle.vol_import.specs.declared.checking.MadeAs.TheVariants.{File, Directory, Link}
 use Rattle.vol_import.specs.declared.checking.MemberFault.{MemberFault}
 use Rattle.vol_import.specs.declared.checking.MemberFault.TheVariants as faults
 use Rattle.vol_import.specs.declared.planning.PlanFault.{PlanFault}
@@ -47,7 +47,7 @@ pub record IsMadeDirectory (start : Tree) (base : List ℕ) (member : Member) (o
       → owner_told led.0 ≡ (permissions_of member.header % 4096, owner.uid, owner.gid)
 
 -- a member is made
-abbrev pub IsMade : Tree → List ℕ → ℕ → Member → Bool → Made × Cred → List (List ℕ) → Tree → Type 0
+abbrev pub IsMade : Tree → List ℕ → ℕ → Member → Bool → MadeAs × Cred → List (List ℕ) → Tree → Type 0
 IsMade start base now member again (File, owner) known tree =
     (node : Node) × LeadsTo tree (below base member.path) node × (node_told node ≡ facts_of now member owner) × (list_any has_zero (below base member.path ∷ []) ≡ false)
 IsMade start base now member again (Link, owner) known tree =
@@ -83,7 +83,7 @@ directory_kept start base member owner given again later known next old new foll
     }
 
 -- each member stays as it was made
-made_kept : (start : Tree) (base : List ℕ) (now : ℕ) (member : Member) (made : Made × Cred) (given : List ℕ → Bool) (again later : Bool)
+made_kept : (start : Tree) (base : List ℕ) (now : ℕ) (member : Member) (made : MadeAs × Cred) (given : List ℕ → Bool) (again later : Bool)
     (known next : List (List ℕ)) (old new : Tree) → Follows start base given known next old new
     → (later ≡ false → (again ≡ false) × (given (joined (steps_of member.path)) ≡ false))
     → IsMade start base now member again made known old → IsMade start base now member later made next new
@@ -131,7 +131,7 @@ undotted tree base path dots led =
     (led.0, record { number = i; walked = without_dots tree base path i dots led.1.walked; stands = led.1.stands }, led.2)
 
 -- the facts about a member that passes its check
-pub record IsChecked (member : Member) (made : Made × Cred) : Type 0 where
+pub record IsChecked (member : Member) (made : MadeAs × Cred) : Type 0 where
   pub kind : made_as member.header.flag member.path ≡ Ok made.0
   pub short : list_any is_long (names_of member.path) ≡ false
   pub uid : made.1.uid ≡ member.header.uid
@@ -143,21 +143,21 @@ then_ok : {X Y : Type 0} (first : Result X MemberFault) (next : X → Result Y M
 then_ok (Ok x) next y is = (x, refl, is)
 then_ok (Err fault) next y is = absurd (cc)
 
-checked : (edition : Edition) (member : Member) (made : Made × Cred) → check edition member ≡ Ok made → IsChecked member made
+checked : (edition : Edition) (member : Member) (made : MadeAs × Cred) → check edition member ≡ Ok made → IsChecked member made
 unfolding check
 checked edition member made is =
     let one = then_ok (made_as member.header.flag member.path) _ made is in
     let two = then_ok (check_path member.path) _ made one.2 in
     let three = then_ok (check_link one.0 member.link) _ made two.2 in
     let four = then_ok (owner_of edition member.header) _ made three.2 in
-    let all : Made × Cred = (one.0, four.0) in
+    let all : MadeAs × Cred = (one.0, four.0) in
     let same : all ≡ made = cc in
     let owner : (four.0.uid ≡ member.header.uid) × (four.0.gid ≡ member.header.gid) = owned (is_bad_id edition member.header.uid member.header.gid) four.0 four.1 in
     record {
-      kind = one.1 ∙ ap (λ (m : Made × Cred). Ok m.0) same;
+      kind = one.1 ∙ ap (λ (m : MadeAs × Cred). Ok m.0) same;
       short = not_long (is_long_path member.path) (list_any is_long (names_of member.path)) (list_any is_dot_dot (names_of member.path)) two.0 two.1;
-      uid = ap (λ (m : Made × Cred). m.1.uid) (sym same) ∙ owner.0;
-      gid = ap (λ (m : Made × Cred). m.1.gid) (sym same) ∙ owner.1;
+      uid = ap (λ (m : MadeAs × Cred). m.1.uid) (sym same) ∙ owner.0;
+      gid = ap (λ (m : MadeAs × Cred). m.1.gid) (sym same) ∙ owner.1;
     }
   where
     owned : (bad : Bool) (owner : Cred)
@@ -184,7 +184,7 @@ directory_member start base now member owner drafted checks =
   where
     given : is_for (joined (steps_of member.path)) member ≡ true
     given =
-        ap (λ (r : Result Made MemberFault). is_made_at r member.path (joined (steps_of member.path))) checks.kind
+        ap (λ (r : Result MadeAs MemberFault). is_made_at r member.path (joined (steps_of member.path))) checks.kind
         ∙ bytes_same (joined (steps_of member.path)) (joined (steps_of member.path)) refl
 
     by : (there known : Bool) → is_there start base (joined (steps_of member.path)) ≡ there → is_known drafted.0 (joined (steps_of member.path)) ≡ known
@@ -281,7 +281,7 @@ directory_member start base now member owner drafted checks =
         }
 
 -- a member
-made_member : (start : Tree) (base : List ℕ) (now : ℕ) (member : Member) (made : Made) (owner : Cred) (drafted : Drafted) → IsChecked member (made, owner)
+made_member : (start : Tree) (base : List ℕ) (now : ℕ) (member : Member) (made : MadeAs) (owner : Cred) (drafted : Drafted) → IsChecked member (made, owner)
     → Adds start base (λ path. is_for path member) drafted (with_made made start base now member owner drafted)
     (IsMade start base now member false (made, owner))
 made_member start base now member File owner drafted checks =
@@ -326,7 +326,7 @@ made_member start base now member Link owner drafted checks =
     }
 
 -- a member that is checked is made
-abbrev pub IsMadeAs : Tree → List ℕ → ℕ → Member → Bool → Result (Made × Cred) MemberFault → List (List ℕ) → Tree → Type 0
+abbrev pub IsMadeAs : Tree → List ℕ → ℕ → Member → Bool → Result (MadeAs × Cred) MemberFault → List (List ℕ) → Tree → Type 0
 IsMadeAs start base now member again (Ok made) known tree = IsChecked member made × IsMade start base now member again made known tree
 IsMadeAs start base now member again (Err fault) known tree = ⊥
 
@@ -337,7 +337,7 @@ AreMadeAs start base now (member ∷ rest) known tree =
     IsMadeAs start base now member (is_among rest (joined (steps_of member.path))) (check start.geometry.edition member) known tree
     × AreMadeAs start base now rest known tree
 
-pub made_as_kept : (start : Tree) (base : List ℕ) (now : ℕ) (member : Member) (made : Result (Made × Cred) MemberFault) (given : List ℕ → Bool) (again later : Bool)
+pub made_as_kept : (start : Tree) (base : List ℕ) (now : ℕ) (member : Member) (made : Result (MadeAs × Cred) MemberFault) (given : List ℕ → Bool) (again later : Bool)
     (known next : List (List ℕ)) (old new : Tree) → Follows start base given known next old new
     → (later ≡ false → (again ≡ false) × (given (joined (steps_of member.path)) ≡ false))
     → IsMadeAs start base now member again made known old → IsMadeAs start base now member later made next new
@@ -346,7 +346,7 @@ made_as_kept start base now member (Ok made) given again later known next old ne
 made_as_kept start base now member (Err fault) given again later known next old new follows parts is = absurd is
 
 -- a draft with one more member
-member_added : (start : Tree) (base : List ℕ) (now : ℕ) (drafted next : Drafted) (member : Member) (made : Result (Made × Cred) MemberFault)
+member_added : (start : Tree) (base : List ℕ) (now : ℕ) (drafted next : Drafted) (member : Member) (made : Result (MadeAs × Cred) MemberFault)
     → check start.geometry.edition member ≡ made → onto start base now drafted member made ≡ Ok next
     → Adds start base (λ path. is_for path member) drafted next (IsMadeAs start base now member false made)
 member_added start base now drafted next member (Err fault) is added = absurd (cc)

@@ -29,8 +29,8 @@ use Rattle.vol_import.specs.MadeMembers.{HasMember, HasMembers, HasArchive, Keep
 use Rattle.vol_import.specs.Making.{AreMade, Imports, ImportsCalls, calls_to_make, planned, told}
 use Rattle.vol_import.specs.Members.{members}
 use Rattle.vol_import.specs.Plan.{and_next, base_permissions, below, check, closed, closing_calls, is_base, is_directory as says_directory, is_directory_at, is_directory_kind, is_long, is_there, joined, made_as, names_of, permissions_given, permissions_of, permissions_told, plan, plan_onto, steps_of}
-use Rattle.vol_import.specs.declared.checking.Made.{Made}
-use Rattle.vol_import.specs.declared.checking.Made.TheVariants.{File, Directory, Link}
+use Rattle.vol_import.specs.declared.checking.MadeAs.{MadeAs}
+use Rattle.vol_import.specs.declared.checking.MadeAs.TheVariants.{File, Directory, Link}
 use Rattle.vol_import.specs.declared.checking.MemberFault.{MemberFault}
 use Rattle.vol_import.specs.declared.faults.ArchiveFault.{ArchiveFault}
 use Rattle.vol_import.specs.declared.planning.PlanFault.{PlanFault}
@@ -80,7 +80,7 @@ base_steps member is = by (made_as member.header.flag member.path) refl is
     none [] e = refl
     none (x ∷ xs) e = absurd (cc)
 
-    by : (made : Result Made MemberFault) → made_as member.header.flag member.path ≡ made → is_directory_at made member.path ≡ true
+    by : (made : Result MadeAs MemberFault) → made_as member.header.flag member.path ≡ made → is_directory_at made member.path ≡ true
         → (made_as member.header.flag member.path ≡ Ok Directory) × (steps_of member.path ≡ [])
     by (Ok Directory) m e = (m, none (steps_of member.path) e)
     by (Ok File) m e = absurd (cc)
@@ -95,7 +95,7 @@ base_for member = by (made_as member.header.flag member.path)
     empty [] = refl
     empty (step ∷ steps) = refl
 
-    by : (made : Result Made MemberFault) → is_made_at made member.path [] ≡ is_directory_at made member.path
+    by : (made : Result MadeAs MemberFault) → is_made_at made member.path [] ≡ is_directory_at made member.path
     by (Ok Directory) = empty (steps_of member.path)
     by (Ok File) = refl
     by (Ok Link) = refl
@@ -130,7 +130,7 @@ last_given start base now (member ∷ rest) known tree perm are is none =
     told : Option Member → Option ℕ
     told found = option_map (λ (member : Member). permissions_of member.header) found
 
-    at : (made : Result (Made × Cred) MemberFault) → IsMadeAs start base now member (is_among rest (joined (steps_of member.path))) made known tree
+    at : (made : Result (MadeAs × Cred) MemberFault) → IsMadeAs start base now member (is_among rest (joined (steps_of member.path))) made known tree
         → made_as member.header.flag member.path ≡ Ok Directory → steps_of member.path ≡ [] → is_among rest [] ≡ false
         → (led : LeadsToDirectory tree base) × (led.0.permissions ≡ permissions_of member.header % 4096)
     at (Err fault) made kind empty last = absurd made
@@ -321,7 +321,7 @@ none_below tree base path dots short none = by (is_there tree base (joined (step
         absurd (true≢false (sym told ∙ none))
 
 -- a query returns the facts about the node made for a member
-member_had : (start tree : Tree) (base : List ℕ) (now : ℕ) (member : Member) (later : List Member) (known : List (List ℕ)) (made : Made × Cred)
+member_had : (start tree : Tree) (base : List ℕ) (now : ℕ) (member : Member) (later : List Member) (known : List (List ℕ)) (made : MadeAs × Cred)
     → DotsLead start → IsChecked member made
     → IsMade start base now member (is_among later (joined (steps_of member.path))) made known tree
     → HasMember start tree base now member later (Ok made.0)
@@ -375,7 +375,7 @@ members_had start tree base now [] known dots are = tt
 members_had start tree base now (member ∷ rest) known dots are =
     (by (check start.geometry.edition member) are.0, members_had start tree base now rest known dots are.1)
   where
-    by : (made : Result (Made × Cred) MemberFault) → IsMadeAs start base now member (is_among rest (joined (steps_of member.path))) made known tree
+    by : (made : Result (MadeAs × Cred) MemberFault) → IsMadeAs start base now member (is_among rest (joined (steps_of member.path))) made known tree
         → HasMember start tree base now member rest (made_as member.header.flag member.path)
     by (Ok made) is =
         subst (HasMember start tree base now member rest) (sym is.0.kind) (member_had start tree base now member rest known made dots is.0 is.1)

@@ -10,8 +10,8 @@ use Rattle.vol_volume.specs.declared.queries.Query.TheVariants as queries
 use Rattle.vol_volume.specs.declared.queries.Reply.TheVariants as replies
 use Rattle.vol_volume.specs.declared.queries.Stat.{Stat}
 use Rattle.vol_import.specs.Plan.{below, is_directory, joined, made_as, moment_of, permissions_of, steps_of}
-use Rattle.vol_import.specs.declared.checking.Made.{Made}
-use Rattle.vol_import.specs.declared.checking.Made.TheVariants.{File, Directory, Link}
+use Rattle.vol_import.specs.declared.checking.MadeAs.{MadeAs}
+use Rattle.vol_import.specs.declared.checking.MadeAs.TheVariants.{File, Directory, Link}
 use Rattle.vol_import.specs.declared.checking.MemberFault.{MemberFault}
 use Rattle.vol_import.specs.declared.faults.ArchiveFault.{ArchiveFault}
 use Rattle.vol_import.specs.declared.reading.Member.{Member}
@@ -56,7 +56,7 @@ pub record HasMemberDirectory (old tree : Tree) (path : List ℕ) (member : Memb
   pub given : is_directory (answer old (queries.Stat user path)) ≡ false → again ≡ false → IsGiven directory.stat member
 
 -- true if a member that is made so, at this path, is the directory with these steps (this project)
-abbrev pub is_made_at : Result Made MemberFault → List ℕ → List ℕ → Bool
+abbrev pub is_made_at : Result MadeAs MemberFault → List ℕ → List ℕ → Bool
 is_made_at (Ok Directory) path steps = bytes_eq (joined (steps_of path)) steps
 is_made_at (Ok File) path steps = false
 is_made_at (Ok Link) path steps = false
@@ -71,7 +71,7 @@ abbrev pub is_among : List Member → List ℕ → Bool
 is_among all steps = list_any (is_for steps) all
 
 -- a tree made from another one has a member below a path, as the node that it is to be made as; it has none that can't be made (POSIX, ustar interchange format)
-abbrev pub HasMember : Tree → Tree → List ℕ → ℕ → Member → List Member → Result Made MemberFault → Type 0
+abbrev pub HasMember : Tree → Tree → List ℕ → ℕ → Member → List Member → Result MadeAs MemberFault → Type 0
 HasMember old tree base now member later (Ok File) = HasMemberFile tree (below base member.path) now member
 HasMember old tree base now member later (Ok Link) = HasLink tree (below base member.link) (below base member.path)
 HasMember old tree base now member later (Ok Directory) =

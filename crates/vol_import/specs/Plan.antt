@@ -26,8 +26,8 @@ use Rattle.vol_volume.specs.declared.calls.Call.TheVariants as calls
 use Rattle.vol_volume.specs.declared.queries.Query.TheVariants as queries
 use Rattle.vol_volume.specs.declared.queries.Reply.{Reply}
 use Rattle.vol_volume.specs.declared.queries.Reply.TheVariants as replies
-use Rattle.vol_import.specs.declared.checking.Made.{Made}
-use Rattle.vol_import.specs.declared.checking.Made.TheVariants.{File, Directory, Link}
+use Rattle.vol_import.specs.declared.checking.MadeAs.{MadeAs}
+use Rattle.vol_import.specs.declared.checking.MadeAs.TheVariants.{File, Directory, Link}
 use Rattle.vol_import.specs.declared.checking.MemberFault.{MemberFault}
 use Rattle.vol_import.specs.declared.checking.MemberFault.TheVariants as faults
 use Rattle.vol_import.specs.declared.drafting.Draft.{Draft}
@@ -69,7 +69,7 @@ abbrev pub ends_in_slash : List ℕ → Bool
 ends_in_slash path = nat_lt 0 (length path) && (slice_index path (length path - 1) == 47)
 
 -- the node that a member is made as; a regular file whose path ends in a slash is a directory, as in archives before POSIX; no call makes a special file, and the editions have no symbolic links (POSIX, ustar interchange format)
-abbrev pub made_as : TypeFlag → List ℕ → Result Made MemberFault
+abbrev pub made_as : TypeFlag → List ℕ → Result MadeAs MemberFault
 made_as (flags.Member members.File) path = Ok (if ends_in_slash path then Directory else File)
 made_as (flags.Member members.Directory) path = Ok Directory
 made_as (flags.Member members.Link) path = Ok Link
@@ -85,7 +85,7 @@ made_as flags.VolumeLabel path = Err faults.Kind
 made_as (flags.Other c) path = Err faults.Kind
 
 -- the path that a member links to, if it is a link, can be walked: it is at most 4,096 bytes long, no name in it is longer than 14 bytes, and none is `..` (this project)
-abbrev pub check_link : Made → List ℕ → Result (Unit {0}) MemberFault
+abbrev pub check_link : MadeAs → List ℕ → Result (Unit {0}) MemberFault
 check_link Link link =
     if is_long_path link then Err faults.LongLinkPath
     else if list_any is_long (names_of link) then Err faults.LongLink
@@ -100,7 +100,7 @@ owner_of edition header =
     if is_bad_id edition header.uid header.gid then Err faults.Owner else Ok (record { uid = header.uid; gid = header.gid })
 
 -- the node that a member is made as in a volume of an edition, and its owner, or the first fault: of its kind, its path, the path that it links to, its owner (this project)
-unfoldable pub check : Edition → Member → Result (Made × Cred) MemberFault
+unfoldable pub check : Edition → Member → Result (MadeAs × Cred) MemberFault
 check edition member =
     and_then (made_as member.header.flag member.path) (λ made.
     and_then (check_path member.path) (λ _.
@@ -223,7 +223,7 @@ with_directory tree base steps moment path perm owner drafted = (
 )
 
 -- a draft with the calls that make a member as a node of some kind, for its owner, after the directories on the way to it (this project)
-abbrev pub with_made : Made → Tree → List ℕ → ℕ → Member → Cred → Drafted → Drafted
+abbrev pub with_made : MadeAs → Tree → List ℕ → ℕ → Member → Cred → Drafted → Drafted
 with_made File tree base now member owner drafted =
     with_calls drafted (file_calls (moment_of member.header now) (below base member.path) (permissions_of member.header) owner member.content)
 with_made Directory tree base now member owner drafted =
@@ -237,12 +237,12 @@ abbrev pub is_crowded : Tree → Drafted → Bool
 is_crowded tree drafted = nat_lt tree.geometry.last_inode (length drafted.0)
 
 -- a draft with the directories on the way to a member, and then the calls that make it, for its owner; if these directories are more than the volume has i-nodes, the member can't be made, and the fault has its path in the volume, as that of a call does (this project)
-abbrev pub with_member : Tree → List ℕ → ℕ → Member → Made × Cred → Drafted → Result Drafted PlanFault
+abbrev pub with_member : Tree → List ℕ → ℕ → Member → MadeAs × Cred → Drafted → Result Drafted PlanFault
 with_member tree base now member made drafted =
     if is_crowded tree drafted then Err (plans.Member (below base member.path) faults.NoInode) else Ok (with_made made.0 tree base now member made.1 drafted)
 
 -- a draft with a member, if it can be made, or the reason why it can't (this project)
-abbrev pub onto : Tree → List ℕ → ℕ → Drafted → Member → Result (Made × Cred) MemberFault → Result Drafted PlanFault
+abbrev pub onto : Tree → List ℕ → ℕ → Drafted → Member → Result (MadeAs × Cred) MemberFault → Result Drafted PlanFault
 onto tree base now drafted member (Ok made) =
     with_member tree base now member made (with_way tree base now [] (way_of (steps_of member.path)) drafted)
 onto tree base now drafted member (Err cause) = Err (plans.Member member.path cause)
@@ -259,7 +259,7 @@ plan_onto tree base now drafted (member ∷ rest) =
     and_next (onto tree base now drafted member (check tree.geometry.edition member)) (λ next. plan_onto tree base now next rest)
 
 -- true if a member that can be made is a directory at a path (this project)
-abbrev pub is_directory_at : Result Made MemberFault → List ℕ → Bool
+abbrev pub is_directory_at : Result MadeAs MemberFault → List ℕ → Bool
 is_directory_at (Ok Directory) path = is_nil (steps_of path)
 is_directory_at (Ok File) path = false
 is_directory_at (Ok Link) path = false

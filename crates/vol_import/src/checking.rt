@@ -15,7 +15,7 @@ pub const MOST_PATH_BYTES: usize = 4096;
 
 /// The node that a member is made as.
 #[derive(Clone, Copy, Debug, PartialEq, Eq)]
-pub enum Made {
+pub enum MadeAs {
     /// A regular file.
     File,
     /// A directory.
@@ -63,7 +63,7 @@ pub enum MemberFault {
 /// Returns what a member is made as in a volume of an edition, and its owner, or the first fault: of its kind, its path, the
 /// path that it links to, its owner.
 #[tactic(auto, unfolding(crate::specs::Plan::check))]
-pub fn check(edition: Edition, member: &Member) -> Result<(Made, Cred), MemberFault>
+pub fn check(edition: Edition, member: &Member) -> Result<(MadeAs, Cred), MemberFault>
     ensures { result ≡ check edition member.now }
 {
     let path = member.path.as_slice();
@@ -75,14 +75,14 @@ pub fn check(edition: Edition, member: &Member) -> Result<(Made, Cred), MemberFa
 }
 
 /// Returns what a member is made as, by its type flag and its path.
-pub(crate) fn made_as(flag: TypeFlag, path: &[u8]) -> Result<Made, MemberFault>
+pub(crate) fn made_as(flag: TypeFlag, path: &[u8]) -> Result<MadeAs, MemberFault>
     ensures { result ≡ made_as flag path.now }
 {
     match flag {
-        TypeFlag::Member(MemberKind::File) if ends_in_slash(path) => Ok(Made::Directory),
-        TypeFlag::Member(MemberKind::File) => Ok(Made::File),
-        TypeFlag::Member(MemberKind::Directory) => Ok(Made::Directory),
-        TypeFlag::Member(MemberKind::Link) => Ok(Made::Link),
+        TypeFlag::Member(MemberKind::File) if ends_in_slash(path) => Ok(MadeAs::Directory),
+        TypeFlag::Member(MemberKind::File) => Ok(MadeAs::File),
+        TypeFlag::Member(MemberKind::Directory) => Ok(MadeAs::Directory),
+        TypeFlag::Member(MemberKind::Link) => Ok(MadeAs::Link),
         TypeFlag::Member(MemberKind::Character | MemberKind::Block) => Err(MemberFault::Kind),
         TypeFlag::SymbolicLink | TypeFlag::Fifo => Err(MemberFault::Kind),
         TypeFlag::LongName | TypeFlag::LongLink => Err(MemberFault::Kind),
@@ -137,14 +137,14 @@ fn has_dot_dot(path: &[u8]) -> bool
 }
 
 /// Checks that the path that a member links to, if it is a link, can be walked.
-fn check_link(made: Made, link: &[u8]) -> Result<(), MemberFault>
+fn check_link(made: MadeAs, link: &[u8]) -> Result<(), MemberFault>
     ensures { result ≡ check_link made link.now }
 {
     match made {
-        Made::Link if is_long_path(link) => Err(MemberFault::LongLinkPath),
-        Made::Link if has_long_name(link) => Err(MemberFault::LongLink),
-        Made::Link if has_dot_dot(link) => Err(MemberFault::DotDotLink),
-        Made::Link | Made::File | Made::Directory => Ok(()),
+        MadeAs::Link if is_long_path(link) => Err(MemberFault::LongLinkPath),
+        MadeAs::Link if has_long_name(link) => Err(MemberFault::LongLink),
+        MadeAs::Link if has_dot_dot(link) => Err(MemberFault::DotDotLink),
+        MadeAs::Link | MadeAs::File | MadeAs::Directory => Ok(()),
     }
 }
 

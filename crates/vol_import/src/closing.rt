@@ -8,7 +8,7 @@ ghost use Rattle.vol_volume.specs.declared.queries.Query.TheVariants as question
 ghost use Rattle.vol_dir.specs.Access.{user};
 ghost use Rattle.vol_import.specs.Plan.{is_base, permissions_given, permissions_told, base_permissions, closed};
 
-use crate::checking::{Made, made_as};
+use crate::checking::{MadeAs, made_as};
 use crate::drafting::{first_step, is_directory_kind};
 use crate::planning::permissions_of;
 use crate::reading::Member;
@@ -40,8 +40,8 @@ fn is_base(member: &Member) -> bool
 {
     let path = member.path.as_slice();
     match made_as(member.header.flag, path) {
-        Ok(Made::Directory) => first_step(path).is_none(),
-        Ok(Made::File | Made::Link) => false,
+        Ok(MadeAs::Directory) => first_step(path).is_none(),
+        Ok(MadeAs::File | MadeAs::Link) => false,
         Err(_) => false,
     }
 }

@@ -14,8 +14,8 @@ pub mod reading;
 mod records;
 mod step_path;
 
-pub use checking::{MOST_PATH_BYTES, Made, MemberFault, check};
-pub use entries::{Entry, entry_at};
+pub use checking::{MOST_PATH_BYTES, MadeAs, MemberFault, check};
+pub use entries::{ArchiveEntry, entry_at};
 pub use faults::ArchiveFault;
 pub use long_names::LongNames;
 pub use making::{ImportFault, import, make_all};

@@ -3,7 +3,7 @@ ghost use Rattle.std.specs.Prelude.{◌≡◌, [], IfOk, IfErr, OnOk, Ok};
 ghost use Rattle.vol_volume.specs.Volume.{reads_as};
 ghost use Rattle.vol_import.specs.Plan.{below, check, permissions_of, moment_of, owner_calls, write_calls, file_calls, directory_calls, given_calls, with_directory, way_of, steps_of, with_way, with_calls, with_made, drafted, onto, plan, Tells, no_memory};
 
-use crate::checking::{Made, MemberFault, check};
+use crate::checking::{MadeAs, MemberFault, check};
 use crate::closing::{close, permissions_given};
 use crate::drafting::{Draft, is_there, joined, note_known, push_way, steps_of};
 use crate::reading::Member;
@@ -125,7 +125,7 @@ fn push_made(
     base: &[u8],
     now: u32,
     member: Member,
-    made: Made,
+    made: MadeAs,
     owner: Cred,
     draft: &mut Draft,
 ) -> Result<(), AllocError>
@@ -135,14 +135,14 @@ fn push_made(
     let perm = permissions_of(&member.header);
     let path = below(alloc, base, member.path.as_slice())?;
     match made {
-        Made::File => push_file(alloc, moment, path, perm, owner, member.content, draft),
-        Made::Directory => {
+        MadeAs::File => push_file(alloc, moment, path, perm, owner, member.content, draft),
+        MadeAs::Directory => {
             let steps = joined(alloc, &steps_of(alloc, member.path.as_slice())?)?;
             push_directory(
                 alloc, volume, base, &steps, moment, path, perm, owner, draft,
             )
         }
-        Made::Link => draft.push(Call::Link {
+        MadeAs::Link => draft.push(Call::Link {
             cred: Cred::ROOT,
             now: moment,
             source: below(alloc, base, member.link.as_slice())?,

@@ -9,7 +9,7 @@ use crate::extent::Extent;
 use pdp_words::{BLOCK, Image};
 use std::alloc::{AllocError, Global};
 use vol_layout::i_list::{address, mode};
-use vol_layout::{Form, Geometry, number};
+use vol_layout::{BlockMap, Geometry, number};
 
 /// The extents found so far.
 #[derive(Drop)]
@@ -58,7 +58,7 @@ fn note_inode(
     requires last { i ≤ geometry.now.last_inode }
     ensures { OnOk result (Collects gathering.old gathering.new (holdings geometry.now image.now i)) }
 {
-    let form = Form::of(geometry.edition, mode(image, geometry, i));
+    let form = BlockMap::of(geometry.edition, mode(image, geometry, i));
     for k in 0..form.address_count() {
         let b = address(image, geometry, i, k);
         let logical = first_logical(form, k);
@@ -68,17 +68,17 @@ fn note_inode(
 }
 
 /// Returns the first logical block below address `k`.
-fn first_logical(form: Form, k: usize) -> u32
+fn first_logical(form: BlockMap, k: usize) -> u32
     requires { k ≤ 12 }
     ensures value { result ≡ first_at form k }
     ensures bound { result ≤ 16522 }
 {
     match form {
-        Form::Small | Form::Bare => k as u32,
-        Form::Large => 256 * k as u32,
-        Form::Deep if k < 11 => k as u32,
-        Form::Deep if k == 11 => 138,
-        Form::Deep => 16_522,
+        BlockMap::Small | BlockMap::Bare => k as u32,
+        BlockMap::Large => 256 * k as u32,
+        BlockMap::Deep if k < 11 => k as u32,
+        BlockMap::Deep if k == 11 => 138,
+        BlockMap::Deep => 16_522,
     }
 }
 

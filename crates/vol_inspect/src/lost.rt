@@ -8,7 +8,7 @@ ghost use Rattle.vol_inspect.specs.Lost.{has_content, is_lost, AreLost, IsInList
 use pdp_words::Image;
 use std::alloc::{AllocError, Global};
 use vol_file::no_marks;
-use vol_judge::reading::{Entry, Place, next_entry};
+use vol_judge::reading::{EntryAt, EntryPosition, next_entry};
 use vol_layout::i_list::kind;
 use vol_layout::{Geometry, Kind};
 
@@ -83,7 +83,7 @@ fn named_inodes(alloc: Global, image: &Image, geometry: &Geometry) -> Result<Vec
 {
     let mut marks = no_marks(alloc, geometry)?;
     let mut named = vec![in alloc; false; geometry.last_inode as usize + 1]?;
-    let mut place = Place::first();
+    let mut place = EntryPosition::first();
     while let Some(entry) = next_entry(image, geometry, place, &mut marks) {
         note_named(&entry, &mut named);
         place = entry.next_place();
@@ -92,7 +92,7 @@ fn named_inodes(alloc: Global, image: &Image, geometry: &Geometry) -> Result<Vec
 }
 
 /// Notes that an entry names what it is for, unless it is `.` or `..`.
-fn note_named(entry: &Entry, named: &mut [bool])
+fn note_named(entry: &EntryAt, named: &mut [bool])
     ensures { (geometry : Geometry) (image : List ℕ) (place : ℕ) → NamedBefore geometry image place named.old
         → IsNextSlot geometry image place entry.now.directory entry.now.number entry.now.slot
         → NamedBefore geometry image (rank entry.now.directory (entry.now.number + 1)) named.new }

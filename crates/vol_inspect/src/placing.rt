@@ -6,7 +6,7 @@ ghost use Rattle.vol_reports.specs.Blocks.{is_kind};
 
 use pdp_words::{BLOCK, Image};
 use vol_layout::i_list::{address, kind, mode};
-use vol_layout::{Form, Geometry, Kind, number};
+use vol_layout::{BlockMap, Geometry, Kind, number};
 
 /// Counts the place that names number `b` with `level` levels of blocks below it, and the places below it. A block counted
 /// twice isn't followed again: the places below it were counted twice too.
@@ -43,7 +43,7 @@ fn count_node(counts: &mut [u8], image: &Image, geometry: &Geometry, i: u16)
     ensures counted { CountsNode geometry.now image.now i counts.old counts.new }
     ensures tally { IsTally geometry.now image.now 3 counts.new }
 {
-    let form = Form::of(geometry.edition, mode(image, geometry, i));
+    let form = BlockMap::of(geometry.edition, mode(image, geometry, i));
     for k in 0..form.address_count() {
         let b = address(image, geometry, i, k);
         count_from(counts, image, geometry, form.levels(k), b);

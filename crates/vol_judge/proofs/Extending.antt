@@ -7,8 +7,8 @@ use Rattle.vol_layout.specs.Geometry.{in_zone, Fits}
 use Rattle.vol_layout.specs.Names.{pointer_in}
 use Rattle.vol_layout.specs.Places.{first_count, levels}
 use Rattle.vol_layout.specs.declared.geometry.Geometry.{Geometry}
-use Rattle.vol_layout.specs.declared.block_map.Form.{Form}
-use Rattle.vol_layout.specs.declared.block_map.Form.TheVariants.{Small, Large, Deep, Bare}
+use Rattle.vol_layout.specs.declared.block_map.BlockMap.{BlockMap}
+use Rattle.vol_layout.specs.declared.block_map.BlockMap.TheVariants.{Small, Large, Deep, Bare}
 use Rattle.vol_layout.proofs.NameLaws.{entry_out, holds_named, named_holds}
 use Rattle.vol_free.specs.Stack.{IsIn}
 use Rattle.vol_file.specs.Changes.{blocks_of}
@@ -20,7 +20,7 @@ use Rattle.vol_judge.proofs.MarkLists.{flat_more}
 use Rattle.vol_judge.proofs.NamedOnce.{in_append, in_left, in_right, in_flat, flat_in}
 
 -- an address has three levels below it at most
-pub levels_most : (form : Form) (k : ℕ) → k < first_count form → levels form k ≤ 3
+pub levels_most : (form : BlockMap) (k : ℕ) → k < first_count form → levels form k ≤ 3
 levels_most Small k low = omega arith
 levels_most Large k low = elim (k == 7) as (λ t. (if t then 2 else 1) ≤ 3) [ true ↦ lit≤ tt | false ↦ lit≤ tt ]
 levels_most Deep k low = omega arith

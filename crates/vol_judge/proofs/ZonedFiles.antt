@@ -6,7 +6,7 @@ use Rattle.vol_layout.specs.Places.{has_places, file_form, form_of, first_count,
 use Rattle.vol_layout.specs.Names.{mode_of, form_at, IsFile, named}
 use Rattle.vol_layout.specs.declared.edition.Edition.{Edition}
 use Rattle.vol_layout.specs.declared.geometry.Geometry.{Geometry}
-use Rattle.vol_layout.specs.declared.block_map.Form.TheVariants.{Bare}
+use Rattle.vol_layout.specs.declared.block_map.BlockMap.TheVariants.{Bare}
 use Rattle.vol_file.proofs.Nodes.{pointers_file}
 use Rattle.vol_judge.specs.Marks.{IsInside, IsFileZoned}
 

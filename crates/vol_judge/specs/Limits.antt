@@ -7,7 +7,7 @@ use Rattle.vol_file.specs.Rules.{size_of, kind_at}
 use Rattle.vol_layout.specs.declared.edition.Edition.TheVariants.{V7}
 use Rattle.vol_layout.specs.declared.geometry.Geometry.{Geometry}
 use Rattle.vol_layout.specs.declared.mode.Kind.TheVariants as kinds
-use Rattle.vol_layout.specs.declared.block_map.Form.TheVariants.{Small}
+use Rattle.vol_layout.specs.declared.block_map.BlockMap.TheVariants.{Small}
 
 -- i-number 1 of the seventh edition, which it keeps for bad blocks, is free or a regular file (ino.h)
 abbrev pub KeepsBadBlocks : Geometry → List ℕ → Type 0

@@ -10,7 +10,7 @@ ghost use Rattle.vol_judge.specs.Limits.{KeepsBadBlocks, IsSized, IsLinked};
 use crate::finding::Finding;
 use pdp_words::Image;
 use vol_layout::i_list::{kind, mode, size};
-use vol_layout::{Edition, Form, Geometry, Kind, inode};
+use vol_layout::{BlockMap, Edition, Geometry, Kind, inode};
 
 /// The greatest size of a small file: eight blocks.
 const SMALL_BYTES: u32 = 4096;
@@ -80,10 +80,10 @@ fn is_sized(image: &Image, geometry: &Geometry, i: u16) -> bool
     ensures { IsTrue result ↔ IsSized geometry.now image.now i }
 {
     let size = size(image, geometry, i);
-    match Form::of(geometry.edition, mode(image, geometry, i)) {
-        Form::Small => size <= SMALL_BYTES,
-        Form::Large | Form::Deep => size <= geometry.edition.constants().greatest,
-        Form::Bare => true,
+    match BlockMap::of(geometry.edition, mode(image, geometry, i)) {
+        BlockMap::Small => size <= SMALL_BYTES,
+        BlockMap::Large | BlockMap::Deep => size <= geometry.edition.constants().greatest,
+        BlockMap::Bare => true,
     }
 }
 

@@ -12,7 +12,7 @@ use pdp_words::{BLOCK, Image};
 use std::alloc::{AllocError, Global};
 use vol_file::next_pointer;
 use vol_layout::i_list::{address, mode};
-use vol_layout::{Form, Geometry, number};
+use vol_layout::{BlockMap, Geometry, number};
 
 /// Returns a flag for each block of the volume, true if a place names it. Each number that a place names is that of a data
 /// block, and none is named twice.
@@ -87,7 +87,7 @@ fn again_in(image: &Image, geometry: &Geometry, i: u16, marks: &mut [u8]) -> Opt
     ensures fresh { IfNone result (marked marks.old (blocks_of geometry.now image.now i) ≡ Some marks.new) }
     ensures twice { IfSome result (λ b. again marks.old (blocks_of geometry.now image.now i) ≡ Some b) }
 {
-    let form = Form::of(geometry.edition, mode(image, geometry, i));
+    let form = BlockMap::of(geometry.edition, mode(image, geometry, i));
     for k in 0..form.address_count() {
         let b = address(image, geometry, i, k);
         if let Some(found) = again_from(image, geometry, b, form.levels(k), marks) {

@@ -8,7 +8,7 @@ use crate::marking::clear;
 use pdp_words::{BLOCK, Image};
 use vol_file::next_pointer;
 use vol_layout::i_list::{address, mode};
-use vol_layout::{Form, Geometry, number};
+use vol_layout::{BlockMap, Geometry, number};
 
 /// Marks the data blocks that places of files name, whatever else they name. There is a mark for each block, with any value
 /// at first.
@@ -36,7 +36,7 @@ fn mark_file(image: &Image, geometry: &Geometry, i: u16, marks: &mut [u8])
     ensures extends { ExtendsMarks geometry.now (blocks_of geometry.now image.now i) marks.old marks.new }
     ensures known { KnowsMarked geometry.now image.now marks.new }
 {
-    let form = Form::of(geometry.edition, mode(image, geometry, i));
+    let form = BlockMap::of(geometry.edition, mode(image, geometry, i));
     for k in 0..form.address_count() {
         let b = address(image, geometry, i, k);
         mark_from(image, geometry, b, form.levels(k), marks);

@@ -25,7 +25,7 @@ pub fn is_directory(image: &Image, geometry: &Geometry, i: u16) -> bool
 
 /// A position among the slots of all directories, directory by directory.
 #[derive(Clone, Copy, Debug)]
-pub struct Place {
+pub struct EntryPosition {
     /// The directory's i-number, from 1 on.
     pub directory: u16,
     /// The number of the slot.
@@ -34,7 +34,7 @@ pub struct Place {
 
 /// An entry of a directory, with its position.
 #[derive(Clone, Copy, Debug)]
-pub struct Entry {
+pub struct EntryAt {
     /// The directory's i-number.
     pub directory: u16,
     /// The number of the slot.
@@ -43,27 +43,27 @@ pub struct Entry {
     pub slot: Slot,
 }
 
-impl Place {
+impl EntryPosition {
     /// Returns the position before all entries.
-    pub fn first() -> Place
+    pub fn first() -> EntryPosition
         ensures directory { result.directory ≡ 1 }
         ensures slot { result.slot ≡ 0 }
     {
-        Place {
+        EntryPosition {
             directory: 1,
             slot: 0,
         }
     }
 }
 
-impl Entry {
+impl EntryAt {
     /// Returns the position after the entry.
-    pub fn next_place(&self) -> Place
+    pub fn next_place(&self) -> EntryPosition
         requires { self.now.number < 67637568 }
         ensures directory { result.directory ≡ self.now.directory }
         ensures slot { result.slot ≡ self.now.number + 1 }
     {
-        Place {
+        EntryPosition {
             directory: self.directory,
             slot: self.number + 1,
         }
@@ -108,9 +108,9 @@ pub(crate) fn marks_for(
 pub fn next_entry(
     image: &Image,
     geometry: &Geometry,
-    from: Place,
+    from: EntryPosition,
     marks: &mut [bool],
-) -> Option<Entry>
+) -> Option<EntryAt>
     requires marks { MarksEmpty geometry.now image.now marks.old }
     requires fits { Fits geometry.now image.now }
     requires first { 1 ≤ from.directory }
@@ -124,7 +124,7 @@ pub fn next_entry(
             if let Some((number, slot)) = vol_dir::next_entry_marked(
                 image, geometry, d, start, marks,
             ) {
-                return Some(Entry {
+                return Some(EntryAt {
                     directory: d,
                     number,
                     slot,

@@ -12,7 +12,7 @@ use crate::marking::clear;
 use pdp_words::{BLOCK, Image};
 use vol_file::next_pointer;
 use vol_layout::i_list::{address, mode};
-use vol_layout::{Form, Geometry, number};
+use vol_layout::{BlockMap, Geometry, number};
 
 /// Returns the first violation of rule 5: of the first i-node that names a number of no data block, the first such number
 /// in the order of its places. `known` has a byte for each block, with any value at first: the number of levels below the
@@ -44,7 +44,7 @@ fn outside_in(image: &Image, geometry: &Geometry, i: u16, known: &mut [u8]) -> O
     ensures exact { result ≡ first_outside geometry.now (blocks_of geometry.now image.now i) }
     ensures known { KnowsInside geometry.now image.now known.new }
 {
-    let form = Form::of(geometry.edition, mode(image, geometry, i));
+    let form = BlockMap::of(geometry.edition, mode(image, geometry, i));
     for k in 0..form.address_count() {
         let b = address(image, geometry, i, k);
         if let Some(number) = outside_from(image, geometry, b, form.levels(k), known) {

@@ -12,8 +12,8 @@ use Rattle.vol_layout.specs.Laws.{IsFront}
 use Rattle.vol_layout.specs.declared.edition.Edition.{Edition}
 use Rattle.vol_layout.specs.declared.edition.Edition.TheVariants.{V6, V7}
 use Rattle.vol_layout.specs.declared.geometry.Geometry.{Geometry}
-use Rattle.vol_layout.specs.declared.block_map.Form.{Form}
-use Rattle.vol_layout.specs.declared.block_map.Form.TheVariants.{Small, Large, Bare}
+use Rattle.vol_layout.specs.declared.block_map.BlockMap.{BlockMap}
+use Rattle.vol_layout.specs.declared.block_map.BlockMap.TheVariants.{Small, Large, Bare}
 use Rattle.vol_layout.proofs.CopyLaws.{IsCopy, copy_above, copy_block, number_copied, number_room}
 use Rattle.vol_layout.proofs.InodeLaws.{KeepsInode, inode_kept, form_kept, address_kept, body_size_kept}
 use Rattle.vol_layout.proofs.PlaceLaws.{last_leaf, place_front, front_above, front_self}
@@ -121,7 +121,7 @@ named_apart geometry old new i k p kept same apart place =
     copy_block old new (named geometry old i (a ∷ q)) k same (apart (a ∷ q) here.2 here.1))
 
 -- the number stored for a logical block stays if the name of its last place does
-pub stored_kept : (geometry : Geometry) (old new : List ℕ) (i : ℕ) (form : Form) (b : ℕ)
+pub stored_kept : (geometry : Geometry) (old new : List ℕ) (i : ℕ) (form : BlockMap) (b : ℕ)
     → ((p : List ℕ) → last_place form b ≡ Some p → named geometry new i p ≡ named geometry old i p)
     → stored geometry new i form b ≡ stored geometry old i form b
 stored_kept geometry old new i form b same =

@@ -6,7 +6,7 @@ use Rattle.vol_layout.specs.Places.{has_places, form_of, file_form, IsPlace}
 use Rattle.vol_layout.specs.declared.edition.Edition.{Edition}
 use Rattle.vol_layout.specs.declared.edition.Edition.TheVariants.{V6, V7}
 use Rattle.vol_layout.specs.declared.mode.Kind.TheVariants as kinds
-use Rattle.vol_layout.specs.declared.block_map.Form.TheVariants.{Bare}
+use Rattle.vol_layout.specs.declared.block_map.BlockMap.TheVariants.{Bare}
 
 -- an i-node with mode 0 is free
 pub kind_zero : (edition : Edition) → kind_of edition 0 ≡ kinds.Free

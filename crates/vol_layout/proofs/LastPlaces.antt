@@ -2,7 +2,7 @@
 use Rattle.std.proofs.Common.{◌≡◌, ℕ, ◌-◌, ◌/◌, ◌%◌, ◌<◌, ◌≤◌, [], ◌∷◌, refl, arith, Some}
 use Rattle.std.proofs.lemmas.Bool.{lt-ltb, le-ltb}
 use Rattle.vol_layout.specs.Places.{last_place}
-use Rattle.vol_layout.specs.declared.block_map.Form.TheVariants.{Small, Large, Deep}
+use Rattle.vol_layout.specs.declared.block_map.BlockMap.TheVariants.{Small, Large, Deep}
 
 -- of a small file
 pub last_small : (b : ℕ) → b < 8 → last_place Small b ≡ Some (b ∷ [])

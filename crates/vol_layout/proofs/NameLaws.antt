@@ -4,7 +4,7 @@ use Rattle.vol_layout.specs.Edition.{number}
 use Rattle.vol_layout.specs.Geometry.{in_zone, Fits}
 use Rattle.vol_layout.specs.Names.{pointer_in, named, Holds, stored}
 use Rattle.vol_layout.specs.Places.{last_place}
-use Rattle.vol_layout.specs.declared.block_map.Form.{Form}
+use Rattle.vol_layout.specs.declared.block_map.BlockMap.{BlockMap}
 use Rattle.std.specs.Option.{option_map_or}
 use Rattle.vol_layout.specs.Laws.{IsFront}
 use Rattle.vol_layout.specs.declared.geometry.Geometry.{Geometry}
@@ -71,16 +71,16 @@ named_holds geometry image i (j ∷ (a ∷ p)) k fits e some =
     ] refl
 
 -- the number stored for a logical block is the name of its last place
-pub stored_is : (geometry : Geometry) (image : List ℕ) (i : ℕ) (form : Form) (b : ℕ) (p : List ℕ) → last_place form b ≡ Some p
+pub stored_is : (geometry : Geometry) (image : List ℕ) (i : ℕ) (form : BlockMap) (b : ℕ) (p : List ℕ) → last_place form b ≡ Some p
     → stored geometry image i form b ≡ named geometry image i p
 stored_is geometry image i form b p e = ap (λ o. option_map_or (named geometry image i) o 0) e
 
 -- nothing is stored for a logical block with no way
-pub stored_none : (geometry : Geometry) (image : List ℕ) (i : ℕ) (form : Form) (b : ℕ) → last_place form b ≡ None → stored geometry image i form b ≡ 0
+pub stored_none : (geometry : Geometry) (image : List ℕ) (i : ℕ) (form : BlockMap) (b : ℕ) → last_place form b ≡ None → stored geometry image i form b ≡ 0
 stored_none geometry image i form b e = ap (λ o. option_map_or (named geometry image i) o 0) e
 
 -- a data block that is stored for a logical block is named by the block's last place
-pub stored_apart_from : (geometry : Geometry) (image : List ℕ) (i k : ℕ) (form : Form) (b : ℕ) → Fits geometry image
+pub stored_apart_from : (geometry : Geometry) (image : List ℕ) (i k : ℕ) (form : BlockMap) (b : ℕ) → Fits geometry image
     → in_zone geometry (stored geometry image i form b) ≡ true
     → ((p : List ℕ) → last_place form b ≡ Some p → named geometry image i p ≢ k) → stored geometry image i form b ≢ k
 stored_apart_from geometry image i k form b fits zone apart same =

@@ -4,12 +4,12 @@ use Rattle.std.proofs.lemmas.Bool.{ltb-true, ltb-false, cases_eq}
 use Rattle.std.proofs.lemmas.Bool.Decides.{nat_tests}
 use Rattle.vol_layout.specs.Places.{pointer_count, levels, levels_below, IsPlace, block_limit, last_place, place_to, end_of}
 use Rattle.vol_layout.specs.Laws.{IsFront}
-use Rattle.vol_layout.specs.declared.block_map.Form.{Form}
-use Rattle.vol_layout.specs.declared.block_map.Way.{Way}
-use Rattle.vol_layout.specs.declared.block_map.Form.TheVariants.{Small, Large, Deep, Bare}
+use Rattle.vol_layout.specs.declared.block_map.BlockMap.{BlockMap}
+use Rattle.vol_layout.specs.declared.block_map.BlockPath.{BlockPath}
+use Rattle.vol_layout.specs.declared.block_map.BlockMap.TheVariants.{Small, Large, Deep, Bare}
 
 -- the logical block whose way ends at a place with nothing below it
-abbrev pub leaf_block : Form → List ℕ → ℕ
+abbrev pub leaf_block : BlockMap → List ℕ → ℕ
 leaf_block form [] = 0
 leaf_block Small (b ∷ p) = b
 leaf_block Large (r ∷ []) = r
@@ -22,14 +22,14 @@ leaf_block Deep (r ∷ (c ∷ (a ∷ (k ∷ p)))) = 16522 + (16384 * a + (128 * 
 leaf_block Bare (b ∷ p) = b
 
 -- p is a last place, that of logical block b
-pub record IsLeaf (form : Form) (b : ℕ) (p : List ℕ) : Type 0 where
+pub record IsLeaf (form : BlockMap) (b : ℕ) (p : List ℕ) : Type 0 where
   pub place : IsPlace form p
   pub bottom : levels_below form p ≡ 0
   pub block : leaf_block form p ≡ b
   pub limit : b < block_limit form
 
 -- the form of the last place of logical block b, if there is one
-abbrev EndsAt : Form → ℕ → Option (List ℕ) → Type 0
+abbrev EndsAt : BlockMap → ℕ → Option (List ℕ) → Type 0
 EndsAt form b None = block_limit form ≤ b
 EndsAt form b (Some p) = IsLeaf form b p
 
@@ -100,38 +100,38 @@ unfolding last_place
 ends_bare b = omega arith
 
 -- the way of each logical block
-ends_at : (form : Form) (b : ℕ) → EndsAt form b (last_place form b)
+ends_at : (form : BlockMap) (b : ℕ) → EndsAt form b (last_place form b)
 ends_at Small b = ends_small b
 ends_at Large b = ends_large b
 ends_at Deep b = ends_deep b
 ends_at Bare b = ends_bare b
 
 -- the last place of a way is a place with nothing below it, and gives back its logical block
-pub last_leaf : (form : Form) (b : ℕ) (p : List ℕ) → last_place form b ≡ Some p → IsLeaf form b p
+pub last_leaf : (form : BlockMap) (b : ℕ) (p : List ℕ) → last_place form b ≡ Some p → IsLeaf form b p
 last_leaf form b p e = subst (EndsAt form b) e (ends_at form b)
 
 -- a logical block with no way is past the limit
-pub last_none : (form : Form) (b : ℕ) → last_place form b ≡ None → block_limit form ≤ b
+pub last_none : (form : BlockMap) (b : ℕ) → last_place form b ≡ None → block_limit form ≤ b
 last_none form b e = subst (EndsAt form b) e (ends_at form b)
 
 -- a logical block below the limit has a way
-pub has_way : (form : Form) (b : ℕ) → b < block_limit form → (p : List ℕ) × (last_place form b ≡ Some p)
+pub has_way : (form : BlockMap) (b : ℕ) → b < block_limit form → (p : List ℕ) × (last_place form b ≡ Some p)
 has_way form b h =
     elim (last_place form b) as (λ o. last_place form b ≡ o → (p : List ℕ) × (last_place form b ≡ Some p))
     [ None ↦ λ e. let past : block_limit form ≤ b = last_none form b e in absurd (omega arith) | Some p ↦ λ e. (p, e) ] refl
 
 -- a logical block past the limit has no way
-pub has_no_way : (form : Form) (b : ℕ) → block_limit form ≤ b → last_place form b ≡ None
+pub has_no_way : (form : BlockMap) (b : ℕ) → block_limit form ≤ b → last_place form b ≡ None
 has_no_way form b h =
     elim (last_place form b) as (λ o. last_place form b ≡ o → last_place form b ≡ None)
     [ None ↦ λ e. e | Some p ↦ λ e. let limit : b < block_limit form = (last_leaf form b p e).limit in absurd (omega arith) ] refl
 
 -- two logical blocks with the same last place are the same
-pub last_apart : (form : Form) (b c : ℕ) (p : List ℕ) → last_place form b ≡ Some p → last_place form c ≡ Some p → b ≡ c
+pub last_apart : (form : BlockMap) (b c : ℕ) (p : List ℕ) → last_place form b ≡ Some p → last_place form c ≡ Some p → b ≡ c
 last_apart form b c p e f = sym (last_leaf form b p e).block ∙ (last_leaf form c p f).block
 
 -- a front of a place is a place
-pub place_front : (form : Form) (p q : List ℕ) → IsPlace form p → IsFront q p → IsPlace form q
+pub place_front : (form : BlockMap) (p q : List ℕ) → IsPlace form p → IsFront q p → IsPlace form q
 place_front form [] q place front = absurd place
 place_front form (k ∷ []) q place front = elim front [ inl e ↦ subst (IsPlace form) (sym e) place | inr none ↦ absurd none ]
 place_front form (j ∷ (a ∷ p)) q place front =
@@ -147,7 +147,7 @@ front_above (h ∷ p) q j a front =
     ]
 
 -- a place is a front of itself
-pub front_self : (form : Form) (p : List ℕ) → IsPlace form p → IsFront p p
+pub front_self : (form : BlockMap) (p : List ℕ) → IsPlace form p → IsFront p p
 front_self form [] place = absurd place
 front_self form (j ∷ p) place = inl refl
 
@@ -168,14 +168,14 @@ front_to k entries d (suc n) h =
     ]
 
 -- the first entries of the way of a logical block lead to a place
-pub way_place : (form : Form) (b : ℕ) (way : Way) (d : ℕ) → Some (end_of way) ≡ last_place form b → d ≤ way.depth
+pub way_place : (form : BlockMap) (b : ℕ) (way : BlockPath) (d : ℕ) → Some (end_of way) ≡ last_place form b → d ≤ way.depth
     → IsPlace form (place_to way.address way.entries d)
 way_place form b way d e h =
     place_front form (end_of way) (place_to way.address way.entries d) (last_leaf form b (end_of way) (sym e)).place
     (front_to way.address way.entries d way.depth h)
 
 -- an entry that leads to a place is one of an indirect block
-pub entry_to : (form : Form) (k : ℕ) (entries : List ℕ) (d : ℕ) → IsPlace form (place_to k entries (suc d))
+pub entry_to : (form : BlockMap) (k : ℕ) (entries : List ℕ) (d : ℕ) → IsPlace form (place_to k entries (suc d))
     → slice_index entries d < pointer_count form
 entry_to form k entries zero place = place.0
 entry_to form k entries (suc d) place = place.0

@@ -9,8 +9,8 @@ use Rattle.std.proofs.lemmas.Nat.{div-mul-add}
 use Rattle.std.proofs.Math.Nat.{mul-add-mod_self_right, mod-eq_of_lt}
 use Rattle.vol_layout.specs.Places.{first_count, pointer_count, levels, levels_below, block_limit, last_place, places_from, places}
 use Rattle.vol_layout.specs.Laws.{leaves, OrdersWays}
-use Rattle.vol_layout.specs.declared.block_map.Form.{Form}
-use Rattle.vol_layout.specs.declared.block_map.Form.TheVariants.{Small, Large, Deep, Bare}
+use Rattle.vol_layout.specs.declared.block_map.BlockMap.{BlockMap}
+use Rattle.vol_layout.specs.declared.block_map.BlockMap.TheVariants.{Small, Large, Deep, Bare}
 use Rattle.vol_layout.proofs.PlaceLaws.{large_levels}
 use Rattle.vol_layout.proofs.LastPlaces.{last_small, last_large, last_huge, last_direct, last_single, last_double, last_triple}
 
@@ -27,25 +27,25 @@ range_more a (suc m) n =
     ∙ ap (λ xs. a ∷ xs) (range_more (a + 1) m n ∙ ap (λ x. range_with_len (a + 1) m ++ range_with_len x n) same)
 
 -- those of a list of places that have no level below them
-abbrev leaves_of : Form → List (List ℕ) → List (List ℕ)
+abbrev leaves_of : BlockMap → List (List ℕ) → List (List ℕ)
 leaves_of form ps = filter (λ p. levels_below form p == 0) ps
 
 -- the last places of logical blocks in a row
-abbrev ends : Form → ℕ → ℕ → List (Option (List ℕ))
+abbrev ends : BlockMap → ℕ → ℕ → List (Option (List ℕ))
 ends form x n = map (last_place form) (range_with_len x n)
 
 -- the last places of two rows of blocks, one after the other
-ends_more : (form : Form) (x m n : ℕ) → ends form x (m + n) ≡ ends form x m ++ ends form (x + m) n
+ends_more : (form : BlockMap) (x m n : ℕ) → ends form x (m + n) ≡ ends form x m ++ ends form (x + m) n
 ends_more form x m n =
     ap (map (last_place form)) (range_more x m n) ∙ map-append (last_place form) (range_with_len x m) (range_with_len (x + m) n)
 
 -- of two lists in a row
-leaves_append : (form : Form) (ps qs : List (List ℕ)) → map Some (leaves_of form (ps ++ qs)) ≡ map Some (leaves_of form ps) ++ map Some (leaves_of form qs)
+leaves_append : (form : BlockMap) (ps qs : List (List ℕ)) → map Some (leaves_of form (ps ++ qs)) ≡ map Some (leaves_of form ps) ++ map Some (leaves_of form qs)
 leaves_append form ps qs =
     ap (map Some) (filter-append (λ p. levels_below form p == 0) ps qs) ∙ map-append Some (leaves_of form ps) (leaves_of form qs)
 
 -- lists of places, each of which has the last places of m blocks in a row
-run : (form : Form) (f : ℕ → List (List ℕ)) (m x from count : ℕ)
+run : (form : BlockMap) (f : ℕ → List (List ℕ)) (m x from count : ℕ)
     → ((i : ℕ) → i < count → map Some (leaves_of form (f (from + i))) ≡ ends form (x + i * m) m)
     → map Some (leaves_of form (flat_map f (range_with_len from count))) ≡ ends form x (count * m)
 run form f m x from zero each = let none : zero * m ≡ 0 = omega arith in ap (ends form x) (sym none)
@@ -85,7 +85,7 @@ two_digits i n m b low small =
     omega (arith, whole)
 
 -- the places at and below a place are the last places of consecutive logical blocks
-under : (form : Form) (n a : ℕ) (p : List ℕ) (d x : ℕ) → levels_below form (a ∷ p) ≡ d
+under : (form : BlockMap) (n a : ℕ) (p : List ℕ) (d x : ℕ) → levels_below form (a ∷ p) ≡ d
     → ((b : ℕ) → b < spread n d → last_place form (x + b) ≡ Some (numbered n (a ∷ p) d b))
     → map Some (leaves_of form (places_from n (a ∷ p) d)) ≡ ends form x (spread n d)
 under form n a p zero x deep last =
@@ -111,14 +111,14 @@ under form n a p (suc d) x deep last =
     ∙ ap Some (ap (λ h. numbered n (h ∷ (a ∷ p)) d ((i * spread n d + b) % spread n d)) high ∙ ap (numbered n (i ∷ (a ∷ p)) d) less)))))
 
 -- the same from an address on, by how many levels it has
-from_address : (form : Form) (n k d x : ℕ) → levels form k ≡ d
+from_address : (form : BlockMap) (n k d x : ℕ) → levels form k ≡ d
     → ((b : ℕ) → b < spread n d → last_place form (x + b) ≡ Some (numbered n (k ∷ []) d b))
     → map Some (leaves_of form (places_from n (k ∷ []) (levels form k))) ≡ ends form x (spread n d)
 from_address form n k d x deep last =
     ap (λ e. map Some (leaves_of form (places_from n (k ∷ []) e))) deep ∙ under form n k [] d x deep last
 
 -- addresses in a row that have as many levels each
-addresses : (form : Form) (n d x from count : ℕ) → ((i : ℕ) → i < count → levels form (from + i) ≡ d)
+addresses : (form : BlockMap) (n d x from count : ℕ) → ((i : ℕ) → i < count → levels form (from + i) ≡ d)
     → ((i b : ℕ) → i < count → b < spread n d → last_place form (x + i * spread n d + b) ≡ Some (numbered n ((from + i) ∷ []) d b))
     → map Some (leaves_of form (flat_map (λ k. places_from n (k ∷ []) (levels form k)) (range_with_len from count))) ≡ ends form x (count * spread n d)
 addresses form n d x from count deep last =
@@ -126,12 +126,12 @@ addresses form n d x from count deep last =
     (λ i low. from_address form n (from + i) d (x + i * spread n d) (deep i low) (λ b small. last i b low small))
 
 -- no place is left over
-none_left : (form : Form) (xs : List (Option (List ℕ))) (whole : map Some (leaves form) ≡ xs)
+none_left : (form : BlockMap) (xs : List (Option (List ℕ))) (whole : map Some (leaves form) ≡ xs)
     → map Some (leaves form) ≡ xs ++ map Some []
 none_left form xs whole = whole ∙ sym (append-nil xs)
 
 -- the addresses of a small file
-small_order : (form : Form) → form ≡ Small → map Some (leaves form) ≡ ends form 0 (block_limit form)
+small_order : (form : BlockMap) → form ≡ Small → map Some (leaves form) ≡ ends form 0 (block_limit form)
 unfolding places
 small_order form is =
     let n = pointer_count form in
@@ -146,7 +146,7 @@ small_order form is =
     ∙ ap (ends form 0) count
 
 -- the addresses of a large file that have one level below them
-large_first : (form : Form) → form ≡ Large → (i b : ℕ) → i < 7 → b < spread (pointer_count form) 1
+large_first : (form : BlockMap) → form ≡ Large → (i b : ℕ) → i < 7 → b < spread (pointer_count form) 1
     → last_place form (0 + i * spread (pointer_count form) 1 + b) ≡ Some (numbered (pointer_count form) ((0 + i) ∷ []) 1 b)
 large_first form is i b low small =
     let few : b < 256 = subst (λ f. b < spread (pointer_count f) 1) is small in
@@ -159,7 +159,7 @@ large_first form is i b low small =
     ∙ (ap (λ x. Some (x ∷ (((256 * i + b) / 256) ∷ []))) entry ∙ ap (λ x. Some ((b / 1) ∷ (x ∷ []))) address)))
 
 -- the entries of the doubly indirect block of a large file, as many as there are logical blocks for
-large_second : (form : Form) → form ≡ Large → (i b : ℕ) → i < 121 → b < spread (pointer_count form) 1
+large_second : (form : BlockMap) → form ≡ Large → (i b : ℕ) → i < 121 → b < spread (pointer_count form) 1
     → last_place form (0 + 7 * spread (pointer_count form) 1 + i * spread (pointer_count form) 1 + b)
     ≡ Some (numbered (pointer_count form) ((0 + i) ∷ (7 ∷ [])) 1 b)
 large_second form is i b low small =
@@ -174,15 +174,15 @@ large_second form is i b low small =
     ∙ (ap (λ x. Some (x ∷ (((1792 + (256 * i + b)) / 256 - 7) ∷ (7 ∷ [])))) entry ∙ ap (λ x. Some ((b / 1) ∷ (x ∷ (7 ∷ [])))) above)))
 
 -- the entries of the doubly indirect block of a large file
-abbrev entries_of : Form → ℕ → List (List ℕ)
+abbrev entries_of : BlockMap → ℕ → List (List ℕ)
 entries_of form j = places_from (pointer_count form) (j ∷ (7 ∷ [])) 1
 
 -- the places of the doubly indirect block of a large file that are the last place of no logical block
-abbrev large_rest : Form → List (List ℕ)
+abbrev large_rest : BlockMap → List (List ℕ)
 large_rest form = leaves_of form (flat_map (entries_of form) (range_with_len 121 135))
 
 -- the places at and below the last address of a large file
-large_last : (form : Form) → form ≡ Large
+large_last : (form : BlockMap) → form ≡ Large
     → map Some (leaves_of form (places_from (pointer_count form) (7 ∷ []) (levels form 7)))
     ≡ ends form (0 + 7 * spread (pointer_count form) 1) (121 * spread (pointer_count form) 1) ++ map Some (large_rest form)
 large_last form is =
@@ -206,7 +206,7 @@ large_last form is =
     ∙ (leaves_append form front back ∙ ap (λ xs. xs ++ map Some (leaves_of form back)) first)))
 
 -- the ways of a large file
-large_order : (form : Form) → form ≡ Large → map Some (leaves form) ≡ ends form 0 (block_limit form) ++ map Some (large_rest form)
+large_order : (form : BlockMap) → form ≡ Large → map Some (leaves form) ≡ ends form 0 (block_limit form) ++ map Some (large_rest form)
 unfolding places
 large_order form is =
     let n = pointer_count form in
@@ -230,7 +230,7 @@ large_order form is =
     (sym (ends_more form 0 (7 * spread n 1) (121 * spread n 1)) ∙ ap (ends form 0) limit)))))
 
 -- the addresses of data blocks in the seventh edition
-deep_direct : (form : Form) → form ≡ Deep → (i b : ℕ) → i < 10 → b < 1
+deep_direct : (form : BlockMap) → form ≡ Deep → (i b : ℕ) → i < 10 → b < 1
     → last_place form (0 + i * 1 + b) ≡ Some ((0 + i) ∷ [])
 deep_direct form is i b low small =
     let place : 0 + i * 1 + b ≡ i = omega arith in
@@ -238,7 +238,7 @@ deep_direct form is i b low small =
     ap (λ f. last_place f (0 + i * 1 + b)) is ∙ (ap (last_place Deep) place ∙ (last_direct i low ∙ ap (λ k. Some (k ∷ [])) same))
 
 -- below the indirect block
-deep_single : (form : Form) (x b : ℕ) → form ≡ Deep → x ≡ 10 → b < spread (pointer_count form) 1
+deep_single : (form : BlockMap) (x b : ℕ) → form ≡ Deep → x ≡ 10 → b < spread (pointer_count form) 1
     → last_place form (x + b) ≡ Some (numbered (pointer_count form) (10 ∷ []) 1 b)
 deep_single form x b is at small =
     let few : b < 128 = subst (λ f. b < spread (pointer_count f) 1) is small in
@@ -247,7 +247,7 @@ deep_single form x b is at small =
     (last_single (x + b) (omega arith) (omega arith) ∙ ap (λ k. Some (k ∷ (10 ∷ []))) entry)
 
 -- below the doubly indirect block
-deep_double : (form : Form) (x b : ℕ) → form ≡ Deep → x ≡ 138 → b < spread (pointer_count form) 2
+deep_double : (form : BlockMap) (x b : ℕ) → form ≡ Deep → x ≡ 138 → b < spread (pointer_count form) 2
     → last_place form (x + b) ≡ Some (numbered (pointer_count form) (11 ∷ []) 2 b)
 deep_double form x b is at small =
     let few : b < 16384 = subst (λ f. b < spread (pointer_count f) 2) is small in
@@ -258,7 +258,7 @@ deep_double form x b is at small =
     ∙ (ap (λ k. Some (k ∷ (((x + b - 138) / 128) ∷ (11 ∷ [])))) entry ∙ ap (λ k. Some ((b % 128 / 1) ∷ (k ∷ (11 ∷ [])))) above))
 
 -- below the triply indirect block
-deep_triple : (form : Form) (x b : ℕ) → form ≡ Deep → x ≡ 16522 → b < spread (pointer_count form) 3
+deep_triple : (form : BlockMap) (x b : ℕ) → form ≡ Deep → x ≡ 16522 → b < spread (pointer_count form) 3
     → last_place form (x + b) ≡ Some (numbered (pointer_count form) (12 ∷ []) 3 b)
 deep_triple form x b is at small =
     let few : b < 2097152 = subst (λ f. b < spread (pointer_count f) 3) is small in
@@ -272,7 +272,7 @@ deep_triple form x b is at small =
     ∙ ap (λ k. Some ((b % 16384 % 128 / 1) ∷ (k ∷ ((b / 16384) ∷ (12 ∷ []))))) above)))
 
 -- the ways of a file of the seventh edition
-deep_order : (form : Form) → form ≡ Deep → map Some (leaves form) ≡ ends form 0 (block_limit form)
+deep_order : (form : BlockMap) → form ≡ Deep → map Some (leaves form) ≡ ends form 0 (block_limit form)
 unfolding places
 deep_order form is =
     let n = pointer_count form in
@@ -318,7 +318,7 @@ deep_order form is =
     ∙ append_assoc (ends form 0 one) (ends form (0 + one) (spread n 1)) (ends form (0 + two) (spread n 2) ++ ends form (0 + three) (spread n 3)))))))))))))
 
 -- an i-node that has no places has no ways
-bare_order : (form : Form) → form ≡ Bare → map Some (leaves form) ≡ ends form 0 (block_limit form)
+bare_order : (form : BlockMap) → form ≡ Bare → map Some (leaves form) ≡ ends form 0 (block_limit form)
 unfolding places
 bare_order form is = rw is refl
 

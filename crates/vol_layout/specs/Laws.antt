@@ -11,8 +11,8 @@ use Rattle.vol_layout.specs.Body.{body, body_size}
 use Rattle.vol_layout.specs.declared.edition.Edition.{Edition}
 use Rattle.vol_layout.specs.declared.edition.Edition.TheVariants.{V6, V7}
 use Rattle.vol_layout.specs.declared.geometry.Geometry.{Geometry}
-use Rattle.vol_layout.specs.declared.block_map.Form.{Form}
-use Rattle.vol_layout.specs.declared.block_map.Form.TheVariants.{Large}
+use Rattle.vol_layout.specs.declared.block_map.BlockMap.{BlockMap}
+use Rattle.vol_layout.specs.declared.block_map.BlockMap.TheVariants.{Large}
 
 -- q is a front of place p: a place on the way to p, or p itself (Lions on bmap)
 abbrev pub IsFront : List ℕ → List ℕ → Type 0
@@ -26,24 +26,24 @@ HoldsWhatIsNamed = (geometry : Geometry) (image : List ℕ) (i : ℕ) (p : List 
 
 -- a logical block below the form's limit has a last place, and no other block has one (this project's law)
 abbrev pub HasWaysBelowLimit : Type 0
-HasWaysBelowLimit = (form : Form) (b : ℕ) → (b < block_limit form) ↔ ((p : List ℕ) × (last_place form b ≡ Some p))
+HasWaysBelowLimit = (form : BlockMap) (b : ℕ) → (b < block_limit form) ↔ ((p : List ℕ) × (last_place form b ≡ Some p))
 
 -- the last place of a logical block is a place with nothing below it (this project's law)
 abbrev pub EndsWaysAtPlaces : Type 0
-EndsWaysAtPlaces = (form : Form) (b : ℕ) (p : List ℕ) → last_place form b ≡ Some p → IsPlace form p × (levels_below form p ≡ 0)
+EndsWaysAtPlaces = (form : BlockMap) (b : ℕ) (p : List ℕ) → last_place form b ≡ Some p → IsPlace form p × (levels_below form p ≡ 0)
 
 -- different logical blocks have different last places (this project's law)
 abbrev pub EndsWaysApart : Type 0
-EndsWaysApart = (form : Form) (b c : ℕ) (p : List ℕ) → last_place form b ≡ Some p → last_place form c ≡ Some p → b ≡ c
+EndsWaysApart = (form : BlockMap) (b c : ℕ) (p : List ℕ) → last_place form b ≡ Some p → last_place form c ≡ Some p → b ≡ c
 
 -- the places of a form that have no level below them, in the order of its places (Lions on bmap)
-abbrev pub leaves : Form → List (List ℕ)
+abbrev pub leaves : BlockMap → List (List ℕ)
 leaves form = filter (λ p. levels_below form p == 0) (places form)
 
 -- successive logical blocks have successive places with no level below them as their last places; each of these is the last
 -- place of a block, except that a large file has more of them than blocks (this project's law)
 abbrev pub OrdersWays : Type 0
-OrdersWays = (form : Form) → (rest : List (List ℕ))
+OrdersWays = (form : BlockMap) → (rest : List (List ℕ))
     × (map Some (leaves form) ≡ map (last_place form) (range_with_len 0 (block_limit form)) ++ map Some rest)
     × ((form ≡ Large) ⊎ (rest ≡ []))
 

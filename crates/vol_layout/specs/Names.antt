@@ -7,14 +7,14 @@ use Rattle.vol_layout.specs.Geometry.{in_zone}
 use Rattle.vol_layout.specs.Inode.{inode_place, address_at, kind_of}
 use Rattle.vol_layout.specs.Places.{form_of, has_places, IsPlace, last_place}
 use Rattle.vol_layout.specs.declared.geometry.Geometry.{Geometry}
-use Rattle.vol_layout.specs.declared.block_map.Form.{Form}
+use Rattle.vol_layout.specs.declared.block_map.BlockMap.{BlockMap}
 
 -- the mode of i-node i, a word at its first byte in both editions (manual section 5, file system; ino.h)
 abbrev pub mode_of : Geometry → List ℕ → ℕ → ℕ
 mode_of geometry image i = word image (inode_place geometry.edition i)
 
 -- the form of i-node i (manual section 5, file system)
-abbrev pub form_at : Geometry → List ℕ → ℕ → Form
+abbrev pub form_at : Geometry → List ℕ → ℕ → BlockMap
 form_at geometry image i = form_of geometry.edition (mode_of geometry image i)
 
 -- i is an i-number of the volume, of a regular file or directory (manual section 5, file system)
@@ -52,7 +52,7 @@ pub record NamesBlock (geometry : Geometry) (image : List ℕ) (i : ℕ) (p : Li
   pub holds : Holds geometry image i p k
 
 -- the number at the last place of the way of logical block b, or 0 if there is no way or nothing is named (Lions on bmap)
-abbrev pub stored : Geometry → List ℕ → ℕ → Form → ℕ → ℕ
+abbrev pub stored : Geometry → List ℕ → ℕ → BlockMap → ℕ → ℕ
 stored geometry image i form b = option_map_or (named geometry image i) (last_place form b) 0
 
 -- the block that holds logical block b of i-node i, if something is named there (Lions on bmap)

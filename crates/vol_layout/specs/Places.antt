@@ -9,9 +9,9 @@ use Rattle.vol_layout.specs.declared.edition.Edition.{Edition}
 use Rattle.vol_layout.specs.declared.edition.Edition.TheVariants.{V6, V7}
 use Rattle.vol_layout.specs.declared.mode.Kind.{Kind}
 use Rattle.vol_layout.specs.declared.mode.Kind.TheVariants as kinds
-use Rattle.vol_layout.specs.declared.block_map.Form.{Form}
-use Rattle.vol_layout.specs.declared.block_map.Way.{Way}
-use Rattle.vol_layout.specs.declared.block_map.Form.TheVariants.{Small, Large, Deep, Bare}
+use Rattle.vol_layout.specs.declared.block_map.BlockMap.{BlockMap}
+use Rattle.vol_layout.specs.declared.block_map.BlockPath.{BlockPath}
+use Rattle.vol_layout.specs.declared.block_map.BlockMap.TheVariants.{Small, Large, Deep, Bare}
 
 -- true if i-nodes of a kind have places: regular files and directories do (manual section 5, file system)
 abbrev pub has_places : Kind → Bool
@@ -22,56 +22,56 @@ has_places kinds.Special = false
 has_places kinds.Odd = false
 
 -- the form of a file in its edition: small or large in the sixth, deep in the seventh (manual section 5, file system)
-abbrev pub file_form : Edition → ℕ → Form
+abbrev pub file_form : Edition → ℕ → BlockMap
 file_form V6 mode = if is_large V6 mode then Large else Small
 file_form V7 mode = Deep
 
 -- the form of an i-node with some mode; one without places is bare (manual section 5, file system)
-abbrev pub form_of : Edition → ℕ → Form
+abbrev pub form_of : Edition → ℕ → BlockMap
 form_of edition mode = if has_places (kind_of edition mode) then file_form edition mode else Bare
 
 -- the number of addresses of the i-node that are places (manual section 5; ino.h)
-abbrev pub first_count : Form → ℕ
+abbrev pub first_count : BlockMap → ℕ
 first_count Small = 8
 first_count Large = 8
 first_count Deep = 13
 first_count Bare = 0
 
 -- the number of block numbers in an indirect block of the form's edition (Lions on bmap; param.h)
-abbrev pub pointer_count : Form → ℕ
+abbrev pub pointer_count : BlockMap → ℕ
 pointer_count Small = (constants V6).pointers
 pointer_count Large = (constants V6).pointers
 pointer_count Deep = (constants V7).pointers
 pointer_count Bare = 0
 
 -- the number of levels of indirect blocks between an address and the data (Lions on bmap; ino.h)
-abbrev pub levels : Form → ℕ → ℕ
+abbrev pub levels : BlockMap → ℕ → ℕ
 levels Small k = 0
 levels Large k = if k == 7 then 2 else 1
 levels Deep k = k - 9
 levels Bare k = 0
 
 -- the number of levels below a place (Lions on bmap)
-abbrev pub levels_below : Form → List ℕ → ℕ
+abbrev pub levels_below : BlockMap → List ℕ → ℕ
 levels_below form [] = 0
 levels_below form (k ∷ []) = levels form k
 levels_below form (j ∷ (a ∷ p)) = levels_below form (a ∷ p) - 1
 
 -- a list of indexes is a place of the form: an address, or an entry of the block of a place with a level below it (Lions on bmap; ino.h)
-abbrev pub IsPlace : Form → List ℕ → Type 0
+abbrev pub IsPlace : BlockMap → List ℕ → Type 0
 IsPlace form [] = ⊥
 IsPlace form (k ∷ []) = k < first_count form
 IsPlace form (j ∷ (a ∷ p)) = (j < pointer_count form) × (1 ≤ levels_below form (a ∷ p)) × IsPlace form (a ∷ p)
 
 -- the number of logical blocks that a file of the form can have (Lions on bmap; ino.h; the sixth edition's limit is this project's)
-abbrev pub block_limit : Form → ℕ
+abbrev pub block_limit : BlockMap → ℕ
 block_limit Small = 8
 block_limit Large = 32768
 block_limit Deep = 2113674
 block_limit Bare = 0
 
 -- the last place of the way of logical block b (Lions on bmap; the seventh edition's ino.h)
-unfoldable pub last_place : Form → ℕ → Option (List ℕ)
+unfoldable pub last_place : BlockMap → ℕ → Option (List ℕ)
 last_place Small b = if nat_lt b 8 then Some (b ∷ []) else None
 last_place Large b =
     if nat_lt b 1792 then Some ((b % 256) ∷ (b / 256) ∷ [])
@@ -90,7 +90,7 @@ place_to k entries zero = k ∷ []
 place_to k entries (suc n) = slice_index entries n ∷ place_to k entries n
 
 -- the place at which a way ends (Lions on bmap)
-abbrev pub end_of : Way → List ℕ
+abbrev pub end_of : BlockPath → List ℕ
 end_of way = place_to way.address way.entries way.depth
 
 -- the fronts of a place, including itself, the longest first (Lions on bmap)
@@ -99,7 +99,7 @@ fronts [] = []
 fronts (j ∷ p) = (j ∷ p) ∷ fronts p
 
 -- the way of logical block b: its last place with all fronts; none if b has no way (Lions on bmap)
-abbrev pub way : Form → ℕ → List (List ℕ)
+abbrev pub way : BlockMap → ℕ → List (List ℕ)
 way form b = option_map_or fronts (last_place form b) []
 
 -- a place, and the places below it in d more levels, in ascending order of their indexes, each followed by those below it (Lions on itrunc)
@@ -108,5 +108,5 @@ places_from n p zero = p ∷ []
 places_from n p (suc d) = p ∷ flat_map (λ j. places_from n (j ∷ p) d) (range_with_len 0 n)
 
 -- all places of a form, each once, in ascending order of their indexes, each followed by those below it (Lions on itrunc)
-unfoldable pub places : Form → List (List ℕ)
+unfoldable pub places : BlockMap → List (List ℕ)
 places form = flat_map (λ k. places_from (pointer_count form) (k ∷ []) (levels form k)) (range_with_len 0 (first_count form))

@@ -7,7 +7,7 @@ use crate::mode::{Kind, Mode};
 
 /// The form of a block map: how the addresses of an i-node lead to a file's blocks.
 #[derive(Clone, Copy, Debug, PartialEq, Eq)]
-pub enum Form {
+pub enum BlockMap {
     /// Sixth edition, without the large flag: eight addresses of data blocks.
     Small,
     /// Sixth edition, with the large flag: seven addresses of indirect blocks, and an eighth of a
@@ -22,7 +22,7 @@ pub enum Form {
 
 /// The way of a logical block, from the i-node down: an address, and an entry of each indirect block on the way.
 #[derive(Clone, Copy, Debug, PartialEq, Eq)]
-pub struct Way {
+pub struct BlockPath {
     /// The index of an address of the i-node, from 0.
     pub address: usize,
     /// The index of an entry of each indirect block, from 0; those from `depth` on are unused.
@@ -31,20 +31,20 @@ pub struct Way {
     pub depth: usize,
 }
 
-impl Form {
+impl BlockMap {
     ghost use Rattle.vol_layout.specs.Places.{form_of, block_limit, first_count, levels, last_place, end_of};
 
     /// Returns the form of an i-node with some mode.
-    pub fn of(edition: Edition, mode: Mode) -> Form
+    pub fn of(edition: Edition, mode: Mode) -> BlockMap
         ensures { result ≡ form_of edition mode.bits }
     {
         match mode.kind(edition) {
             Kind::Regular | Kind::Directory => match edition {
-                Edition::V6 if mode.is_large(edition) => Form::Large,
-                Edition::V6 => Form::Small,
-                Edition::V7 => Form::Deep,
+                Edition::V6 if mode.is_large(edition) => BlockMap::Large,
+                Edition::V6 => BlockMap::Small,
+                Edition::V7 => BlockMap::Deep,
             },
-            Kind::Free | Kind::Special | Kind::Odd => Form::Bare,
+            Kind::Free | Kind::Special | Kind::Odd => BlockMap::Bare,
         }
     }
 
@@ -53,10 +53,10 @@ impl Form {
         ensures { result ≡ block_limit self }
     {
         match self {
-            Form::Small => 8,
-            Form::Large => 32_768,
-            Form::Deep => 2_113_674,
-            Form::Bare => 0,
+            BlockMap::Small => 8,
+            BlockMap::Large => 32_768,
+            BlockMap::Deep => 2_113_674,
+            BlockMap::Bare => 0,
         }
     }
 
@@ -65,9 +65,9 @@ impl Form {
         ensures { result ≡ first_count self }
     {
         match self {
-            Form::Small | Form::Large => 8,
-            Form::Deep => 13,
-            Form::Bare => 0,
+            BlockMap::Small | BlockMap::Large => 8,
+            BlockMap::Deep => 13,
+            BlockMap::Bare => 0,
         }
     }
 
@@ -78,48 +78,52 @@ impl Form {
         ensures { result ≡ levels self k }
     {
         match self {
-            Form::Large if k == 7 => 2,
-            Form::Large => 1,
-            Form::Deep if k > 9 => k as u8 - 9,
+            BlockMap::Large if k == 7 => 2,
+            BlockMap::Large => 1,
+            BlockMap::Deep if k > 9 => k as u8 - 9,
             _ => 0,
         }
     }
 
     /// Returns the way of a logical block, or `None` past the blocks that a file of this form can have.
     #[tactic(auto, unfolding(crate::specs::Places::last_place))]
-    pub fn way(self, block: u32) -> Option<Way>
+    pub fn way(self, block: u32) -> Option<BlockPath>
         ensures end { option_map end_of result ≡ last_place self block }
         ensures depth { IfSome result (λ way. way.depth ≤ 3) }
     {
         match self {
-            Form::Small if block < 8 => Some(Way::new(block, [0; 3], 0)),
-            Form::Large if block < 1792 => Some(Way::new(block / 256, [block % 256, 0, 0], 1)),
-            Form::Large if block < 32_768 => {
-                Some(Way::new(7, [block / 256 - 7, block % 256, 0], 2))
+            BlockMap::Small if block < 8 => Some(BlockPath::new(block, [0; 3], 0)),
+            BlockMap::Large if block < 1792 => Some(BlockPath::new(
+                block / 256,
+                [block % 256, 0, 0],
+                1,
+            )),
+            BlockMap::Large if block < 32_768 => {
+                Some(BlockPath::new(7, [block / 256 - 7, block % 256, 0], 2))
             }
-            Form::Deep if block < 10 => Some(Way::new(block, [0; 3], 0)),
-            Form::Deep if block < 138 => Some(Way::new(10, [block - 10, 0, 0], 1)),
-            Form::Deep if block < 16_522 => {
+            BlockMap::Deep if block < 10 => Some(BlockPath::new(block, [0; 3], 0)),
+            BlockMap::Deep if block < 138 => Some(BlockPath::new(10, [block - 10, 0, 0], 1)),
+            BlockMap::Deep if block < 16_522 => {
                 let c = block - 138;
-                Some(Way::new(11, [c / 128, c % 128, 0], 2))
+                Some(BlockPath::new(11, [c / 128, c % 128, 0], 2))
             }
-            Form::Deep if block < 2_113_674 => {
+            BlockMap::Deep if block < 2_113_674 => {
                 let c = block - 16_522;
-                Some(Way::new(12, [c / 16_384, c / 128 % 128, c % 128], 3))
+                Some(BlockPath::new(12, [c / 16_384, c / 128 % 128, c % 128], 3))
             }
             _ => None,
         }
     }
 }
 
-impl Way {
+impl BlockPath {
     /// Returns the way from an address over the first `depth` of some entries.
-    fn new(address: u32, entries: [u32; 3], depth: usize) -> Way
+    fn new(address: u32, entries: [u32; 3], depth: usize) -> BlockPath
         ensures address { result.address ≡ address }
         ensures entries { result.entries ≡ entries }
         ensures depth { result.depth ≡ depth }
     {
-        Way {
+        BlockPath {
             address: address as usize,
             entries,
             depth,

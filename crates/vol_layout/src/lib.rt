@@ -14,7 +14,7 @@ pub mod numbers;
 pub mod slot;
 pub mod super_block;
 
-pub use block_map::{Form, Way};
+pub use block_map::{BlockMap, BlockPath};
 pub use edition::{Constants, Edition};
 pub use geometry::{Geometry, GeometryFault};
 pub use i_list::{

@@ -17,7 +17,7 @@ use Rattle.vol_listing.specs.Places.{joined, names_under}
 use Rattle.vol_listing.specs.Rows.{row_of}
 use Rattle.escaped_text.specs.Escaping.{escaped, escaped_byte}
 use Rattle.vol_listing.specs.declared.options.Depth.{Depth}
-use Rattle.vol_listing.specs.declared.places.Place.{Place}
+use Rattle.vol_listing.specs.declared.places.ListedNode.{ListedNode}
 use Rattle.vol_listing.specs.declared.rows.Row.{Row}
 use Rattle.vol_listing.specs.declared.rows.Sort.{Sort}
 use Rattle.vol_listing.specs.declared.rows.Sort.TheVariants as sorts
@@ -105,7 +105,7 @@ whole_append (d ∷ ds) es whole rest = both (has_float d) (items_have_float (it
     both false tail all is goes = goes is rest
 
 -- no number of the entries of a directory
-entries_whole : (tree : Tree) (place : Place) → AreWhole (entries_data tree place)
+entries_whole : (tree : Tree) (place : ListedNode) → AreWhole (entries_data tree place)
 unfolding entries_data
 entries_whole tree place = names_whole (names_under tree place.path)
   where
@@ -116,13 +116,13 @@ entries_whole tree place = names_whole (names_under tree place.path)
         (row_whole (joined place.path entry.0) (row_of entry.1 (node_at tree entry.1))) (names_whole names)
 
 -- of several
-places_whole : (tree : Tree) (places : List Place) → AreWhole (flat_map (entries_data tree) places)
+places_whole : (tree : Tree) (places : List ListedNode) → AreWhole (flat_map (entries_data tree) places)
 places_whole tree [] = refl
 places_whole tree (place ∷ places) =
     whole_append (entries_data tree place) (flat_map (entries_data tree) places) (entries_whole tree place) (places_whole tree places)
 
 -- or of all
-pub all_whole : (tree : Tree) (depth : Depth) (place : Place) (places : List Place) → AreWhole (all_data tree depth place places)
+pub all_whole : (tree : Tree) (depth : Depth) (place : ListedNode) (places : List ListedNode) → AreWhole (all_data tree depth place places)
 all_whole tree depth place places =
     elim (opens depth (node_at tree place.inode)) as (λ b. AreWhole (if b then entries_data tree place ++ flat_map (entries_data tree) places
     else row_data place.path (row_of place.inode (node_at tree place.inode)) ∷ [])) [

@@ -6,7 +6,7 @@ use Rattle.vol_listing.specs.declared.options.Depth.{Depth}
 use Rattle.vol_listing.specs.declared.options.Depth.TheVariants as depths
 use Rattle.vol_listing.specs.declared.options.Lines.{Lines}
 use Rattle.vol_listing.specs.declared.options.Lines.TheVariants as lines
-use Rattle.vol_listing.specs.declared.options.Listing.{Listing}
+use Rattle.vol_listing.specs.declared.options.ListOptions.{ListOptions}
 
 -- true if the directories below are listed too (ls -R)
 abbrev pub goes_below : Depth → Bool
@@ -33,5 +33,5 @@ is_bare_at depths.Names form = is_plain form
 is_bare_at depths.Below form = false
 
 -- true if only the names in a directory with their i-numbers are listed (ls without an option)
-abbrev pub is_bare : Listing → Bool
+abbrev pub is_bare : ListOptions → Bool
 is_bare listing = is_bare_at listing.depth listing.lines

@@ -13,7 +13,7 @@ use Rattle.vol_listing.specs.declared.lines.Style.{Style}
 use Rattle.vol_listing.specs.declared.options.Depth.{Depth}
 use Rattle.vol_listing.specs.declared.options.Screen.{Screen}
 use Rattle.vol_listing.specs.declared.options.Screen.TheVariants as screens
-use Rattle.vol_listing.specs.declared.places.Place.{Place}
+use Rattle.vol_listing.specs.declared.places.ListedNode.{ListedNode}
 
 -- a name or a path as it is shown: escaped on a terminal, else byte for byte (this project)
 abbrev pub shown : Screen → List ℕ → List ℕ
@@ -36,15 +36,15 @@ unfoldable pub names_text : Style → Tree → List ℕ → List ℕ
 names_text style tree path = flat_map (line_of style tree) (names_under tree path)
 
 -- a directory under its path (ls -R)
-unfoldable pub section_text : Style → Tree → Place → List ℕ
+unfoldable pub section_text : Style → Tree → ListedNode → List ℕ
 section_text style tree place = shown style.screen place.path ++ (codes ":\n" ++ names_text style tree place.path)
 
 -- the same after an empty line (ls -R)
-abbrev pub other_text : Style → Tree → Place → List ℕ
+abbrev pub other_text : Style → Tree → ListedNode → List ℕ
 other_text style tree place = 10 ∷ section_text style tree place
 
 -- the lines of a directory's names and, if its subdirectories are to be listed too, theirs, each directory under its path and separated by an empty line; anything else has one line (ls)
-abbrev pub lines_text : Style → Tree → Depth → Place → List Place → List ℕ
+abbrev pub lines_text : Style → Tree → Depth → ListedNode → List ListedNode → List ℕ
 lines_text style tree depth place places =
     if opens depth (node_at tree place.inode)
     then (if goes_below depth then section_text style tree place ++ flat_map (other_text style tree) places else names_text style tree place.path)

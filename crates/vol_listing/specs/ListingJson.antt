@@ -12,7 +12,7 @@ use Rattle.vol_listing.specs.Places.{joined, names_under}
 use Rattle.vol_listing.specs.Rows.{row_of}
 use Rattle.escaped_text.specs.Escaping.{escaped}
 use Rattle.vol_listing.specs.declared.options.Depth.{Depth}
-use Rattle.vol_listing.specs.declared.places.Place.{Place}
+use Rattle.vol_listing.specs.declared.places.ListedNode.{ListedNode}
 use Rattle.vol_listing.specs.declared.rows.Row.{Row}
 use Rattle.vol_listing.specs.declared.rows.Sort.{Sort}
 use Rattle.vol_listing.specs.declared.rows.Sort.TheVariants as sorts
@@ -50,18 +50,18 @@ abbrev pub entry_data : Tree → List ℕ → List ℕ × ℕ → Data
 entry_data tree path entry = row_data (joined path entry.0) (row_of entry.1 (node_at tree entry.1))
 
 -- the objects of a directory's entries, in ascending order of their names (ls -a)
-unfoldable pub entries_data : Tree → Place → List Data
+unfoldable pub entries_data : Tree → ListedNode → List Data
 entries_data tree place = map (entry_data tree place.path) (names_under tree place.path)
 
 -- the objects of a listing: those of a directory's entries and of the directories below it that are listed; anything else has one object (ls)
-abbrev pub all_data : Tree → Depth → Place → List Place → List Data
+abbrev pub all_data : Tree → Depth → ListedNode → List ListedNode → List Data
 all_data tree depth place places =
     if opens depth (node_at tree place.inode)
     then entries_data tree place ++ flat_map (entries_data tree) places
     else row_data place.path (row_of place.inode (node_at tree place.inode)) ∷ []
 
 -- a listing as one array of objects, on one line (RFC 8259)
-abbrev pub json_text : Tree → Depth → Place → List Place → List ℕ
+abbrev pub json_text : Tree → Depth → ListedNode → List ListedNode → List ℕ
 json_text tree depth place places = compact_text (array (items_of (all_data tree depth place places))) ++ codes "\n"
 
 -- members with the numbers that every node has (this project)

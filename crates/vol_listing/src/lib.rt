@@ -15,4 +15,4 @@ mod rows;
 
 pub use lines::push_shown;
 pub use listing::list;
-pub use options::{Depth, Lines, Listing, Screen};
+pub use options::{Depth, Lines, ListOptions, Screen};

@@ -11,7 +11,7 @@ ghost use Rattle.vol_listing.specs.Lines.{shown, line_of, names_text, section_te
 use crate::directories::{names, opens};
 use crate::long_lines::{padded, push_columns};
 use crate::options::{Depth, Screen};
-use crate::places::Place;
+use crate::places::ListedNode;
 use crate::rows::{Row, row_at};
 use escaped_text::push_escaped;
 use pdp_words::Image;
@@ -36,8 +36,8 @@ pub(crate) fn lines_text(
     geometry: &Geometry,
     style: Style,
     depth: Depth,
-    place: &Place,
-    places: &[Place],
+    place: &ListedNode,
+    places: &[ListedNode],
 ) -> Result<Vec<u8>, AllocError>
     requires { IsVolume geometry.now image.now }
     ensures { IfOk result (λ text. text.items ≡ lines_text style (tree geometry.now image.now) depth place.now places.now) }
@@ -61,7 +61,7 @@ fn push_others(
     image: &Image,
     geometry: &Geometry,
     style: Style,
-    places: &[Place],
+    places: &[ListedNode],
     text: &mut Vec<u8>,
 ) -> Result<(), AllocError>
     requires { IsVolume geometry.now image.now }
@@ -79,7 +79,7 @@ fn push_other(
     image: &Image,
     geometry: &Geometry,
     style: Style,
-    place: &Place,
+    place: &ListedNode,
     text: &mut Vec<u8>,
 ) -> Result<(), AllocError>
     requires { IsVolume geometry.now image.now }
@@ -96,7 +96,7 @@ fn push_section(
     image: &Image,
     geometry: &Geometry,
     style: Style,
-    place: &Place,
+    place: &ListedNode,
     text: &mut Vec<u8>,
 ) -> Result<(), AllocError>
     requires { IsVolume geometry.now image.now }

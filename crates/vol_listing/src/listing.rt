@@ -1,13 +1,13 @@
-//! Listing a file or directory of a volume.
+//! ListOptions a file or directory of a volume.
 ghost use Rattle.std.specs.Prelude.{◌≡◌, IfOk};
 ghost use Rattle.vol_dir.specs.Tree.{tree};
-ghost use Rattle.vol_listing.specs.Listing.{shown_path, start_of, IsBelow, IsListingOf};
+ghost use Rattle.vol_listing.specs.Listings.{shown_path, start_of, IsBelow, IsListingOf};
 ghost use Rattle.vol_listing.specs.Places.{IsVolume};
 
 use crate::lines::{Style, lines_text};
 use crate::listing_json::json_text;
-use crate::options::{Depth, Lines, Listing, Screen};
-use crate::places::{Place, all_below};
+use crate::options::{Depth, Lines, ListOptions, Screen};
+use crate::places::{ListedNode, all_below};
 use pdp_words::Image;
 use std::alloc::{AllocError, Global};
 use vol_layout::Geometry;
@@ -26,14 +26,14 @@ pub fn list(
     geometry: &Geometry,
     path: &[u8],
     inode: u16,
-    listing: Listing,
+    listing: ListOptions,
     screen: Screen,
 ) -> Result<Vec<u8>, AllocError>
     requires { IsVolume geometry.now image.now }
     ensures { IfOk result (λ text. IsListingOf (tree geometry.now image.now) listing screen (start_of path.now inode) text.items) }
 {
     let path = Bytes::from_vec(shown_path(alloc, path)?);
-    let start = Place { path, inode };
+    let start = ListedNode { path, inode };
     list_place(alloc, image, geometry, &start, listing, screen)
 }
 
@@ -53,8 +53,8 @@ fn list_place(
     alloc: Global,
     image: &Image,
     geometry: &Geometry,
-    start: &Place,
-    listing: Listing,
+    start: &ListedNode,
+    listing: ListOptions,
     screen: Screen,
 ) -> Result<Vec<u8>, AllocError>
     requires { IsVolume geometry.now image.now }
@@ -79,9 +79,9 @@ fn places_below(
     alloc: Global,
     image: &Image,
     geometry: &Geometry,
-    start: &Place,
+    start: &ListedNode,
     depth: Depth,
-) -> Result<Vec<Place>, AllocError>
+) -> Result<Vec<ListedNode>, AllocError>
     requires { IsVolume geometry.now image.now }
     ensures { IfOk result (λ places. IsBelow depth (tree geometry.now image.now) start.now places.items) }
 {

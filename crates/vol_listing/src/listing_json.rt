@@ -11,7 +11,7 @@ ghost use Rattle.escaped_text.specs.Escaping.{escaped};
 use crate::directories::{names, opens};
 use crate::json::{line, put_count};
 use crate::options::Depth;
-use crate::places::{Place, joined};
+use crate::places::{ListedNode, joined};
 use crate::rows::{Row, Sort, row_at};
 use escaped_text::push_escaped;
 use pdp_words::Image;
@@ -27,8 +27,8 @@ pub(crate) fn json_text(
     image: &Image,
     geometry: &Geometry,
     depth: Depth,
-    place: &Place,
-    places: &[Place],
+    place: &ListedNode,
+    places: &[ListedNode],
 ) -> Result<String, AllocError>
     requires { IsVolume geometry.now image.now }
     ensures { IfOk result (λ text. string_bytes text ≡ json_text (tree geometry.now image.now) depth place.now places.now) }
@@ -43,8 +43,8 @@ fn all_values(
     image: &Image,
     geometry: &Geometry,
     depth: Depth,
-    place: &Place,
-    places: &[Place],
+    place: &ListedNode,
+    places: &[ListedNode],
 ) -> Result<Vec<Value>, AllocError>
     requires { IsVolume geometry.now image.now }
     ensures { IfOk result (λ values. map view values.items ≡ all_data (tree geometry.now image.now) depth place.now places.now) }
@@ -65,7 +65,7 @@ fn push_all(
     alloc: Global,
     image: &Image,
     geometry: &Geometry,
-    places: &[Place],
+    places: &[ListedNode],
     values: &mut Vec<Value>,
 ) -> Result<(), AllocError>
     requires { IsVolume geometry.now image.now }
@@ -83,7 +83,7 @@ fn push_entries(
     alloc: Global,
     image: &Image,
     geometry: &Geometry,
-    place: &Place,
+    place: &ListedNode,
     values: &mut Vec<Value>,
 ) -> Result<(), AllocError>
     requires { IsVolume geometry.now image.now }

@@ -4,14 +4,14 @@ ghost use Rattle.vol_listing.specs.Depths.{goes_below, is_bare, is_plain};
 
 /// The options of a listing.
 #[derive(Clone, Copy, Debug, PartialEq, Eq)]
-pub struct Listing {
+pub struct ListOptions {
     /// The form of the lines.
     pub lines: Lines,
     /// Its depth.
     pub depth: Depth,
 }
 
-impl Listing {
+impl ListOptions {
     /// True if only the names in a directory with their i-numbers are listed. Only a directory has such a listing.
     pub fn is_bare(self) -> bool
         ensures { result ≡ is_bare self }

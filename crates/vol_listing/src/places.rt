@@ -14,7 +14,7 @@ use vol_volume::Bytes;
 
 /// A file or a directory, with its path and its i-number.
 #[derive(Drop)]
-pub(crate) struct Place {
+pub(crate) struct ListedNode {
     /// The path.
     pub(crate) path: Bytes,
     /// The i-number.
@@ -28,8 +28,8 @@ pub(crate) fn all_below(
     alloc: Global,
     image: &Image,
     geometry: &Geometry,
-    start: &Place,
-) -> Result<Vec<Place>, AllocError>
+    start: &ListedNode,
+) -> Result<Vec<ListedNode>, AllocError>
     requires { IsVolume geometry.now image.now }
     ensures { IfOk result (λ places. AllBelow (tree geometry.now image.now) start.now places.items) }
 {
@@ -48,8 +48,8 @@ fn push_below(
     alloc: Global,
     image: &Image,
     geometry: &Geometry,
-    place: &Place,
-    pending: &mut Vec<Place>,
+    place: &ListedNode,
+    pending: &mut Vec<ListedNode>,
 ) -> Result<(), AllocError>
     requires { IsVolume geometry.now image.now }
     ensures { OnOk result (reverse pending.new.items ≡ below (tree geometry.now image.now) place.now ++ reverse pending.old.items) }
@@ -67,8 +67,8 @@ fn below(
     alloc: Global,
     image: &Image,
     geometry: &Geometry,
-    place: &Place,
-) -> Result<Vec<Place>, AllocError>
+    place: &ListedNode,
+) -> Result<Vec<ListedNode>, AllocError>
     requires { IsVolume geometry.now image.now }
     ensures { IfOk result (λ places. places.items ≡ below (tree geometry.now image.now) place.now) }
 {
@@ -84,7 +84,7 @@ fn directories_among(
     geometry: &Geometry,
     path: &[u8],
     names: &[(Bytes, u16)],
-) -> Result<Vec<Place>, AllocError>
+) -> Result<Vec<ListedNode>, AllocError>
     requires { Fits geometry.now image.now }
     ensures { IfOk result (λ places. places.items ≡ flat_map (directory_below (tree geometry.now image.now) path.now) names.now) }
 {
@@ -104,7 +104,7 @@ fn push_directory(
     path: &[u8],
     name: &[u8],
     inode: u16,
-    places: &mut Vec<Place>,
+    places: &mut Vec<ListedNode>,
 ) -> Result<(), AllocError>
     requires { Fits geometry.now image.now }
     ensures { OnOk result (places.new.items ≡ places.old.items ++ directory_below (tree geometry.now image.now) path.now (name.now, inode)) }
@@ -116,10 +116,10 @@ fn push_directory(
 }
 
 /// Returns the place of an entry of the directory at a path.
-fn place_of(alloc: Global, path: &[u8], name: &[u8], inode: u16) -> Result<Place, AllocError>
+fn place_of(alloc: Global, path: &[u8], name: &[u8], inode: u16) -> Result<ListedNode, AllocError>
     ensures { IfOk result (λ place. place ≡ place_of path.now (name.now, inode)) }
 {
-    Ok(Place {
+    Ok(ListedNode {
         path: Bytes::from_vec(joined(alloc, path, name)?),
         inode,
     })

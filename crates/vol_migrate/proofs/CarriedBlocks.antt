@@ -15,7 +15,7 @@ use Rattle.vol_layout.specs.declared.edition.Edition.TheVariants.{V7}
 use Rattle.vol_layout.specs.declared.geometry.Geometry.{Geometry}
 use Rattle.vol_layout.specs.declared.mode.Kind.{Kind}
 use Rattle.vol_layout.specs.declared.mode.Kind.TheVariants as kinds
-use Rattle.vol_layout.specs.declared.block_map.Form.TheVariants.{Small, Deep}
+use Rattle.vol_layout.specs.declared.block_map.BlockMap.TheVariants.{Small, Deep}
 use Rattle.vol_layout.proofs.InodeLaws.{inode_size}
 use Rattle.vol_file.specs.Changes.{whole_blocks}
 use Rattle.vol_file.specs.Need.{need_of}

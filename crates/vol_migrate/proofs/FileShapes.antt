@@ -12,7 +12,7 @@ use Rattle.vol_layout.specs.declared.edition.Edition.TheVariants.{V6}
 use Rattle.vol_layout.specs.declared.geometry.Geometry.{Geometry}
 use Rattle.vol_layout.specs.declared.mode.Kind.{Kind}
 use Rattle.vol_layout.specs.declared.mode.Kind.TheVariants as kinds
-use Rattle.vol_layout.specs.declared.block_map.Form.{Form}
+use Rattle.vol_layout.specs.declared.block_map.BlockMap.{BlockMap}
 use Rattle.vol_layout.proofs.PlaceLaws.{last_leaf}
 use Rattle.vol_file.specs.Changes.{whole_blocks}
 use Rattle.vol_file.specs.Holes.{IsNextStored}
@@ -62,7 +62,7 @@ bare_need geometry image i first last bare =
     ∙ none_needed (whole_blocks (size_of geometry image i))
 
 -- a last place of a file, if there is one, names something if a number is stored for its block
-names_last : (geometry : Geometry) (image : List ℕ) (i : ℕ) (form : Form) (b : ℕ) → form_at geometry image i ≡ form
+names_last : (geometry : Geometry) (image : List ℕ) (i : ℕ) (form : BlockMap) (b : ℕ) → form_at geometry image i ≡ form
     → option_map_or (is_named_place geometry image i) (last_place form b) false ≡ not (eqb (stored geometry image i form b) 0)
 names_last geometry image i form b is =
     elim (last_place form b) as (λ o. last_place form b ≡ o

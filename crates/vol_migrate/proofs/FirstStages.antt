@@ -13,8 +13,8 @@ use Rattle.vol_layout.specs.declared.geometry.Geometry.{Geometry}
 use Rattle.vol_layout.specs.declared.i_node.Inode.{Inode}
 use Rattle.vol_layout.specs.declared.mode.Kind.{Kind}
 use Rattle.vol_layout.specs.declared.mode.Kind.TheVariants as kinds
-use Rattle.vol_layout.specs.declared.block_map.Form.{Form}
-use Rattle.vol_layout.specs.declared.block_map.Form.TheVariants.{Small, Deep}
+use Rattle.vol_layout.specs.declared.block_map.BlockMap.{BlockMap}
+use Rattle.vol_layout.specs.declared.block_map.BlockMap.TheVariants.{Small, Deep}
 use Rattle.vol_layout.proofs.FrameLaws.{addresses_of}
 use Rattle.vol_layout.proofs.InodeLaws.{KeepsInode, inode_address, inode_of_kept, place_from, place_room}
 use Rattle.vol_layout.proofs.KindLaws.{kind_zero}
@@ -75,7 +75,7 @@ mode_zero from to old image now k has first last vacant =
     zero_mode to image k (λ r low. has.rest k r first last (inr (inl vacant)) low)
 
 -- a place names nothing if all addresses are 0
-named_zero : (geometry : Geometry) (image : List ℕ) (k : ℕ) (form : Form) (p : List ℕ) → Fits geometry image
+named_zero : (geometry : Geometry) (image : List ℕ) (k : ℕ) (form : BlockMap) (p : List ℕ) → Fits geometry image
     → (inode_of geometry.edition image k).addresses ≡ replicate 13 0 → first_count form ≤ 13 → IsPlace form p → named geometry image k p ≡ 0
 named_zero geometry image k form [] fits zeros few place = refl
 named_zero geometry image k form (a ∷ []) fits zeros few place =

@@ -9,7 +9,7 @@ use Rattle.vol_layout.specs.declared.geometry.Geometry.{Geometry}
 use Rattle.vol_layout.specs.declared.i_node.Inode.{Inode}
 use Rattle.vol_layout.specs.declared.mode.Kind.{Kind}
 use Rattle.vol_layout.specs.declared.mode.Kind.TheVariants as kinds
-use Rattle.vol_layout.specs.declared.block_map.Form.TheVariants.{Deep}
+use Rattle.vol_layout.specs.declared.block_map.BlockMap.TheVariants.{Deep}
 use Rattle.vol_layout.proofs.InodeLaws.{inode_size}
 use Rattle.vol_layout.proofs.RaisedModes.{raised_permissions}
 use Rattle.vol_file.specs.Changes.{whole_blocks}

@@ -14,7 +14,7 @@ use Rattle.vol_layout.specs.declared.edition.Edition.TheVariants.{V6}
 use Rattle.vol_layout.specs.declared.geometry.Geometry.{Geometry}
 use Rattle.vol_layout.specs.declared.mode.Kind.{Kind}
 use Rattle.vol_layout.specs.declared.mode.Kind.TheVariants as kinds
-use Rattle.vol_layout.specs.declared.block_map.Form.TheVariants.{Deep}
+use Rattle.vol_layout.specs.declared.block_map.BlockMap.TheVariants.{Deep}
 use Rattle.vol_layout.proofs.BodyLaws.{get_or-body, body_byte_is, length-body, zone_byte_out}
 use Rattle.vol_layout.proofs.NameLaws.{zero_out}
 use Rattle.vol_layout.proofs.NewInodes.{zeros_at}

@@ -15,7 +15,7 @@ use Rattle.vol_layout.specs.declared.edition.Edition.TheVariants.{V6, V7}
 use Rattle.vol_layout.specs.declared.geometry.Geometry.{Geometry}
 use Rattle.vol_layout.specs.declared.i_node.Inode.{Inode}
 use Rattle.vol_layout.specs.declared.mode.Kind.TheVariants as kinds
-use Rattle.vol_layout.specs.declared.block_map.Form.TheVariants.{Deep}
+use Rattle.vol_layout.specs.declared.block_map.BlockMap.TheVariants.{Deep}
 use Rattle.vol_layout.proofs.BodyLaws.{length-body}
 use Rattle.vol_layout.proofs.CopyLaws.{long_copied}
 use Rattle.vol_layout.proofs.InodeLaws.{KeepsInode, inode_mode, inode_size, inode_of_kept}

@@ -5,7 +5,7 @@ use Rattle.std.specs.Option.{option_map, option_map_or}
 use Rattle.vol_layout.specs.Places.{last_place}
 use Rattle.vol_layout.specs.Slot.{name_of, padded_name}
 use Rattle.vol_layout.specs.declared.edition.Edition.TheVariants.{V6, V7}
-use Rattle.vol_layout.specs.declared.block_map.Form.TheVariants.{Deep}
+use Rattle.vol_layout.specs.declared.block_map.BlockMap.TheVariants.{Deep}
 use Rattle.vol_layout.specs.declared.slot.Slot.{Slot}
 use Rattle.vol_file.specs.Changes.{whole_blocks}
 use Rattle.vol_file.specs.Shape.{is_on_ways}

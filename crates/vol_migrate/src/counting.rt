@@ -15,7 +15,7 @@ ghost use Rattle.vol_migrate.specs.Stages.{ComesAfter, file_need, is_new};
 use pdp_words::{BLOCK, Image};
 use vol_file::BlockNumbers;
 use vol_layout::i_list::{kind, size};
-use vol_layout::{Edition, Form, Geometry, Kind};
+use vol_layout::{BlockMap, Edition, Geometry, Kind};
 
 /// Returns the number of logical blocks of a file of this size.
 pub(crate) fn whole_blocks(size: u32) -> u32
@@ -93,7 +93,7 @@ fn places_of_file(old: &Image, from: &Geometry, i: u16) -> u32
 fn new_places(b: u32, passed: u32) -> u32
     requires { b < 2113674 }
     ensures exact { (shape : Shape) → ComesAfter shape b passed
-        → result ≡ need_of Form.Deep (is_on_ways Form.Deep (stored_blocks shape b)) (b ∷ []) }
+        → result ≡ need_of BlockMap.Deep (is_on_ways BlockMap.Deep (stored_blocks shape b)) (b ∷ []) }
     ensures bound { result ≤ 4 }
 {
     match b {

@@ -5,7 +5,7 @@ use Rattle.fuse_words.specs.Replies.{status_message, init_message, entry_message
 use Rattle.fuse_words.specs.declared.operation.Operation.{Operation}
 use Rattle.fuse_words.specs.declared.operation.Operation.TheVariants as operations
 use Rattle.fuse_words.specs.declared.reply.Attributes.{Attributes}
-use Rattle.fuse_words.specs.declared.reply.Entry.{Entry}
+use Rattle.fuse_words.specs.declared.reply.EntryReply.{EntryReply}
 use Rattle.fuse_words.specs.declared.reply.Settings.{Settings}
 use Rattle.fuse_words.specs.declared.request.Header.{Header}
 use Rattle.vol_layout.specs.declared.mode.Kind.{Kind}
@@ -60,7 +60,7 @@ abbrev pub shown_at : Sight → ℕ → Result Attributes MountedRefusal
 shown_at sight i = and_then (of_nodes (attributes_in (tree sight.geometry sight.image) i)) (λ attributes. Ok (shown sight.owner attributes))
 
 -- the entry of node i, which the kernel may keep for an hour (fuse_entry_out)
-abbrev pub entry_at : Sight → ℕ → Attributes → Entry
+abbrev pub entry_at : Sight → ℕ → Attributes → EntryReply
 entry_at sight i attributes = record {
   node = node_number sight.geometry.edition sight.nodes i;
   generation = 0;

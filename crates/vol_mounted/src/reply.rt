@@ -8,7 +8,7 @@ use crate::owner::Owner;
 use crate::refusal::MountedRefusal;
 use crate::scene::Scene;
 use fuse_words::{
-    ASYNC_READ, Attributes, BIG_WRITES, CACHE_DIRECTORY, Entry, Header, KEEP_CACHE, MOST_DATA,
+    ASYNC_READ, Attributes, BIG_WRITES, CACHE_DIRECTORY, EntryReply, Header, KEEP_CACHE, MOST_DATA,
     Operation, SYMLINK, Settings,
 };
 use vol_layout::Kind;
@@ -48,7 +48,7 @@ impl Scene<'_> {
     {
         let i = look_up(self.volume.image(), self.geometry, dir, name)?;
         let attributes = self.attributes(i)?;
-        let entry = Entry {
+        let entry = EntryReply {
             node: self.nodes.node_number(self.geometry.edition, i),
             generation: 0,
             name_seconds: SECONDS,

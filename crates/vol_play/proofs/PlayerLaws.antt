@@ -10,7 +10,7 @@ use Rattle.vol_scripts.specs.Ending.{receipts_in}
 use Rattle.vol_scripts.specs.declared.played.Played.{Played}
 use Rattle.vol_scripts.specs.declared.steps.Script.{Script}
 use Rattle.vol_scripts.specs.declared.steps.Script.TheVariants as kinds
-use Rattle.vol_scripts.specs.declared.steps.Step.{Step}
+use Rattle.vol_scripts.specs.declared.steps.ScriptStep.{ScriptStep}
 use Rattle.vol_shared.specs.Opened.{Opened}
 use Rattle.vol_shared.specs.Sessions.{Known}
 use Rattle.vol_shared.specs.Stored.{next_number}
@@ -73,7 +73,7 @@ module _ (shared : Opened) where
   can_play (kinds.Session wanted) room (Caller session steps played) empty fits dealt = (
     ap (λ (s : Known). s.of) dealt.0,
     ap (λ (p : Vec Played Global). p.items) dealt.2 ∙ empty,
-    subst (λ (p : Vec Played Global). length steps ≤ vec_capacity p) (sym dealt.2) (subst (λ (ls : List Step). length ls ≤ vec_capacity room) (sym dealt.1) fits),
+    subst (λ (p : Vec Played Global). length steps ≤ vec_capacity p) (sym dealt.2) (subst (λ (ls : List ScriptStep). length ls ≤ vec_capacity room) (sym dealt.1) fits),
   )
   can_play (kinds.Session wanted) room (Viewer view queries played) empty fits dealt = absurd dealt
   can_play (kinds.View wanted) room (Caller session steps played) empty fits dealt = absurd dealt
@@ -106,7 +106,7 @@ module _ (shared : Opened) where
 
   ended_one : (script : Script) (room : Vec Played Global) (old new : Player) → IsDealtTo shared script room old → HasPlayed old new → EndedAs script new
   ended_one (kinds.Session wanted) room (Caller session steps was) (Caller now none played) dealt has = (
-    subst (λ (k : Known). CameInTurn CameOf wanted k.next played.items) dealt.0 (subst (λ (ls : List Step). CameInTurn CameOf ls session.next played.items) dealt.1 has.0),
+    subst (λ (k : Known). CameInTurn CameOf wanted k.next played.items) dealt.0 (subst (λ (ls : List ScriptStep). CameInTurn CameOf ls session.next played.items) dealt.1 has.0),
     has.1 ∙ ap (λ (k : Known). known_after_all k played.items) dealt.0,
   )
   ended_one (kinds.Session wanted) room (Caller session steps was) (Viewer view none played) dealt has = absurd has

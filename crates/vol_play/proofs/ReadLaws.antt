@@ -8,7 +8,7 @@ use Rattle.vol_scripts.specs.Grammar.{query_in, step_in}
 use Rattle.vol_scripts.specs.Reading.{asked_in, before_scripts, is_for_view, script_after, scripts_from, views_after}
 use Rattle.vol_scripts.specs.declared.steps.Script.{Script}
 use Rattle.vol_scripts.specs.declared.steps.Script.TheVariants as kinds
-use Rattle.vol_scripts.specs.declared.steps.Step.{Step}
+use Rattle.vol_scripts.specs.declared.steps.ScriptStep.{ScriptStep}
 use Rattle.vol_volume.specs.declared.queries.Query.{Query}
 use Rattle.vol_play.specs.Players.{is_view}
 use Rattle.vol_play.proofs.ListLaws.{counted_first}
@@ -30,7 +30,7 @@ read_many number views (script ∷ scripts) read is =
     omega arith
 
 -- lines that were read make the script that they were read for
-made_session : (asked : Result (List Step) ℕ) (script : Script) → result_map_both kinds.Session (λ line. line) asked ≡ Ok script → is_view script ≡ false
+made_session : (asked : Result (List ScriptStep) ℕ) (script : Script) → result_map_both kinds.Session (λ line. line) asked ≡ Ok script → is_view script ≡ false
 made_session (Ok steps) script is = let e = is in let same : script ≡ kinds.Session steps = cc in ap is_view same
 made_session (Err line) script is = absurd (let e = is in cc)
 

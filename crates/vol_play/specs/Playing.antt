@@ -23,11 +23,11 @@ use Rattle.vol_scripts.specs.declared.played.Played.{Played}
 use Rattle.vol_scripts.specs.declared.reading.ScriptsFault.{ScriptsFault}
 use Rattle.vol_scripts.specs.declared.steps.Script.{Script}
 use Rattle.vol_scripts.specs.declared.steps.Script.TheVariants as kinds
-use Rattle.vol_scripts.specs.declared.steps.Step.{Step}
-use Rattle.vol_scripts.specs.declared.steps.Step.TheVariants as steps
+use Rattle.vol_scripts.specs.declared.steps.ScriptStep.{ScriptStep}
+use Rattle.vol_scripts.specs.declared.steps.ScriptStep.TheVariants as steps
 
 -- true if a step cuts the journal (this project)
-abbrev pub is_cut : Step → Bool
+abbrev pub is_cut : ScriptStep → Bool
 is_cut (steps.Change call) = false
 is_cut (steps.Question query) = false
 is_cut steps.Cut = true

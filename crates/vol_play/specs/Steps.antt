@@ -7,13 +7,13 @@ use Rattle.vol_scripts.specs.declared.played.Played.{Played}
 use Rattle.vol_scripts.specs.declared.played.Played.TheVariants as played
 use Rattle.vol_scripts.specs.declared.steps.Script.{Script}
 use Rattle.vol_scripts.specs.declared.steps.Script.TheVariants as kinds
-use Rattle.vol_scripts.specs.declared.steps.Step.{Step}
-use Rattle.vol_scripts.specs.declared.steps.Step.TheVariants as steps
+use Rattle.vol_scripts.specs.declared.steps.ScriptStep.{ScriptStep}
+use Rattle.vol_scripts.specs.declared.steps.ScriptStep.TheVariants as steps
 use Rattle.vol_volume.specs.Answer.{takes_memory}
 use Rattle.vol_volume.specs.declared.queries.Query.{Query}
 
 -- a possible result of a step, given the least number that its receipt or its cut may have: a call or query has a receipt of itself, unless memory runs out, for a query only if its reply takes memory; a cut always succeeds (this project)
-abbrev pub CameOf : Step → ℕ → Played → Type 0
+abbrev pub CameOf : ScriptStep → ℕ → Played → Type 0
 CameOf (steps.Change call) next (played.Told receipt) = (receipt.asked ≡ asked.Change call) × (next ≤ receipt.at)
 CameOf (steps.Question query) next (played.Told receipt) = (receipt.asked ≡ asked.Question query) × (next ≤ receipt.at)
 CameOf steps.Cut next (played.Told receipt) = ⊥

@@ -14,7 +14,7 @@ use std::sync::Wait;
 use std::thread::Threads;
 use vol_check::Gate;
 use vol_layout::Edition;
-use vol_scripts::{Played, Script, Step, finish, read_scripts, refuse};
+use vol_scripts::{Played, Script, ScriptStep, finish, read_scripts, refuse};
 use vol_shared::{MOST_SESSIONS, MOST_VIEWS};
 use vol_volume::Volume;
 
@@ -115,18 +115,18 @@ fn script_cuts(script: &Script) -> bool
 }
 
 /// True if one of some steps cuts the journal.
-fn steps_cut(steps: &[Step]) -> bool
+fn steps_cut(steps: &[ScriptStep]) -> bool
     ensures { result ≡ list_any is_cut steps.now }
 {
     steps.iter().any(|step| is_cut(step))
 }
 
 /// True if a step cuts the journal.
-fn is_cut(step: &Step) -> bool
+fn is_cut(step: &ScriptStep) -> bool
     ensures { result ≡ is_cut step.now }
 {
     match step {
-        Step::Cut => true,
-        Step::Change(_) | Step::Question(_) => false,
+        ScriptStep::Cut => true,
+        ScriptStep::Change(_) | ScriptStep::Question(_) => false,
     }
 }

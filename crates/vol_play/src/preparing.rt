@@ -3,7 +3,7 @@ ghost use Rattle.std.specs.Prelude.{◌≡◌, ◌∷◌, ◌++◌, [], map, All
 ghost use Rattle.vol_play.specs.Players.{IsPrepared, lines_of};
 
 use std::alloc::{AllocError, Global};
-use vol_scripts::{Played, Script, Sequence, Step};
+use vol_scripts::{Played, Script, ScriptStep, Sequence};
 use vol_shared::{Session, View};
 use vol_volume::Query;
 
@@ -20,7 +20,7 @@ pub(crate) enum Player {
     /// A session, which makes calls and queries.
     Caller {
         session: Session,
-        steps: Sequence<Step>,
+        steps: Sequence<ScriptStep>,
         played: Vec<Played>,
     },
     /// A view, which makes queries.

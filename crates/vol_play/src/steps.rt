@@ -4,7 +4,7 @@ ghost use Rattle.vol_play.specs.Steps.{CameOf, CameInTurn, known_after, known_af
 
 use std::alloc::Global;
 use std::sync::Wait;
-use vol_scripts::{Played, Sequence, Step};
+use vol_scripts::{Played, ScriptStep, Sequence};
 use vol_shared::{Session, Shared};
 
 /// Runs the steps of a script, one after another, and appends the result of each to the list.
@@ -13,7 +13,7 @@ pub(crate) fn play_steps<R: Wait>(
     alloc: Global,
     shared: &Shared,
     session: &mut Session,
-    steps: Sequence<Step>,
+    steps: Sequence<ScriptStep>,
     played: &mut Vec<Played>,
 )
     requires own { session.old.of ≡ shared.now.of }
@@ -34,21 +34,21 @@ fn play_step<R: Wait>(
     alloc: Global,
     shared: &Shared,
     session: &mut Session,
-    step: Step,
+    step: ScriptStep,
 ) -> Played
     requires own { session.old.of ≡ shared.now.of }
     ensures came { CameOf step session.old.next result }
     ensures known { session.new ≡ known_after session.old result }
 {
     match step {
-        Step::Change(call) => match shared.call(rt, alloc, session, call) {
+        ScriptStep::Change(call) => match shared.call(rt, alloc, session, call) {
             Ok(receipt) => Played::Told(receipt),
             Err(_) => Played::NoMemory,
         },
-        Step::Question(query) => match shared.ask(rt, alloc, session, query) {
+        ScriptStep::Question(query) => match shared.ask(rt, alloc, session, query) {
             Ok(receipt) => Played::Told(receipt),
             Err(_) => Played::NoMemory,
         },
-        Step::Cut => Played::Cut(shared.cut(rt, session)),
+        ScriptStep::Cut => Played::Cut(shared.cut(rt, session)),
     }
 }

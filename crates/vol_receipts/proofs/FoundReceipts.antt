@@ -12,7 +12,7 @@ use Rattle.vol_volume.specs.Volume.{Mounted}
 use Rattle.vol_volume.specs.declared.calls.Record.{Record}
 use Rattle.vol_receipts.specs.Findings.{IsFound, AreFound, IsNumberOf, IsInOrder}
 use Rattle.vol_receipts.specs.Replay.{HasAtMost}
-use Rattle.vol_receipts.specs.declared.finding.Finding.{Finding}
+use Rattle.vol_receipts.specs.declared.finding.ReceiptStatus.{ReceiptStatus}
 use Rattle.vol_receipts.specs.declared.finding.Numbered.{Numbered}
 use Rattle.vol_receipts.specs.declared.receipts.Origin.{Origin}
 use Rattle.vol_receipts.specs.declared.receipts.Receipt.{Receipt}
@@ -30,20 +30,20 @@ get_set (x ∷ xs) (suc k) (suc i) y z is =
     [ inl at ↦ inl (ap suc at.0, at.1) | inr there ↦ inr ((λ at. there.0 (omega (arith, at))), there.1) ]
 
 -- the element at an index is the right finding on the receipt with that index
-abbrev pub IsFoundAt : Origin → List Record → List Receipt → List Finding → ℕ → Type 0
+abbrev pub IsFoundAt : Origin → List Record → List Receipt → List ReceiptStatus → ℕ → Type 0
 IsFoundAt origin journal receipts findings i =
-    (receipt : Receipt) (finding : Finding)
+    (receipt : Receipt) (finding : ReceiptStatus)
     → slice_get receipts i ≡ Some receipt
     → slice_get findings i ≡ Some finding
     → IsFound origin journal receipt finding
 
 -- the findings for the first numbers are right
-pub record AreFoundUpTo (origin : Origin) (journal : List Record) (receipts : List Receipt) (order : List Numbered) (findings : List Finding) (k : ℕ) : Type 0 where
+pub record AreFoundUpTo (origin : Origin) (journal : List Record) (receipts : List Receipt) (order : List Numbered) (findings : List ReceiptStatus) (k : ℕ) : Type 0 where
   pub len : length findings ≡ length receipts
   pub each : (j : ℕ) (d : Numbered) → j < k → IsFoundAt origin journal receipts findings (get_or order j d).index
 
 -- storing a right finding keeps the others right, and is right itself
-put_found : (origin : Origin) (journal : List Record) (receipts : List Receipt) (findings : List Finding) (k i : ℕ) (receipt : Receipt) (finding : Finding)
+put_found : (origin : Origin) (journal : List Record) (receipts : List Receipt) (findings : List ReceiptStatus) (k i : ℕ) (receipt : Receipt) (finding : ReceiptStatus)
     → slice_get receipts k ≡ Some receipt
     → IsFound origin journal receipt finding
     → ((i ≡ k) ⊎ IsFoundAt origin journal receipts findings i)
@@ -58,8 +58,8 @@ put_found origin journal receipts findings k i receipt finding here found before
     ]
 
 -- one more finding is right
-pub found_more : (origin : Origin) (journal : List Record) (receipts : List Receipt) (order : List Numbered) (findings : List Finding) (k : ℕ)
-    (receipt : Receipt) (finding : Finding) (d : Numbered)
+pub found_more : (origin : Origin) (journal : List Record) (receipts : List Receipt) (order : List Numbered) (findings : List ReceiptStatus) (k : ℕ)
+    (receipt : Receipt) (finding : ReceiptStatus) (d : Numbered)
     → AreFoundUpTo origin journal receipts order findings k
     → slice_get receipts (get_or order k d).index ≡ Some receipt
     → k < length order
@@ -76,7 +76,7 @@ found_more origin journal receipts order findings k receipt finding d before her
 }
 
 -- when all numbers are done, all findings are right
-pub found_all : (origin : Origin) (journal : List Record) (receipts : List Receipt) (order : List Numbered) (findings : List Finding) (k : ℕ)
+pub found_all : (origin : Origin) (journal : List Record) (receipts : List Receipt) (order : List Numbered) (findings : List ReceiptStatus) (k : ℕ)
     → IsInOrder receipts order
     → k ≡ length order
     → AreFoundUpTo origin journal receipts order findings k

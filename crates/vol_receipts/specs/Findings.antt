@@ -7,20 +7,20 @@ use Rattle.vol_receipts.specs.Agrees.{Agrees}
 use Rattle.vol_receipts.specs.declared.receipts.Origin.{Origin}
 use Rattle.vol_receipts.specs.declared.receipts.Receipt.{Receipt}
 use Rattle.vol_receipts.specs.declared.finding.Confirmed.{Confirmed}
-use Rattle.vol_receipts.specs.declared.finding.Finding.{Finding}
-use Rattle.vol_receipts.specs.declared.finding.Finding.TheVariants as kinds
+use Rattle.vol_receipts.specs.declared.finding.ReceiptStatus.{ReceiptStatus}
+use Rattle.vol_receipts.specs.declared.finding.ReceiptStatus.TheVariants as kinds
 use Rattle.vol_receipts.specs.declared.finding.Numbered.{Numbered}
 
 -- the finding on a receipt is right: it agrees with the journal, it doesn't, or its record was cut (this project)
-abbrev pub IsFound : Origin → List Record → Receipt → Finding → Type 0
+abbrev pub IsFound : Origin → List Record → Receipt → ReceiptStatus → Type 0
 IsFound origin journal receipt kinds.Agrees = Agrees origin journal receipt
 IsFound origin journal receipt kinds.Differs = (origin.first ≤ receipt.at) × (Agrees origin journal receipt → ⊥)
 IsFound origin journal receipt kinds.Gone = receipt.at < origin.first
 
 -- each receipt has its right finding, in their order (this project)
-pub record AreFound (origin : Origin) (journal : List Record) (receipts : List Receipt) (findings : List Finding) : Type 0 where
+pub record AreFound (origin : Origin) (journal : List Record) (receipts : List Receipt) (findings : List ReceiptStatus) : Type 0 where
   pub len : length findings ≡ length receipts
-  pub each : (k : ℕ) (receipt : Receipt) (finding : Finding)
+  pub each : (k : ℕ) (receipt : Receipt) (finding : ReceiptStatus)
       → slice_get receipts k ≡ Some receipt
       → slice_get findings k ≡ Some finding
       → IsFound origin journal receipt finding
@@ -37,20 +37,20 @@ pub record IsInOrder (receipts : List Receipt) (order : List Numbered) : Type 0 
   pub whole : (k : ℕ) (receipt : Receipt) → slice_get receipts k ≡ Some receipt → Contains order (record { at = receipt.at; index = k })
 
 -- true if a receipt was found to agree (this project)
-abbrev pub is_agreeing : Finding → Bool
+abbrev pub is_agreeing : ReceiptStatus → Bool
 is_agreeing kinds.Agrees = true
 is_agreeing kinds.Differs = false
 is_agreeing kinds.Gone = false
 
 -- true if a receipt's record was found to be cut (this project)
-abbrev pub is_gone : Finding → Bool
+abbrev pub is_gone : ReceiptStatus → Bool
 is_gone kinds.Agrees = false
 is_gone kinds.Differs = false
 is_gone kinds.Gone = true
 
 -- the numbers of receipts that agree and of those whose records were cut (this project)
 pub record AreCounted (origin : Origin) (journal : List Record) (receipts : List Receipt) (confirmed : Confirmed) : Type 0 where
-  pub findings : List Finding
+  pub findings : List ReceiptStatus
   pub found : AreFound origin journal receipts findings
   pub agree : confirmed.agree ≡ count_by is_agreeing findings
   pub gone : confirmed.gone ≡ count_by is_gone findings

@@ -2,7 +2,7 @@
 ghost use Rattle.std.specs.Prelude.{◌≡◌, ◌<◌, ◌↔◌, [], IsTrue, IfOk, Err};
 ghost use Rattle.vol_receipts.specs.Agrees.{origin_of, Agrees, record_of};
 
-use crate::finding::{Finding, find};
+use crate::finding::{ReceiptStatus, find};
 use crate::receipts::Receipt;
 use std::alloc::Global;
 use thiserror::Error;
@@ -31,9 +31,9 @@ pub fn confirm(volume: &Volume, alloc: Global, receipt: &Receipt) -> Result<bool
     ensures memory { result ≡ Err ConfirmFault.NoMemory → record_of receipt.now.asked receipt.now.outcome ≡ [] }
 {
     match find(volume, &mut None, alloc, receipt) {
-        Ok(Finding::Agrees) => Ok(true),
-        Ok(Finding::Differs) => Ok(false),
-        Ok(Finding::Gone) => Err(ConfirmFault::Cut),
+        Ok(ReceiptStatus::Agrees) => Ok(true),
+        Ok(ReceiptStatus::Differs) => Ok(false),
+        Ok(ReceiptStatus::Gone) => Err(ConfirmFault::Cut),
         Err(_) => Err(ConfirmFault::NoMemory),
     }
 }

@@ -11,7 +11,7 @@ use vol_volume::Volume;
 
 /// The finding on one receipt.
 #[derive(Clone, Copy, Debug, PartialEq, Eq)]
-pub enum Finding {
+pub enum ReceiptStatus {
     /// It agrees with the journal.
     Agrees,
     /// It doesn't agree.
@@ -40,8 +40,14 @@ pub fn confirm_all(
 {
     let findings = find_all(volume, alloc, receipts)?;
     Ok(Confirmed {
-        agree: findings.iter().filter(|f| **f == Finding::Agrees).count() as u64,
-        gone: findings.iter().filter(|f| **f == Finding::Gone).count() as u64,
+        agree: findings
+            .iter()
+            .filter(|f| **f == ReceiptStatus::Agrees)
+            .count() as u64,
+        gone: findings
+            .iter()
+            .filter(|f| **f == ReceiptStatus::Gone)
+            .count() as u64,
     })
 }
 
@@ -55,7 +61,7 @@ pub fn find_all(
     volume: &Volume,
     alloc: Global,
     receipts: &[Receipt],
-) -> Result<Vec<Finding>, AllocError>
+) -> Result<Vec<ReceiptStatus>, AllocError>
     ensures { IfOk result (λ findings. AreFound (origin_of volume.now) volume.now.journal receipts.now findings.items) }
 {
     let order = by_number(alloc, receipts)?;
@@ -68,11 +74,11 @@ fn find_in_order(
     alloc: Global,
     receipts: &[Receipt],
     order: &[Numbered],
-) -> Result<Vec<Finding>, AllocError>
+) -> Result<Vec<ReceiptStatus>, AllocError>
     requires { IsInOrder receipts.now order.now }
     ensures { IfOk result (λ findings. AreFound (origin_of volume.now) volume.now.journal receipts.now findings.items) }
 {
-    let mut findings = vec![in alloc; Finding::Gone; receipts.len()]?;
+    let mut findings = vec![in alloc; ReceiptStatus::Gone; receipts.len()]?;
     let mut again = None;
     for numbered in order {
         let receipt = &receipts[numbered.index];
@@ -110,7 +116,7 @@ pub(crate) fn find(
     again: &mut Option<Volume>,
     alloc: Global,
     receipt: &Receipt,
-) -> Result<Finding, AllocError>
+) -> Result<ReceiptStatus, AllocError>
     requires { HasAtMost volume.now again.old (receipt.now.at - volume.now.first) }
     ensures behind { HasAtMost volume.now again.new (receipt.now.at - volume.now.first) }
     ensures found { IfOk result (λ finding. IsFound (origin_of volume.now) volume.now.journal receipt.now finding) }
@@ -118,15 +124,15 @@ pub(crate) fn find(
     ensures memory { OnErr result (record_of receipt.now.asked receipt.now.outcome ≡ []) }
 {
     let Some(count) = receipt.at.checked_sub(volume.first()) else {
-        return Ok(Finding::Gone);
+        return Ok(ReceiptStatus::Gone);
     };
     if count > volume.journal().len() as u64 {
-        return Ok(Finding::Differs);
+        return Ok(ReceiptStatus::Differs);
     }
     let agrees = agrees_after(volume, again, alloc, count as usize, receipt)?;
     Ok(if agrees {
-        Finding::Agrees
+        ReceiptStatus::Agrees
     } else {
-        Finding::Differs
+        ReceiptStatus::Differs
     })
 }

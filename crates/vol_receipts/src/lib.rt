@@ -10,5 +10,5 @@ mod replaying;
 
 pub use changing::{change, reply};
 pub use confirming::{ConfirmFault, confirm};
-pub use finding::{Confirmed, Finding, confirm_all, find_all};
+pub use finding::{Confirmed, ReceiptStatus, confirm_all, find_all};
 pub use receipts::{Asked, Origin, Outcome, Receipt};

@@ -4,7 +4,7 @@ ghost use Rattle.vol_judge.specs.Directories.{root_of};
 ghost use Rattle.vol_reports.specs.Names.{slashed, path_up};
 ghost use Rattle.vol_reports.specs.Climbing.{naming_in, trail, path_start, AreBefore, Steps};
 
-use crate::entered::Entered;
+use crate::entered::EnteredName;
 use std::alloc::{AllocError, Global};
 use vol_layout::Geometry;
 
@@ -18,11 +18,11 @@ const DOTS: &[u8] = b"...";
 pub(crate) fn entry_path<'a>(
     alloc: Global,
     geometry: &Geometry,
-    naming: &[Option<&'a Entered>],
+    naming: &[Option<&'a EnteredName>],
     marks: &mut [usize],
     turn: usize,
-    way: &mut Vec<&'a Entered>,
-    entry: &Entered,
+    way: &mut Vec<&'a EnteredName>,
+    entry: &EnteredName,
 ) -> Result<Vec<u8>, AllocError>
     requires room { length marks.old ≡ length naming.now }
     requires marks { AreBefore turn marks.old }
@@ -43,10 +43,10 @@ pub(crate) fn entry_path<'a>(
 /// the root, and not at a directory that it passed before or that has no naming entry.
 fn climb<'a>(
     geometry: &Geometry,
-    naming: &[Option<&'a Entered>],
+    naming: &[Option<&'a EnteredName>],
     marks: &mut [usize],
     turn: usize,
-    way: &mut Vec<&'a Entered>,
+    way: &mut Vec<&'a EnteredName>,
     d: u16,
 ) -> Result<bool, AllocError>
     requires room { length marks.old ≡ length naming.now }
@@ -70,11 +70,11 @@ fn climb<'a>(
 
 /// Marks directory `at`, and returns its naming entry, or `None` if it was marked in this turn or has no naming entry.
 fn step<'a>(
-    naming: &[Option<&'a Entered>],
+    naming: &[Option<&'a EnteredName>],
     marks: &mut [usize],
     turn: usize,
     at: u16,
-) -> Option<&'a Entered>
+) -> Option<&'a EnteredName>
     requires room { length marks.old ≡ length naming.now }
     requires marks { AreBefore (turn + 1) marks.old }
     ensures step { Steps naming.now turn at marks.old marks.new result }
@@ -103,7 +103,7 @@ fn first_bytes(alloc: Global, rooted: bool) -> Result<Vec<u8>, AllocError>
 }
 
 /// Appends the names of the entries of a way, the last of them first, and empties the way.
-fn push_names(path: &mut Vec<u8>, way: &mut Vec<&Entered>) -> Result<(), AllocError>
+fn push_names(path: &mut Vec<u8>, way: &mut Vec<&EnteredName>) -> Result<(), AllocError>
     ensures path { IfOk result (λ _. path.new.items ≡ path.old.items ++ trail way.old.items) }
     ensures way { OnOk result (way.new.items ≡ []) }
 {

@@ -9,13 +9,13 @@ use vol_layout::Slot;
 /// An entry of a directory, with its position. Contracts see its position, its i-number and its name; the bytes after the name
 /// don't count.
 #[derive(Debug, Drop)]
-pub struct Entered {
+pub struct EnteredName {
     directory: u16,
     number: u32,
     slot: Slot,
 }
 
-impl Model for Entered {
+impl Model for EnteredName {
     ghost use Rattle.vol_layout.specs.Slot.{name_of};
     ghost use Rattle.vol_reports.specs.Placed.{Placed, placed};
 
@@ -24,12 +24,12 @@ impl Model for Entered {
     ghost view = { λ held. placed held.directory held.number held.slot.inode (name_of held.slot.name) };
 }
 
-impl Entered {
+impl EnteredName {
     /// Returns the entry in slot `number` of a directory.
-    pub fn new(directory: u16, number: u32, slot: Slot) -> Entered
+    pub fn new(directory: u16, number: u32, slot: Slot) -> EnteredName
         ensures { result ≡ placed directory number slot.inode (name_of slot.name) }
     {
-        Entered {
+        EnteredName {
             directory,
             number,
             slot,

@@ -13,7 +13,7 @@ mod texts;
 pub mod words;
 
 pub use blocks::block_report;
-pub use entered::Entered;
+pub use entered::EnteredName;
 pub use entries::entry_report;
 pub use line::{Line, Total};
 pub use links::{LinkCount, link_counts};

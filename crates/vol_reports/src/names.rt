@@ -7,7 +7,7 @@ ghost use Rattle.vol_reports.specs.Counted.{CountsNames, HasEntryWidth};
 ghost use Rattle.vol_reports.specs.Climbing.{HasNaming, PutsNaming, path_in, seen_pair};
 
 use crate::climbing::entry_path;
-use crate::entered::Entered;
+use crate::entered::EnteredName;
 use crate::line::Line;
 use crate::report::Report;
 use crate::words::{name_word, rank};
@@ -24,7 +24,7 @@ pub fn name_report(
     alloc: Global,
     geometry: &Geometry,
     words: &Summed,
-    entries: &[Entered],
+    entries: &[EnteredName],
 ) -> Result<Report, AllocError>
     requires { HasEntryWidth geometry.now (items_of words.now) }
     ensures { IfOk result (λ report. (image : List ℕ) → CountsNames geometry.now image (items_of words.now) entries.now
@@ -42,8 +42,8 @@ fn naming_entries<'a>(
     alloc: Global,
     geometry: &Geometry,
     words: &Summed,
-    entries: &'a [Entered],
-) -> Result<Vec<Option<&'a Entered>>, AllocError>
+    entries: &'a [EnteredName],
+) -> Result<Vec<Option<&'a EnteredName>>, AllocError>
     requires { HasEntryWidth geometry.now (items_of words.now) }
     ensures len { IfOk result (λ naming. length naming.items ≡ geometry.now.last_inode + 1) }
     ensures naming { IfOk result (λ naming. (i : ℕ) → i ≤ geometry.now.last_inode → HasNaming (items_of words.now) entries.now naming.items i) }
@@ -56,7 +56,7 @@ fn naming_entries<'a>(
 }
 
 /// Puts an entry at the index of its i-number, if it is the first entry for it.
-fn put_naming<'a>(words: &Summed, naming: &mut [Option<&'a Entered>], entry: &'a Entered)
+fn put_naming<'a>(words: &Summed, naming: &mut [Option<&'a EnteredName>], entry: &'a EnteredName)
     requires { length (items_of words.now) ≡ length naming.old }
     ensures { (i : ℕ) → i < length naming.old → PutsNaming (items_of words.now) entry.now naming.old naming.new i }
 {
@@ -73,8 +73,8 @@ fn put_naming<'a>(words: &Summed, naming: &mut [Option<&'a Entered>], entry: &'a
 fn paths_of(
     alloc: Global,
     geometry: &Geometry,
-    naming: &[Option<&Entered>],
-    entries: &[Entered],
+    naming: &[Option<&EnteredName>],
+    entries: &[EnteredName],
 ) -> Result<Vec<(u16, Vec<u8>)>, AllocError>
     ensures { IfOk result (λ paths. map seen_pair paths.items ≡ map (path_in (root_of geometry.now) naming.now) entries.now) }
 {

@@ -10,8 +10,8 @@ use Rattle.vol_volume.specs.declared.queries.Query.TheVariants as queries
 use Rattle.vol_scripts.specs.Numbers.{long_in, short_in, permissions_in, bytes_in}
 use Rattle.vol_scripts.specs.declared.commands.Command.{Command}
 use Rattle.vol_scripts.specs.declared.commands.Command.TheVariants as commands
-use Rattle.vol_scripts.specs.declared.steps.Step.{Step}
-use Rattle.vol_scripts.specs.declared.steps.Step.TheVariants as steps
+use Rattle.vol_scripts.specs.declared.steps.ScriptStep.{ScriptStep}
+use Rattle.vol_scripts.specs.declared.steps.ScriptStep.TheVariants as steps
 
 -- the word of a command (this project)
 abbrev pub command_word : Command → List ℕ
@@ -109,7 +109,7 @@ path_and_numbers words = do
   Some (given.0, first, second)
 
 -- what a command asks for with the words after it: `create PATH PERM`, `mkdir PATH PERM`, `link FROM TO`, `unlink PATH`, `rmdir PATH`, `write PATH OFFSET HEX`, `truncate PATH LENGTH`, `chmod PATH PERM`, `chown PATH UID GID`, `times PATH ATIME MTIME`, `stat PATH`, `read PATH OFFSET LEN`, `list PATH`, `cut` (this project)
-abbrev pub asked_by : Command → Cred → ℕ → List (List ℕ) → Option Step
+abbrev pub asked_by : Command → Cred → ℕ → List (List ℕ) → Option ScriptStep
 asked_by commands.Create cred now words =
     option_map (λ given. steps.Change (calls.Create cred now given.0 given.1)) (path_and_permissions words)
 asked_by commands.Mkdir cred now words =
@@ -134,7 +134,7 @@ asked_by commands.List cred now words = option_map (λ path. steps.Question (que
 asked_by commands.Cut cred now words = option_map (λ nothing. steps.Cut) (none_of words)
 
 -- the step of a line's words: `NOW UID GID`, the command and its words (this project)
-abbrev pub step_by : List (List ℕ) → Option Step
+abbrev pub step_by : List (List ℕ) → Option ScriptStep
 step_by (now ∷ uid ∷ gid ∷ name ∷ words) = do
   moment ← long_in now
   cred ← cred_in uid gid
@@ -143,11 +143,11 @@ step_by (now ∷ uid ∷ gid ∷ name ∷ words) = do
 step_by _ = None
 
 -- the step of a session in a line, whose words are separated by single spaces (this project)
-abbrev pub step_in : List ℕ → Option Step
+abbrev pub step_in : List ℕ → Option ScriptStep
 step_in line = step_by (slice_split (λ b. b == 32) line)
 
 -- the query of a step, if it is one (this project)
-abbrev pub query_of : Step → Option Query
+abbrev pub query_of : ScriptStep → Option Query
 query_of (steps.Change call) = None
 query_of (steps.Question query) = Some query
 query_of steps.Cut = None

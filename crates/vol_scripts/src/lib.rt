@@ -18,4 +18,4 @@ pub use ending::finish;
 pub use played::Played;
 pub use reading::{ScriptFault, ScriptsFault, read_script, read_scripts};
 pub use refusing::refuse;
-pub use steps::{Script, Sequence, Step};
+pub use steps::{Script, ScriptStep, Sequence};

@@ -10,7 +10,7 @@ use crate::arguments::{
 use crate::commands::Command;
 use crate::numbers::long_in;
 use crate::pieces::Pieces;
-use crate::steps::Step;
+use crate::steps::ScriptStep;
 use std::alloc::{AllocError, Global};
 use vol_dir::Cred;
 use vol_volume::{Call, Query};
@@ -45,12 +45,12 @@ pub(crate) trait FromLine: Drop {
         ensures { Reads (written line.now) result };
 }
 
-impl FromLine for Step {
+impl FromLine for ScriptStep {
     ghost use Rattle.vol_scripts.specs.Grammar.{step_in};
 
     ghost written = { step_in };
 
-    fn from_line(alloc: Global, line: &[u8]) -> Result<Step, LineFault> {
+    fn from_line(alloc: Global, line: &[u8]) -> Result<ScriptStep, LineFault> {
         read_line(alloc, line)
     }
 }
@@ -62,14 +62,14 @@ impl FromLine for Query {
 
     fn from_line(alloc: Global, line: &[u8]) -> Result<Query, LineFault> {
         match read_line(alloc, line)? {
-            Step::Question(query) => Ok(query),
-            Step::Change(_) | Step::Cut => Err(LineFault::Unreadable),
+            ScriptStep::Question(query) => Ok(query),
+            ScriptStep::Change(_) | ScriptStep::Cut => Err(LineFault::Unreadable),
         }
     }
 }
 
 /// Reads a step of a session from a line.
-fn read_line(alloc: Global, line: &[u8]) -> Result<Step, LineFault>
+fn read_line(alloc: Global, line: &[u8]) -> Result<ScriptStep, LineFault>
     ensures { Reads (step_in line.now) result }
 {
     let mut words = Pieces::of(b' ', line);
@@ -108,7 +108,7 @@ fn asked_by(
     cred: Cred,
     now: u32,
     words: Pieces<'_>,
-) -> Result<Step, LineFault>
+) -> Result<ScriptStep, LineFault>
     ensures { Reads (asked_by command cred now words.entry) result }
 {
     match command {
@@ -127,17 +127,17 @@ fn asked_by(
         Command::List => list(alloc, cred, words),
         Command::Cut => {
             none_of(words).ok_or(LineFault::Unreadable)?;
-            Ok(Step::Cut)
+            Ok(ScriptStep::Cut)
         }
     }
 }
 
 /// Reads `create`.
-fn create(alloc: Global, cred: Cred, now: u32, words: Pieces<'_>) -> Result<Step, LineFault>
+fn create(alloc: Global, cred: Cred, now: u32, words: Pieces<'_>) -> Result<ScriptStep, LineFault>
     ensures { Reads (asked_by Command.Create cred now words.entry) result }
 {
     let (path, perm) = path_and_permissions(alloc, words)?;
-    Ok(Step::Change(Call::Create {
+    Ok(ScriptStep::Change(Call::Create {
         cred,
         now,
         path,
@@ -146,11 +146,11 @@ fn create(alloc: Global, cred: Cred, now: u32, words: Pieces<'_>) -> Result<Step
 }
 
 /// Reads `mkdir`.
-fn mkdir(alloc: Global, cred: Cred, now: u32, words: Pieces<'_>) -> Result<Step, LineFault>
+fn mkdir(alloc: Global, cred: Cred, now: u32, words: Pieces<'_>) -> Result<ScriptStep, LineFault>
     ensures { Reads (asked_by Command.Mkdir cred now words.entry) result }
 {
     let (path, perm) = path_and_permissions(alloc, words)?;
-    Ok(Step::Change(Call::Mkdir {
+    Ok(ScriptStep::Change(Call::Mkdir {
         cred,
         now,
         path,
@@ -159,11 +159,11 @@ fn mkdir(alloc: Global, cred: Cred, now: u32, words: Pieces<'_>) -> Result<Step,
 }
 
 /// Reads `link`.
-fn link(alloc: Global, cred: Cred, now: u32, words: Pieces<'_>) -> Result<Step, LineFault>
+fn link(alloc: Global, cred: Cred, now: u32, words: Pieces<'_>) -> Result<ScriptStep, LineFault>
     ensures { Reads (asked_by Command.Link cred now words.entry) result }
 {
     let (source, target) = two_paths(alloc, words)?;
-    Ok(Step::Change(Call::Link {
+    Ok(ScriptStep::Change(Call::Link {
         cred,
         now,
         source,
@@ -172,27 +172,27 @@ fn link(alloc: Global, cred: Cred, now: u32, words: Pieces<'_>) -> Result<Step, 
 }
 
 /// Reads `unlink`.
-fn unlink(alloc: Global, cred: Cred, now: u32, words: Pieces<'_>) -> Result<Step, LineFault>
+fn unlink(alloc: Global, cred: Cred, now: u32, words: Pieces<'_>) -> Result<ScriptStep, LineFault>
     ensures { Reads (asked_by Command.Unlink cred now words.entry) result }
 {
     let path = path_alone(alloc, words)?;
-    Ok(Step::Change(Call::Unlink { cred, now, path }))
+    Ok(ScriptStep::Change(Call::Unlink { cred, now, path }))
 }
 
 /// Reads `rmdir`.
-fn rmdir(alloc: Global, cred: Cred, now: u32, words: Pieces<'_>) -> Result<Step, LineFault>
+fn rmdir(alloc: Global, cred: Cred, now: u32, words: Pieces<'_>) -> Result<ScriptStep, LineFault>
     ensures { Reads (asked_by Command.Rmdir cred now words.entry) result }
 {
     let path = path_alone(alloc, words)?;
-    Ok(Step::Change(Call::Rmdir { cred, now, path }))
+    Ok(ScriptStep::Change(Call::Rmdir { cred, now, path }))
 }
 
 /// Reads `write`.
-fn write(alloc: Global, cred: Cred, now: u32, words: Pieces<'_>) -> Result<Step, LineFault>
+fn write(alloc: Global, cred: Cred, now: u32, words: Pieces<'_>) -> Result<ScriptStep, LineFault>
     ensures { Reads (asked_by Command.Write cred now words.entry) result }
 {
     let (path, offset, bytes) = path_and_bytes(alloc, words)?;
-    Ok(Step::Change(Call::Write {
+    Ok(ScriptStep::Change(Call::Write {
         cred,
         now,
         path,
@@ -202,11 +202,11 @@ fn write(alloc: Global, cred: Cred, now: u32, words: Pieces<'_>) -> Result<Step,
 }
 
 /// Reads `truncate`.
-fn truncate(alloc: Global, cred: Cred, now: u32, words: Pieces<'_>) -> Result<Step, LineFault>
+fn truncate(alloc: Global, cred: Cred, now: u32, words: Pieces<'_>) -> Result<ScriptStep, LineFault>
     ensures { Reads (asked_by Command.Truncate cred now words.entry) result }
 {
     let (path, length) = path_and_length(alloc, words)?;
-    Ok(Step::Change(Call::Truncate {
+    Ok(ScriptStep::Change(Call::Truncate {
         cred,
         now,
         path,
@@ -215,11 +215,11 @@ fn truncate(alloc: Global, cred: Cred, now: u32, words: Pieces<'_>) -> Result<St
 }
 
 /// Reads `chmod`.
-fn chmod(alloc: Global, cred: Cred, now: u32, words: Pieces<'_>) -> Result<Step, LineFault>
+fn chmod(alloc: Global, cred: Cred, now: u32, words: Pieces<'_>) -> Result<ScriptStep, LineFault>
     ensures { Reads (asked_by Command.Chmod cred now words.entry) result }
 {
     let (path, perm) = path_and_permissions(alloc, words)?;
-    Ok(Step::Change(Call::Chmod {
+    Ok(ScriptStep::Change(Call::Chmod {
         cred,
         now,
         path,
@@ -228,11 +228,11 @@ fn chmod(alloc: Global, cred: Cred, now: u32, words: Pieces<'_>) -> Result<Step,
 }
 
 /// Reads `chown`.
-fn chown(alloc: Global, cred: Cred, now: u32, words: Pieces<'_>) -> Result<Step, LineFault>
+fn chown(alloc: Global, cred: Cred, now: u32, words: Pieces<'_>) -> Result<ScriptStep, LineFault>
     ensures { Reads (asked_by Command.Chown cred now words.entry) result }
 {
     let (path, owner) = path_and_owner(alloc, words)?;
-    Ok(Step::Change(Call::Chown {
+    Ok(ScriptStep::Change(Call::Chown {
         cred,
         now,
         path,
@@ -242,11 +242,11 @@ fn chown(alloc: Global, cred: Cred, now: u32, words: Pieces<'_>) -> Result<Step,
 }
 
 /// `times`.
-fn times(alloc: Global, cred: Cred, now: u32, words: Pieces<'_>) -> Result<Step, LineFault>
+fn times(alloc: Global, cred: Cred, now: u32, words: Pieces<'_>) -> Result<ScriptStep, LineFault>
     ensures { Reads (asked_by Command.Times cred now words.entry) result }
 {
     let (path, atime, mtime) = path_and_numbers(alloc, words)?;
-    Ok(Step::Change(Call::Times {
+    Ok(ScriptStep::Change(Call::Times {
         cred,
         now,
         path,
@@ -256,19 +256,19 @@ fn times(alloc: Global, cred: Cred, now: u32, words: Pieces<'_>) -> Result<Step,
 }
 
 /// Reads `stat`.
-fn stat(alloc: Global, cred: Cred, words: Pieces<'_>) -> Result<Step, LineFault>
+fn stat(alloc: Global, cred: Cred, words: Pieces<'_>) -> Result<ScriptStep, LineFault>
     ensures { (now : ℕ) → Reads (asked_by Command.Stat cred now words.entry) result }
 {
     let path = path_alone(alloc, words)?;
-    Ok(Step::Question(Query::Stat { cred, path }))
+    Ok(ScriptStep::Question(Query::Stat { cred, path }))
 }
 
 /// Reads `read`.
-fn read(alloc: Global, cred: Cred, words: Pieces<'_>) -> Result<Step, LineFault>
+fn read(alloc: Global, cred: Cred, words: Pieces<'_>) -> Result<ScriptStep, LineFault>
     ensures { (now : ℕ) → Reads (asked_by Command.Read cred now words.entry) result }
 {
     let (path, offset, len) = path_and_numbers(alloc, words)?;
-    Ok(Step::Question(Query::Read {
+    Ok(ScriptStep::Question(Query::Read {
         cred,
         path,
         offset,
@@ -277,9 +277,9 @@ fn read(alloc: Global, cred: Cred, words: Pieces<'_>) -> Result<Step, LineFault>
 }
 
 /// Reads `list`.
-fn list(alloc: Global, cred: Cred, words: Pieces<'_>) -> Result<Step, LineFault>
+fn list(alloc: Global, cred: Cred, words: Pieces<'_>) -> Result<ScriptStep, LineFault>
     ensures { (now : ℕ) → Reads (asked_by Command.List cred now words.entry) result }
 {
     let path = path_alone(alloc, words)?;
-    Ok(Step::Question(Query::List { cred, path }))
+    Ok(ScriptStep::Question(Query::List { cred, path }))
 }

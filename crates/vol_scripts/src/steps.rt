@@ -6,7 +6,7 @@ use vol_volume::{Call, Query};
 
 /// A step of a session: one line of a script.
 #[derive(Debug, PartialEq, Eq, Drop)]
-pub enum Step {
+pub enum ScriptStep {
     /// A call.
     Change(Call),
     /// A query.
@@ -19,7 +19,7 @@ pub enum Step {
 #[derive(Debug, Drop)]
 pub enum Script {
     /// A script for a session: one step per line.
-    Session(Sequence<Step>),
+    Session(Sequence<ScriptStep>),
     /// A script for a view: one query per line after the first, which is the word `view`.
     View(Sequence<Query>),
 }

@@ -6,7 +6,7 @@ use Rattle.fuse_words.specs.Requests.{wants_reply, request_of}
 use Rattle.fuse_words.specs.declared.operation.Operation.{Operation}
 use Rattle.fuse_words.specs.declared.operation.Operation.TheVariants as operations
 use Rattle.fuse_words.specs.declared.reply.Attributes.{Attributes}
-use Rattle.fuse_words.specs.declared.reply.Entry.{Entry}
+use Rattle.fuse_words.specs.declared.reply.EntryReply.{EntryReply}
 use Rattle.fuse_words.specs.declared.reply.Settings.{Settings}
 use Rattle.fuse_words.specs.declared.request.Header.{Header}
 use Rattle.fuse_words.specs.declared.request.Request.{Request}
@@ -78,7 +78,7 @@ abbrev pub open_directory_reply : Tree → ℕ → ℕ → Result (List ℕ) Req
 open_directory_reply tree unique i = answered (ok_or (stat_in tree i) nodes.Stale) (λ stat. open_directory_by stat.kind unique)
 
 -- the entry of node i, which the kernel may keep for an hour (fuse_entry_out)
-abbrev pub entry_of_node : Edition → ℕ → Attributes → Entry
+abbrev pub entry_of_node : Edition → ℕ → Attributes → EntryReply
 entry_of_node edition i attributes = record {
   node = node_number edition i;
   generation = 0;

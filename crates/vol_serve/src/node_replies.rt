@@ -10,7 +10,7 @@ use crate::listing::put_entries;
 use crate::memory::Room;
 use crate::node_numbers::node_number;
 use crate::served::Served;
-use fuse_words::{CACHE_DIRECTORY, Entry, KEEP_CACHE, MOST_DATA, Operation};
+use fuse_words::{CACHE_DIRECTORY, EntryReply, KEEP_CACHE, MOST_DATA, Operation};
 use pdp_words::Image;
 use vol_layout::{Geometry, Kind};
 use vol_nodes::{NodeFault, look_up, read, stat};
@@ -66,7 +66,7 @@ fn put_looked_up(
 {
     let i = look_up(served.image, served.geometry, dir, name)?;
     let attributes = node_attributes(served.image, served.geometry, i)?;
-    let entry = Entry {
+    let entry = EntryReply {
         node: node_number(served.geometry.edition, i),
         generation: 0,
         name_seconds: SECONDS,

@@ -21,7 +21,7 @@ use Rattle.vol_shared.specs.Rule.{hold_of, SeatFits, Locked}
 use Rattle.vol_shared.specs.Plays.{fresh, first_knowledge, nobody, kept_part, given_part, as_one}
 use Rattle.vol_shared.specs.Closing.{IsSettled}
 use Rattle.vol_shared.specs.declared.knowledge.Knowledge.{Knowledge}
-use Rattle.vol_shared.specs.declared.knowledge.Start.{Start}
+use Rattle.vol_shared.specs.declared.knowledge.TableStart.{TableStart}
 use Rattle.vol_shared.proofs.Lists.{begins_itself, longer_first, longer_second, longer_front, set_there, greatest_nil, greatest_cons, greatest_push, greatest_append, greatest_set, greatest_part, greatest_all}
 use Rattle.vol_shared.proofs.Steps.{cut_of, idle, shifts}
 
@@ -56,7 +56,7 @@ follows_itself opened = record {
 }
 
 -- at the start
-pub opens : (key : Start) (slots : List (Option Stored)) → slots ≡ Some key.stock ∷ [] → Locked key (opening (0 ∷ []) slots (first_knowledge key))
+pub opens : (key : TableStart) (slots : List (Option Stored)) → slots ≡ Some key.stock ∷ [] → Locked key (opening (0 ∷ []) slots (first_knowledge key))
 opens key slots full = subst (λ (l : List (Option Stored)). Locked key (opening (0 ∷ []) l (first_knowledge key))) (sym full) record {
   last = key.stock;
   gone = [];
@@ -80,7 +80,7 @@ opens key slots full = subst (λ (l : List (Option Stored)). Locked key (opening
     only (suc id) v e = absurd (some-ne-none v (sym e))
 
 -- one session is split off a seat that did nothing yet
-pub splits : (key : Start) (id : ℕ) (v : Knowledge) (parts : ℕ) → 1 ≤ parts → v ≡ fresh parts key.stock → Splits (Locked key) id v (kept_part v) (given_part v)
+pub splits : (key : TableStart) (id : ℕ) (v : Knowledge) (parts : ℕ) → 1 ≤ parts → v ≡ fresh parts key.stock → Splits (Locked key) id v (kept_part v) (given_part v)
 splits key id v parts some-parts is s kept at =
     subst (λ (x : Knowledge). Locked key record { words = s.words; homes = s.homes; views = set s.views id (kept_part x) ++ given_part x ∷ [] }) (sym is) record {
       last = kept.last;
@@ -131,7 +131,7 @@ agree_front opened known history receipts front agree = subst (λ (l : List Reco
     (λ k d lt. agrees_grows opened.origin known front.0 _ (agree k d lt))
 
 -- two seats are joined
-pub joins : (key : Start) (id : ℕ) (v : Knowledge) (other : ℕ) (w : Knowledge) → 0 < v.parts → v.holds ≡ false → w.holds ≡ false
+pub joins : (key : TableStart) (id : ℕ) (v : Knowledge) (other : ℕ) (w : Knowledge) → 0 < v.parts → v.holds ≡ false → w.holds ≡ false
     → Joins (Locked key) id v other w (as_one v w) nobody
 joins key id v other w some-parts first-free second-free s kept at apart there = record {
   last = kept.last;
@@ -193,7 +193,7 @@ joins key id v other w some-parts first-free second-free s kept at apart there =
       spent = λ e. absurd (omega arith);
     }
 
-module _ (key : Start) (s : State (Option Stored) Knowledge) (kept : Locked key s) (id : ℕ) (v : Knowledge) (at : get_elem? s.views id ≡ some v)
+module _ (key : TableStart) (s : State (Option Stored) Knowledge) (kept : Locked key s) (id : ℕ) (v : Knowledge) (at : get_elem? s.views id ≡ some v)
     (all : v.parts ≡ key.sessions) where
   -- the other seats represent no session
   others_spent : (j : ℕ) (x : Knowledge) → j ≢ id → get_elem? s.views j ≡ some x → x.parts ≡ 0
@@ -241,7 +241,7 @@ module _ (key : Start) (s : State (Option Stored) Knowledge) (kept : Locked key 
   )
 
 -- the contents of the table at the end
-pub taken_at_end : (key : Start) (id : ℕ) (v : Knowledge) (words : List ℕ) (slots : List (Option Stored)) (found : Option Stored)
+pub taken_at_end : (key : TableStart) (id : ℕ) (v : Knowledge) (words : List ℕ) (slots : List (Option Stored)) (found : Option Stored)
     → v.parts ≡ key.sessions → v.holds ≡ false → Final (Seen (Locked key) id v) words slots → get_elem? slots 0 ≡ some found
     → (last : Stored) × (found ≡ Some last) × IsSettled key.stock v last × (last.book ≡ key.stock.book)
 taken_at_end key id v words slots found all free final there =

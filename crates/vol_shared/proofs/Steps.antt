@@ -24,7 +24,7 @@ use Rattle.vol_shared.specs.Stored.{Stored, nothing_stored, next_number, KeepsAr
 use Rattle.vol_shared.specs.Rule.{hold_of, SeatFits, Locked}
 use Rattle.vol_shared.specs.Plays.{Event, nothing, receipt, cut, nobody, took, gave, FindsVolume, Took, Tries, Gives, IsAnswered, MayGive}
 use Rattle.vol_shared.specs.declared.knowledge.Knowledge.{Knowledge}
-use Rattle.vol_shared.specs.declared.knowledge.Start.{Start}
+use Rattle.vol_shared.specs.declared.knowledge.TableStart.{TableStart}
 use Rattle.vol_shared.proofs.Lists.{begins_itself, begins_same, begins_on, set_there, greatest_push, greatest_set, greatest_part}
 use Rattle.vol_shared.proofs.Agreement.{agrees_back, place_goes_on}
 
@@ -58,7 +58,7 @@ pub record Moves (opened last : Stored) (gone : List Record) (v : Knowledge) (ne
   pub uncut : length w.cuts ≡ 0 → (length v.cuts ≡ 0) × (next.origin ≡ last.origin)
   pub fits : SeatFits opened next (lost ++ next.journal) w
 
-module _ (key : Start) (s : State (Option Stored) Knowledge) (kept : Locked key s) (id : ℕ) (v : Knowledge) (at : get_elem? s.views id ≡ some v) where
+module _ (key : TableStart) (s : State (Option Stored) Knowledge) (kept : Locked key s) (id : ℕ) (v : Knowledge) (at : get_elem? s.views id ≡ some v) where
   -- the sum of the weights of all seats once this one knows w
   pub shifts : (g : Knowledge → ℕ) (w : Knowledge) → total g (set s.views id w) + g v ≡ total g s.views + g w
   shifts g w = total_set g s.views id v w at
@@ -350,7 +350,7 @@ module _ (key : Start) (s : State (Option Stored) Knowledge) (kept : Locked key 
       (set s.homes 0 (mathlib.Core.Option.some (Some given))) (λ e. set_here s.homes 0 (mathlib.Core.Option.some (Some given)) wide)
 
 -- an attempt to take the volume
-tries_free : (key : Start) (slots id : ℕ) (v : Knowledge) (st : Step (Option Stored)) → 0 < v.parts → v.holds ≡ false
+tries_free : (key : TableStart) (slots id : ℕ) (v : Knowledge) (st : Step (Option Stored)) → 0 < v.parts → v.holds ≡ false
     → Allows (Locked key) slots id (v, []) 0 (λ n. either (n == 0) 1 n) (Tries st (v, []))
 tries_free key slots id v st some-parts free s kept long at small =
     exchanged (slice_index s.words 0) 0 1
@@ -365,7 +365,7 @@ tries_free key slots id v st some-parts free s kept long at small =
     ))
     (λ ne. (v, keeps, tt, misses key s kept id v at, ((λ z. absurd (ne z)), λ e. refl)))
 
-pub tries : (key : Start) (slots id : ℕ) (me : Me (Option Stored) Knowledge) (st : Step (Option Stored)) → me.1 ≡ [] → 0 < me.0.parts → me.0.holds ≡ false
+pub tries : (key : TableStart) (slots id : ℕ) (me : Me (Option Stored) Knowledge) (st : Step (Option Stored)) → me.1 ≡ [] → 0 < me.0.parts → me.0.holds ≡ false
     → Allows (Locked key) slots id me 0 (λ n. either (n == 0) 1 n) (Tries st me)
 tries key slots id me st empty some-parts free =
     subst (λ (held : List (ℕ × Option Stored)). Allows (Locked key) slots id (me.0, held) 0 (λ n. either (n == 0) 1 n) (Tries st (me.0, held)))
@@ -396,7 +396,7 @@ stored_in : Option Stored → Stored
 stored_in None = nothing_stored
 stored_in (Some stored) = stored
 
-gives_held : (key : Start) (slots id : ℕ) (v : Knowledge) (given : Stored) (event : Event) (st : Step (Option Stored)) → 0 < slots → 0 < v.parts → v.holds ≡ true
+gives_held : (key : TableStart) (slots id : ℕ) (v : Knowledge) (given : Stored) (event : Event) (st : Step (Option Stored)) → 0 < slots → 0 < v.parts → v.holds ≡ true
     → MayGive v.found given event → Allows (Locked key) slots id (v, (0, Some given) ∷ []) 0 (λ _. 0) (λ n. Gives event st (v, (0, Some given) ∷ []) 0)
 unfolding slot_of stored_in
 gives_held key slots id v given event st wide some-parts holds may s kept long at small = (
@@ -407,7 +407,7 @@ gives_held key slots id v given event st wide some-parts holds may s kept long a
   λ other e. ap (λ (x : Stored). (gave v x event, [])) (ap (λ (l : List (ℕ × Option Stored)). stored_in (slot_of l)) e),
 )
 
-pub gives_back : (key : Start) (slots id : ℕ) (me : Me (Option Stored) Knowledge) (given : Stored) (event : Event) (st : Step (Option Stored)) → 0 < slots
+pub gives_back : (key : TableStart) (slots id : ℕ) (me : Me (Option Stored) Knowledge) (given : Stored) (event : Event) (st : Step (Option Stored)) → 0 < slots
     → me.1 ≡ (0, Some given) ∷ [] → 0 < me.0.parts → me.0.holds ≡ true
     → MayGive me.0.found given event → Allows (Locked key) slots id me 0 (λ _. 0) (λ n. Gives event st me 0)
 gives_back key slots id me given event st wide held some-parts holds may =

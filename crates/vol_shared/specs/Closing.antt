@@ -7,10 +7,10 @@ use Rattle.vol_shared.specs.Lists.{greatest_of}
 use Rattle.vol_shared.specs.Sessions.{Known}
 use Rattle.vol_shared.specs.Stored.{Stored, next_number, Continues}
 use Rattle.vol_shared.specs.declared.knowledge.Knowledge.{Knowledge}
-use Rattle.vol_shared.specs.declared.knowledge.Start.{Start}
+use Rattle.vol_shared.specs.declared.knowledge.TableStart.{TableStart}
 
 -- the table has one word and one slot, and was made for some sessions of a volume whose next record has number `records` (this project)
-pub record IsLock (table : TableId) (key : Start) (records : ℕ) : Type 0 where
+pub record IsLock (table : TableId) (key : TableStart) (records : ℕ) : Type 0 where
   pub words : table.words ≡ 1
   pub slots : table.slots ≡ 1
   pub some_sessions : 1 ≤ key.sessions

@@ -7,7 +7,7 @@ use Rattle.vol_receipts.specs.declared.receipts.Receipt.{Receipt}
 use Rattle.vol_shared.specs.Lists.{BeginsWith, longer}
 use Rattle.vol_shared.specs.Stored.{Stored, nothing_stored, next_number, KeepsAround, Follows, IsUnchanged, IsCut}
 use Rattle.vol_shared.specs.declared.knowledge.Knowledge.{Knowledge}
-use Rattle.vol_shared.specs.declared.knowledge.Start.{Start}
+use Rattle.vol_shared.specs.declared.knowledge.TableStart.{TableStart}
 
 -- the result of the work on a volume that is given back: nothing, a receipt, or a cut of its journal (this project)
 pub data Event : Type 0 where
@@ -29,7 +29,7 @@ fresh parts opened = record {
 }
 
 -- the first seat represents all sessions (this project)
-abbrev pub first_knowledge : Start → Knowledge
+abbrev pub first_knowledge : TableStart → Knowledge
 first_knowledge key = fresh key.sessions key.stock
 
 -- a seat that represents no session (this project)

@@ -9,7 +9,7 @@ use Rattle.vol_receipts.specs.Agrees.{Agrees}
 use Rattle.vol_shared.specs.Lists.{BeginsWith, greatest, greatest_of}
 use Rattle.vol_shared.specs.Stored.{Stored, next_number, Follows}
 use Rattle.vol_shared.specs.declared.knowledge.Knowledge.{Knowledge}
-use Rattle.vol_shared.specs.declared.knowledge.Start.{Start}
+use Rattle.vol_shared.specs.declared.knowledge.TableStart.{TableStart}
 
 -- 1 for a seat that holds the volume (this project)
 abbrev pub hold_of : Knowledge → ℕ
@@ -24,7 +24,7 @@ pub record SeatFits (opened last : Stored) (history : List Record) (v : Knowledg
   pub spent : v.parts ≡ 0 → (v.holds ≡ false) × (v.places ≡ []) × (v.cuts ≡ [])
 
 -- the word is 1 while a seat holds the volume; otherwise the volume that was last given back is in the slot; it continues the one that was opened; the places of all seats are the numbers of the records made since, each once; the journal's first number is the greatest that a cut returned, or that of the start; the log that has the records stays (this project)
-pub record Locked (key : Start) (s : State (Option Stored) Knowledge) : Type 0 where
+pub record Locked (key : TableStart) (s : State (Option Stored) Knowledge) : Type 0 where
   pub last : Stored
   pub gone : List Record
   pub word : length s.words ≡ 1

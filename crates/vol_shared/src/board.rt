@@ -7,19 +7,19 @@ ghost use Rattle.vol_shared.specs.Plays.{fresh};
 ghost use Rattle.vol_shared.specs.Sessions.{new_session};
 ghost use Rattle.vol_shared.specs.Stored.{Stored, next_number};
 
-use crate::knowledge::{Deal, Knowledge, Lock, OneHolder, Place, Start};
+use crate::knowledge::{Deal, Knowledge, Lock, OneHolder, SessionSeat, TableStart};
 use crate::session::Session;
 use crate::stock::Stock;
 use atomic_table::{Refused, Table};
 use std::alloc::Global;
-use vol_views::Told;
+use vol_views::LogPrefix;
 
 /// The table of a shared volume.
-pub(crate) type Board = Table<Option<Stock>, Knowledge, Start, OneHolder, Global>;
+pub(crate) type Board = Table<Option<Stock>, Knowledge, TableStart, OneHolder, Global>;
 
 /// Returns a table that holds the volume, and the one seat that represents all its sessions. Hands the volume
 /// back if memory runs out.
-pub(crate) fn lay(alloc: Global, stock: Stock, sessions: u64) -> Result<(Board, Place), Stock>
+pub(crate) fn lay(alloc: Global, stock: Stock, sessions: u64) -> Result<(Board, SessionSeat), Stock>
     requires { 1 ≤ sessions }
     ensures lock { IfOk result (λ r. IsLock r.0.shared.table_id r.0.shared.key (next_number stock)) }
     ensures stock { IfOk result (λ r. r.0.shared.key.stock ≡ stock) }
@@ -28,7 +28,7 @@ pub(crate) fn lay(alloc: Global, stock: Stock, sessions: u64) -> Result<(Board, 
     ensures place { IfOk result (λ r. r.1.me ≡ (fresh sessions stock, [])) }
     ensures handed_back { IfErr result (λ same. same ≡ stock) }
 {
-    let start = Start {
+    let start = TableStart {
         stock: stock.kept(),
         sessions,
     };
@@ -56,11 +56,11 @@ fn only(mut slots: Vec<Option<Stock>>) -> Stock
 /// Splits a seat that represents `sessions` sessions, and adds these sessions to the list.
 pub(crate) fn deal(
     lock: &Lock,
-    mut place: Place,
+    mut place: SessionSeat,
     all: &mut Vec<Session>,
     sessions: usize,
     records: u64,
-    told: &Option<Told>,
+    told: &Option<LogPrefix>,
 )
     requires lock { IsLock lock.now.table_id lock.now.key records }
     requires own { place.table_id ≡ lock.now.table_id }
@@ -81,7 +81,7 @@ pub(crate) fn deal(
 }
 
 /// Adds one session to the list.
-fn seat_one(all: &mut Vec<Session>, place: Place, records: u64, told: &Option<Told>)
+fn seat_one(all: &mut Vec<Session>, place: SessionSeat, records: u64, told: &Option<LogPrefix>)
     requires free { place.me.1 ≡ [] }
     requires room { vec_len all.old < vec_capacity all.old }
     requires place { (opened : Stored) × (place.me.0 ≡ fresh 1 opened) × (records ≡ next_number opened) × (book_in told.now ≡ opened.book) }
@@ -99,7 +99,7 @@ fn seat_one(all: &mut Vec<Session>, place: Place, records: u64, told: &Option<To
 }
 
 /// Returns a copy of a session's known progress.
-fn copy_of(told: &Option<Told>) -> Option<Told>
+fn copy_of(told: &Option<LogPrefix>) -> Option<LogPrefix>
     ensures { result ≡ told.now }
 {
     match told {

@@ -3,12 +3,12 @@ ghost use Rattle.std.specs.Prelude.{◌≡◌, ◌≤◌, [], ◌∷◌, length,
 ghost use Rattle.vol_shared.specs.Closing.{IsGathered, IsSettled};
 
 use crate::board::Board;
-use crate::knowledge::{Gather, Lock, Place};
+use crate::knowledge::{Gather, Lock, SessionSeat};
 use crate::session::Session;
 use crate::stock::Stock;
 
 /// Joins all sessions of a list into one seat, and adds up their accepted calls.
-pub(crate) fn gather(lock: &Lock, mut sessions: Vec<Session>) -> (Place, u128)
+pub(crate) fn gather(lock: &Lock, mut sessions: Vec<Session>) -> (SessionSeat, u128)
     requires words { lock.now.table_id.words ≡ 1 }
     requires some_sessions { 1 ≤ vec_len sessions }
     requires own { All (λ s. s.of.table ≡ lock.now.table_id) sessions.items }
@@ -28,7 +28,7 @@ pub(crate) fn gather(lock: &Lock, mut sessions: Vec<Session>) -> (Place, u128)
 }
 
 /// Returns a session's seat and the number of its accepted calls.
-fn seat_of(session: Session) -> (Place, u64)
+fn seat_of(session: Session) -> (SessionSeat, u64)
     ensures own { result.0.table_id ≡ session.of.table }
     ensures free { result.0.me.1 ≡ [] }
     ensures gathered { IsGathered (session ∷ []) result.0.me.0 }
@@ -44,7 +44,7 @@ fn seat_of(session: Session) -> (Place, u64)
 }
 
 /// Returns the volume, once one seat represents all sessions.
-pub(crate) fn finish(board: Board, place: Place) -> Stock
+pub(crate) fn finish(board: Board, place: SessionSeat) -> Stock
     requires words { board.shared.table_id.words ≡ 1 }
     requires slots { board.shared.table_id.slots ≡ 1 }
     requires own { place.table_id ≡ board.shared.table_id }

@@ -1,20 +1,20 @@
 //! A snapshot, for contracts alone, of the volume under the lock.
 use std::marker::Model;
 use std::snapshot::Snapshot;
-use vol_views::Front;
+use vol_views::SeenPrefix;
 use vol_volume::Volume;
 
 /// A snapshot, for contracts alone, of the volume under the lock and the log prefix that has its records. At
 /// run time it only knows whether there is a log.
 #[derive(Drop)]
-pub struct Kept {
+pub struct LockedVolume {
     /// The volume.
     pub volume: Snapshot<Volume>,
     /// The log prefix, if the records are published.
-    pub front: Option<Front>,
+    pub front: Option<SeenPrefix>,
 }
 
-impl Model for Kept {
+impl Model for LockedVolume {
     ghost use Rattle.vol_views.specs.Views.{book_in};
     ghost use Rattle.vol_shared.specs.Stored.{Stored, stored_with};
 

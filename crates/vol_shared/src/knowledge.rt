@@ -2,7 +2,7 @@
 ghost use Rattle.vol_shared.specs.Plays.{Event, Tries, Gives, first_knowledge, kept_part, given_part, as_one, nobody};
 ghost use Rattle.vol_shared.specs.Rule.{Locked};
 
-use crate::kept::Kept;
+use crate::kept::LockedVolume;
 use crate::stock::Stock;
 use atomic_table::{Join, Play, Seat, Shared, Split, TableRule};
 use std::collections::LinkedList;
@@ -17,9 +17,9 @@ pub struct Knowledge {
     /// True while it holds the volume.
     pub holds: bool,
     /// The volume that was opened.
-    pub opened: Kept,
+    pub opened: LockedVolume,
     /// The volume that it last took or gave back.
-    pub found: Kept,
+    pub found: LockedVolume,
     /// All records of that volume since it was opened, including those that were cut.
     pub history: LinkedList<Record>,
     /// The numbers of the records that its calls made, in order.
@@ -32,15 +32,15 @@ pub struct Knowledge {
 
 /// The start of a table: the volume that is opened, and the number of sessions.
 #[derive(Drop)]
-pub struct Start {
-    pub stock: Kept,
+pub struct TableStart {
+    pub stock: LockedVolume,
     pub sessions: u64,
 }
 
 /// The rule of the table: at most one seat holds the volume.
 pub struct OneHolder;
 
-impl TableRule<Option<Stock>, Knowledge, Start> for OneHolder {
+impl TableRule<Option<Stock>, Knowledge, TableStart> for OneHolder {
     ghost holds = { Locked };
 
     ghost first = { first_knowledge };
@@ -48,10 +48,10 @@ impl TableRule<Option<Stock>, Knowledge, Start> for OneHolder {
 
 /// The table as threads see it. Its one word is 1 while a seat holds the volume; otherwise the volume is in
 /// its one slot.
-pub(crate) type Lock = Shared<Option<Stock>, Knowledge, Start, OneHolder>;
+pub(crate) type Lock = Shared<Option<Stock>, Knowledge, TableStart, OneHolder>;
 
 /// A session's seat at the table.
-pub(crate) type Place = Seat<Option<Stock>, Knowledge>;
+pub(crate) type SessionSeat = Seat<Option<Stock>, Knowledge>;
 
 /// An attempt to take the volume.
 pub(crate) struct Try;

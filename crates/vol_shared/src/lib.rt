@@ -18,5 +18,5 @@ mod watching;
 pub use closed::Closed;
 pub use session::Session;
 pub use shared::{MOST_SESSIONS, OpenFault, Shared};
-pub use vol_receipts::{Asked, ConfirmFault, Confirmed, Finding, Outcome, Receipt, find_all};
+pub use vol_receipts::{Asked, ConfirmFault, Confirmed, Outcome, Receipt, ReceiptStatus, find_all};
 pub use vol_views::{MOST_VIEWS, View, ViewFault};

@@ -2,7 +2,7 @@
 ghost use Rattle.std.specs.Prelude.{◌≡◌, ◌<◌, [], ◌∷◌, None, IfSome, IfNone, true, false};
 ghost use Rattle.vol_shared.specs.Plays.{Event, Took, MayGive, gave};
 
-use crate::knowledge::{Give, Lock, Place, Telling, Try};
+use crate::knowledge::{Give, Lock, SessionSeat, Telling, Try};
 use crate::stock::Stock;
 use std::marker::Brand;
 use std::sync::Wait;
@@ -10,7 +10,7 @@ use std::thread;
 use vol_receipts::Receipt;
 
 /// Takes the volume, waiting until no other seat holds it.
-pub(crate) fn take<R: Wait>(rt: &R, lock: &Lock, place: &mut Place) -> Stock
+pub(crate) fn take<R: Wait>(rt: &R, lock: &Lock, place: &mut SessionSeat) -> Stock
     requires own { place.old.table_id ≡ lock.now.table_id }
     requires words { lock.now.table_id.words ≡ 1 }
     requires slots { lock.now.table_id.slots ≡ 1 }
@@ -30,7 +30,7 @@ pub(crate) fn take<R: Wait>(rt: &R, lock: &Lock, place: &mut Place) -> Stock
 }
 
 /// Takes the volume, or returns `None` and changes nothing if another seat holds it.
-fn try_take(lock: &Lock, place: &mut Place) -> Option<Stock>
+fn try_take(lock: &Lock, place: &mut SessionSeat) -> Option<Stock>
     requires own { place.old.table_id ≡ lock.now.table_id }
     requires words { lock.now.table_id.words ≡ 1 }
     requires slots { lock.now.table_id.slots ≡ 1 }
@@ -48,7 +48,7 @@ fn try_take(lock: &Lock, place: &mut Place) -> Option<Stock>
 }
 
 /// Gives the volume back, with the result of the work on it.
-fn give<J: Telling>(lock: &Lock, place: &mut Place, stock: Stock)
+fn give<J: Telling>(lock: &Lock, place: &mut SessionSeat, stock: Stock)
     requires own { place.old.table_id ≡ lock.now.table_id }
     requires words { lock.now.table_id.words ≡ 1 }
     requires slots { lock.now.table_id.slots ≡ 1 }
@@ -74,7 +74,7 @@ fn expect_none<T>(slot: Option<T>)
 }
 
 /// Gives the volume back as it was.
-pub(crate) fn give_back(lock: &Lock, mut place: Place, stock: Stock) -> Place
+pub(crate) fn give_back(lock: &Lock, mut place: SessionSeat, stock: Stock) -> SessionSeat
     requires own { place.table_id ≡ lock.now.table_id }
     requires words { lock.now.table_id.words ≡ 1 }
     requires slots { lock.now.table_id.slots ≡ 1 }
@@ -90,7 +90,12 @@ pub(crate) fn give_back(lock: &Lock, mut place: Place, stock: Stock) -> Place
 }
 
 /// Gives the volume back with a receipt.
-pub(crate) fn give_answered(lock: &Lock, mut place: Place, stock: Stock, receipt: &Receipt) -> Place
+pub(crate) fn give_answered(
+    lock: &Lock,
+    mut place: SessionSeat,
+    stock: Stock,
+    receipt: &Receipt,
+) -> SessionSeat
     requires own { place.table_id ≡ lock.now.table_id }
     requires words { lock.now.table_id.words ≡ 1 }
     requires slots { lock.now.table_id.slots ≡ 1 }
@@ -106,7 +111,7 @@ pub(crate) fn give_answered(lock: &Lock, mut place: Place, stock: Stock, receipt
 }
 
 /// Gives the volume back with a receipt, whose event the caller names.
-fn give_as<J: Telling>(lock: &Lock, place: &mut Place, stock: Stock, receipt: &Receipt)
+fn give_as<J: Telling>(lock: &Lock, place: &mut SessionSeat, stock: Stock, receipt: &Receipt)
     requires own { place.old.table_id ≡ lock.now.table_id }
     requires words { lock.now.table_id.words ≡ 1 }
     requires slots { lock.now.table_id.slots ≡ 1 }
@@ -124,7 +129,7 @@ fn give_as<J: Telling>(lock: &Lock, place: &mut Place, stock: Stock, receipt: &R
 }
 
 /// Gives the volume back with its journal cut.
-pub(crate) fn give_cut(lock: &Lock, mut place: Place, stock: Stock) -> Place
+pub(crate) fn give_cut(lock: &Lock, mut place: SessionSeat, stock: Stock) -> SessionSeat
     requires own { place.table_id ≡ lock.now.table_id }
     requires words { lock.now.table_id.words ≡ 1 }
     requires slots { lock.now.table_id.slots ≡ 1 }

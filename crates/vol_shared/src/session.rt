@@ -4,7 +4,7 @@ ghost use Rattle.vol_receipts.specs.Agrees.{place_of, next_of};
 ghost use Rattle.vol_shared.specs.Plays.{Took};
 ghost use Rattle.vol_shared.specs.Sessions.{knowledge_of};
 
-use crate::knowledge::{Knowledge, Lock, Place};
+use crate::knowledge::{Knowledge, Lock, SessionSeat};
 use crate::lock::take;
 use crate::stock::Stock;
 use atomic_table::Badge;
@@ -12,7 +12,7 @@ use std::marker::Model;
 use std::mem::replace;
 use std::sync::Wait;
 use vol_receipts::{Outcome, Receipt};
-use vol_views::{Informed, Told};
+use vol_views::{Informed, LogPrefix};
 
 /// A session on a shared volume, for one thread at a time. It keeps the least number that its next receipt
 /// may have and the number of its accepted calls. If the volume has views, it also keeps the log prefix that
@@ -22,7 +22,7 @@ pub struct Session {
     pub(crate) badge: Badge<Knowledge>,
     pub(crate) next: u64,
     pub(crate) count: u64,
-    pub(crate) told: Option<Told>,
+    pub(crate) told: Option<LogPrefix>,
 }
 
 impl Model for Session {
@@ -40,7 +40,7 @@ impl Informed for Session {
 
     ghost next = { λ s. s.next };
 
-    fn told(&self) -> Option<Told> {
+    fn told(&self) -> Option<LogPrefix> {
         match &self.told {
             Some(told) => Some(told.again()),
             None => None,
@@ -50,7 +50,11 @@ impl Informed for Session {
 
 /// Takes the volume for a session. The session's badge is replaced by its seat until the volume is given
 /// back.
-pub(crate) fn enter<R: Wait>(rt: &R, lock: &Lock, badge: &mut Badge<Knowledge>) -> (Place, Stock)
+pub(crate) fn enter<R: Wait>(
+    rt: &R,
+    lock: &Lock,
+    badge: &mut Badge<Knowledge>,
+) -> (SessionSeat, Stock)
     requires own { badge.old.table_id ≡ lock.now.table_id }
     requires words { lock.now.table_id.words ≡ 1 }
     requires slots { lock.now.table_id.slots ≡ 1 }

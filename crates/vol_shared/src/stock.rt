@@ -12,14 +12,14 @@ ghost use Rattle.vol_shared.specs.Stored.{stored_of, stored_with, unpublished, n
 ghost use Rattle.vol_shared.specs.Plays.{IsAnswered};
 ghost use Rattle.vol_shared.specs.Published.{IsPublished};
 
-use crate::kept::Kept;
+use crate::kept::LockedVolume;
 use crate::publishing::change_published;
 use std::alloc::{AllocError, Global};
 use std::marker::Model;
 use std::snapshot::Snapshot;
 use std::sync::Wait;
 use vol_receipts::{Receipt, change, reply};
-use vol_views::{Publisher, Told};
+use vol_views::{LogPrefix, Publisher};
 use vol_volume::{Call, Query, Volume};
 
 /// The contents of the lock: the volume and, if it has views, the publisher of its records. The next record's
@@ -79,26 +79,26 @@ impl Stock {
     }
 
     /// Returns a snapshot of it, for contracts alone.
-    pub(crate) fn kept(&self) -> Kept
+    pub(crate) fn kept(&self) -> LockedVolume
         ensures { result ≡ self.now }
     {
         let front = match &self.publisher {
             Some(publisher) => Some(publisher.front()),
             None => None,
         };
-        Kept {
+        LockedVolume {
             volume: Snapshot::of(&self.volume),
             front,
         }
     }
 
     /// Returns the progress for a session to keep: all that is published, if anything is.
-    pub(crate) fn told(&self) -> Option<Told>
+    pub(crate) fn told(&self) -> Option<LogPrefix>
         ensures book { book_in result ≡ self.now.book }
         ensures number { IfSome result (λ told. number_of told.log ≡ next_number self.now) }
     {
         match &self.publisher {
-            Some(publisher) => Some(Told::of(publisher)),
+            Some(publisher) => Some(LogPrefix::of(publisher)),
             None => None,
         }
     }

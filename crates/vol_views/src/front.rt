@@ -7,11 +7,11 @@ use std::marker::Model;
 
 /// A prefix of a volume's log that was observed; the log always extends it. It has no size at run time.
 #[derive(Drop)]
-pub struct Front {
+pub struct SeenPrefix {
     pub(crate) seen: Beginning,
 }
 
-impl Model for Front {
+impl Model for SeenPrefix {
     ghost use Rattle.vol_views.specs.History.{Reached};
 
     ghost Value = { Reached };
@@ -19,18 +19,18 @@ impl Model for Front {
     ghost view = { λ f. record { book = f.seen.book; log = f.seen.log } };
 }
 
-impl Front {
+impl SeenPrefix {
     /// Returns a copy.
-    pub fn again(&self) -> Front
+    pub fn again(&self) -> SeenPrefix
         ensures { result ≡ self.now }
     {
-        Front {
+        SeenPrefix {
             seen: self.seen.again(),
         }
     }
 
     /// Does nothing; its contract says that of two prefixes of one log, one is a prefix of the other.
-    pub fn in_line(&self, other: &Front)
+    pub fn in_line(&self, other: &SeenPrefix)
         requires { other.now.book ≡ self.now.book }
         ensures { IsPrefix self.now.log other.now.log ⊎ IsPrefix other.now.log self.now.log }
     {

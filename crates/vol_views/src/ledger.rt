@@ -4,7 +4,7 @@ ghost use mathlib.Core.List.{IsPrefix};
 ghost use Rattle.vol_views.specs.LogRule.{first_log};
 ghost use Rattle.vol_views.specs.declared.history.LogEntry.TheVariants.{Made};
 
-use crate::front::Front;
+use crate::front::SeenPrefix;
 use crate::history::LogEntry;
 use crate::log_rule::{Append, Begin, Beginning, Compare, Head, Nothing, OneOwner};
 use crate::pens::new_pen;
@@ -108,16 +108,16 @@ impl Ledger {
     }
 
     /// Returns the whole log as a prefix.
-    pub fn front(&self) -> Front
+    pub fn front(&self) -> SeenPrefix
         ensures { result ≡ self.now }
     {
-        Front {
+        SeenPrefix {
             seen: self.seen.again(),
         }
     }
 
     /// Does nothing; its contract says that the whole log extends each of its prefixes.
-    pub fn covers(&mut self, front: &Front)
+    pub fn covers(&mut self, front: &SeenPrefix)
         requires { front.now.book ≡ self.old.book }
         ensures same { self.new ≡ self.old }
         ensures covers { IsPrefix front.now.log self.old.log }

@@ -19,12 +19,12 @@ pub mod told;
 pub mod version;
 pub mod view;
 
-pub use front::Front;
+pub use front::SeenPrefix;
 pub use history::LogEntry;
 pub use ledger::{Ledger, Permit};
 pub use published::{Operation, Published};
 pub use publisher::Publisher;
 pub use subscriber::{Answered, Subscriber};
-pub use told::{Informed, Told};
+pub use told::{Informed, LogPrefix};
 pub use version::Version;
 pub use view::{MOST_VIEWS, View, ViewFault};

@@ -2,7 +2,7 @@
 ghost use Rattle.std.specs.Prelude.{◌≡◌, ◌++◌};
 ghost use Rattle.vol_views.specs.Absorbing.{entries_of};
 
-use crate::front::Front;
+use crate::front::SeenPrefix;
 use crate::version::Version;
 use left_right::Absorb;
 use std::alloc::AllocError;
@@ -16,7 +16,7 @@ pub struct Published {
     /// The number of records that it reflects, including those that were cut.
     pub at: u64,
     /// The log prefix that it reflects.
-    pub front: Front,
+    pub front: SeenPrefix,
 }
 
 /// An operation on the published version: a record to apply, if any, and the number and the prefix that go
@@ -28,7 +28,7 @@ pub struct Operation {
     /// The number of records that the result reflects, including those that were cut.
     pub at: u64,
     /// The log prefix that the result reflects.
-    pub front: Front,
+    pub front: SeenPrefix,
 }
 
 impl Absorb<Operation> for Published {

@@ -1,5 +1,5 @@
 //! The invariant of the published version and its readers, and the effect of each step.
-use crate::front::Front;
+use crate::front::SeenPrefix;
 use crate::published::{Operation, Published};
 use atomic_table::{Join, Split};
 use crossbeam_utils::rule::{Outcome, Protocol};
@@ -8,7 +8,7 @@ use left_right::writer::Writer;
 /// The rule: the published version is right, and its log extends the prefix that each reader knows.
 pub struct OneHistory;
 
-impl Protocol<Published, Front> for OneHistory {
+impl Protocol<Published, SeenPrefix> for OneHistory {
     ghost use Rattle.vol_views.specs.PublishedRule.{Holds, nothing_reached};
 
     ghost holds = { Holds };
@@ -17,12 +17,12 @@ impl Protocol<Published, Front> for OneHistory {
 }
 
 /// The two copies of the published version, as their owner holds them.
-pub(crate) type Copies = Writer<Published, Operation, Front, OneHistory>;
+pub(crate) type Copies = Writer<Published, Operation, SeenPrefix, OneHistory>;
 
 /// Shows the next version.
 pub(crate) struct Show;
 
-impl Outcome<Published, Front> for Show {
+impl Outcome<Published, SeenPrefix> for Show {
     ghost use Rattle.std.specs.Prelude.{◌≡◌};
 
     ghost then = { λ before shown next after. after ≡ next.front };
@@ -31,7 +31,7 @@ impl Outcome<Published, Front> for Show {
 /// Enters the published version to read it.
 pub(crate) struct Enter;
 
-impl Outcome<Published, Front> for Enter {
+impl Outcome<Published, SeenPrefix> for Enter {
     ghost use Rattle.vol_views.specs.PublishedRule.{Enters};
 
     ghost then = { Enters };
@@ -40,7 +40,7 @@ impl Outcome<Published, Front> for Enter {
 /// Tells a reader the log that the owner knows.
 pub(crate) struct Tell;
 
-impl Split<Front> for Tell {
+impl Split<SeenPrefix> for Tell {
     ghost left = { λ known. known };
 
     ghost right = { λ known. known };
@@ -49,7 +49,7 @@ impl Split<Front> for Tell {
 /// Makes a reader know the prefix reported to it.
 pub(crate) struct Learn;
 
-impl Join<Front> for Learn {
+impl Join<SeenPrefix> for Learn {
     ghost use Rattle.vol_views.specs.PublishedRule.{nothing_reached};
 
     ghost both = { λ known told. told };

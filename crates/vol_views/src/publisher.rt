@@ -9,7 +9,7 @@ ghost use Rattle.vol_views.specs.States.{state_of};
 ghost use Rattle.vol_views.specs.Absorbing.{empty_operation};
 ghost use Rattle.vol_views.specs.Logs.{history_of, origin_in, number_of};
 
-use crate::front::Front;
+use crate::front::SeenPrefix;
 use crate::ledger::{Ledger, Permit};
 use crate::published::{Operation, Published};
 use crate::published_rule::{Copies, Learn, Tell};
@@ -135,14 +135,14 @@ impl Publisher {
     }
 
     /// Returns the whole log as a prefix.
-    pub fn front(&self) -> Front
+    pub fn front(&self) -> SeenPrefix
         ensures { result ≡ self.now }
     {
         self.ledger.front()
     }
 
     /// Does nothing; its contract says that the whole log extends each of its prefixes.
-    pub fn covers(&mut self, front: &Front)
+    pub fn covers(&mut self, front: &SeenPrefix)
         requires { front.now.book ≡ self.old.book }
         ensures same { self.new ≡ self.old }
         ensures covers { IsPrefix front.now.log self.old.log }

@@ -7,7 +7,7 @@ ghost use Rattle.vol_receipts.specs.Agrees.{start};
 ghost use Rattle.vol_views.specs.Logs.{history_of, origin_in, number_of};
 ghost use Rattle.vol_views.specs.PublishedRule.{IsRight};
 
-use crate::front::Front;
+use crate::front::SeenPrefix;
 use crate::published::Published;
 use crate::published_rule::{Enter, OneHistory};
 use left_right::reader::Reader;
@@ -20,7 +20,7 @@ use vol_volume::{Query, Reply};
 /// read or was told.
 #[derive(Drop)]
 pub struct Subscriber {
-    pub(crate) reader: Reader<Published, Front, OneHistory>,
+    pub(crate) reader: Reader<Published, SeenPrefix, OneHistory>,
 }
 
 impl Model for Subscriber {
@@ -40,7 +40,7 @@ pub struct Answered {
     /// The number of records that the answer reflects, including those that were cut.
     pub at: u64,
     /// The log prefix of those records.
-    pub front: Front,
+    pub front: SeenPrefix,
     /// The reply or the refusal.
     pub reply: Result<Reply, Refusal>,
 }

@@ -3,19 +3,19 @@ ghost use Rattle.std.specs.Prelude.{◌≡◌, ◌≤◌, IfSome};
 ghost use Rattle.vol_views.specs.Logs.{number_of};
 ghost use Rattle.vol_views.specs.Views.{GoesOn, book_in};
 
-use crate::front::Front;
+use crate::front::SeenPrefix;
 use crate::publisher::Publisher;
 use std::marker::Model;
 
 /// A non-empty prefix of a volume's log, and the number of the next record after it. Contracts see the
 /// prefix.
 #[derive(Drop)]
-pub struct Told {
-    pub(crate) front: Front,
+pub struct LogPrefix {
+    pub(crate) front: SeenPrefix,
     pub(crate) at: u64,
 }
 
-impl Model for Told {
+impl Model for LogPrefix {
     ghost use Rattle.std.specs.Prelude.{◌≡◌, ◌≢◌, []};
     ghost use Rattle.vol_views.specs.History.{Reached};
     ghost use Rattle.vol_views.specs.Logs.{number_of};
@@ -27,23 +27,23 @@ impl Model for Told {
     ghost invariant = { λ t. (t.at ≡ number_of t.front.log) × (t.front.log ≢ []) };
 }
 
-impl Told {
+impl LogPrefix {
     /// Returns the publisher's whole log.
-    pub fn of(publisher: &Publisher) -> Told
+    pub fn of(publisher: &Publisher) -> LogPrefix
         ensures { result ≡ publisher.now }
     {
         publisher.check();
-        Told {
+        LogPrefix {
             front: publisher.front(),
             at: publisher.next_record(),
         }
     }
 
     /// Returns a copy.
-    pub fn again(&self) -> Told
+    pub fn again(&self) -> LogPrefix
         ensures { result ≡ self.now }
     {
-        Told {
+        LogPrefix {
             front: self.front.again(),
             at: self.at,
         }
@@ -51,7 +51,7 @@ impl Told {
 
     /// Does nothing; its contract says that of two prefixes of one log, the one with the greater number
     /// extends the other.
-    pub(crate) fn goes_on(&self, later: &Told)
+    pub(crate) fn goes_on(&self, later: &LogPrefix)
         requires book { later.now.book ≡ self.now.book }
         requires later { number_of self.now.log ≤ number_of later.now.log }
         ensures { GoesOn self.now.log later.now.log }
@@ -86,7 +86,7 @@ pub trait Informed {
     ghost next: { Self → ℕ };
 
     /// Returns the last prefix that was told, if any: one of the volume's log, up to a number.
-    fn told(&self) -> Option<Told>
+    fn told(&self) -> Option<LogPrefix>
         ensures book { book_in result ≡ Self.book self.now }
         ensures next { IfSome result (λ told. number_of told.log ≡ Self.next self.now) };
 }

@@ -11,7 +11,7 @@ ghost use Rattle.vol_views.specs.Views.{GoesOn, Sees, IsNew, AgreesIn};
 use crate::ghost_list::{GhostList, Itself, empty, longer};
 use crate::publisher::Publisher;
 use crate::subscriber::{Answered, Subscriber};
-use crate::told::{Informed, Told};
+use crate::told::{Informed, LogPrefix};
 use std::alloc::Global;
 use std::marker::Model;
 use thiserror::Error;
@@ -28,7 +28,7 @@ pub const MOST_VIEWS: usize = 16;
 #[derive(Drop)]
 pub struct View {
     subscriber: Option<Subscriber>,
-    known: Told,
+    known: LogPrefix,
     notes: GhostList<Receipt>,
 }
 
@@ -69,7 +69,7 @@ impl View {
         let subscriber = publisher.subscriber()?;
         Some(View {
             subscriber: Some(subscriber),
-            known: Told::of(publisher),
+            known: LogPrefix::of(publisher),
             notes: empty(),
         })
     }
@@ -126,7 +126,7 @@ impl View {
         if at < self.known.at {
             return Err((ViewFault::NotEntered, query));
         }
-        self.know(Told { front, at });
+        self.know(LogPrefix { front, at });
         let outcome = match reply {
             Ok(reply) => Outcome::Answered(reply),
             Err(Refusal::NoMemory) => return Err((ViewFault::NoMemory, query)),
@@ -151,7 +151,7 @@ impl View {
     }
 
     /// Advances to a log prefix that isn't older than the known one.
-    fn know(&mut self, told: Told)
+    fn know(&mut self, told: LogPrefix)
         requires book { told.book ≡ self.old.book }
         requires later { number_of self.old.log ≤ number_of told.log }
         ensures book { self.new.book ≡ self.old.book }
@@ -183,7 +183,7 @@ impl View {
     }
 
     /// Advances to a reported log prefix, if it is newer.
-    fn learn_told(&mut self, told: Told)
+    fn learn_told(&mut self, told: LogPrefix)
         requires { told.book ≡ self.old.book }
         ensures book { self.new.book ≡ self.old.book }
         ensures receipts { self.new.receipts ≡ self.old.receipts }

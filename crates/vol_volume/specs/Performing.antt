@@ -17,7 +17,7 @@ use Rattle.vol_volume.specs.declared.calls.Call.TheVariants.{Create, Mkdir, Link
 use Rattle.vol_volume.specs.declared.calls.Done.{Done}
 use Rattle.vol_volume.specs.declared.calls.Done.TheVariants.{Made, Wrote, Plain}
 use Rattle.vol_volume.specs.declared.steps.Caller.{Caller}
-use Rattle.vol_volume.specs.declared.steps.found.Place.{Place}
+use Rattle.vol_volume.specs.declared.steps.found.EntryPlace.{EntryPlace}
 
 -- a path leads to directory d and a last name (Lions on namei)
 pub record LeadsToParent (geometry : Geometry) (image : List ℕ) (cred : Cred) (path : List ℕ) (d : ℕ) (name : List ℕ) : Type 0 where
@@ -32,7 +32,7 @@ pub record LeadsToNode (geometry : Geometry) (image : List ℕ) (cred : Cred) (p
   pub used : IsInUse geometry image i
 
 -- the slot of a new entry of directory d, and the number of blocks that it needs (Lions on wdir)
-pub record IsEntryPlace (geometry : Geometry) (image : List ℕ) (d : ℕ) (place : Place) : Type 0 where
+pub record IsEntryPlace (geometry : Geometry) (image : List ℕ) (d : ℕ) (place : EntryPlace) : Type 0 where
   pub slot : place.slot ≡ new_slot (shapes geometry image d).slots
   pub needed : place.needed ≡ entry_need (state geometry image) d
 

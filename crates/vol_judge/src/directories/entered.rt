@@ -10,7 +10,7 @@ ghost use Rattle.vol_judge.specs.Stepping.{rank, IsNextSlot};
 ghost use Rattle.vol_judge.specs.Tree.{NotesParentsBefore, NotesParents, KnowsParents, HasOnceBefore, IsEnteredAgain};
 
 use crate::finding::Finding;
-use crate::reading::{Entry, Place, is_directory, marks_for, next_entry};
+use crate::reading::{EntryAt, EntryPosition, is_directory, marks_for, next_entry};
 use pdp_words::Image;
 use std::alloc::{AllocError, Global};
 use vol_layout::Geometry;
@@ -67,7 +67,7 @@ fn note_entries(
     let mut parents = vec![in alloc; None; geometry.last_inode as usize + 1]?;
     let mut counts = vec![in alloc; 0; geometry.last_inode as usize + 1]?;
     let mut again = None;
-    let mut place = Place::first();
+    let mut place = EntryPosition::first();
     while let Some(entry) = next_entry(image, geometry, place, marks) {
         let found = note_parent(image, geometry, &entry, ups, &mut parents);
         again = first_of(again, found);
@@ -100,7 +100,7 @@ fn first_of(first: Option<Finding>, second: Option<Finding>) -> Option<Finding>
 fn note_parent(
     image: &Image,
     geometry: &Geometry,
-    entry: &Entry,
+    entry: &EntryAt,
     ups: &[Option<u16>],
     parents: &mut [Option<u16>],
 ) -> Option<Finding>

@@ -13,7 +13,7 @@ use crate::calls::{Call, Done};
 use crate::steps::asked::{
     entry_need, find_parent, free_number, is_granted, is_too_great_with_entry, refuse_if, vacant,
 };
-use crate::steps::found::{NewEntry, Place};
+use crate::steps::found::{EntryPlace, NewEntry};
 use crate::steps::{Performed, ready_stands};
 use pdp_words::Image;
 use vol_change::NewNode;
@@ -29,7 +29,7 @@ fn create_tests(
     cred: Cred,
     dir: u16,
     name: &[u8],
-) -> Result<(Place, u16), Refusal>
+) -> Result<(EntryPlace, u16), Refusal>
     requires stands { Rules3To7And9 geometry.now image.now }
     requires count { free ≡ free_in (state geometry.now image.now) }
     requires directory { IsDirectory geometry.now image.now dir }
@@ -49,7 +49,7 @@ fn create_tests(
     let number = free_number(image, geometry)?;
     let needed = entry_need(image, geometry, dir, slot);
     refuse_if(free < needed, Refusal::NoSpace)?;
-    Ok((Place { slot, needed }, number))
+    Ok((EntryPlace { slot, needed }, number))
 }
 
 /// Checks the call; returns the new entry and its i-number, or the first refusal that applies.

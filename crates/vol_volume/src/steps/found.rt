@@ -3,7 +3,7 @@ use vol_dir::Entry;
 
 /// The place of a new entry in its directory.
 #[derive(Clone, Copy, Debug)]
-pub(crate) struct Place {
+pub(crate) struct EntryPlace {
     /// The slot, counted from 0.
     pub slot: u32,
     /// The number of blocks that the entry needs.
@@ -18,7 +18,7 @@ pub(crate) struct NewEntry<'a> {
     /// The name, which the directory doesn't have yet.
     pub name: &'a [u8],
     /// The place of the entry.
-    pub place: Place,
+    pub place: EntryPlace,
 }
 
 /// An entry to remove.

@@ -14,7 +14,7 @@ use crate::steps::asked::{
     entry_need, first_tests, has_zero, is_directory, is_full, is_granted, is_too_great_with_entry,
     parent, refuse_if, vacant,
 };
-use crate::steps::found::{NewEntry, Place};
+use crate::steps::found::{EntryPlace, NewEntry};
 use crate::steps::{Caller, Performed, ready_stands};
 use pdp_words::Image;
 use vol_dir::{Access, Cred, Refusal, walk};
@@ -30,7 +30,7 @@ fn link_tests(
     i: u16,
     dir: u16,
     name: &[u8],
-) -> Result<Place, Refusal>
+) -> Result<EntryPlace, Refusal>
     requires stands { Rules3To7And9 geometry.now image.now }
     requires count { free ≡ free_in (state geometry.now image.now) }
     requires used { IsInUse geometry.now image.now i }
@@ -50,7 +50,7 @@ fn link_tests(
     )?;
     let needed = entry_need(image, geometry, dir, slot);
     refuse_if(free < needed, Refusal::NoSpace)?;
-    Ok(Place { slot, needed })
+    Ok(EntryPlace { slot, needed })
 }
 
 /// Checks that i-node `i`, which is in use, may get another name; returns the new entry.

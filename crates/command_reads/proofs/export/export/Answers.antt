@@ -1,7 +1,7 @@
 use Rattle.std.proofs.Common.{List, ℕ, Option, Result, refl, subst, ◌∙◌}
 use Rattle.std.proofs.KnownBytes.{Keeps-refl}
 use Rattle.vol_archive.specs.Exporting.{start_of}
-use Rattle.vol_archive.specs.declared.exporting.Start.{Start}
+use Rattle.vol_archive.specs.declared.exporting.ExportStart.{ExportStart}
 use Rattle.vol_archive.specs.declared.exporting.StartFault.{StartFault}
 use Rattle.command_faults.specs.Streams.{Hears, Streams, streams}
 use Rattle.command_faults.specs.declared.fault.Fault.{Fault}
@@ -13,14 +13,14 @@ pub returns-in-Ok : goal.returns-in-Ok
 returns-in-Ok g c errors hears =
     let start = c.in-Ok.start in
     let both : Streams = streams g.O.Sink.contents g.O.Sink.failed c.args.output.now c.export_to.new.output errors in
-    subst (λ (s : Result Start StartFault). ExportsFrom c.args.edition c.args.image.items c.args.screen both c.export_to.result.status s)
+    subst (λ (s : Result ExportStart StartFault). ExportsFrom c.args.edition c.args.image.items c.args.screen both c.export_to.result.status s)
     (c.in-Ok.ensures.exact ∙ (λ i. start_of c.args.edition (c.from_bytes-image.ensures i) (c.as_bytes.ensures.value i)))
     (subst (λ (image : List ℕ). ExportsTo c.args.edition image start both c.export_to.result.status c.args.screen) c.from_bytes-image.ensures (c.export_to.ensures errors hears))
 
 pub returns : goal.returns
 returns g c errors hears =
     let both : Streams = streams g.O.Sink.contents g.O.Sink.failed c.args.output.now c.args.output.now errors in
-    subst (λ (s : Result Start StartFault). ExportsFrom c.args.edition c.args.image.items c.args.screen both c.from.result.status s)
+    subst (λ (s : Result ExportStart StartFault). ExportsFrom c.args.edition c.args.image.items c.args.screen both c.from.result.status s)
     (c.in-Err.ensures.exact ∙ (λ i. start_of c.args.edition (c.from_bytes-image.ensures i) (c.as_bytes.ensures.value i)))
     (subst (λ (f : Fault). IsTold both f c.from.result.status) c.unstarted.ensures (record {
       status = c.from.ensures.0;

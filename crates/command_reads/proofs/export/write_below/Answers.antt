@@ -2,7 +2,7 @@ use Rattle.std.proofs.Common.{◌≡◌, ◌⊎◌, List, true, sym, subst}
 use Rattle.std.specs.Io.KnownBytes.{Appends}
 use Rattle.pdp_words.specs.Devices.{AppendsFront}
 use Rattle.vol_archive.specs.Members.{archive_bytes}
-use Rattle.vol_archive.specs.declared.found.Found.{Found}
+use Rattle.vol_archive.specs.declared.found.MetEntry.{MetEntry}
 use Rattle.command_faults.specs.Faults.{no_memory}
 use Rattle.command_faults.specs.declared.fault.Fault.{Fault}
 use Rattle.command_faults.specs.declared.fault.Fault.TheVariants as faults
@@ -28,9 +28,9 @@ returns-in-Ok g c =
     record {
       founds = c.in_ok-founds.founds.items;
       walk = c.in_ok-founds.ensures;
-      bytes = subst (λ (fs : List Found). Appends old new (archive_bytes c.args.start.now.geometry c.args.image.now fs)) c.deref-2.ensures.value c.in-Ok.ensures.0;
+      bytes = subst (λ (fs : List MetEntry). Appends old new (archive_bytes c.args.start.now.geometry c.args.image.now fs)) c.deref-2.ensures.value c.in-Ok.ensures.0;
       working = c.in-Ok.ensures.1;
-      told = subst (λ (fs : List Found). TellsAll c.args.edition c.args.image.now c.args.start.now.geometry fs c.in_ok-remarks.remarks.lines.items) c.deref.ensures.value
+      told = subst (λ (fs : List MetEntry). TellsAll c.args.edition c.args.image.now c.args.start.now.geometry fs c.in_ok-remarks.remarks.lines.items) c.deref.ensures.value
           c.in_ok-remarks.ensures;
     }
 
@@ -42,7 +42,7 @@ returns g c =
     let cut = c.in-Err.ensures in
     IsUnwritten.midway c.in_ok-founds.founds.items c.in_ok-founds.ensures (
       cut.count,
-      subst (λ (fs : List Found). AppendsFront old new (archive_bytes c.args.start.now.geometry c.args.image.now fs) cut.count) c.deref-2.ensures.value cut.front,
+      subst (λ (fs : List MetEntry). AppendsFront old new (archive_bytes c.args.start.now.geometry c.args.image.now fs) cut.count) c.deref-2.ensures.value cut.front,
     )
     (subst (λ (f : Fault). (f ≡ no_memory) ⊎ ((f ≡ faults.Output) × (after ≡ true))) (sym c.unwritten.ensures)
     (unwritten_cause c.in-Err.fault after cut.cause))

@@ -1,7 +1,7 @@
 use Rattle.std.proofs.Common.{◌≡◌, ℕ, ◌+◌, ◌-◌, ◌/◌, ◌≤◌, ◌∙◌, ap, sym, refl, arith, rules, List, Bool, if◌then◌else◌}
 use Rattle.vol_layout.specs.Names.{form_at}
 use Rattle.vol_layout.specs.Places.{form_of}
-use Rattle.vol_layout.specs.declared.block_map.Form.{Form}
+use Rattle.vol_layout.specs.declared.block_map.BlockMap.{BlockMap}
 use Rattle.vol_file.specs.Shape.{is_named, touched}
 use Rattle.vol_file.specs.Need.{need_of}
 use Rattle.vol_file.specs.Missing.{missing_from, grows_at, grown_form, grown_names}
@@ -15,7 +15,7 @@ returns-then-len-eq0 c =
     sym (ap (λ n. need_of form names (touched c.args.offset n)) c.if-len-eq0.true ∙ need_nothing form names)
 
 -- the count and the block for the addresses, if the form is known by an equation
-summed : (form at : Form) (names : List ℕ → Bool) (grows : Bool) (offset len last missing one : ℕ) → form ≡ at → 1 ≤ len
+summed : (form at : BlockMap) (names : List ℕ → Bool) (grows : Bool) (offset len last missing one : ℕ) → form ≡ at → 1 ≤ len
     → last ≡ (offset + (len - 1)) / 512 → grows ≡ grows_at form last → one ≡ (if grows then 1 else 0)
     → missing ≡ missing_from (grown_form form grows) (grown_names names grows) (offset / 512) (last + 1 - offset / 512)
     → missing + one ≡ need_of at names (touched offset len)

@@ -4,7 +4,7 @@ use Rattle.vol_layout.specs.declared.edition.Constants.{Constants}
 use Rattle.vol_layout.specs.Names.{pointer_in, stored}
 use Rattle.vol_file.specs.Holes.{direct_count}
 use Rattle.vol_file.specs.Runs.{number_from}
-use Rattle.vol_file.specs.declared.runs.Source.TheVariants.{Inode}
+use Rattle.vol_file.specs.declared.runs.PointerRun.TheVariants.{Inode}
 use Rattle.vol_file.proofs.Indexes.{way_address, way_entry}
 use Rattle.vol_file.proofs.Subtrees.{stored_direct, hole_past, few_entries, few_pointers, low_block}
 use Rattle.vol_file.proofs.RunLaws.{deep_way, stored_behind, few_direct}

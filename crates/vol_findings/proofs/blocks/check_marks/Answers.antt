@@ -10,7 +10,7 @@ use Rattle.vol_judge.specs.Sound.{IsFreeApart}
 use Rattle.vol_judge.specs.declared.free_list.FreeStack.{FreeStack}
 use Rattle.vol_judge.specs.Zones.{IsFirstOutside}
 use Rattle.vol_findings.specs.Outcomes.{Says}
-use Rattle.vol_findings.specs.declared.outcome.Outcome.TheVariants.{Holds}
+use Rattle.vol_findings.specs.declared.outcome.RuleOutcome.TheVariants.{Holds}
 use Rattle.vol_findings.proofs.Telling.{said_as}
 use Rattle.vol_findings.proofs.blocks.check_marks.Goals as goal
 

@@ -2,13 +2,13 @@ use Rattle.std.proofs.Common.{◌++◌, ◌^◌, ◌-◌, List, length}
 use Rattle.std.specs.Prelude.{reverse}
 use Rattle.vol_dir.specs.Tree.{tree}
 use Rattle.vol_listing.specs.Places.{Descends, AllBelow}
-use Rattle.vol_listing.specs.declared.places.Place.{Place}
+use Rattle.vol_listing.specs.declared.places.ListedNode.{ListedNode}
 use Rattle.vol_listing.proofs.places.all_below.Given as goal
 
 -- the places so far, followed by whatever the pending ones give, are all
 abbrev pub invariant-places : goal.invariant-places
 invariant-places l =
-    (rest : List Place) → Descends (tree l.geometry l.image) (reverse l.pending.items) rest
+    (rest : List ListedNode) → Descends (tree l.geometry l.image) (reverse l.pending.items) rest
     → AllBelow (tree l.geometry l.image) l.start (l.places.items ++ rest)
 
 abbrev pub decreases-places : goal.decreases-places

@@ -1,5 +1,5 @@
 use Rattle.std.proofs.Common.{◌∙◌, List, length, arith, ap, sym, subst}
-use Rattle.vol_scripts.specs.declared.steps.Step.{Step}
+use Rattle.vol_scripts.specs.declared.steps.ScriptStep.{ScriptStep}
 use Rattle.vol_shared.specs.Sessions.{Known}
 use Rattle.vol_play.specs.Steps.{CameInTurn, CameOf, known_after, known_after_all}
 use Rattle.vol_play.proofs.StepLaws.{came_end, came_more, known_next, known_of, known_push}
@@ -19,7 +19,7 @@ steps-preserved g c =
           came_more CameOf (CameInTurn CameOf c.args.steps c.args.session.now.next) c.next.new.self.rest.items c.in-Some.step c.steps.session.next c.play_step-came.new.session.next
           c.steps.played.items c.push_reserved.new.self.items came (ap (λ (k : Known). k.next) known ∙ known_next c.steps.session came) c.push_reserved.ensures.items
           c.play_step-came.ensures.came
-          (λ others all. c.steps.invariant.came others (subst (λ (steps : List Step). CameInTurn CameOf steps c.steps.session.next others) (sym left) all));
+          (λ others all. c.steps.invariant.came others (subst (λ (steps : List ScriptStep). CameInTurn CameOf steps c.steps.session.next others) (sym left) all));
       known =
           known ∙ ap (λ (k : Known). known_after k came) c.steps.invariant.known ∙ sym (known_push c.args.session.now c.steps.played.items came)
           ∙ ap (known_after_all c.args.session.now) (sym c.push_reserved.ensures.items);

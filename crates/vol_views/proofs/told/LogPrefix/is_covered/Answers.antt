@@ -3,7 +3,7 @@ use Rattle.vol_views.specs.History.{Reached}
 use Rattle.vol_views.specs.declared.history.LogEntry.{LogEntry}
 use Rattle.vol_views.specs.Views.{GoesOn}
 use Rattle.vol_views.proofs.Views.{goes_on_beginning}
-use Rattle.vol_views.proofs.told.Told.is_covered.Goals as goal
+use Rattle.vol_views.proofs.told.LogPrefix.is_covered.Goals as goal
 
 pub returns-clause-covered : goal.returns-clause-covered
 returns-clause-covered c =

@@ -4,7 +4,7 @@ use Rattle.vol_views.specs.declared.history.LogEntry.{LogEntry}
 use Rattle.vol_views.specs.Logs.{number_of}
 use Rattle.vol_views.specs.Views.{GoesOn}
 use Rattle.vol_views.proofs.Views.{goes_on}
-use Rattle.vol_views.proofs.told.Told.goes_on.Goals as goal
+use Rattle.vol_views.proofs.told.LogPrefix.goes_on.Goals as goal
 
 pub returns : goal.returns
 returns c =

@@ -2,7 +2,7 @@ use Rattle.std.proofs.Common.{ap, subst, List}
 use mathlib.Core.List.{IsPrefix}
 use Rattle.vol_views.specs.declared.history.LogEntry.{LogEntry}
 use Rattle.vol_views.proofs.Beginnings.{prefix_either}
-use Rattle.vol_views.proofs.front.Front.in_line.Goals as goal
+use Rattle.vol_views.proofs.front.SeenPrefix.in_line.Goals as goal
 
 pub returns : goal.returns
 returns c =

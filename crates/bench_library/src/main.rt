@@ -8,10 +8,10 @@
 //! memory ran out or a call was refused.
 #![tactic(auto)]
 
-mod asking;
 mod calls;
 mod checks;
-mod sharing;
+mod queries;
+mod sessions;
 mod views;
 mod volume;
 

@@ -8,8 +8,8 @@
 //! most 4, make COUNT queries each, on threads of their own, and nothing is written. With `calls` one session writes BYTES
 //! bytes of the file COUNT times; without views the volume is opened without publishing. Prints the number of answered
 //! queries or, with `calls`, of accepted calls.
-use crate::asking::new_volume_with_file;
-use crate::sharing::{share, share_published};
+use crate::queries::new_volume_with_file;
+use crate::sessions::{share, share_published};
 use std::alloc::Global;
 use std::sync::Wait;
 use std::thread::Threads;

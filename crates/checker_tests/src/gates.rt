@@ -1,7 +1,7 @@
 // Gates: four workers that work at the same time, and each piece between two calls.
 use crate::fixtures::{SIXTH, check_report, image_of};
 use std::sync::atomic::{AtomicU64, Ordering};
-use vol_check::testing::Meeting;
+use vol_check::test_gate::Meeting;
 use vol_check::{Gate, icheck};
 
 #[test]

@@ -2,7 +2,7 @@
 // on, not on which seat took which piece.
 ghost use Rattle.std.specs.Prelude.{◌≡◌, ◌≤◌, ◌<◌, All, length, vec_len};
 ghost use Rattle.vol_check.specs.Layouts.{IsFor, IsSeatIn, HasSwept, HasSameHead, seat_count};
-ghost use Rattle.vol_check.specs.Stepping.{Ran};
+ghost use Rattle.vol_check.specs.Steps.{Ran};
 ghost use Rattle.checker_tests.specs.Work.{IsAtWork};
 
 use crate::fixtures::{

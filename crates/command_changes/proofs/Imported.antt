@@ -2,7 +2,7 @@
 use Rattle.std.proofs.Common.{◌≡◌, ◌⊎◌, ℕ, List, [], None, Some, Ok, Err, IfOk, IfErr, IfSome, Result, IsSome, Option, is_some, false, true≢false, inl, inr, refl, sym, subst, ◌∙◌, arith}
 use Rattle.std.specs.Global.{Vec}
 use Rattle.vol_import.specs.MadeMembers.{HasArchive}
-use Rattle.vol_import.specs.Making.{Imports, IsReason, calls_to_make}
+use Rattle.vol_import.specs.Make.{Imports, IsReason, calls_to_make}
 use Rattle.vol_import.specs.Members.{members}
 use Rattle.vol_import.proofs.MadeMembers.{archive_had}
 use Rattle.vol_volume.specs.Volume.{reads_as}
@@ -10,8 +10,8 @@ use Rattle.vol_layout.specs.declared.edition.Edition.{Edition}
 use Rattle.vol_volume.specs.declared.calls.Call.{Call}
 use Rattle.vol_import.specs.declared.faults.ArchiveFault.{ArchiveFault}
 use Rattle.vol_import.specs.declared.faults.ArchiveFault.TheVariants as archives
-use Rattle.vol_import.specs.declared.making.ImportFault.{ImportFault}
-use Rattle.vol_import.specs.declared.making.ImportFault.TheVariants as faults
+use Rattle.vol_import.specs.declared.make.ImportFault.{ImportFault}
+use Rattle.vol_import.specs.declared.make.ImportFault.TheVariants as faults
 use Rattle.command_faults.proofs.Concluded.{refusal_fails}
 use Rattle.command_faults.specs.Streams.{ErrorStream, Hears, says}
 use Rattle.command_faults.specs.Faults.{line_after}

@@ -23,11 +23,11 @@ use Rattle.vol_import.specs.MadeMembers.{HasDirectory}
 use Rattle.vol_import.proofs.MadeNames.{LeadsTo}
 use Rattle.vol_import.proofs.MadePaths.{mkdir_gains, walk_answered, stat_answered}
 use Rattle.vol_import.proofs.TreeWalks.{passes_first}
-use Rattle.command_faults.specs.Changing.{Makes}
-use Rattle.command_changes.specs.Finding.{found_by, found_kind, last_name, last_of}
+use Rattle.command_faults.specs.ChangeFaults.{Makes}
+use Rattle.command_changes.specs.Lookup.{found_by, found_kind, last_name, last_of}
 use Rattle.command_changes.specs.Mkdir.{calls_unless, mkdir_all_calls, mkdir_at, mkdir_call, missing_calls, unless_found}
-use Rattle.command_changes.specs.declared.finding.PathKind.{PathKind}
-use Rattle.command_changes.specs.declared.finding.PathKind.TheVariants as founds
+use Rattle.command_changes.specs.declared.lookup.PathKind.{PathKind}
+use Rattle.command_changes.specs.declared.lookup.PathKind.TheVariants as founds
 use Rattle.vol_dir.specs.declared.refusal.Refusal.{Refusal}
 use Rattle.vol_dir.specs.declared.refusal.Refusal.TheVariants as refusals
 use Rattle.vol_layout.specs.declared.edition.Edition.{Edition}

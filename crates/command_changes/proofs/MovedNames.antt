@@ -9,7 +9,7 @@ use Rattle.vol_volume.specs.Step.{step}
 use Rattle.vol_volume.specs.Verdict.{verdict}
 use Rattle.vol_volume.specs.Volume.{reads_as}
 use Rattle.vol_removal.proofs.GoneCalls.{unlink_gone}
-use Rattle.command_faults.specs.Changing.{AreLeft, Makes}
+use Rattle.command_faults.specs.ChangeFaults.{AreLeft, Makes}
 use Rattle.command_changes.specs.Mv.{HasNothing, HasMoved, LeadsOn, move_calls, target_in}
 use Rattle.command_changes.proofs.MovedFiles.{link_moved}
 use Rattle.command_changes.proofs.PutBytes.{IsThere, there_in}

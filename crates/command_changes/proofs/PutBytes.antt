@@ -15,10 +15,10 @@ use Rattle.vol_volume.specs.Verdict.{verdict}
 use Rattle.vol_volume.specs.Volume.{reads_as}
 use Rattle.vol_import.proofs.MadePaths.{Holds, create_holds, holds_file, truncate_holds, write_holds}
 use Rattle.vol_import.proofs.TreeWalks.{node_there, passes_first}
-use Rattle.command_faults.specs.Changing.{AreLeft, Makes}
+use Rattle.command_faults.specs.ChangeFaults.{AreLeft, Makes}
 use Rattle.vol_import.specs.MadeMembers.{HasFile}
 use Rattle.command_changes.specs.Put.{emptying_by, put_calls}
-use Rattle.command_changes.proofs.Emptying.{emptying_is}
+use Rattle.command_changes.proofs.EmptiedFiles.{emptying_is}
 use Rattle.vol_layout.specs.declared.edition.Edition.{Edition}
 use Rattle.vol_layout.specs.declared.geometry.Geometry.{Geometry}
 use Rattle.vol_volume.specs.declared.calls.Call.{Call}

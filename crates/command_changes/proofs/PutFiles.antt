@@ -5,14 +5,14 @@ use Rattle.std.proofs.lemmas.List.{reverse-append}
 use Rattle.vol_dir.specs.Tree.{Tree}
 use Rattle.vol_judge.specs.Sound.{IsSound}
 use Rattle.vol_volume.specs.Volume.{Mounted, IsConsistent, mounted, reads_as}
-use Rattle.vol_import.specs.Making.{AreMade, IsStop, Imports, IsReason, told, unplanned}
+use Rattle.vol_import.specs.Make.{AreMade, IsStop, Imports, IsReason, told, unplanned}
 use Rattle.vol_import.specs.Plan.{Tells, and_next}
 use Rattle.vol_import.proofs.ImportFaults.{plan_told, planned_reason, stop_reason, told_plans}
 use Rattle.vol_import.proofs.MadeCalls.{imported}
 use Rattle.vol_layout.specs.declared.edition.Edition.{Edition}
 use Rattle.vol_volume.specs.declared.calls.Call.{Call}
-use Rattle.vol_import.specs.declared.making.ImportFault.{ImportFault}
-use Rattle.vol_import.specs.declared.planning.PlanFault.{PlanFault}
+use Rattle.vol_import.specs.declared.make.ImportFault.{ImportFault}
+use Rattle.vol_import.specs.declared.import_plan.PlanFault.{PlanFault}
 use Rattle.command_changes.specs.Put.{onto, put_onto}
 use Rattle.command_changes.specs.declared.put.NewFile.{NewFile}
 

@@ -1,7 +1,7 @@
 -- The reasons why nothing is removed.
 use Rattle.std.proofs.Common.{◌≡◌, ℕ, List}
 use Rattle.vol_layout.specs.declared.edition.Edition.{Edition}
-use Rattle.vol_removal.specs.Removing.{IsReason}
+use Rattle.vol_removal.specs.Remove.{IsReason}
 use Rattle.vol_removal.specs.declared.faults.RemovalFault.{RemovalFault}
 use Rattle.command_faults.specs.declared.fault.Fault.{Fault}
 use Rattle.command_changes.specs.Rm.{fault_of, IsCause}

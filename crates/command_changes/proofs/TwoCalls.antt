@@ -10,7 +10,7 @@ use Rattle.vol_volume.specs.Volume.{Mounted, Accepts, Performs, reads_as}
 use Rattle.vol_volume.proofs.Journals.{reads_made}
 use Rattle.vol_change.specs.Whole.{StaysAround}
 use Rattle.vol_change.proofs.WholeLaws.{around_then, geometry_kept}
-use Rattle.command_faults.specs.Changing.{Makes, AreRefused, IsReason}
+use Rattle.command_faults.specs.ChangeFaults.{Makes, AreRefused, IsReason}
 use Rattle.vol_layout.specs.declared.edition.Edition.{Edition}
 use Rattle.vol_volume.specs.declared.calls.Call.{Call}
 use Rattle.vol_volume.specs.declared.calls.Done.{Done}

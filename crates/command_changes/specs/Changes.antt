@@ -9,12 +9,12 @@ use Rattle.vol_volume.specs.Volume.{reads_as}
 use Rattle.vol_volume.specs.declared.calls.Call.{Call}
 use Rattle.vol_volume.specs.declared.calls.Call.TheVariants as calls
 use Rattle.vol_import.specs.MadeMembers.{HasArchive, HasDirectory, HasFile}
-use Rattle.vol_import.specs.Making.{calls_to_make}
+use Rattle.vol_import.specs.Make.{calls_to_make}
 use Rattle.vol_import.specs.Members.{members}
-use Rattle.command_faults.specs.Changing.{ChangesVolume}
+use Rattle.command_faults.specs.ChangeFaults.{ChangesVolume}
 use Rattle.command_faults.specs.Streams.{Streams}
 use Rattle.command_faults.specs.declared.answer.Answer.{Answer}
-use Rattle.command_changes.specs.Finding.{last_name}
+use Rattle.command_changes.specs.Lookup.{last_name}
 use Rattle.command_changes.specs.Import.{ImportsArchive}
 use Rattle.command_changes.specs.Mkdir.{mkdir_all_calls, mkdir_call}
 use Rattle.command_changes.specs.Mv.{HasMoved, move_calls}

@@ -1,10 +1,10 @@
 -- The result of importing an archive.
 use Rattle.std.specs.Prelude.{◌≡◌, ◌⊎◌, ◌↔◌, ℕ, List, [], IsSome, IsNone, IfSome, Result}
-use Rattle.vol_import.specs.Making.{Imports, IsReason}
+use Rattle.vol_import.specs.Make.{Imports, IsReason}
 use Rattle.vol_layout.specs.declared.edition.Edition.{Edition}
 use Rattle.vol_volume.specs.declared.calls.Call.{Call}
-use Rattle.vol_import.specs.declared.making.ImportFault.{ImportFault}
-use Rattle.vol_import.specs.declared.making.ImportFault.TheVariants as faults
+use Rattle.vol_import.specs.declared.make.ImportFault.{ImportFault}
+use Rattle.vol_import.specs.declared.make.ImportFault.TheVariants as faults
 use Rattle.command_faults.specs.declared.answer.Answer.{Answer}
 use Rattle.command_changes.specs.ImportLines.{import_status, import_line}
 

@@ -1,18 +1,18 @@
 -- Messages for archives that can't be imported.
 use Rattle.std.specs.Prelude.{ℕ, ◌++◌, List, codes, decimal}
-use Rattle.escaped_text.specs.Escaping.{escaped}
-use Rattle.ustar.specs.declared.reading.HeaderFault.{HeaderFault}
-use Rattle.ustar.specs.declared.reading.HeaderFault.TheVariants as headers
+use Rattle.escaped_text.specs.Escape.{escaped}
+use Rattle.ustar.specs.declared.read.HeaderFault.{HeaderFault}
+use Rattle.ustar.specs.declared.read.HeaderFault.TheVariants as headers
 use Rattle.vol_dir.specs.declared.refusal.Refusal.{Refusal}
 use Rattle.vol_dir.specs.declared.refusal.Refusal.TheVariants as refusals
 use Rattle.vol_volume.specs.declared.calls.Call.{Call}
 use Rattle.vol_volume.specs.declared.calls.Call.TheVariants as calls
-use Rattle.vol_import.specs.declared.checking.MemberFault.{MemberFault}
-use Rattle.vol_import.specs.declared.checking.MemberFault.TheVariants as members
+use Rattle.vol_import.specs.declared.member_check.MemberFault.{MemberFault}
+use Rattle.vol_import.specs.declared.member_check.MemberFault.TheVariants as members
 use Rattle.vol_import.specs.declared.faults.ArchiveFault.{ArchiveFault}
 use Rattle.vol_import.specs.declared.faults.ArchiveFault.TheVariants as archives
-use Rattle.vol_import.specs.declared.making.ImportFault.{ImportFault}
-use Rattle.vol_import.specs.declared.making.ImportFault.TheVariants as faults
+use Rattle.vol_import.specs.declared.make.ImportFault.{ImportFault}
+use Rattle.vol_import.specs.declared.make.ImportFault.TheVariants as faults
 use Rattle.command_faults.specs.Faults.{line_of_refusal, line_of_rule, refusal_status}
 use Rattle.command_faults.specs.PathLines.{path_line}
 

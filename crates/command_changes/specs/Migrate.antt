@@ -11,8 +11,8 @@ use Rattle.command_faults.specs.declared.fault.Fault.TheVariants as faults
 use Rattle.vol_layout.specs.declared.edition.Edition.TheVariants.{V6}
 use Rattle.vol_volume.specs.Faults.{IsFaultOf}
 use Rattle.vol_volume.specs.Volume.{reads_as}
-use Rattle.vol_migrate.specs.Migrating.{IsMigrated}
-use Rattle.vol_migrate.specs.Refusing.{refusal}
+use Rattle.vol_migrate.specs.Migrate.{IsMigrated}
+use Rattle.vol_migrate.specs.Refuse.{refusal}
 use Rattle.command_faults.specs.Faults.{Concludes, unmounted, no_memory}
 use Rattle.command_changes.specs.declared.migrate.Migration.{Migration}
 

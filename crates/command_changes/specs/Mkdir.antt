@@ -8,9 +8,9 @@ use Rattle.vol_volume.specs.Answer.{answer}
 use Rattle.vol_volume.specs.declared.calls.Call.{Call}
 use Rattle.vol_volume.specs.declared.calls.Call.TheVariants as calls
 use Rattle.vol_volume.specs.declared.queries.Query.TheVariants as queries
-use Rattle.command_changes.specs.Finding.{found_by, last_name}
-use Rattle.command_changes.specs.declared.finding.PathKind.{PathKind}
-use Rattle.command_changes.specs.declared.finding.PathKind.TheVariants.{Directory, File, Nothing}
+use Rattle.command_changes.specs.Lookup.{found_by, last_name}
+use Rattle.command_changes.specs.declared.lookup.PathKind.{PathKind}
+use Rattle.command_changes.specs.declared.lookup.PathKind.TheVariants.{Directory, File, Nothing}
 
 -- true if a name ends at byte k of a path: it isn't a slash, and the next byte, if any, is one (Lions on namei)
 abbrev pub ends_name : List ℕ → ℕ → Bool

@@ -11,9 +11,9 @@ use Rattle.vol_volume.specs.declared.queries.Query.TheVariants as queries
 use Rattle.vol_volume.specs.declared.queries.Reply.TheVariants as replies
 use Rattle.vol_volume.specs.declared.queries.Stat.{Stat}
 use Rattle.vol_import.specs.Plan.{below}
-use Rattle.command_changes.specs.Finding.{found_by, last_name}
-use Rattle.command_changes.specs.declared.finding.PathKind.{PathKind}
-use Rattle.command_changes.specs.declared.finding.PathKind.TheVariants.{Directory, File, Nothing}
+use Rattle.command_changes.specs.Lookup.{found_by, last_name}
+use Rattle.command_changes.specs.declared.lookup.PathKind.{PathKind}
+use Rattle.command_changes.specs.declared.lookup.PathKind.TheVariants.{Directory, File, Nothing}
 
 -- the path of a file's new name, by what the given path leads to: in a directory the file keeps its last name (mv)
 abbrev pub target_of : PathKind → List ℕ → List ℕ → List ℕ

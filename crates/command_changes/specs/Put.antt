@@ -10,9 +10,9 @@ use Rattle.vol_volume.specs.declared.calls.Call.TheVariants as calls
 use Rattle.vol_volume.specs.declared.queries.Query.TheVariants as queries
 use Rattle.vol_volume.specs.declared.queries.Reply.{Reply}
 use Rattle.vol_import.specs.Plan.{and_next, below}
-use Rattle.vol_import.specs.declared.checking.MemberFault.TheVariants as members
-use Rattle.vol_import.specs.declared.planning.PlanFault.{PlanFault}
-use Rattle.vol_import.specs.declared.planning.PlanFault.TheVariants as plans
+use Rattle.vol_import.specs.declared.member_check.MemberFault.TheVariants as members
+use Rattle.vol_import.specs.declared.import_plan.PlanFault.{PlanFault}
+use Rattle.vol_import.specs.declared.import_plan.PlanFault.TheVariants as plans
 use Rattle.command_changes.specs.declared.put.NewFile.{NewFile}
 
 -- the call that empties a file: a create with permissions 0644 if Stat finds no entry, else a truncate (this project)

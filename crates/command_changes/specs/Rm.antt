@@ -1,6 +1,6 @@
 -- The result of removing a file or directory.
 use Rattle.std.specs.Prelude.{◌≡◌, ℕ, List}
-use Rattle.vol_removal.specs.Removing.{Removes, IsReason}
+use Rattle.vol_removal.specs.Remove.{Removes, IsReason}
 use Rattle.vol_layout.specs.declared.edition.Edition.{Edition}
 use Rattle.vol_removal.specs.declared.faults.RemovalFault.{RemovalFault}
 use Rattle.vol_removal.specs.declared.faults.RemovalFault.TheVariants as removals

@@ -1,12 +1,12 @@
 -- The results and the faults of `salvage`.
 use Rattle.std.specs.Prelude.{◌≡◌, ℕ, List}
 use Rattle.vol_layout.specs.declared.edition.Edition.{Edition}
-use Rattle.vol_check.specs.declared.salvaging.SalvageFault.{SalvageFault}
-use Rattle.vol_check.specs.declared.salvaging.SalvageFault.TheVariants as salvages
+use Rattle.vol_check.specs.declared.salvage_volume.SalvageFault.{SalvageFault}
+use Rattle.vol_check.specs.declared.salvage_volume.SalvageFault.TheVariants as salvages
 use Rattle.command_faults.specs.declared.answer.Answer.{Answer}
 use Rattle.command_faults.specs.declared.fault.Fault.{Fault}
 use Rattle.command_faults.specs.declared.fault.Fault.TheVariants as faults
-use Rattle.vol_check.specs.Salvaging.{IsSalvaged, IsSalvageFault}
+use Rattle.vol_check.specs.SalvagedImages.{IsSalvaged, IsSalvageFault}
 use Rattle.command_faults.specs.Faults.{Concludes, no_memory}
 
 -- the fault of a command that can't salvage a volume for this reason (this project)

@@ -6,9 +6,9 @@ use Rattle.vol_volume.specs.Answer.{answer}
 use Rattle.vol_volume.specs.declared.calls.Call.{Call}
 use Rattle.vol_volume.specs.declared.calls.Call.TheVariants as calls
 use Rattle.vol_volume.specs.declared.queries.Query.TheVariants as queries
-use Rattle.command_changes.specs.Finding.{found_by}
-use Rattle.command_changes.specs.declared.finding.PathKind.{PathKind}
-use Rattle.command_changes.specs.declared.finding.PathKind.TheVariants.{Directory, File, Nothing}
+use Rattle.command_changes.specs.Lookup.{found_by}
+use Rattle.command_changes.specs.declared.lookup.PathKind.{PathKind}
+use Rattle.command_changes.specs.declared.lookup.PathKind.TheVariants.{Directory, File, Nothing}
 
 -- the call for a path that leads to this: a file or directory gets the moment as both its times; if the path leads nowhere, an empty file is made, with permissions 0644 (touch)
 abbrev pub touch_found : ℕ → List ℕ → PathKind → Call

@@ -5,11 +5,11 @@ ghost use Rattle.vol_judge.specs.Sound.{IsSound};
 ghost use Rattle.vol_volume.specs.Journal.{Refuses};
 ghost use Rattle.vol_volume.specs.Volume.{Accepts, reads_as};
 ghost use Rattle.vol_volume.specs.declared.calls.Done.{Done};
-ghost use Rattle.command_faults.specs.Changing.{ChangesVolume, Makes, IsReason};
+ghost use Rattle.command_faults.specs.ChangeFaults.{ChangesVolume, Makes, IsReason};
 ghost use Rattle.command_faults.specs.Streams.{says, ErrorStream, Hears};
 
 use command_faults::answer::conclude;
-use command_faults::mounting::mount;
+use command_faults::mount::mount;
 use command_faults::{Answer, Fault};
 use std::alloc::{AllocError, Global};
 use vol_import::make_all;

@@ -1,7 +1,7 @@
 //! `import` adds the members of an archive.
 ghost use Rattle.std.specs.Prelude.{◌≡◌, IfErr, IfOk, None, Some};
 ghost use Rattle.vol_volume.specs.Volume.{reads_as};
-ghost use Rattle.vol_import.specs.Making.{calls_to_make};
+ghost use Rattle.vol_import.specs.Make.{calls_to_make};
 ghost use Rattle.command_faults.specs.Faults.{line_after};
 ghost use Rattle.command_faults.specs.Streams.{says, ErrorStream, Hears};
 ghost use Rattle.command_changes.specs.Import.{ImportsArchive, TellsFault};

@@ -2,14 +2,14 @@
 #![tactic(auto)]
 
 mod calls;
+pub mod change;
 pub mod changes;
-pub mod changing;
 mod chmod;
 mod chown;
-pub mod finding;
 mod import;
 mod import_lines;
 mod ln;
+pub mod lookup;
 pub mod migrate;
 mod mkdir;
 pub mod mkfs;
@@ -20,8 +20,8 @@ mod rmdir;
 mod salvage;
 mod touch;
 
+pub use change::do_change;
 pub use changes::Change;
-pub use changing::do_change;
 pub use migrate::{Migration, migrate_command};
 pub use mkfs::{MadeVolume, mkfs_command};
 pub use put::{NewFile, put_all};

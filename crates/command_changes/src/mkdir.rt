@@ -1,14 +1,14 @@
 //! `mkdir` makes a directory; `mkdir -p` also makes the missing ones on the way to it.
 ghost use Rattle.std.specs.Prelude.{◌≡◌, ◌<◌, ◌++◌, ◌∷◌, [], IfOk, IfErr, OnOk, length};
 ghost use Rattle.vol_volume.specs.Volume.{reads_as};
-ghost use Rattle.command_faults.specs.Changing.{Makes, IsReason, ChangesVolume};
+ghost use Rattle.command_faults.specs.ChangeFaults.{Makes, IsReason, ChangesVolume};
 ghost use Rattle.command_faults.specs.Streams.{says, ErrorStream, Hears};
 ghost use Rattle.command_changes.specs.Mkdir.{ends_name, mkdir_call, mkdir_at, missing_calls, mkdir_all_calls};
 
 use crate::calls::{make_calls, push};
-use crate::finding::{PathKind, find, last_name};
+use crate::lookup::{PathKind, find, last_name};
 use command_faults::answer::conclude;
-use command_faults::mounting::mount;
+use command_faults::mount::mount;
 use command_faults::{Answer, Fault};
 use std::alloc::{AllocError, Global};
 use vol_dir::{Cred, is_dots};

@@ -9,23 +9,23 @@ ghost use Rattle.vol_volume.specs.Journal.{Refuses};
 ghost use Rattle.vol_volume.specs.Volume.{Accepts, reads_as};
 ghost use Rattle.vol_volume.specs.declared.calls.Done.{Done};
 ghost use Rattle.vol_volume.specs.declared.queries.Query.TheVariants as questions;
-ghost use Rattle.vol_import.specs.Making.{Imports, IsReason as IsUnimported, told};
+ghost use Rattle.vol_import.specs.Make.{Imports, IsReason as IsUnimported, told};
 ghost use Rattle.vol_import.specs.Plan.{Tells};
-ghost use Rattle.command_faults.specs.Changing.{Makes, IsReason, ChangesVolume};
+ghost use Rattle.command_faults.specs.ChangeFaults.{Makes, IsReason, ChangesVolume};
 ghost use Rattle.command_faults.specs.Streams.{heard, says, ErrorStream, Hears};
 ghost use Rattle.command_changes.specs.Import.{ImportsArchive};
 ghost use Rattle.command_changes.specs.Put.{calls_to_put, emptying_by, file_calls, onto, put_calls, put_onto};
 
 use crate::calls::{make_call, push};
-use crate::finding::name_in;
 use crate::import;
+use crate::lookup::name_in;
 use command_faults::answer::{conclude, tell};
-use command_faults::mounting::mount;
+use command_faults::mount::mount;
 use command_faults::{Answer, Fault};
 use pdp_words::Sink;
 use std::alloc::{AllocError, Global};
 use vol_dir::{Cred, Refusal};
-use vol_import::{ImportFault, MemberFault, PlanFault, making};
+use vol_import::{ImportFault, MemberFault, PlanFault, make};
 use vol_layout::Edition;
 use vol_layout::slot::NAME;
 use vol_volume::{Bytes, Call, Query, Volume};
@@ -206,12 +206,12 @@ fn put_into(
     ensures made { IfOk result (λ bytes. Imports edition image.items (told (calls_to_put (reads_as edition image.items).tree now directory.now files.entry.items)) bytes.items) }
     ensures fault { IfErr result (IsUnimported edition image.items (told (calls_to_put (reads_as edition image.items).tree now directory.now files.entry.items))) }
 {
-    let mut volume = making::mount(alloc, edition, image)?;
+    let mut volume = make::mount(alloc, edition, image)?;
     let calls = match calls_to_put(alloc, &volume, directory, files, now) {
         Ok(calls) => calls,
-        Err(fault) => return Err(making::unplanned(fault)),
+        Err(fault) => return Err(make::unplanned(fault)),
     };
-    making::make(alloc, &mut volume, calls)?;
+    make::make(alloc, &mut volume, calls)?;
     Ok(volume.unmount())
 }
 

@@ -3,7 +3,7 @@ ghost use Rattle.std.specs.Prelude.{◌≡◌, IfOk, IfErr};
 ghost use Rattle.vol_dir.specs.Access.{user};
 ghost use Rattle.vol_volume.specs.declared.calls.Call.TheVariants as asked;
 ghost use Rattle.command_faults.specs.Streams.{says, ErrorStream, Hears};
-ghost use Rattle.vol_removal.specs.Removing.{Removes};
+ghost use Rattle.vol_removal.specs.Remove.{Removes};
 ghost use Rattle.command_changes.specs.Rm.{fault_of, IsCause, RemovesTree};
 
 use command_faults::answer::conclude;

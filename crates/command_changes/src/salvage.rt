@@ -1,6 +1,6 @@
 //! `salvage` rebuilds the free list of the volume in an image, and returns the bytes to save.
 ghost use Rattle.std.specs.Prelude.{◌≡◌, IfOk, IfErr};
-ghost use Rattle.vol_check.specs.Salvaging.{IsSalvaged};
+ghost use Rattle.vol_check.specs.SalvagedImages.{IsSalvaged};
 ghost use Rattle.command_faults.specs.Streams.{says, ErrorStream, Hears};
 ghost use Rattle.command_changes.specs.Salvage.{SalvagesVolume, IsUnsalvaged, unsalvaged};
 

@@ -1,15 +1,15 @@
 //! `touch` sets the times of a file or directory to that of the call, or makes an empty file.
 ghost use Rattle.std.specs.Prelude.{◌≡◌, ◌∷◌, [], IfOk, IfErr};
 ghost use Rattle.vol_volume.specs.Volume.{reads_as};
-ghost use Rattle.command_faults.specs.Changing.{Makes, IsReason, ChangesVolume};
+ghost use Rattle.command_faults.specs.ChangeFaults.{Makes, IsReason, ChangesVolume};
 ghost use Rattle.command_faults.specs.Streams.{says, ErrorStream, Hears};
 ghost use Rattle.command_changes.specs.Touch.{touch_call};
 
 use crate::calls::make_call;
-use crate::finding::{PathKind, find};
+use crate::lookup::{PathKind, find};
 use crate::put::FILE_PERMISSIONS;
 use command_faults::answer::conclude;
-use command_faults::mounting::mount;
+use command_faults::mount::mount;
 use command_faults::{Answer, Fault};
 use std::alloc::{AllocError, Global};
 use vol_dir::Cred;

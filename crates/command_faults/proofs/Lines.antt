@@ -4,7 +4,7 @@ use Rattle.std.proofs.KnownBytes.{Appends-nil}
 use Rattle.std.proofs.lemmas.List.{take_all}
 use Rattle.std.specs.Io.KnownBytes.{Appends}
 use Rattle.pdp_words.specs.Devices.{AppendsFront}
-use Rattle.pdp_words.specs.declared.saving.SaveFault.{SaveFault}
+use Rattle.pdp_words.specs.declared.save_image.SaveFault.{SaveFault}
 use Rattle.command_faults.specs.Streams.{Gets}
 
 -- a stream that is left alone gets nothing

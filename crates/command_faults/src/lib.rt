@@ -3,7 +3,7 @@
 
 pub mod answer;
 pub mod fault;
-pub mod mounting;
+pub mod mount;
 pub mod path_lines;
 pub mod status;
 

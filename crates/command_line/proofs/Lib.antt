@@ -1,5 +1,5 @@
 pub mod FoundWords
 pub mod Listings
-pub mod Reading
+pub mod ReadWords
 pub mod SecondLines
 pub mod Shapes

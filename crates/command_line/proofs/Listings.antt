@@ -6,7 +6,7 @@ use Rattle.std.proofs.lemmas.Bool.{ne_eqb}
 use Rattle.std.proofs.lemmas.Slice.Eq.{bytes_eq-Decides}
 use Rattle.clap.proofs.OnLiterals.{clap_on_literals}
 use Rattle.clap.specs.Words.{Row}
-use Rattle.command_words.specs.Asking.{AreLinesGiven, IsDepthGiven, IsEditionNamed, IsGiven, Words, first_word, is_set, the_word, verb_of}
+use Rattle.command_words.specs.Invocations.{AreLinesGiven, IsDepthGiven, IsEditionNamed, IsGiven, Words, first_word, is_set, the_word, verb_of}
 use Rattle.command_words.specs.Verbs.{verb_name}
 use Rattle.command_words.specs.declared.invocation.Invocation.{Invocation}
 use Rattle.command_words.specs.declared.invocation.Invocation.TheVariants as invocations

@@ -2,7 +2,7 @@
 use Rattle.std.proofs.Common.{◌≡◌, ◌∷◌, ◌∙◌, ◌+◌, ◌<◌, ◌≤◌, ap, false, true, ℕ, List, [], codes, drop, length, map, refl, slice_index_or, subst, sym, arith}
 use Rattle.std.specs.Str.{bytes_eq}
 use Rattle.std.proofs.lemmas.List.{at_drop_all, at_drop_more}
-use Rattle.command_line.specs.Explaining.{asks_to_explain, has_explain}
+use Rattle.command_line.specs.Explain.{asks_to_explain, has_explain}
 
 -- the words from an index on begin with the one at that index
 from : {A : Type 0} (bytes : A → List ℕ) (words : List A) (i : ℕ) (word : A) → i < length words → word ≡ slice_index_or words i word

@@ -5,7 +5,7 @@ use Rattle.clap.specs.Words.{App, HasKind, Row, all_of, found_of, kind_of, match
 use Rattle.clap.specs.declared.error.Error.{Error}
 use Rattle.clap.specs.declared.error.kind.ErrorKind.TheVariants as kinds
 use Rattle.clap.specs.declared.parser.matches.ArgMatches.{ArgMatches}
-use Rattle.command_words.specs.Asking.{NameAsksFor, Words}
+use Rattle.command_words.specs.Invocations.{NameAsksFor, Words}
 use Rattle.command_words.specs.declared.invocation.Invocation.{Invocation}
 use Rattle.command_line.specs.Words.{AreEditions, command_in, faults_of, unixvol_app}
 

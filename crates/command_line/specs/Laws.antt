@@ -1,7 +1,7 @@
 -- The words of `ls`.
 use Rattle.std.specs.Prelude.{◌≡◌, ◌≢◌, ◌↔◌, ◌∷◌, ℕ, List, [], Option, slice_index, codes}
 use Rattle.std.specs.Borrow.{Bor}
-use Rattle.command_words.specs.Asking.{IsEditionNamed}
+use Rattle.command_words.specs.Invocations.{IsEditionNamed}
 use Rattle.command_words.specs.declared.invocation.Invocation.{Invocation}
 use Rattle.command_words.specs.declared.invocation.Invocation.TheVariants as invocations
 use Rattle.command_line.specs.CommandLine.{MetAsks}

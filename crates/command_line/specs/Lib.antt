@@ -1,6 +1,6 @@
-pub use Rattle.command_words.specs.Asking
+pub use Rattle.command_words.specs.Invocations
 pub use Rattle.command_words.specs.Verbs
 pub mod CommandLine
-pub mod Explaining
+pub mod Explain
 pub mod Laws
 pub mod Words

@@ -4,26 +4,26 @@
 ghost use Rattle.std.specs.Prelude.{◌≡◌, None, Option, ℕ, IfOk, IfErr, IfSome, map, string_bytes};
 ghost use Rattle.clap.specs.Words.{kind_of, subcommand_rows_of};
 ghost use Rattle.clap.specs.declared.error.kind.ErrorKind.TheVariants as clap_kinds;
-ghost use Rattle.command_words.specs.Asking.{IsWrong, NameAsksFor};
+ghost use Rattle.command_words.specs.Invocations.{IsWrong, NameAsksFor};
 ghost use Rattle.command_words.specs.Verbs.{IsNoCommand};
 ghost use Rattle.command_line.specs.CommandLine.{AsksNothing, IsRead, IsRefused, MetAsks, NameAsksForNothing, TellsOf, words_of};
 
 use clap::error::ErrorKind;
 use clap::{ArgMatches, Error};
-use command_words::{Said, Verb, WordFault, WrongWord, reading};
+use command_words::{Said, Verb, WordFault, WrongWord, read_words};
 use std::alloc::{AllocError, Global};
 
-mod building;
-mod explaining;
-mod found;
+mod builder;
+mod clap_words;
+mod explain;
 pub mod laws;
-mod rewording;
+mod reword;
 
-use building::Builder;
+use builder::Builder;
+use clap_words::ClapWords;
 pub use command_words::{Copying, Invocation, MadeFile, VolumeFile, Work};
-pub use explaining::asks_to_explain;
-use found::ClapWords;
-pub use rewording::reworded;
+pub use explain::asks_to_explain;
+pub use reword::reworded;
 
 /// Reads the words of the command line, the first of which is the program's own name. `clock` is the time of the
 /// program's clock, in seconds since the beginning of 1970, if it has one; it is used if a command's time was left out.
@@ -77,7 +77,7 @@ fn read_command<'a>(
         return Ok(None);
     };
     let found = ClapWords { values };
-    match reading::read(alloc, verb, &found, clock) {
+    match read_words::read(alloc, verb, &found, clock) {
         Ok(invocation) => Ok(Some(invocation)),
         Err(fault) => Err(told(alloc, verb, fault)?),
     }

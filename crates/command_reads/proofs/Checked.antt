@@ -1,6 +1,6 @@
 -- The result of a checker's command, with a report or without.
 use Rattle.std.proofs.Common.{ℕ, List, Result, Ok, Err, IfOk, OnErr, inl, inr}
-use Rattle.vol_check.specs.Reporting.{IsReport}
+use Rattle.vol_check.specs.SweepReports.{IsReport}
 use Rattle.vol_check.specs.declared.checker.Checker.{Checker}
 use Rattle.vol_layout.specs.declared.edition.Edition.{Edition}
 use Rattle.vol_reports.specs.declared.line.Line.{Line}

@@ -2,9 +2,9 @@
 use Rattle.std.proofs.Common.{◌≡◌, ◌⊎◌, ℕ, Bool, true, List, Option, Result, Ok, Err, inl, inr, refl, ap, subst, ◌∙◌}
 use Rattle.std.proofs.KnownBytes.{Keeps-refl}
 use Rattle.std.specs.Prelude.{IsErrAnd}
-use Rattle.vol_archive.specs.declared.exporting.ExportStart.{ExportStart}
-use Rattle.vol_archive.specs.declared.writing.WriteFault.{WriteFault}
-use Rattle.vol_archive.specs.declared.writing.WriteFault.TheVariants as writes
+use Rattle.vol_archive.specs.declared.export_tree.ExportStart.{ExportStart}
+use Rattle.vol_archive.specs.declared.write.WriteFault.{WriteFault}
+use Rattle.vol_archive.specs.declared.write.WriteFault.TheVariants as writes
 use Rattle.command_faults.specs.Faults.{fault_line, fault_status, no_memory}
 use Rattle.command_faults.specs.Streams.{Streams}
 use Rattle.command_faults.specs.declared.fault.Fault.{Fault}

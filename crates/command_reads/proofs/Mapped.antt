@@ -5,7 +5,7 @@ use Rattle.std.specs.declared.alloc.Global.{Global}
 use Rattle.std.proofs.lemmas.Nat.{le-div}
 use Rattle.std.proofs.lemmas.List.FromFn.{length-map-range_with_len}
 use Rattle.vol_layout.specs.declared.geometry.Geometry.{Geometry}
-use Rattle.vol_inspect.specs.Drawing.{cells_from, more_telling}
+use Rattle.vol_inspect.specs.Pictures.{cells_from, more_telling}
 use Rattle.vol_inspect.specs.Uses.{use_of}
 use Rattle.vol_inspect.specs.declared.uses.Use.{Use}
 use Rattle.vol_layout.specs.declared.edition.Edition.{Edition}

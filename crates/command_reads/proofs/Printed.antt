@@ -11,7 +11,7 @@ use Rattle.command_faults.specs.Faults.{fault_line}
 use Rattle.command_faults.specs.Streams.{Streams}
 use Rattle.command_faults.specs.declared.fault.Fault.{Fault}
 use Rattle.command_faults.specs.declared.fault.Fault.TheVariants as faults
-use Rattle.command_reads.specs.Printing.{IsTold, Prints, PrintsWith, PrintsOne}
+use Rattle.command_reads.specs.Print.{IsTold, Prints, PrintsWith, PrintsOne}
 
 -- all bytes of a text were written
 pub printed : (wanted : ℕ) (streams : Streams) (text bytes : List ℕ) → bytes ≡ text → Appends streams.old streams.new bytes

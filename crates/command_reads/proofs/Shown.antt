@@ -5,7 +5,7 @@ use Rattle.std.specs.declared.alloc.Global.{Global}
 use Rattle.vol_layout.specs.declared.edition.Edition.{Edition}
 use Rattle.vol_layout.specs.declared.geometry.Geometry.{Geometry}
 use Rattle.vol_layout.specs.declared.geometry.GeometryFault.{GeometryFault}
-use Rattle.vol_inspect.specs.Inspecting.{InspectsInode, InspectsSuper}
+use Rattle.vol_inspect.specs.Inspect.{InspectsInode, InspectsSuper}
 use Rattle.vol_inspect.specs.declared.fault.InspectFault.{InspectFault}
 use Rattle.vol_inspect.specs.declared.fault.InspectFault.TheVariants as inspects
 use Rattle.vol_inspect.specs.declared.inode_report.InodeReport.{InodeReport}

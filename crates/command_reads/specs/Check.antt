@@ -4,7 +4,7 @@ use Rattle.vol_findings.specs.Reports.{IsReport}
 use Rattle.vol_layout.specs.declared.edition.Edition.{Edition}
 use Rattle.command_faults.specs.Faults.{no_memory}
 use Rattle.command_faults.specs.Streams.{Streams}
-use Rattle.command_reads.specs.Printing.{IsTold, PrintsWith}
+use Rattle.command_reads.specs.Print.{IsTold, PrintsWith}
 
 -- the status of a check: 0 if all twelve rules hold, else 1 (this project)
 abbrev pub verdict_status : Bool → ℕ

@@ -3,7 +3,7 @@ use Rattle.std.specs.Prelude.{◌≡◌, ◌⊎◌, ℕ, true, if◌then◌else�
 use Rattle.std.specs.List.{flat_map}
 use Rattle.std.specs.Io.KnownBytes.{Appends, Keeps}
 use Rattle.pdp_words.specs.Devices.{AppendsFront}
-use Rattle.vol_check.specs.Reporting.{IsReport}
+use Rattle.vol_check.specs.SweepReports.{IsReport}
 use Rattle.vol_reports.specs.Reports.{has_faults}
 use Rattle.vol_reports.specs.Texts.{line_text, report_text}
 use Rattle.command_faults.specs.Faults.{fault_line, no_memory}

@@ -3,25 +3,25 @@ use Rattle.std.specs.Prelude.{◌≡◌, ◌⊎◌, ℕ, ◌==◌, Bool, true, i
 use Rattle.std.specs.Io.KnownBytes.{Appends, Keeps}
 use Rattle.pdp_words.specs.Devices.{AppendsFront}
 use Rattle.vol_layout.specs.declared.edition.Edition.{Edition}
-use Rattle.vol_archive.specs.Exporting.{start_of}
+use Rattle.vol_archive.specs.Export.{start_of}
 use Rattle.vol_archive.specs.Members.{archive_bytes}
-use Rattle.vol_archive.specs.Walking.{IsWalk}
-use Rattle.vol_archive.specs.declared.exporting.ExportStart.{ExportStart}
-use Rattle.vol_archive.specs.declared.exporting.StartFault.{StartFault}
-use Rattle.vol_archive.specs.declared.found.MetEntry.{MetEntry}
+use Rattle.vol_archive.specs.Walk.{IsWalk}
+use Rattle.vol_archive.specs.declared.export_tree.ExportStart.{ExportStart}
+use Rattle.vol_archive.specs.declared.export_tree.StartFault.{StartFault}
+use Rattle.vol_archive.specs.declared.met_entries.MetEntry.{MetEntry}
 use Rattle.command_faults.specs.Faults.{fault_line, no_memory}
 use Rattle.command_faults.specs.Streams.{Streams}
 use Rattle.command_faults.specs.declared.fault.Fault.{Fault}
 use Rattle.command_faults.specs.declared.fault.Fault.TheVariants as faults
-use Rattle.command_reads.specs.Printing.{IsTold, IsBrokenOff}
+use Rattle.command_reads.specs.Print.{IsTold, IsBrokenOff}
 use Rattle.command_reads.specs.Remarks.{TellsAll}
 use Rattle.vol_listing.specs.declared.options.Screen.{Screen}
 use Rattle.vol_listing.specs.declared.options.Screen.TheVariants as screens
 use Rattle.command_reads.specs.declared.remarks.Remarks.{Remarks}
 use Rattle.command_reads.specs.Faults.{unmeasured}
-use Rattle.vol_archive.specs.declared.exporting.StartFault.TheVariants as starts
-use Rattle.vol_archive.specs.declared.writing.WriteFault.{WriteFault}
-use Rattle.vol_archive.specs.declared.writing.WriteFault.TheVariants as writes
+use Rattle.vol_archive.specs.declared.export_tree.StartFault.TheVariants as starts
+use Rattle.vol_archive.specs.declared.write.WriteFault.{WriteFault}
+use Rattle.vol_archive.specs.declared.write.WriteFault.TheVariants as writes
 
 -- the fault of an export that can't start for this reason (this project)
 abbrev pub unstarted : StartFault → Fault

@@ -8,13 +8,13 @@ use Rattle.vol_inspect.specs.Texts.{kind_name, inode_text}
 use Rattle.vol_inspect.specs.declared.inode_report.InodeReport.{InodeReport}
 use Rattle.vol_listing.specs.Json.{count}
 use Rattle.command_reads.specs.Json.{counts, count_or_null, extent_data}
-use Rattle.vol_inspect.specs.Inspecting.{InspectsInode}
+use Rattle.vol_inspect.specs.Inspect.{InspectsInode}
 use Rattle.vol_inspect.specs.declared.fault.InspectFault.{InspectFault}
 use Rattle.vol_layout.specs.declared.edition.Edition.{Edition}
 use Rattle.command_faults.specs.Streams.{Streams}
 use Rattle.command_faults.specs.declared.fault.Fault.{Fault}
 use Rattle.command_reads.specs.Faults.{uninspected}
-use Rattle.command_reads.specs.Printing.{PrintsOne}
+use Rattle.command_reads.specs.Print.{PrintsOne}
 use Rattle.command_reads.specs.declared.looks.OutputForm.{OutputForm}
 use Rattle.command_reads.specs.declared.looks.OutputForm.TheVariants as forms
 

@@ -1,6 +1,6 @@
 pub use Rattle.command_faults.specs.Streams
 pub use Rattle.pdp_words.specs.Devices
-pub use Rattle.vol_check.specs.Reporting
+pub use Rattle.vol_check.specs.SweepReports
 pub use Rattle.vol_dir.specs.Access
 pub use Rattle.vol_dir.specs.Entries
 pub use Rattle.vol_findings.specs.Reports
@@ -19,10 +19,10 @@ pub mod GetFiles
 pub mod Inode
 pub mod Json
 pub mod Laws
-pub mod Looking
+pub mod Look
 pub mod Ls
 pub mod Map
-pub mod Printing
+pub mod Print
 pub mod Queries
 pub mod Remarks
 pub mod SuperBlock

@@ -11,12 +11,12 @@ use Rattle.vol_dir.specs.Access.{user}
 use Rattle.vol_dir.specs.Walk.{is_directory}
 use Rattle.vol_change.specs.Nodes.{node_at}
 use Rattle.vol_listing.specs.Depths.{is_bare}
-use Rattle.vol_listing.specs.Listing.{start_of, IsListingOf}
+use Rattle.vol_listing.specs.Listings.{start_of, IsListingOf}
 use Rattle.vol_listing.specs.declared.options.ListOptions.{ListOptions}
 use Rattle.vol_listing.specs.declared.options.Screen.{Screen}
 use Rattle.command_faults.specs.Streams.{Streams}
 use Rattle.command_reads.specs.Queries.{answer_of, IsObstacle}
-use Rattle.command_reads.specs.Printing.{PrintsOne}
+use Rattle.command_reads.specs.Print.{PrintsOne}
 
 -- a path leads to this i-number in the tree of an image, for user 0 (stat)
 abbrev pub IsFound : Edition → List ℕ → List ℕ → ℕ → Type 0

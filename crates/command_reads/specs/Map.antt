@@ -5,15 +5,15 @@ use Rattle.vol_layout.specs.Geometry.{geometry_read}
 use Rattle.vol_layout.specs.declared.edition.Edition.{Edition}
 use Rattle.vol_layout.specs.declared.geometry.Geometry.{Geometry}
 use Rattle.vol_layout.specs.declared.geometry.GeometryFault.{GeometryFault}
-use Rattle.vol_inspect.specs.Drawing.{cells, drawing}
-use Rattle.vol_inspect.specs.Picturing.{picture}
+use Rattle.vol_inspect.specs.Pictures.{cells, drawing}
+use Rattle.vol_inspect.specs.Svg.{picture}
 use Rattle.vol_inspect.specs.Uses.{use_of}
 use Rattle.vol_inspect.specs.declared.uses.Use.{Use}
 use Rattle.command_faults.specs.Faults.{no_memory}
 use Rattle.command_faults.specs.Streams.{Streams}
 use Rattle.command_faults.specs.declared.fault.Fault.{Fault}
 use Rattle.command_reads.specs.Faults.{unmeasured}
-use Rattle.command_reads.specs.Printing.{PrintsOne}
+use Rattle.command_reads.specs.Print.{PrintsOne}
 use Rattle.command_reads.specs.declared.looks.Picture.{Picture}
 use Rattle.command_reads.specs.declared.looks.Picture.TheVariants as pictures
 use Rattle.vol_listing.specs.declared.options.Screen.{Screen}

@@ -1,16 +1,16 @@
 -- The remarks on an export.
 use Rattle.std.specs.Prelude.{◌≡◌, ℕ, true, List, [], ◌++◌, codes, decimal, Option, None, Some}
 use Rattle.std.specs.List.{flat_map}
-use Rattle.escaped_text.specs.Escaping.{escaped}
+use Rattle.escaped_text.specs.Escape.{escaped}
 use Rattle.vol_layout.specs.declared.edition.Edition.{Edition}
 use Rattle.vol_layout.specs.declared.geometry.Geometry.{Geometry}
 use Rattle.vol_judge.specs.Sound.{IsJudged}
-use Rattle.vol_inspect.specs.Sharing.{shared_blocks}
-use Rattle.vol_archive.specs.declared.found.MetEntry.{MetEntry}
-use Rattle.vol_archive.specs.declared.found.Role.{Role}
-use Rattle.vol_archive.specs.declared.found.Role.TheVariants as roles
-use Rattle.vol_archive.specs.declared.found.Reason.{Reason}
-use Rattle.vol_archive.specs.declared.found.Reason.TheVariants as reasons
+use Rattle.vol_inspect.specs.SharedBlocks.{shared_blocks}
+use Rattle.vol_archive.specs.declared.met_entries.MetEntry.{MetEntry}
+use Rattle.vol_archive.specs.declared.met_entries.Role.{Role}
+use Rattle.vol_archive.specs.declared.met_entries.Role.TheVariants as roles
+use Rattle.vol_archive.specs.declared.met_entries.Reason.{Reason}
+use Rattle.vol_archive.specs.declared.met_entries.Reason.TheVariants as reasons
 use Rattle.command_faults.specs.Faults.{line_of_rule}
 
 -- the reason for leaving out an entry, in plain words (this project)

@@ -7,14 +7,14 @@ use Rattle.vol_free.specs.declared.free_walk.FreeFault.{FreeFault}
 use Rattle.vol_inspect.specs.declared.super_report.SuperReport.{SuperReport}
 use Rattle.vol_listing.specs.Json.{count}
 use Rattle.command_reads.specs.Json.{counts}
-use Rattle.vol_inspect.specs.Inspecting.{InspectsSuper}
+use Rattle.vol_inspect.specs.Inspect.{InspectsSuper}
 use Rattle.vol_inspect.specs.Texts.{super_text}
 use Rattle.vol_inspect.specs.declared.fault.InspectFault.{InspectFault}
 use Rattle.vol_layout.specs.declared.edition.Edition.{Edition}
 use Rattle.command_faults.specs.Streams.{Streams}
 use Rattle.command_faults.specs.declared.fault.Fault.{Fault}
 use Rattle.command_reads.specs.Faults.{uninspected}
-use Rattle.command_reads.specs.Printing.{PrintsOne}
+use Rattle.command_reads.specs.Print.{PrintsOne}
 use Rattle.command_reads.specs.declared.looks.OutputForm.{OutputForm}
 use Rattle.command_reads.specs.declared.looks.OutputForm.TheVariants as forms
 

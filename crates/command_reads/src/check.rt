@@ -4,7 +4,7 @@ ghost use Rattle.command_faults.specs.Streams.{ErrorStream, Hears, streams};
 ghost use Rattle.vol_findings.specs.Reports.{IsReport};
 ghost use Rattle.command_reads.specs.Check.{verdict_status, Checks};
 
-use crate::printing::print_with;
+use crate::print::print_with;
 use command_faults::status::{DONE, REFUSED};
 use command_faults::{Ending, Fault};
 use pdp_words::{Image, Sink};

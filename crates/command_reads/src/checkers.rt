@@ -3,7 +3,7 @@ ghost use Rattle.std.specs.Prelude.{◌≡◌, ◌⊎◌, ◌≤◌, ◌++◌, �
 ghost use Rattle.std.specs.List.{flat_map};
 ghost use Rattle.std.specs.Io.KnownBytes.{Appends, Keeps};
 ghost use Rattle.pdp_words.specs.Devices.{AppendsFront};
-ghost use Rattle.vol_check.specs.Reporting.{IsReport};
+ghost use Rattle.vol_check.specs.SweepReports.{IsReport};
 ghost use Rattle.command_reads.specs.Checkers.{Checks, IsUnreported, PrintsReport, report_status, shown_line_text, shown_text};
 ghost use Rattle.command_faults.specs.Streams.{heard, ErrorStream, Hears, streams};
 ghost use Rattle.command_faults.specs.Faults.{no_memory};

@@ -12,7 +12,7 @@ ghost use Rattle.command_reads.specs.GetFiles.{AreRead, GetsFiles, IsObstacle, I
 ghost use Rattle.command_reads.specs.declared.get.GetFault.TheVariants as faults;
 
 use command_faults::answer::tell;
-use command_faults::mounting::mount;
+use command_faults::mount::mount;
 use command_faults::path_lines::refused_at;
 use command_faults::status::DONE;
 use command_faults::{Ending, Fault};

@@ -8,7 +8,7 @@ ghost use Rattle.command_reads.specs.Json.{count_or_null};
 use crate::faults::uninspected;
 use crate::json::list;
 use crate::looks::OutputForm;
-use crate::printing::finish;
+use crate::print::finish;
 use command_faults::{Ending, Fault};
 use pdp_words::{Image, Sink};
 use serde_json::{Map, Value, put};

@@ -10,15 +10,15 @@ pub mod get;
 mod inode;
 mod json;
 pub mod laws;
-pub mod looking;
 pub mod looks;
 mod ls;
 mod map;
-mod printing;
+mod print;
 mod remarks;
+pub mod show;
 mod super_block;
 
 pub use cat::CatFault;
 pub use get::{FileRead, FilesRead, get_all};
-pub use looking::look;
 pub use looks::{Look, OutputForm, Picture};
+pub use show::look;

@@ -13,7 +13,7 @@ ghost use Rattle.vol_dir.specs.Walk.{is_directory};
 ghost use Rattle.vol_listing.specs.Depths.{is_bare};
 ghost use Rattle.vol_volume.specs.Volume.{reads_as};
 
-use crate::printing::finish_bytes;
+use crate::print::finish_bytes;
 use command_faults::{Ending, Fault};
 use pdp_words::{Image, Sink};
 use std::alloc::Global;

@@ -6,7 +6,7 @@ ghost use Rattle.command_reads.specs.Map.{width_on, is_coloured, blocks_for, use
 
 use crate::faults::unmeasured;
 use crate::looks::Picture;
-use crate::printing::finish;
+use crate::print::finish;
 use command_faults::{Ending, Fault};
 use pdp_words::{Image, Sink};
 use std::alloc::{AllocError, Global};

@@ -1,7 +1,7 @@
 //! The remarks on an export.
 ghost use Rattle.std.specs.Prelude.{◌≡◌, ◌++◌, IfOk, OnOk};
 ghost use Rattle.vol_layout.specs.Geometry.{Fits};
-ghost use Rattle.vol_archive.specs.declared.found.Role.{Role};
+ghost use Rattle.vol_archive.specs.declared.met_entries.Role.{Role};
 ghost use Rattle.command_reads.specs.Remarks.{reason_text, role_line, left_lines, shared_line, shared_lines, rule_lines, TellsAll};
 
 use command_faults::Fault;

@@ -7,7 +7,7 @@ ghost use Rattle.command_reads.specs.SuperBlock.{fault_data, super_data, super_j
 use crate::faults::uninspected;
 use crate::json::list;
 use crate::looks::OutputForm;
-use crate::printing::finish;
+use crate::print::finish;
 use command_faults::{Ending, Fault};
 use pdp_words::{Image, Sink};
 use serde_json::{Map, Value, json, put};

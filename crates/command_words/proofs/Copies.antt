@@ -1,6 +1,6 @@
 -- Invocations of `put` and `get`: for one file, or for several.
 use Rattle.std.proofs.Common.{◌≡◌, ◌⊎◌, ◌∙◌, ℕ, List, [], Option, Some, None, Bool, true, false, true≢false, codes, map, option_map, sym, ap, inl, inr}
-use Rattle.command_words.specs.Asking.{AreFilesGiven, ArePathsGiven, AsksForNothing, IsFirstWord, IsGiven, IsLeftOut, IsMomentGiven, IsNonEmptyWord, IsValue, Words, get_words, put_words, verb_of}
+use Rattle.command_words.specs.Invocations.{AreFilesGiven, ArePathsGiven, AsksForNothing, IsFirstWord, IsGiven, IsLeftOut, IsMomentGiven, IsNonEmptyWord, IsValue, Words, get_words, put_words, verb_of}
 use Rattle.command_words.specs.declared.invocation.Copying.TheVariants as copies
 use Rattle.command_words.specs.declared.invocation.Invocation.{Invocation}
 use Rattle.command_words.specs.declared.invocation.Invocation.TheVariants as invocations

@@ -1,6 +1,6 @@
 -- Faults that are handed on.
 use Rattle.std.proofs.Common.{◌≡◌, Result, Ok, Err, IfErr, IsErrAnd, sym, subst}
-use Rattle.command_words.specs.Asking.{TellsOf}
+use Rattle.command_words.specs.Invocations.{TellsOf}
 use Rattle.command_words.specs.declared.fault.WordFault.{WordFault}
 use Rattle.command_words.specs.declared.fault.WordFault.TheVariants as faults
 

@@ -15,7 +15,7 @@ use Rattle.std.proofs.lemmas.List.Folds.{list_any-append}
 use Rattle.std.proofs.lemmas.Map.Text.{is_eq-slice_cmp}
 use Rattle.std.proofs.lemmas.Option.{slice_get-get_or, slice_get-map}
 use Rattle.std.proofs.lemmas.Slice.Eq.{bytes_eq-Decides}
-use Rattle.command_words.specs.Asking.{AreFilesGiven, EndsInMoment, IsMomentAfter, are_apart, are_distinct, last_names, with_name}
+use Rattle.command_words.specs.Invocations.{AreFilesGiven, EndsInMoment, IsMomentAfter, are_apart, are_distinct, last_names, with_name}
 
 -- the texts of references
 abbrev pub texts : List (Bor (List ℕ)) → List (List ℕ)

@@ -4,7 +4,7 @@ use Rattle.std.specs.List.{slice_get}
 use Rattle.std.specs.Option.{ok_or}
 use Rattle.command_words.specs.Moment.{IsMomentOf}
 use Rattle.command_words.specs.Decimal.{IsNumberUpTo}
-use Rattle.command_words.specs.Asking.{IsMomentGiven, IsWordIfAny, TellsOf}
+use Rattle.command_words.specs.Invocations.{IsMomentGiven, IsWordIfAny, TellsOf}
 use Rattle.command_words.specs.declared.fault.WordFault.{WordFault}
 use Rattle.command_words.specs.declared.fault.WordFault.TheVariants as faults
 

@@ -7,7 +7,7 @@ use Rattle.vol_layout.specs.declared.edition.Edition.TheVariants.{V6, V7}
 use Rattle.command_reads.specs.declared.looks.Look.TheVariants as looks
 use Rattle.vol_check.specs.declared.checker.Checker.TheVariants as checkers
 use Rattle.command_changes.specs.declared.changes.Change.TheVariants as changes
-use Rattle.command_words.specs.Asking.{AreValues, AsksForNothing, IsEditionNamed, IsGiven, IsOneWrong, IsWordIfAny, IsWordOr, NameAsksFor, TellsOf, Words, verb_of}
+use Rattle.command_words.specs.Invocations.{AreValues, AsksForNothing, IsEditionNamed, IsGiven, IsOneWrong, IsWordIfAny, IsWordOr, NameAsksFor, TellsOf, Words, verb_of}
 use Rattle.command_words.specs.Verbs.{Argument, IsNoCommand, arguments_of, verb_name}
 use Rattle.command_words.specs.declared.fault.WordFault.{WordFault}
 use Rattle.command_words.specs.declared.fault.WordFault.TheVariants as faults

@@ -1,4 +1,4 @@
-pub mod Asking
+pub mod Invocations
 pub mod Decimal
 pub mod Disks
 pub mod Moment

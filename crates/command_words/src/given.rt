@@ -3,7 +3,7 @@ ghost use Rattle.std.specs.Prelude.{◌≡◌, ◌≤◌, true, ℕ, List, None,
 ghost use Rattle.command_words.specs.Decimal.{IsNumberUpTo, IsNumberGiven, IsThreads, IsThreadsGiven};
 ghost use Rattle.command_words.specs.Octal.{IsOctalUpTo, IsOctalGiven};
 ghost use Rattle.command_words.specs.Disks.{AreBlocksOf};
-ghost use Rattle.command_words.specs.Asking.{IsEditionNamed, IsMomentGiven, IsValue, IsWordOr, IsWrong, TellsOf, is_set, the_word};
+ghost use Rattle.command_words.specs.Invocations.{IsEditionNamed, IsMomentGiven, IsValue, IsWordOr, IsWrong, TellsOf, is_set, the_word};
 ghost use Rattle.command_words.specs.declared.parameters.WordKind.TheVariants as kinds;
 
 use crate::decimal::{long_of, threads_of, word_of};

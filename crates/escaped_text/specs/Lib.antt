@@ -1,1 +1,1 @@
-pub mod Escaping
+pub mod Escape

@@ -2,7 +2,7 @@
 #![tactic(auto)]
 
 ghost use Rattle.std.specs.Prelude.{◌≡◌, ◌++◌, OnOk};
-ghost use Rattle.escaped_text.specs.Escaping.{escaped_byte, escaped};
+ghost use Rattle.escaped_text.specs.Escape.{escaped_byte, escaped};
 
 use std::alloc::AllocError;
 

@@ -1,3 +1,3 @@
 pub mod Appended
-pub mod Reading
+pub mod ReadRequests
 pub mod ReadBack

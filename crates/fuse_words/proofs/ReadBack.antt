@@ -15,7 +15,7 @@ use Rattle.fuse_words.specs.declared.attribute_changes.AttributeChanges.{Attribu
 use Rattle.fuse_words.specs.declared.operation.Operation.{Operation}
 use Rattle.fuse_words.specs.declared.operation.Operation.TheVariants.{Init, Destroy, Lookup, Forget, BatchForget, GetAttr, SetAttr, MkNod, MkDir, Unlink, RmDir, Rename, Rename2, Link, Open, Read, Write, Release, StatFs, OpenDir, ReadDir, ReleaseDir, Fsync, FsyncDir, Flush, Interrupt, Other}
 use Rattle.fuse_words.specs.declared.request.Header.{Header}
-use Rattle.fuse_words.proofs.Reading.{read_by}
+use Rattle.fuse_words.proofs.ReadRequests.{read_by}
 
 -- a header from its numbers
 header_as : (bytes : List ℕ) (header : Header) → nat_lt (length bytes) 40 ≡ false → number 4 0 bytes ≡ header.length → number 4 4 bytes ≡ header.opcode

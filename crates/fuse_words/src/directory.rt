@@ -3,7 +3,7 @@ ghost use Rattle.std.specs.Prelude.{◌≡◌, ◌+◌, ◌≤◌, ◌++◌, nat
 ghost use Rattle.std.proofs.Math.ListN.{replicate};
 ghost use Rattle.fuse_words.specs.Replies.{kind_number, padding, dirent_bytes, dirent_size};
 
-use crate::pushing::{push, push_u32, push_u64};
+use crate::push::{push, push_u32, push_u64};
 
 /// The number of bytes of an entry before its name (`fuse_dirent`).
 const FRONT: usize = 24;

@@ -8,7 +8,7 @@ pub mod laws;
 pub mod name;
 pub mod opcode;
 pub mod operation;
-mod pushing;
+mod push;
 pub mod reply;
 pub mod reply_buffer;
 pub mod request;

@@ -1,7 +1,7 @@
 //! The buffer in which replies are made. Each is a whole message, to be written at once.
 ghost use Rattle.std.specs.Prelude.{◌≤◌, vec_capacity};
 
-use crate::pushing::{begin, push, push_attributes, push_u16, push_u32, push_u64};
+use crate::push::{begin, push, push_attributes, push_u16, push_u32, push_u64};
 use crate::reply::{Attributes, EntryReply, Settings, Statistics};
 use std::alloc::{AllocError, Global};
 use std::marker::Model;

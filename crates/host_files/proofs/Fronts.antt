@@ -12,7 +12,7 @@ use Rattle.vol_layout.specs.Edition.{constants}
 use Rattle.vol_layout.specs.Geometry.{block_count}
 use Rattle.vol_layout.specs.declared.edition.Edition.{Edition}
 use Rattle.vol_layout.specs.declared.edition.Edition.TheVariants.{V6, V7}
-use Rattle.host_files.specs.Reading.{IsEndless, IsReadOn, IsSkipped, IsVolumeRead}
+use Rattle.host_files.specs.ReadParts.{IsEndless, IsReadOn, IsSkipped, IsVolumeRead}
 
 -- the facts that hold whatever the result is
 pub on_err : {T E : Type 0} (result : Result T E) (P : Type 0) → P → OnErr result P

@@ -1,4 +1,4 @@
 pub mod Archives
-pub mod Opening
-pub mod Reading
-pub mod Saving
+pub mod OpenedFiles
+pub mod ReadParts
+pub mod Save

@@ -2,7 +2,7 @@
 ghost use Rattle.std.specs.Prelude.{◌≡◌, ◌≢◌, ◌↔◌, ◌==◌, ◌&&◌, ℕ, List, Bool, true, false, IfErr, IfOk, IfSome};
 ghost use Rattle.std.specs.Fs.{IsDir, IsFile, file_type, metadata_len};
 ghost use Rattle.host_files.specs.declared.image_file.Stamp.{Stamp};
-ghost use Rattle.host_files.specs.Opening.{IsOpenTo, OpensTo};
+ghost use Rattle.host_files.specs.OpenedFiles.{IsOpenTo, OpensTo};
 
 use std::fs::{self, File, Files, Metadata, TryLockError};
 use std::io::{self, IsTerminal};

@@ -1,7 +1,7 @@
 //! Reads the image or the archive in a file, and no further.
 ghost use Rattle.std.specs.Prelude.{◌≡◌, false, true, IfOk, OnErr, OnOk, IsErrOf};
 ghost use Rattle.pdp_words.specs.Devices.{LosesFront};
-ghost use Rattle.host_files.specs.Reading.{IsEndless, IsPast, IsReadOn, IsReadUpTo, IsSkipped, IsVolumeRead, up_to_kept};
+ghost use Rattle.host_files.specs.ReadParts.{IsEndless, IsPast, IsReadOn, IsReadUpTo, IsSkipped, IsVolumeRead, up_to_kept};
 
 use crate::archive_front::read_archive;
 use crate::image_file::FileKind;

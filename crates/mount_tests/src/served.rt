@@ -1,7 +1,7 @@
 //! Requests that a kernel sent, and the replies to them.
 use crate::fixtures::image;
 use crate::session::SESSION;
-use pdp_words::testing::{ScriptedReader, ScriptedWriter};
+use pdp_words::test_streams::{ScriptedReader, ScriptedWriter};
 use std::alloc::Global;
 use std::test::Fail;
 use vol_layout::{Edition, Geometry};

@@ -2,8 +2,8 @@
 use Rattle.std.specs.Prelude.{◌≡◌, ℕ, ◌==◌, None, Ok, Option, Result, IsErrAnd, if◌then◌else◌}
 use Rattle.std.specs.IoError.{error_kind}
 use Rattle.std.specs.declared.io.Error.{Error as IoError}
-use Rattle.pdp_words.specs.declared.testing.WriteMishap.{WriteMishap}
-use Rattle.pdp_words.specs.declared.testing.WriteMishap.TheVariants.{Error, TakesNone}
+use Rattle.pdp_words.specs.declared.test_streams.WriteMishap.{WriteMishap}
+use Rattle.pdp_words.specs.declared.test_streams.WriteMishap.TheVariants.{Error, TakesNone}
 
 -- the mishap at this call, where `kind` happens after `left` more calls that succeed (for tests)
 abbrev pub due : {T : Type 0} → ℕ → Option T → Option T

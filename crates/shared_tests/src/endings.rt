@@ -2,7 +2,7 @@
 use crate::fixtures::{sixth, stream, taken};
 use command_faults::answer::tell;
 use pdp_words::IntoWrite;
-use pdp_words::testing::{ScriptedWriter, WriteMishap};
+use pdp_words::test_streams::{ScriptedWriter, WriteMishap};
 use std::alloc::Global;
 use std::io::ErrorKind;
 use std::process::Abort;

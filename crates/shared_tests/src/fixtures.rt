@@ -2,7 +2,7 @@
 ghost use Rattle.std.specs.Prelude.{◌≡◌, None};
 
 use pdp_words::IntoWrite;
-use pdp_words::testing::ScriptedWriter;
+use pdp_words::test_streams::ScriptedWriter;
 use std::alloc::Global;
 use std::process::Abort;
 use std::sync::Wait;

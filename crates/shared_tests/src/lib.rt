@@ -3,7 +3,7 @@
 #![tactic(auto)]
 
 #[cfg(test)]
-mod confirming;
+mod confirm;
 #[cfg(test)]
 mod cuts;
 #[cfg(test)]
@@ -13,9 +13,9 @@ mod fixtures;
 #[cfg(test)]
 mod ledgers;
 #[cfg(test)]
-mod playing;
+mod play;
 #[cfg(test)]
-mod publishing;
+mod publish;
 #[cfg(test)]
 mod threads;
 #[cfg(test)]

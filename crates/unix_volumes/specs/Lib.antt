@@ -12,9 +12,9 @@ pub use Rattle.vol_volume.specs.Volume
 pub use Rattle.vol_receipts.specs.Agrees
 pub use Rattle.vol_shared.specs.Sessions
 pub use Rattle.vol_shared.specs.Stored
-pub use Rattle.vol_shared.specs.Watching
+pub use Rattle.vol_shared.specs.Watch
 pub use Rattle.vol_reports.specs.Reports
-pub use Rattle.vol_check.specs.Salvaging
-pub use Rattle.vol_migrate.specs.Migrating
-pub use Rattle.vol_archive.specs.Exporting
-pub use Rattle.vol_import.specs.Making
+pub use Rattle.vol_check.specs.SalvagedImages
+pub use Rattle.vol_migrate.specs.Migrate
+pub use Rattle.vol_archive.specs.Export
+pub use Rattle.vol_import.specs.Make

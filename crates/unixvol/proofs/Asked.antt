@@ -3,14 +3,14 @@ use Rattle.std.proofs.Common.{◌≡◌, ℕ, List, Option, Result, Ok, Err, IfO
 use Rattle.clap.specs.Words.{kind_of}
 use Rattle.clap.specs.declared.error.Error.{Error}
 use Rattle.command_line.specs.CommandLine.{IsRead}
-use Rattle.command_words.specs.Asking.{IsWorkable}
+use Rattle.command_words.specs.Invocations.{IsWorkable}
 use Rattle.command_words.specs.declared.invocation.Invocation.{Invocation}
 use Rattle.command_words.specs.declared.invocation.Invocation.TheVariants as invocations
 use Rattle.command_words.specs.declared.invocation.VolumeFile.{VolumeFile}
 use Rattle.command_words.specs.declared.invocation.Work.{Work}
-use Rattle.command_line.proofs.Reading.{workable}
+use Rattle.command_line.proofs.ReadWords.{workable}
 use Rattle.command_faults.specs.Streams.{Streams}
-use Rattle.unixvol.specs.Running.{HostFiles, RunsRead, Tells}
+use Rattle.unixvol.specs.Runs.{HostFiles, RunsRead, Tells}
 
 -- words that were read request from several threads only work that they can do
 pub asked : {E : Type 0} (clock : Option ℕ) (result : Result Invocation E) (words : List (List ℕ)) (volume : VolumeFile) (work : Work) → IfOk result (IsRead clock words)

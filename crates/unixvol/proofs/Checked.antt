@@ -7,7 +7,7 @@ use Rattle.vol_layout.specs.declared.edition.Edition.{Edition}
 use Rattle.vol_listing.specs.declared.options.Screen.{Screen}
 use Rattle.vol_reports.specs.Reports.{has_faults}
 use Rattle.vol_reports.specs.declared.line.Line.{Line}
-use Rattle.unixvol.specs.Running.{IsEnd, IsUnread, RunsCheck, host_files}
+use Rattle.unixvol.specs.Runs.{IsEnd, IsUnread, RunsCheck, host_files}
 use Rattle.host_files.specs.declared.image_file.Stamp.{Stamp}
 
 -- the end of a run without a file or memory

@@ -10,8 +10,8 @@ use Rattle.command_faults.specs.declared.fault.Fault.{Fault}
 use Rattle.vol_dir.specs.declared.refusal.Refusal.{Refusal}
 use Rattle.vol_import.specs.declared.faults.ArchiveFault.{ArchiveFault}
 use Rattle.vol_import.specs.declared.faults.ArchiveFault.TheVariants as archives
-use Rattle.vol_import.specs.declared.making.ImportFault.{ImportFault}
-use Rattle.vol_import.specs.declared.making.ImportFault.TheVariants as imports
+use Rattle.vol_import.specs.declared.make.ImportFault.{ImportFault}
+use Rattle.vol_import.specs.declared.make.ImportFault.TheVariants as imports
 use Rattle.vol_layout.specs.declared.edition.Edition.{Edition}
 use Rattle.vol_volume.specs.declared.calls.Call.{Call}
 use Rattle.command_reads.specs.GetFiles.{GetsFiles, get_status}
@@ -21,8 +21,8 @@ use Rattle.command_reads.specs.declared.get.FileRead.{FileRead}
 use Rattle.command_reads.specs.declared.get.FilesRead.{FilesRead}
 use Rattle.command_reads.specs.declared.get.GetFault.{GetFault}
 use Rattle.command_reads.specs.declared.get.GetFault.TheVariants.{Volume, File}
-use Rattle.unixvol.specs.Copying.{ReadSaved}
-use Rattle.unixvol.specs.Running.{EndsSaved, Ends, IsUnread}
+use Rattle.unixvol.specs.Copies.{ReadSaved}
+use Rattle.unixvol.specs.Runs.{EndsSaved, Ends, IsUnread}
 
 -- a run that reads no file ends
 pub ends_unread : {F : Type 0} (remaining : F → Option (List ℕ)) (streams : Streams) (status : ℕ) → IsUnread remaining status

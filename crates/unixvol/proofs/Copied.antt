@@ -6,8 +6,8 @@ use Rattle.std.proofs.lemmas.List.{map-append, take_more}
 use Rattle.command_reads.specs.declared.get.FileRead.{FileRead}
 use Rattle.command_reads.specs.declared.get.FilesRead.{FilesRead}
 use Rattle.command_changes.specs.declared.put.NewFile.{NewFile}
-use Rattle.unixvol.specs.Copying.{AreSaved, ReadSaved, name_of}
-use Rattle.unixvol.specs.Running.{IsStatusOfFileOrMemory}
+use Rattle.unixvol.specs.Copies.{AreSaved, ReadSaved, name_of}
+use Rattle.unixvol.specs.Runs.{IsStatusOfFileOrMemory}
 
 -- the name of a new file
 abbrev file_name : NewFile → List ℕ

@@ -14,7 +14,7 @@ use Rattle.command_faults.specs.declared.fault.Fault.{Fault}
 use Rattle.command_faults.specs.declared.fault.Fault.TheVariants as faults
 use Rattle.vol_layout.specs.declared.edition.Edition.{Edition}
 use Rattle.vol_volume.specs.declared.queries.Query.{Query}
-use Rattle.unixvol.specs.Running.{EndsSaved, Ends, IsUngiven, IsUnread}
+use Rattle.unixvol.specs.Runs.{EndsSaved, Ends, IsUngiven, IsUnread}
 use Rattle.unixvol.proofs.Concluded.{ends_concluded, ends_imported, ends_unread}
 
 -- nothing was printed for a fault that isn't the output's

@@ -1,9 +1,9 @@
 -- The end of a command that shows part of an image.
 use Rattle.std.proofs.Common.{◌≡◌, ℕ, ◌≤◌, ◌==◌, Bool, true, false, if◌then◌else◌, List, [], ◌∷◌, length, Option, Result, Ok, Err, inl, inr, sym, ap, subst, ◌∙◌, arith}
 use Rattle.std.proofs.lemmas.Bool.{ne_eqb}
-use Rattle.vol_archive.specs.Exporting.{start_of}
-use Rattle.vol_archive.specs.declared.exporting.ExportStart.{ExportStart}
-use Rattle.vol_archive.specs.declared.exporting.StartFault.{StartFault}
+use Rattle.vol_archive.specs.Export.{start_of}
+use Rattle.vol_archive.specs.declared.export_tree.ExportStart.{ExportStart}
+use Rattle.vol_archive.specs.declared.export_tree.StartFault.{StartFault}
 use Rattle.command_faults.proofs.Concluded.{fault_few}
 use Rattle.command_faults.specs.Faults.{no_memory}
 use Rattle.command_faults.specs.Streams.{Streams}
@@ -11,13 +11,13 @@ use Rattle.command_faults.specs.declared.fault.Fault.{Fault}
 use Rattle.vol_layout.specs.declared.edition.Edition.{Edition}
 use Rattle.command_reads.specs.Check.{Checks, verdict_status}
 use Rattle.command_reads.specs.Export.{ExportsBelow, ExportsFrom, ExportsTo, whole, broken, short, unbegun}
-use Rattle.command_reads.specs.Looking.{Looks}
-use Rattle.command_reads.specs.Printing.{IsBrokenOff, IsTold, PrintsOne, PrintsWith}
+use Rattle.command_reads.specs.Look.{Looks}
+use Rattle.command_reads.specs.Print.{IsBrokenOff, IsTold, PrintsOne, PrintsWith}
 use Rattle.command_reads.specs.declared.looks.Look.{Look}
 use Rattle.command_reads.specs.declared.looks.Look.TheVariants as looks
 use Rattle.vol_listing.specs.declared.options.Screen.{Screen}
 use Rattle.vol_listing.specs.declared.options.Screen.TheVariants as screens
-use Rattle.unixvol.specs.Running.{IsEnd, IsUnread, RunsLook, host_files}
+use Rattle.unixvol.specs.Runs.{IsEnd, IsUnread, RunsLook, host_files}
 use Rattle.host_files.specs.declared.image_file.Stamp.{Stamp}
 
 -- the end of a run with a fault

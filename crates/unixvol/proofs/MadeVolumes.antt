@@ -10,7 +10,7 @@ use Rattle.command_changes.specs.Mkfs.{mkfs_line_at}
 use Rattle.command_faults.specs.declared.fault.Fault.{Fault}
 use Rattle.command_changes.specs.declared.mkfs.MadeVolume.{MadeVolume}
 use Rattle.vol_mkfs.specs.declared.blank.NewVolume.{NewVolume}
-use Rattle.unixvol.specs.Running.{IsStatusOfFileOrMemory, MadeSaved, RunsMkfs}
+use Rattle.unixvol.specs.Runs.{IsStatusOfFileOrMemory, MadeSaved, RunsMkfs}
 
 -- the requested volume was taken, if one was made and taken
 taken_whole : (made : Option Blank) (wanted : Blank) (taken : List ℕ → Type 0) → IfSome made (λ blank. blank ≡ wanted)

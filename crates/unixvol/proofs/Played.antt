@@ -6,18 +6,18 @@ use Rattle.command_faults.specs.Faults.{fault_status}
 use Rattle.command_faults.specs.Streams.{Streams}
 use Rattle.command_faults.specs.declared.answer.Answer.{Answer}
 use Rattle.vol_layout.specs.declared.edition.Edition.{Edition}
-use Rattle.vol_play.specs.Playing.{PlaysVolume}
-use Rattle.vol_receipts.specs.declared.finding.Confirmed.{Confirmed}
+use Rattle.vol_play.specs.Play.{PlaysVolume}
+use Rattle.vol_receipts.specs.declared.confirm_many.Confirmed.{Confirmed}
 use Rattle.vol_receipts.specs.declared.receipts.Outcome.{Outcome}
 use Rattle.vol_receipts.specs.declared.receipts.Outcome.TheVariants as outcomes
-use Rattle.vol_scripts.specs.Ending.{Finishes, PrintsPlay, outcome_status, printed_status, script_status, step_status}
-use Rattle.vol_scripts.specs.Refusing.{AnswersFault}
+use Rattle.vol_scripts.specs.Endings.{Finishes, PrintsPlay, outcome_status, printed_status, script_status, step_status}
+use Rattle.vol_scripts.specs.Refuse.{AnswersFault}
 use Rattle.vol_scripts.specs.declared.played.Played.{Played}
 use Rattle.vol_scripts.specs.declared.played.Played.TheVariants as played
-use Rattle.vol_scripts.specs.declared.reading.ScriptsFault.{ScriptsFault}
-use Rattle.vol_scripts.specs.declared.reading.ScriptsFault.TheVariants as unread
+use Rattle.vol_scripts.specs.declared.read.ScriptsFault.{ScriptsFault}
+use Rattle.vol_scripts.specs.declared.read.ScriptsFault.TheVariants as unread
 use Rattle.vol_volume.specs.Volume.{Mounted}
-use Rattle.unixvol.specs.Running.{EndsSaved, IsEnd, IsUnread, RunsPlay, host_files}
+use Rattle.unixvol.specs.Runs.{EndsSaved, IsEnd, IsUnread, RunsPlay, host_files}
 use Rattle.host_files.specs.declared.image_file.Stamp.{Stamp}
 
 max_few : (a b : ℕ) → a ≤ 4 → b ≤ 4 → max a b ≤ 4

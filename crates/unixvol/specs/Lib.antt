@@ -1,3 +1,3 @@
-pub mod Copying
-pub mod Running
-pub mod Serving
+pub mod Copies
+pub mod Runs
+pub mod Serve

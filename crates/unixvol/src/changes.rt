@@ -2,15 +2,15 @@
 ghost use Rattle.std.specs.Prelude.{◌≡◌, ◌+◌, ◌*◌, ◌/◌, ◌^◌, ◌≤◌, min, ℕ, Bool, IfErr, IfOk, List, Option};
 ghost use Rattle.std.specs.Process.{exit_status};
 ghost use Rattle.command_faults.specs.Streams.{ErrorStream, Hears, still};
-ghost use Rattle.unixvol.specs.Running.{ChangesToEnd, Ends, GaveArchive, GaveBytes, IsGivenTo, IsUngiven, IsUnread, RunsChange, host_files, host_input, wants_terminal};
+ghost use Rattle.unixvol.specs.Runs.{ChangesToEnd, Ends, GaveArchive, GaveBytes, IsGivenTo, IsUngiven, IsUnread, RunsChange, host_files, host_input, wants_terminal};
 
-use crate::explaining::{NamedFile, explain_unread, finish, tell_fault};
+use crate::explain::{NamedFile, explain_unread, finish, tell_fault};
 use crate::host::Surroundings;
-use crate::reading::{Begun, begin, read_file, read_open};
-use crate::saving::save_answer;
+use crate::read::{Begun, begin, read_file, read_open};
+use crate::save::save_answer;
 use crate::subject::Subject;
 use command_changes::Change;
-use command_changes::changing::perform;
+use command_changes::change::perform;
 use command_faults::Ending;
 use command_line::VolumeFile;
 use host_files::{FileKind, ImageFiles, UpTo};

@@ -3,14 +3,14 @@ ghost use Rattle.std.specs.Prelude.{◌≡◌, ◌≢◌, ◌≤◌, ℕ, Bool, 
 ghost use Rattle.std.specs.Io.KnownBytes.{Keeps};
 ghost use Rattle.std.specs.Process.{exit_status};
 ghost use Rattle.command_faults.specs.Streams.{ErrorStream, Hears, still, streams};
-ghost use Rattle.unixvol.specs.Running.{IsPlainCommand, IsUnread, Gave, PrintsBody, RunsMigrate, RunsMkfs, Runs, RunsRead, RunsToEnd, Ends, host_files};
-ghost use Rattle.host_files.specs.Saving.{IsTaken};
+ghost use Rattle.unixvol.specs.Runs.{IsPlainCommand, IsUnread, Gave, PrintsBody, RunsMigrate, RunsMkfs, Runs, RunsRead, RunsToEnd, Ends, host_files};
+ghost use Rattle.host_files.specs.Save.{IsTaken};
 
-use crate::explaining::{explain_cat, explain_command_line, finish, tell_fault};
+use crate::explain::{explain_cat, explain_command_line, finish, tell_fault};
 use crate::host::Surroundings;
 use crate::looks::run_get;
-use crate::reading::{read_stamped, read_volume};
-use crate::saving::{save_made, save_migrated};
+use crate::read::{read_stamped, read_volume};
+use crate::save::{save_made, save_migrated};
 use crate::subject::Subject;
 use clap::Error;
 use command_changes::Migration;

@@ -3,17 +3,17 @@
 ghost use Rattle.std.specs.Prelude.{◌≡◌, ◌≤◌, IfErr, IfOk};
 ghost use Rattle.std.specs.Process.{exit_status};
 ghost use Rattle.command_faults.specs.Streams.{ErrorStream, Hears, streams};
-ghost use Rattle.unixvol.specs.Running.{Ends, IsEnd, IsSeen, IsShownBy, IsUnread, LooksToEnd, RunsGetOne, RunsLook, host_files};
+ghost use Rattle.unixvol.specs.Runs.{Ends, IsEnd, IsSeen, IsShownBy, IsUnread, LooksToEnd, RunsGetOne, RunsLook, host_files};
 
-use crate::explaining::{finish_printed, tell_fault};
+use crate::explain::{finish_printed, tell_fault};
 use crate::host::Surroundings;
-use crate::reading::{read_checked, read_volume};
+use crate::read::{read_checked, read_volume};
 use crate::subject::Subject;
 use command_faults::Ending;
 use command_line::VolumeFile;
 use command_reads::Look;
 use command_reads::get::show_file;
-use command_reads::looking::perform;
+use command_reads::show::perform;
 use host_files::{ImageFiles, noted_writer};
 use pdp_words::{IntoWrite, Sink};
 use std::env::{self, Env};

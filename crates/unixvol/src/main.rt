@@ -3,15 +3,15 @@
 
 mod changes;
 mod commands;
-mod copying;
-mod explaining;
+mod copy;
+mod explain;
 mod host;
 mod looks;
 mod meanings;
-mod reading;
+mod read;
 mod replaced;
-mod saving;
-mod serving;
+mod save;
+mod serve;
 mod sizes;
 mod subject;
 mod threads;
@@ -32,7 +32,7 @@ fn main(rt: HostRuntime) -> ExitCode {
         Ok(words) => words,
         Err(error) => {
             let place = words::place_of_no_text(&rt);
-            return ExitCode::from(explaining::explain_words(&rt, &error, place));
+            return ExitCode::from(explain::explain_words(&rt, &error, place));
         }
     };
     let is_watched = rt.stderr().is_terminal();
@@ -66,10 +66,10 @@ fn main(rt: HostRuntime) -> ExitCode {
             )
         }
         Ok(Invocation::Copy { volume, copying }) => {
-            copying::run_to_end(&host, output, rt.stderr(), volume, copying)
+            copy::run_to_end(&host, output, rt.stderr(), volume, copying)
         }
         Ok(Invocation::Serve { volume }) => {
-            serving::run_to_end(&host, rt.stdin(), output, rt.stderr(), volume)
+            serve::run_to_end(&host, rt.stdin(), output, rt.stderr(), volume)
         }
         read => commands::run_to_end(&host, output, rt.stderr(), read),
     }

@@ -1,14 +1,14 @@
 //! The commands that several threads run. Their contracts hold if they return.
 ghost use Rattle.std.specs.Prelude.{◌≡◌, ◌⊎◌, ◌≤◌, All, IfErr, IfOk, length};
 ghost use Rattle.std.specs.Process.{exit_status};
-ghost use Rattle.command_words.specs.Asking.{IsWorkable};
+ghost use Rattle.command_words.specs.Invocations.{IsWorkable};
 ghost use Rattle.command_faults.specs.Streams.{ErrorStream, Hears, streams};
-ghost use Rattle.unixvol.specs.Running.{GaveBytes, IsEnd, IsUnread, RunsCheck, RunsPlay, RunsWork, WorksToEnd, host_files};
+ghost use Rattle.unixvol.specs.Runs.{GaveBytes, IsEnd, IsUnread, RunsCheck, RunsPlay, RunsWork, WorksToEnd, host_files};
 
-use crate::explaining::{finish_printed, tell_fault};
+use crate::explain::{finish_printed, tell_fault};
 use crate::host::Surroundings;
-use crate::reading::{Begun, begin, read_files, read_volume};
-use crate::saving::save_played;
+use crate::read::{Begun, begin, read_files, read_volume};
+use crate::save::save_played;
 use crate::subject::Subject;
 use command_faults::Ending;
 use command_line::{VolumeFile, Work};

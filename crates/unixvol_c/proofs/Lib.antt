@@ -1,4 +1,4 @@
 pub mod AsBox
-pub mod Counting
+pub mod JournalBytes
 pub mod Judged
 pub mod Replied

@@ -3,4 +3,4 @@ pub mod Held
 pub mod Numbers
 pub mod Opened
 pub mod Texts
-pub mod Told
+pub mod Structs

@@ -6,18 +6,18 @@ use Rattle.vol_layout.specs.declared.edition.Edition.{Edition}
 use Rattle.vol_layout.specs.declared.geometry.GeometryFault.TheVariants.{Short, Bounds}
 use Rattle.vol_reports.specs.Texts.{report_text}
 use Rattle.vol_reports.specs.declared.line.Line.{Line}
-use Rattle.vol_check.specs.Reporting.{IsReport}
+use Rattle.vol_check.specs.SweepReports.{IsReport}
 use Rattle.vol_check.specs.declared.checker.Checker.{Checker}
 use Rattle.vol_check.specs.declared.checker.Checker.TheVariants.{Blocks, Entries, Names}
 use Rattle.vol_findings.specs.Reports.{IsReport as IsFindings}
-use Rattle.vol_archive.specs.Exporting.{start_of}
+use Rattle.vol_archive.specs.Export.{start_of}
 use Rattle.vol_archive.specs.Laws.{is_kept}
 use Rattle.vol_archive.specs.Members.{archive_bytes}
-use Rattle.vol_archive.specs.Walking.{IsWalk}
-use Rattle.vol_archive.specs.declared.exporting.ExportStart.{ExportStart}
-use Rattle.vol_archive.specs.declared.exporting.StartFault.{StartFault}
-use Rattle.vol_archive.specs.declared.exporting.StartFault.TheVariants.{Unsound, Refused}
-use Rattle.vol_archive.specs.declared.found.MetEntry.{MetEntry}
+use Rattle.vol_archive.specs.Walk.{IsWalk}
+use Rattle.vol_archive.specs.declared.export_tree.ExportStart.{ExportStart}
+use Rattle.vol_archive.specs.declared.export_tree.StartFault.{StartFault}
+use Rattle.vol_archive.specs.declared.export_tree.StartFault.TheVariants.{Unsound, Refused}
+use Rattle.vol_archive.specs.declared.met_entries.MetEntry.{MetEntry}
 use Rattle.unixvol_c.specs.Opened.{Opened}
 
 -- the contents before and after have this relation (this project)

@@ -3,9 +3,9 @@ ghost use Rattle.std.specs.Prelude.{◌≡◌, ◌≢◌, ◌↔◌, ◌⊎◌, 
 ghost use Rattle.vol_layout.specs.Geometry.{Fits};
 ghost use Rattle.vol_dir.specs.Entries.{IsDirectory};
 ghost use Rattle.vol_check.specs.Layouts.{HasSwept, IsFor, IsSeatIn};
-ghost use Rattle.vol_check.specs.Reporting.{IsReport};
-ghost use Rattle.vol_check.specs.Stepping.{Ran};
-ghost use Rattle.vol_archive.specs.Exporting.{start_of};
+ghost use Rattle.vol_check.specs.SweepReports.{IsReport};
+ghost use Rattle.vol_check.specs.Steps.{Ran};
+ghost use Rattle.vol_archive.specs.Export.{start_of};
 ghost use Rattle.unixvol_c.specs.Texts.{BothHeld, IsArchive, IsReportText, KeepsArchive, KeepsReport, checker_of, start_number};
 
 use crate::handle::Handle;

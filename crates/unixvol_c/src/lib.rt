@@ -5,15 +5,15 @@ mod answers;
 mod calls;
 mod handle;
 mod loose;
-mod naming;
+mod names;
+mod open;
 mod open_volume;
-mod opening;
 mod queries;
-mod repairing;
+mod repair;
 mod sealed;
+mod structs;
 #[cfg(test)]
 mod tests;
-mod told;
 
 pub use answers::{unixvol_answer, unixvol_answer_size, unixvol_export, unixvol_report};
 pub use calls::{
@@ -21,13 +21,13 @@ pub use calls::{
     unixvol_rmdir, unixvol_times, unixvol_truncate, unixvol_unlink, unixvol_write,
 };
 pub use handle::Handle;
-pub use naming::unixvol_name;
-pub use opening::{
+pub use names::unixvol_name;
+pub use open::{
     unixvol_close, unixvol_image, unixvol_judge, unixvol_mkfs, unixvol_open, unixvol_size,
 };
 pub use queries::{unixvol_about, unixvol_list, unixvol_read, unixvol_stat};
-pub use repairing::{unixvol_explain, unixvol_salvage};
-pub use told::{ListedName, Node, VolumeSizes};
+pub use repair::{unixvol_explain, unixvol_salvage};
+pub use structs::{ListedName, Node, VolumeSizes};
 
 /// Done.
 pub const DONE: i32 = 0;

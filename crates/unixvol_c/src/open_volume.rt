@@ -54,7 +54,7 @@ impl OpenVolume {
     }
 
     /// Makes a call, as [`Volume::call`] does, and cuts the journal if it has grown past the image.
-    #[tactic(auto, using(crate::proofs::Counting::growth_after))]
+    #[tactic(auto, using(crate::proofs::JournalBytes::growth_after))]
     pub(crate) fn call(&mut self, alloc: Global, call: Call) -> Result<Done, Refusal>
         ensures accepted { IfOk result (λ done. IsMade self.old self.new call done) }
         ensures refused { IfErr result (λ refusal. Refuses (reads_as self.old.volume.edition self.old.volume.image) call refusal) }

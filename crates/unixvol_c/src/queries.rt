@@ -3,10 +3,10 @@ ghost use Rattle.std.specs.Prelude.{◌≡◌, ◌≢◌, ◌↔◌, ◌<◌, �
 ghost use Rattle.vol_volume.specs.declared.queries.Query.TheVariants as asked;
 ghost use Rattle.vol_volume.specs.declared.queries.Reply.TheVariants as replies;
 ghost use Rattle.unixvol_c.specs.Calls.{IsAnswered, RefusesQuery, Replies};
-ghost use Rattle.unixvol_c.specs.Told.{IsAbout, TellsNames, TellsNode, entry_of};
+ghost use Rattle.unixvol_c.specs.Structs.{IsAbout, TellsNames, TellsNode, entry_of};
 
 use crate::handle::Handle;
-use crate::told::{ListedName, Node, VolumeSizes};
+use crate::structs::{ListedName, Node, VolumeSizes};
 use crate::{CLOSED, DONE, NO_MEMORY, NO_ROOM};
 use std::alloc::Global;
 use vol_dir::Cred;

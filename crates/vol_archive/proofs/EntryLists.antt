@@ -22,7 +22,7 @@ use Rattle.vol_dir.specs.Walk.{is_nil, components}
 use Rattle.vol_dir.proofs.NameMaps.{sorted}
 use Rattle.vol_dir.proofs.Components.{components-nil}
 use Rattle.vol_dir.proofs.PathJoins.{components-join}
-use Rattle.vol_archive.specs.Walking.{is_plain, path_below, entry_below, pending_below, entries_below}
+use Rattle.vol_archive.specs.Walk.{is_plain, path_below, entry_below, pending_below, entries_below}
 use Rattle.vol_archive.specs.declared.pending.Pending.{Pending}
 use Rattle.vol_archive.proofs.Each.{Each, each_append, each_both}
 

@@ -13,10 +13,10 @@ use Rattle.vol_dir.specs.Names.{Names, names_of, is_dots}
 use Rattle.vol_dir.specs.Walk.{components}
 use Rattle.vol_dir.proofs.NameMaps.{sorted}
 use Rattle.vol_archive.specs.Laws.{is_kept, members_of, MembersAscend, MembersDiffer}
-use Rattle.vol_archive.specs.Walking.{Walks, is_plain, path_below, pending_below, met, below, entries_below, role_of, first_met, IsWalk}
-use Rattle.vol_archive.specs.declared.found.MetEntry.{MetEntry}
-use Rattle.vol_archive.specs.declared.found.Role.{Role}
-use Rattle.vol_archive.specs.declared.found.Role.TheVariants as roles
+use Rattle.vol_archive.specs.Walk.{Walks, is_plain, path_below, pending_below, met, below, entries_below, role_of, first_met, IsWalk}
+use Rattle.vol_archive.specs.declared.met_entries.MetEntry.{MetEntry}
+use Rattle.vol_archive.specs.declared.met_entries.Role.{Role}
+use Rattle.vol_archive.specs.declared.met_entries.Role.TheVariants as roles
 use Rattle.vol_archive.specs.declared.pending.Pending.{Pending}
 use Rattle.vol_archive.proofs.Each.{Each, Pairs, each_map, each_append, pairs_append, all_pairs_kept, each_both}
 use Rattle.vol_archive.proofs.EntryLists.{IsShort, IsNamed, component_below, directory_short, entries_named, each_below}

@@ -14,11 +14,11 @@ use Rattle.vol_dir.specs.Names.{get, names_of}
 use Rattle.vol_dir.specs.Walk.{components}
 use Rattle.vol_judge.specs.Directories.{IsTree}
 use Rattle.vol_archive.specs.Laws.{is_kept, DirectoriesAreMetOnce}
-use Rattle.vol_archive.specs.Walking.{Walks, path_below, is_first, first_met, met, below, entries_below}
-use Rattle.vol_archive.specs.declared.found.MetEntry.{MetEntry}
-use Rattle.vol_archive.specs.declared.found.Role.{Role}
-use Rattle.vol_archive.specs.declared.found.Role.TheVariants as roles
-use Rattle.vol_archive.specs.declared.found.Reason.TheVariants as reasons
+use Rattle.vol_archive.specs.Walk.{Walks, path_below, is_first, first_met, met, below, entries_below}
+use Rattle.vol_archive.specs.declared.met_entries.MetEntry.{MetEntry}
+use Rattle.vol_archive.specs.declared.met_entries.Role.{Role}
+use Rattle.vol_archive.specs.declared.met_entries.Role.TheVariants as roles
+use Rattle.vol_archive.specs.declared.met_entries.Reason.TheVariants as reasons
 use Rattle.vol_archive.specs.declared.pending.Pending.{Pending}
 use Rattle.vol_archive.proofs.Each.{Each, Pairs, Has, each_map, each_append, each_both, each_all, has_map, has_behind, has_front, has_either, has_at, has_each}
 use Rattle.vol_archive.proofs.EntryLists.{directory_found, each_proper}

@@ -11,17 +11,17 @@ use Rattle.vol_layout.specs.declared.geometry.Geometry.{Geometry}
 use Rattle.vol_layout.specs.declared.mode.Kind.{Kind}
 use Rattle.vol_layout.specs.declared.mode.Kind.TheVariants as kinds
 use Rattle.vol_file.specs.Rules.{kind_at, HasKinds}
-use Rattle.vol_file.proofs.Naming.{root_first}
+use Rattle.vol_file.proofs.StoredNames.{root_first}
 use Rattle.vol_dir.specs.Entries.{entry_at, slot_count, slots, IsDirectory, HasEntries, IsInUse}
 use Rattle.vol_dir.specs.Names.{Names, get, names_of}
 use Rattle.vol_dir.specs.Tree.{is_number}
 use Rattle.vol_dir.proofs.WalkLaws.{found_in_use}
 use Rattle.vol_archive.specs.Laws.{EntriesHaveNodes}
-use Rattle.vol_archive.specs.Walking.{Walks, is_plain, met, below, entries_below, role_of, node_role, file_role, role_after, link_role, has_room, first_met}
-use Rattle.vol_archive.specs.declared.found.MetEntry.{MetEntry}
-use Rattle.vol_archive.specs.declared.found.Role.{Role}
-use Rattle.vol_archive.specs.declared.found.Role.TheVariants as roles
-use Rattle.vol_archive.specs.declared.found.Reason.TheVariants as reasons
+use Rattle.vol_archive.specs.Walk.{Walks, is_plain, met, below, entries_below, role_of, node_role, file_role, role_after, link_role, has_room, first_met}
+use Rattle.vol_archive.specs.declared.met_entries.MetEntry.{MetEntry}
+use Rattle.vol_archive.specs.declared.met_entries.Role.{Role}
+use Rattle.vol_archive.specs.declared.met_entries.Role.TheVariants as roles
+use Rattle.vol_archive.specs.declared.met_entries.Reason.TheVariants as reasons
 use Rattle.vol_archive.specs.declared.pending.Pending.{Pending}
 use Rattle.vol_archive.proofs.Each.{Each, each_append, each_both, each_all}
 use Rattle.vol_archive.proofs.EntryLists.{directory_found, each_below}

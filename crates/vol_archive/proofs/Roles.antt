@@ -11,11 +11,11 @@ use Rattle.vol_file.specs.Rules.{kind_at}
 use Rattle.vol_dir.specs.Entries.{IsDirectory}
 use Rattle.vol_dir.specs.Tree.{is_number}
 use Rattle.vol_archive.specs.Laws.{is_kept}
-use Rattle.vol_archive.specs.Walking.{role_of, node_role, file_role, role_after, link_role, has_room}
-use Rattle.vol_archive.specs.declared.found.MetEntry.{MetEntry}
-use Rattle.vol_archive.specs.declared.found.Role.{Role}
-use Rattle.vol_archive.specs.declared.found.Role.TheVariants as roles
-use Rattle.vol_archive.specs.declared.found.Reason.TheVariants as reasons
+use Rattle.vol_archive.specs.Walk.{role_of, node_role, file_role, role_after, link_role, has_room}
+use Rattle.vol_archive.specs.declared.met_entries.MetEntry.{MetEntry}
+use Rattle.vol_archive.specs.declared.met_entries.Role.{Role}
+use Rattle.vol_archive.specs.declared.met_entries.Role.TheVariants as roles
+use Rattle.vol_archive.specs.declared.met_entries.Reason.TheVariants as reasons
 use Rattle.vol_archive.specs.declared.pending.Pending.{Pending}
 use Rattle.vol_archive.proofs.TreeMembers.{member_plain, met_directory}
 

@@ -19,11 +19,11 @@ use Rattle.vol_dir.proofs.WalkLaws.{search-directory}
 use Rattle.vol_dir.specs.declared.refusal.Refusal.TheVariants as refusals
 use Rattle.vol_dir.specs.Access.{user}
 use Rattle.vol_archive.specs.Laws.{is_kept, MembersAreOfTree}
-use Rattle.vol_archive.specs.Walking.{Walks, IsWalk, met, below, entries_below, role_of, node_role, file_role, role_after, link_role, has_room, first_met}
-use Rattle.vol_archive.specs.declared.found.MetEntry.{MetEntry}
-use Rattle.vol_archive.specs.declared.found.Role.{Role}
-use Rattle.vol_archive.specs.declared.found.Role.TheVariants as roles
-use Rattle.vol_archive.specs.declared.found.Reason.TheVariants as reasons
+use Rattle.vol_archive.specs.Walk.{Walks, IsWalk, met, below, entries_below, role_of, node_role, file_role, role_after, link_role, has_room, first_met}
+use Rattle.vol_archive.specs.declared.met_entries.MetEntry.{MetEntry}
+use Rattle.vol_archive.specs.declared.met_entries.Role.{Role}
+use Rattle.vol_archive.specs.declared.met_entries.Role.TheVariants as roles
+use Rattle.vol_archive.specs.declared.met_entries.Reason.TheVariants as reasons
 use Rattle.vol_archive.specs.declared.pending.Pending.{Pending}
 use Rattle.vol_archive.proofs.Each.{Each, each_map, each_append, all_kept}
 use Rattle.vol_archive.proofs.EntryLists.{IsNamed, entries_named}

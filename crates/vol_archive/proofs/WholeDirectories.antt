@@ -10,9 +10,9 @@ use Rattle.vol_file.proofs.PlaceLists.{same_bytes}
 use Rattle.vol_dir.specs.Entries.{slots}
 use Rattle.vol_dir.specs.Names.{Names, get, names_of, is_dots}
 use Rattle.vol_archive.specs.Laws.{HasMet, HasMetAllOf, DirectoriesAreWhole}
-use Rattle.vol_archive.specs.Walking.{Walks, is_plain, path_below, entry_below, pending_below, met, below, entries_below}
-use Rattle.vol_archive.specs.declared.found.MetEntry.{MetEntry}
-use Rattle.vol_archive.specs.declared.found.Role.TheVariants as roles
+use Rattle.vol_archive.specs.Walk.{Walks, is_plain, path_below, entry_below, pending_below, met, below, entries_below}
+use Rattle.vol_archive.specs.declared.met_entries.MetEntry.{MetEntry}
+use Rattle.vol_archive.specs.declared.met_entries.Role.TheVariants as roles
 use Rattle.vol_archive.specs.declared.pending.Pending.{Pending}
 use Rattle.vol_archive.proofs.Each.{Each, Has, each_map, each_all, each_front, each_back, has_map, has_behind, has_any, has_each}
 use Rattle.vol_archive.proofs.TreeMembers.{rest_of, walk_is}

@@ -20,12 +20,12 @@ use Rattle.vol_dir.proofs.WalkLaws.{search-outside, search-directory, search-oth
 use Rattle.vol_dir.specs.declared.refusal.Refusal.TheVariants as refusals
 use Rattle.vol_dir.specs.Access.{user}
 use Rattle.vol_archive.specs.Laws.{is_kept, members_of, HasMetAllOf, MembersAreTheTree}
-use Rattle.vol_archive.specs.Walking.{Walks, is_plain, path_below, first_met}
-use Rattle.vol_archive.specs.declared.found.MetEntry.{MetEntry}
-use Rattle.vol_archive.specs.declared.found.Role.{Role}
-use Rattle.vol_archive.specs.declared.found.Role.TheVariants as roles
-use Rattle.vol_archive.specs.declared.found.Reason.{Reason}
-use Rattle.vol_archive.specs.declared.found.Reason.TheVariants as reasons
+use Rattle.vol_archive.specs.Walk.{Walks, is_plain, path_below, first_met}
+use Rattle.vol_archive.specs.declared.met_entries.MetEntry.{MetEntry}
+use Rattle.vol_archive.specs.declared.met_entries.Role.{Role}
+use Rattle.vol_archive.specs.declared.met_entries.Role.TheVariants as roles
+use Rattle.vol_archive.specs.declared.met_entries.Reason.{Reason}
+use Rattle.vol_archive.specs.declared.met_entries.Reason.TheVariants as reasons
 use Rattle.vol_archive.specs.declared.pending.Pending.{Pending}
 use Rattle.vol_archive.proofs.Each.{Each, Has, each_map, each_both, each_of_all, has_map, has_any, any_has, has_both, has_each, has_kept}
 use Rattle.vol_archive.proofs.EntryLists.{IsShort, directory_short, component_below}

@@ -15,11 +15,11 @@ use Rattle.vol_judge.specs.Directories.{IsTree}
 use Rattle.vol_layout.specs.declared.geometry.Geometry.{Geometry}
 use Rattle.vol_dir.specs.Access.{user}
 use Rattle.vol_archive.specs.Members.{content_at, headed, member_bytes}
-use Rattle.vol_archive.specs.Walking.{path_below, is_first, IsWalk}
-use Rattle.vol_archive.specs.declared.found.MetEntry.{MetEntry}
-use Rattle.vol_archive.specs.declared.found.Role.{Role}
-use Rattle.vol_archive.specs.declared.found.Role.TheVariants as roles
-use Rattle.vol_archive.specs.declared.found.Reason.TheVariants as reasons
+use Rattle.vol_archive.specs.Walk.{path_below, is_first, IsWalk}
+use Rattle.vol_archive.specs.declared.met_entries.MetEntry.{MetEntry}
+use Rattle.vol_archive.specs.declared.met_entries.Role.{Role}
+use Rattle.vol_archive.specs.declared.met_entries.Role.TheVariants as roles
+use Rattle.vol_archive.specs.declared.met_entries.Reason.TheVariants as reasons
 
 -- true if an entry with this role is a member of the archive (POSIX, ustar interchange format)
 abbrev pub is_kept : Role → Bool

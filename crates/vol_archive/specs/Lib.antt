@@ -5,9 +5,9 @@ pub use Rattle.vol_dir.specs.Entries
 pub use Rattle.vol_layout.specs.Body
 pub use Rattle.vol_layout.specs.Geometry
 pub use Rattle.vol_layout.specs.Inode
-pub mod Exporting
+pub mod Export
 pub mod Laws
 pub mod Marks
 pub mod Members
-pub mod Walking
-pub mod Writing
+pub mod Walk
+pub mod Write

@@ -1,18 +1,18 @@
 //! The tree of a volume as an archive in POSIX's ustar format.
 #![tactic(auto)]
 
-pub mod exporting;
-pub mod found;
+pub mod export_tree;
 pub mod laws;
 mod members;
+pub mod met_entries;
 mod names;
 mod pending;
-pub mod walking;
-pub mod writing;
+pub mod tree_walk;
+pub mod write;
 
-pub use exporting::{ExportStart, StartFault, export, start_of};
-pub use found::{MetEntry, Reason, Role};
+pub use export_tree::{ExportStart, StartFault, export, start_of};
 pub use members::{device_number, put_archive, special_kind};
+pub use met_entries::{MetEntry, Reason, Role};
 pub use names::is_plain;
-pub use walking::{walk, walk_lost};
-pub use writing::WriteFault;
+pub use tree_walk::{walk, walk_lost};
+pub use write::WriteFault;

@@ -2,7 +2,7 @@
 ghost use Rattle.std.specs.Prelude.{◌≡◌, ◌++◌, ◌∷◌, [], IfOk, OnOk, map};
 ghost use Rattle.vol_layout.specs.Geometry.{Fits};
 ghost use Rattle.vol_dir.specs.Entries.{IsDirectory};
-ghost use Rattle.vol_archive.specs.Walking.{is_plain, path_below, entry_below, pending_below, entries_below, lost_entry};
+ghost use Rattle.vol_archive.specs.Walk.{is_plain, path_below, entry_below, pending_below, entries_below, lost_entry};
 
 use crate::pending::Pending;
 use pdp_words::{Bytes, Image};
@@ -91,7 +91,7 @@ pub(crate) fn lost_entries(alloc: Global, lost: &[u16]) -> Result<Vec<Pending>, 
 }
 
 /// The entry of a lost i-node.
-#[tactic(auto, unfolding(crate::specs::Walking::lost_entry))]
+#[tactic(auto, unfolding(crate::specs::Walk::lost_entry))]
 fn lost_entry(alloc: Global, inode: u16) -> Result<Pending, AllocError>
     ensures { IfOk result (λ entry. entry ≡ lost_entry inode) }
 {

@@ -5,10 +5,10 @@ use Rattle.vol_layout.specs.declared.geometry.Geometry.{Geometry}
 use Rattle.vol_layout.specs.declared.mode.Kind.TheVariants as kinds
 use Rattle.vol_file.specs.Need.{need}
 use Rattle.vol_file.specs.Rules.{size_of, Rules3To7With}
-use Rattle.vol_dir.specs.Editing.{HasNamesOnce}
+use Rattle.vol_dir.specs.EntryEdits.{HasNamesOnce}
 use Rattle.vol_dir.specs.Entries.{IsDirectory, entry_at, slots}
 use Rattle.vol_dir.specs.Names.{Names, dot, dot_dot, insert, get, names_of, names_in}
-use Rattle.vol_dir.specs.Searching.{holds, new_slot}
+use Rattle.vol_dir.specs.Search.{holds, new_slot}
 use Rattle.vol_dir.specs.Tree.{Shape, no_shape, state, tree, shapes, free_count}
 use Rattle.vol_dir.specs.Walk.{map_of}
 use Rattle.vol_judge.specs.Graph.{graph_of, entry_by}

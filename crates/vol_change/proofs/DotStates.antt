@@ -6,7 +6,7 @@ use Rattle.vol_layout.specs.declared.edition.Edition.TheVariants.{V6, V7}
 use Rattle.vol_layout.specs.declared.block_map.BlockMap.TheVariants.{Small, Deep}
 use Rattle.vol_file.specs.Shape.{is_on_ways}
 use Rattle.vol_dir.specs.Names.{Names, dot, dot_dot, insert}
-use Rattle.vol_dir.specs.Searching.{new_slot}
+use Rattle.vol_dir.specs.Search.{new_slot}
 use Rattle.vol_dir.specs.Tree.{Directory, Node, Shape, State, no_shape}
 use Rattle.vol_dir.specs.declared.cred.Cred.{Cred}
 use Rattle.vol_change.specs.Contents.{put_entry}

@@ -9,13 +9,13 @@ use Rattle.vol_layout.specs.Inode.{inode_of}
 use Rattle.vol_layout.specs.declared.geometry.Geometry.{Geometry}
 use Rattle.vol_layout.specs.declared.mode.Kind.TheVariants as kinds
 use Rattle.vol_file.specs.Rules.{kind_at}
-use Rattle.vol_file.proofs.Naming.{root_first}
+use Rattle.vol_file.proofs.StoredNames.{root_first}
 use Rattle.vol_dir.specs.Entries.{IsDirectory, IsInUse, entry_at, slots}
 use Rattle.vol_dir.specs.Names.{get, names_of, is_dots, dot}
-use Rattle.vol_dir.specs.Searching.{holds_other, slot_named}
+use Rattle.vol_dir.specs.Search.{holds_other, slot_named}
 use Rattle.vol_dir.specs.Tree.{tree}
 use Rattle.vol_dir.proofs.NameMaps.{any_other}
-use Rattle.vol_dir.proofs.SlotReading.{slot_is, length-slots, entry_at_past}
+use Rattle.vol_dir.proofs.ReadSlots.{slot_is, length-slots, entry_at_past}
 use Rattle.vol_judge.specs.Graph.{graph_of}
 use Rattle.vol_judge.proofs.EditedGraphs.{only_dots}
 use Rattle.vol_judge.proofs.GraphParts.{not_free}

@@ -18,14 +18,14 @@ use Rattle.vol_file.specs.Need.{need_of, need}
 use Rattle.vol_file.specs.Rules.{kind_at, size_of}
 use Rattle.vol_file.specs.Shape.{is_named, touched}
 use Rattle.vol_file.proofs.PlaceLists.{same_bytes}
-use Rattle.vol_dir.specs.Editing.{slot_bytes, with_item, HasNamesOnce}
+use Rattle.vol_dir.specs.EntryEdits.{slot_bytes, with_item, HasNamesOnce}
 use Rattle.vol_dir.specs.Entries.{slot_count, entry_at, slots, IsDirectory, HasEntries}
 use Rattle.vol_dir.specs.Names.{insert, remove, get, names_of, names_in}
-use Rattle.vol_dir.specs.Searching.{holds, new_slot, slot_named, emptied}
+use Rattle.vol_dir.specs.Search.{holds, new_slot, slot_named, emptied}
 use Rattle.vol_dir.specs.Tree.{Directory, Shape, content_of, form_in, is_named_place, node_with, shape_of, shapes, tree, state}
 use Rattle.vol_dir.specs.Walk.{map_of}
 use Rattle.vol_dir.proofs.NameMaps.{get_first, get_none}
-use Rattle.vol_dir.proofs.SlotReading.{length-slots, slot_is}
+use Rattle.vol_dir.proofs.ReadSlots.{length-slots, slot_is}
 use Rattle.vol_dir.proofs.NewEntries.{length-slot_bytes}
 use Rattle.vol_judge.proofs.Parents.{held_some}
 use Rattle.vol_change.specs.Contents.{put_entry, drop_entry}

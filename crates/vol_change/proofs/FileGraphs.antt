@@ -9,7 +9,7 @@ use Rattle.vol_layout.proofs.InodeLaws.{mode_kept}
 use Rattle.vol_layout.specs.Inode.{kind_of}
 use Rattle.vol_file.specs.Changes.{ChangesFileAlone}
 use Rattle.vol_file.specs.Rules.{kind_at}
-use Rattle.vol_file.proofs.Naming.{links_kept}
+use Rattle.vol_file.proofs.StoredNames.{links_kept}
 use Rattle.vol_dir.specs.Entries.{IsDirectory}
 use Rattle.vol_judge.specs.Graph.{graph_of}
 use Rattle.vol_judge.specs.GraphEdits.{IsSameGraph}

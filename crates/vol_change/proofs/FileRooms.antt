@@ -12,7 +12,7 @@ use Rattle.vol_file.proofs.MissingLaws.{need_nothing}
 use Rattle.vol_file.specs.Shape.{is_named, touched}
 use Rattle.vol_dir.specs.Entries.{slots}
 use Rattle.vol_dir.specs.Names.{names_in}
-use Rattle.vol_dir.specs.Searching.{new_slot}
+use Rattle.vol_dir.specs.Search.{new_slot}
 use Rattle.vol_dir.specs.Tree.{free_count, is_named_place, shape_of, shapes, state, tree}
 use Rattle.vol_change.specs.Ready.{entry_need}
 use Rattle.vol_change.specs.Shapes.{need_in, entry_blocks}

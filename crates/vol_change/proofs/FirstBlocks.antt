@@ -17,7 +17,7 @@ use Rattle.vol_layout.proofs.NameLaws.{holds_named}
 use Rattle.vol_free.specs.Stack.{IsFree, IsIn, Once}
 use Rattle.vol_free.proofs.Frames.{free_zone}
 use Rattle.vol_file.specs.Shape.{is_named}
-use Rattle.vol_file.proofs.Naming.{place_same}
+use Rattle.vol_file.proofs.StoredNames.{place_same}
 use Rattle.vol_file.proofs.PlaceLists.{same_bytes}
 use Rattle.vol_dir.specs.Tree.{Shape, is_named_place, shapes}
 use Rattle.vol_change.specs.Alone.{KeepsContent}

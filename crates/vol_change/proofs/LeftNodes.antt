@@ -9,7 +9,7 @@ use Rattle.vol_layout.specs.declared.mode.Kind.TheVariants as kinds
 use Rattle.vol_file.specs.Rules.{kind_at}
 use Rattle.vol_dir.specs.Entries.{IsDirectory, slots}
 use Rattle.vol_dir.specs.Names.{get, names_of, is_dots}
-use Rattle.vol_dir.specs.Searching.{slot_named}
+use Rattle.vol_dir.specs.Search.{slot_named}
 use Rattle.vol_dir.specs.Tree.{State, tree, state}
 use Rattle.vol_judge.specs.Directories.{root_of}
 use Rattle.vol_judge.specs.Graph.{graph_of}

@@ -24,7 +24,7 @@ use Rattle.vol_file.proofs.PlaceLists.{front_first}
 use Rattle.vol_dir.specs.Entries.{entry_at, slots, slot_count}
 use Rattle.vol_dir.specs.Names.{names_of, names_in}
 use Rattle.vol_dir.specs.Tree.{Content, Body, Directory, no_shape, content_of, node_with, node_of, shape_of, is_place, is_named_place, state}
-use Rattle.vol_dir.proofs.SlotReading.{entry_at_past}
+use Rattle.vol_dir.proofs.ReadSlots.{entry_at_past}
 use Rattle.vol_judge.specs.Graph.{graph_of}
 use Rattle.vol_judge.proofs.ImageGraphs.{kind_inside, empty_by}
 use Rattle.vol_change.specs.Alone.{ChangesOnly}

@@ -6,7 +6,7 @@ use Rattle.vol_layout.specs.declared.mode.Kind.{Kind}
 use Rattle.vol_layout.specs.declared.mode.Kind.TheVariants as kinds
 use Rattle.vol_dir.specs.Entries.{IsDirectory}
 use Rattle.vol_dir.specs.Names.{get}
-use Rattle.vol_dir.specs.Searching.{holds}
+use Rattle.vol_dir.specs.Search.{holds}
 use Rattle.vol_dir.specs.Tree.{state}
 use Rattle.vol_dir.specs.Walk.{IsComponent}
 use Rattle.vol_dir.proofs.NewEntries.{not_held}

@@ -9,11 +9,11 @@ use Rattle.vol_layout.specs.declared.geometry.Geometry.{Geometry}
 use Rattle.vol_layout.specs.declared.mode.Kind.TheVariants as kinds
 use Rattle.vol_free.specs.Stack.{IsFree}
 use Rattle.vol_file.specs.Rules.{size_of, kind_at, HasKinds, HasSizes}
-use Rattle.vol_file.proofs.Naming.{root_within}
+use Rattle.vol_file.proofs.StoredNames.{root_within}
 use Rattle.vol_change.specs.Alone.{KeepsNode}
 use Rattle.vol_change.specs.Whole.{Rules3To8}
 use Rattle.vol_change.proofs.Contents.{kind_same}
-use Rattle.vol_file.proofs.Naming.{place_same}
+use Rattle.vol_file.proofs.StoredNames.{place_same}
 use Rattle.vol_change.proofs.WholeLaws.{SameNames, whole_names}
 
 -- i-node i names nothing in either image, and the others stay

@@ -3,7 +3,7 @@ use Rattle.std.proofs.Common.{◌≡◌, ◌≢◌, ◌∙◌, sym, ap, refl, �
 use Rattle.std.specs.Option.{option_map, unwrap_or}
 use Rattle.std.proofs.lemmas.Bool.{cases_eq}
 use Rattle.vol_dir.specs.Names.{insert}
-use Rattle.vol_dir.specs.Searching.{new_slot}
+use Rattle.vol_dir.specs.Search.{new_slot}
 use Rattle.vol_dir.specs.Tree.{Node, Shape, State}
 use Rattle.vol_change.specs.Contents.{put_entry}
 use Rattle.vol_change.specs.Edits.{set_at, put_node, put_shape, change_names, modified, add_entry}

@@ -17,7 +17,7 @@ use Rattle.vol_free.specs.Numbers.{IsFreeNumber}
 use Rattle.vol_free.proofs.Frames.{IsFree-behind, free_from}
 use Rattle.vol_file.specs.Changes.{ChangesFileAlone, spliced}
 use Rattle.vol_file.proofs.Alone.{elsewhere_inode}
-use Rattle.vol_file.proofs.Naming.{place_same}
+use Rattle.vol_file.proofs.StoredNames.{place_same}
 use Rattle.vol_dir.specs.Entries.{IsDirectory, entry_at}
 use Rattle.vol_dir.specs.Tree.{Node, Shape, node_of, tree, state}
 use Rattle.vol_judge.specs.Graph.{graph_of}

@@ -15,7 +15,7 @@ use Rattle.vol_layout.specs.declared.geometry.Geometry.{Geometry}
 use Rattle.vol_layout.specs.declared.block_map.BlockMap.{BlockMap}
 use Rattle.vol_layout.specs.declared.block_map.BlockMap.TheVariants.{Small, Large, Deep, Bare}
 use Rattle.vol_file.specs.Laws.{IsAmong}
-use Rattle.vol_file.specs.Missing.{missing_from}
+use Rattle.vol_file.specs.MissingBlocks.{missing_from}
 use Rattle.vol_file.specs.Need.{missing_count, need_of}
 use Rattle.vol_file.specs.Shape.{is_on_ways, grows_large, moved_down, fit_form, fit_names, filled}
 use Rattle.vol_file.proofs.MissingLaws.{need_some}

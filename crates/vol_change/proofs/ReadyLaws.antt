@@ -6,7 +6,7 @@ use Rattle.vol_layout.specs.declared.edition.Edition.TheVariants.{V6, V7}
 use Rattle.vol_layout.specs.declared.geometry.Geometry.{Geometry}
 use Rattle.vol_file.specs.Rules.{size_of}
 use Rattle.vol_file.proofs.Alone.{fits_len}
-use Rattle.vol_dir.specs.Editing.{HasNamesOnce}
+use Rattle.vol_dir.specs.EntryEdits.{HasNamesOnce}
 use Rattle.vol_dir.specs.Entries.{IsDirectory, HasEntries}
 use Rattle.vol_judge.specs.Directories.{root_of, HasDots, IsTree, HasLinks}
 use Rattle.vol_judge.specs.Graph.{Graph, graph_of, IsGraphSound}

@@ -8,10 +8,10 @@ use Rattle.vol_layout.specs.declared.geometry.Geometry.{Geometry}
 use Rattle.vol_layout.proofs.KindLaws.{kind_zero}
 use Rattle.vol_free.specs.Numbers.{IsFreeNumber}
 use Rattle.vol_file.specs.Rules.{size_of}
-use Rattle.vol_dir.specs.Editing.{HasNamesOnce}
+use Rattle.vol_dir.specs.EntryEdits.{HasNamesOnce}
 use Rattle.vol_dir.specs.Entries.{IsDirectory, entry_at}
 use Rattle.vol_dir.specs.Names.{get}
-use Rattle.vol_dir.specs.Searching.{new_slot, holds}
+use Rattle.vol_dir.specs.Search.{new_slot, holds}
 use Rattle.vol_dir.specs.Tree.{Node, Shape, State, no_shape, shape_of, shapes, state}
 use Rattle.vol_dir.specs.Walk.{map_of}
 use Rattle.vol_judge.specs.Graph.{Graph, graph_of, entry_by}

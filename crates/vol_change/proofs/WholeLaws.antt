@@ -18,7 +18,7 @@ use Rattle.vol_free.specs.Stack.{IsIn, IsFree}
 use Rattle.vol_free.proofs.Frames.{free_zone}
 use Rattle.vol_file.specs.Rules.{kind_at, HasKinds, HasSizes}
 use Rattle.vol_file.proofs.Alone.{fits_len}
-use Rattle.vol_file.proofs.Naming.{kinds_kept}
+use Rattle.vol_file.proofs.StoredNames.{kinds_kept}
 use Rattle.vol_change.specs.Alone.{KeepsContent}
 use Rattle.vol_judge.specs.Sound.{IsSound}
 use Rattle.vol_judge.proofs.Parts.{sound_whole, sound_bounded, sound_stack, sound_with, sound_covered}

@@ -1,7 +1,7 @@
 pub use Rattle.pdp_words.specs.Words
-pub use Rattle.vol_dir.specs.Editing
+pub use Rattle.vol_dir.specs.EntryEdits
 pub use Rattle.vol_dir.specs.Entries
-pub use Rattle.vol_dir.specs.Searching
+pub use Rattle.vol_dir.specs.Search
 pub use Rattle.vol_dir.specs.Tree
 pub use Rattle.vol_dir.specs.Walk
 pub use Rattle.vol_file.specs.Changes

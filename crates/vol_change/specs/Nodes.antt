@@ -4,7 +4,7 @@ use Rattle.std.specs.Option.{unwrap_or}
 use Rattle.vol_dir.specs.Names.{Names, get}
 use Rattle.vol_dir.specs.Tree.{Body, Node, Tree, State}
 use Rattle.vol_dir.specs.Walk.{map_of}
-use Rattle.vol_dir.specs.Searching.{new_slot}
+use Rattle.vol_dir.specs.Search.{new_slot}
 
 -- the value for a node that doesn't exist; no walk ends there (this project)
 abbrev pub no_node : Node

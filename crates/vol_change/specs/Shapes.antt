@@ -5,9 +5,9 @@ use Rattle.vol_layout.specs.Places.{places}
 use Rattle.vol_file.specs.Changes.{is_kept}
 use Rattle.vol_file.specs.Shape.{filled, grows_large}
 use Rattle.vol_file.specs.Need.{need_of}
-use Rattle.vol_dir.specs.Editing.{with_item}
+use Rattle.vol_dir.specs.EntryEdits.{with_item}
 use Rattle.vol_dir.specs.Names.{dot, dot_dot}
-use Rattle.vol_dir.specs.Searching.{new_slot, emptied}
+use Rattle.vol_dir.specs.Search.{new_slot, emptied}
 use Rattle.vol_dir.specs.Tree.{Shape, no_shape, form_in}
 use Rattle.vol_layout.specs.declared.edition.Edition.{Edition}
 

@@ -2,7 +2,7 @@
 use Rattle.std.specs.Prelude.{◌≡◌, ◌≢◌, ℕ, ◌+◌, ◌*◌, ◌%◌, ◌<◌, ◌≤◌, List, length, slice_index}
 use Rattle.vol_layout.specs.Super.{free_head, time_place}
 use Rattle.vol_file.specs.Rules.{kind_at, size_of, Rules3To7With, IsCovered}
-use Rattle.vol_dir.specs.Editing.{HasNamesOnce}
+use Rattle.vol_dir.specs.EntryEdits.{HasNamesOnce}
 use Rattle.vol_dir.specs.Entries.{IsDirectory}
 use Rattle.vol_layout.specs.declared.geometry.Geometry.{Geometry}
 use Rattle.vol_layout.specs.declared.mode.Kind.TheVariants as kinds

@@ -3,7 +3,7 @@
 
 mod calls;
 mod entries;
-mod freeing;
+mod free;
 mod links;
 mod new_nodes;
 mod ownership;

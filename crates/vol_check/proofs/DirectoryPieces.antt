@@ -12,11 +12,11 @@ use Rattle.vol_check.specs.declared.seats.CheckSeat.{CheckSeat}
 use Rattle.vol_check.specs.Parts.{part_count, parts_before, HasStarts, IsPart}
 use Rattle.vol_check.specs.Shapes.{Layout, IsShaped}
 use Rattle.vol_check.specs.Slots.{SlotWeight, slot_weight, slot_kept, part_sum, slots_piece}
-use Rattle.vol_check.specs.Noting.{Notes}
-use Rattle.vol_check.specs.Stepping.{Works}
+use Rattle.vol_check.specs.Notes.{Notes}
+use Rattle.vol_check.specs.Steps.{Works}
 use Rattle.vol_check.proofs.PieceSums.{value_at}
 use Rattle.vol_check.proofs.PastPieces.{parts_one}
-use Rattle.vol_check.proofs.Adding.{adds_as}
+use Rattle.vol_check.proofs.AddedMarks.{adds_as}
 
 -- a sweep with pieces is for images with a geometry
 pub laid : (checker : Checker) (layout : Layout) (pieces n : ℕ) (starts : List ℕ) (links : List LinkCount) (shape : TableShape) → IsShaped checker layout pieces starts links shape

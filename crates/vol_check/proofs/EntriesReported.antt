@@ -9,8 +9,8 @@ use Rattle.vol_layout.specs.declared.mode.Kind.{Kind}
 use Rattle.vol_layout.specs.declared.mode.Kind.TheVariants as kinds
 use Rattle.vol_file.specs.Rules.{kind_at}
 use Rattle.vol_dir.specs.Entries.{entry_at, slot_count, slots}
-use Rattle.vol_dir.proofs.Finding.{slots_low}
-use Rattle.vol_dir.proofs.SlotReading.{length-slots}
+use Rattle.vol_dir.proofs.Searches.{slots_low}
+use Rattle.vol_dir.proofs.ReadSlots.{length-slots}
 use Rattle.vol_judge.specs.Directories.{is_for, count_in, entry_count}
 use Rattle.count_table.specs.declared.rule.Mark.{Mark}
 use Rattle.count_table.specs.declared.rule.SeatView.{SeatView}
@@ -25,7 +25,7 @@ use Rattle.vol_check.specs.Shapes.{CountsParts}
 use Rattle.vol_check.specs.Slots.{slot_weight, entry_weight, in_directory, slots_piece}
 use Rattle.vol_check.proofs.Sums.{below_same, total_start}
 use Rattle.vol_check.proofs.Drawn.{total_by, over_inodes, below_at_most}
-use Rattle.vol_check.proofs.Finding.{on_here, on_else}
+use Rattle.vol_check.proofs.BlockWords.{on_here, on_else}
 use Rattle.vol_check.proofs.Reported.{exact, few_inodes}
 use Rattle.vol_check.proofs.Noted.{blank_weight}
 use Rattle.vol_check.proofs.DirectorySums.{directory_sum, drawn_slots, total_map}

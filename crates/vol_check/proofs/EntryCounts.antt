@@ -5,7 +5,7 @@ use Rattle.vol_layout.specs.Names.{form_at, stored}
 use Rattle.vol_layout.specs.Slot.{slot_at}
 use Rattle.vol_layout.specs.declared.geometry.Geometry.{Geometry}
 use Rattle.vol_dir.specs.Entries.{entry_in, entry_at, slot_count}
-use Rattle.vol_dir.proofs.SlotReading.{entry_in_block}
+use Rattle.vol_dir.proofs.ReadSlots.{entry_in_block}
 use Rattle.count_table.specs.declared.rule.Mark.{Mark}
 use Rattle.vol_check.specs.declared.checker.Checker.{Checker}
 use Rattle.vol_check.specs.declared.checker.Checker.TheVariants.{Entries}

@@ -17,7 +17,7 @@ use Rattle.vol_check.specs.declared.checker.Checker.TheVariants.{Blocks, Entries
 use Rattle.vol_check.specs.declared.seats.CheckSeat.{CheckSeat}
 use Rattle.vol_check.specs.Shapes.{Layout}
 use Rattle.vol_check.specs.Seats.{IsSeatOf, IsOf, is_stopped, found_no_memory, layout_weight, layout_kept, layout_fault}
-use Rattle.vol_check.specs.Gathering.{Joins, Gathers}
+use Rattle.vol_check.specs.Gather.{Joins, Gathers}
 
 -- one seat is the join of several; the rest are not joined yet
 pub record IsGathering (tally : Tally) (seats rest : List CheckSeat) (all : CheckSeat) : Type 0 where

@@ -1,7 +1,7 @@
 pub mod Sums
 pub mod PieceSums
 pub mod PartCounts
-pub mod Adding
+pub mod AddedMarks
 pub mod Weights
 pub mod LevelLaws
 pub mod PastPieces
@@ -11,10 +11,10 @@ pub mod DirectoryPieces
 pub mod DirectorySums
 pub mod EntriesReported
 pub mod NamesReported
-pub mod Drawing
+pub mod Draws
 pub mod Drawn
-pub mod Finding
-pub mod Counting
+pub mod BlockWords
+pub mod MarkSums
 pub mod Joined
 pub mod Reported
 pub mod Layouts

@@ -9,8 +9,8 @@ use Rattle.vol_layout.specs.declared.mode.Kind.TheVariants as kinds
 use Rattle.vol_file.specs.Rules.{kind_at}
 use Rattle.vol_dir.specs.Entries.{entry_at, slot_count}
 use Rattle.vol_dir.specs.Names.{is_dots}
-use Rattle.vol_dir.proofs.Finding.{slots_low}
-use Rattle.vol_judge.specs.Stepping.{rank}
+use Rattle.vol_dir.proofs.Searches.{slots_low}
+use Rattle.vol_judge.specs.Steps.{rank}
 use Rattle.count_table.specs.declared.rule.Mark.{Mark}
 use Rattle.count_table.specs.declared.rule.SeatView.{SeatView}
 use Rattle.count_table.specs.declared.rule.TableShape.{TableShape}
@@ -29,7 +29,7 @@ use Rattle.vol_check.specs.Shapes.{CountsParts}
 use Rattle.vol_check.specs.Slots.{slot_weight, slot_kept, name_weight, in_directory, slots_piece}
 use Rattle.vol_check.proofs.Sums.{below_same, total_flat, total_range, total_start}
 use Rattle.vol_check.proofs.Drawn.{total_by}
-use Rattle.vol_check.proofs.Finding.{on, on_here, on_else, total_kept, least_is}
+use Rattle.vol_check.proofs.BlockWords.{on, on_here, on_else, total_kept, least_is}
 use Rattle.vol_check.proofs.Reported.{few_inodes}
 use Rattle.vol_check.proofs.Noted.{blank_weight, blank_kept}
 use Rattle.vol_check.proofs.DirectorySums.{directory_sum, drawn_slots, total_map}

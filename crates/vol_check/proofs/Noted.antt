@@ -13,7 +13,7 @@ use Rattle.vol_layout.specs.declared.mode.Kind.TheVariants as kinds
 use Rattle.vol_file.specs.Rules.{kind_at}
 use Rattle.vol_file.specs.Holes.{IsHole}
 use Rattle.vol_dir.specs.Entries.{entry_in, entry_at, slot_count}
-use Rattle.vol_dir.proofs.SlotReading.{entry_in_hole}
+use Rattle.vol_dir.proofs.ReadSlots.{entry_in_hole}
 use Rattle.count_table.specs.declared.rule.Mark.{Mark}
 use Rattle.count_table.specs.declared.words.Tally.{Tally}
 use Rattle.count_table.specs.Sums.{total, below}
@@ -25,9 +25,9 @@ use Rattle.vol_check.specs.declared.checker.Checker.TheVariants.{Blocks, Entries
 use Rattle.vol_check.specs.declared.seats.CheckSeat.{CheckSeat}
 use Rattle.vol_check.specs.Pieces.{Adds}
 use Rattle.vol_check.specs.Slots.{SlotWeight, slot_weight, slot_kept, in_directory, part_sum}
-use Rattle.vol_check.specs.Noting.{Notes, Stays}
+use Rattle.vol_check.specs.Notes.{Notes, Stays}
 use Rattle.vol_check.proofs.Sums.{below_same, below_zero}
-use Rattle.vol_check.proofs.Adding.{adds_none, adds_then, adds_as}
+use Rattle.vol_check.proofs.AddedMarks.{adds_none, adds_then, adds_as}
 use Rattle.vol_check.proofs.PieceSums.{below_split}
 
 module _ (tally : Tally) where

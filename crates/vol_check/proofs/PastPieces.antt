@@ -17,7 +17,7 @@ use Rattle.vol_check.specs.Parts.{part_count, parts_before, HasStarts}
 use Rattle.vol_check.specs.Slots.{SlotWeight, slot_weight, slot_kept, part_sum, slots_piece}
 use Rattle.vol_check.specs.Pieces.{piece_weight, free_weight, inode_weight}
 use Rattle.vol_check.specs.Seats.{checker_weight, checker_kept, checker_fault, layout_weight, layout_kept, layout_fault}
-use Rattle.vol_check.specs.Stepping.{fault_after}
+use Rattle.vol_check.specs.Steps.{fault_after}
 use Rattle.vol_check.proofs.Sums.{below_same}
 use Rattle.vol_check.proofs.PieceSums.{value_past}
 

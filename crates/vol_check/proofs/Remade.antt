@@ -14,12 +14,12 @@ use Rattle.vol_layout.proofs.InodeLaws.{KeepsInode, inode_of_kept, mode_kept, si
 use Rattle.vol_layout.proofs.FrameLaws.{places_kept, named_frame, stored_kept, body_frame}
 use Rattle.vol_layout.proofs.NameLaws.{stored_is, stored_none, named_holds, holds_named, zone_some}
 use Rattle.vol_layout.proofs.PlaceLaws.{last_leaf, place_front, front_above}
-use Rattle.vol_free.specs.Rebuilding.{unused, KeepsUsed}
+use Rattle.vol_free.specs.Rebuild.{unused, KeepsUsed}
 use Rattle.vol_free.specs.Stack.{IsFree}
-use Rattle.vol_free.proofs.Rebuilding.{unused_in, in_unused}
+use Rattle.vol_free.proofs.RebuildSteps.{unused_in, in_unused}
 use Rattle.vol_free.proofs.Stacks.{zone_from, zone_below}
 use Rattle.vol_file.specs.Rules.{IsZoned, IsApart, HasKinds, HasSizes}
-use Rattle.vol_file.proofs.Naming.{kinds_kept}
+use Rattle.vol_file.proofs.StoredNames.{kinds_kept}
 use Rattle.vol_dir.specs.Tree.{state, tree}
 use Rattle.vol_dir.specs.Entries.{HasEntries}
 use Rattle.vol_judge.specs.Directories.{root_of, HasDots, IsTree, HasLinks}
@@ -38,7 +38,7 @@ use Rattle.vol_change.proofs.States.{makes_time}
 use Rattle.vol_layout.proofs.EditionLaws.{super_order}
 use Rattle.vol_change.proofs.WholeLaws.{geometry_kept, names_stay, sizes_stay, zone_behind}
 use Rattle.vol_change.proofs.ReadyLaws.{bounded_kept, whole_kept, sound_by}
-use Rattle.vol_check.specs.Salvaging.{IsSalvaged}
+use Rattle.vol_check.specs.SalvagedImages.{IsSalvaged}
 
 -- rules 1 and 2 are those that reading the geometry checks
 pub rules_read : (edition : Edition) (image : List ℕ) → KeepsRules false edition image → geometry_read edition image ≡ Ok (geometry_of edition image)

@@ -33,7 +33,7 @@ use Rattle.vol_check.specs.Seats.{checker_fault}
 use Rattle.vol_check.proofs.Sums.{below_front, below_same}
 use Rattle.vol_check.proofs.Drawn.{each_once, over_inodes, below_at_most}
 use Rattle.vol_check.proofs.PastPieces.{past_weight, free_piece, inode_piece}
-use Rattle.vol_check.proofs.Counting.{AllMarked, either_way, few_blocks, places_summed, frees_summed, files_summed, directories_summed, specials_summed, odds_summed, bads_summed, leasts_found}
+use Rattle.vol_check.proofs.MarkSums.{AllMarked, either_way, few_blocks, places_summed, frees_summed, files_summed, directories_summed, specials_summed, odds_summed, bads_summed, leasts_found}
 
 -- a sum that is below 2^64 is exact
 pub exact : (w n : ℕ) → w ≡ n % 2 ^ 64 → n < 2 ^ 64 → w ≡ n

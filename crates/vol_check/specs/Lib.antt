@@ -19,8 +19,8 @@ pub mod Slots
 pub mod Shapes
 pub mod Seats
 pub mod Layouts
-pub mod Noting
-pub mod Stepping
-pub mod Gathering
-pub mod Reporting
-pub mod Salvaging
+pub mod Notes
+pub mod Steps
+pub mod Gather
+pub mod SweepReports
+pub mod SalvagedImages

@@ -7,7 +7,7 @@ use Rattle.vol_file.specs.Rules.{kind_at}
 use Rattle.vol_dir.specs.Entries.{entry_in, entry_at}
 use Rattle.vol_layout.specs.Slot.{slot_at}
 use Rattle.vol_dir.specs.Names.{is_dots}
-use Rattle.vol_judge.specs.Stepping.{rank}
+use Rattle.vol_judge.specs.Steps.{rank}
 use Rattle.count_table.specs.declared.rule.Mark.{Mark}
 use Rattle.count_table.specs.Sums.{total, below}
 use Rattle.count_table.specs.Views.{mark}

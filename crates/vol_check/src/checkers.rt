@@ -1,7 +1,7 @@
 //! Checks of an image, with any number of threads.
 ghost use Rattle.std.specs.Prelude.{◌≡◌, ◌≤◌, IfOk};
 ghost use Rattle.vol_reports.specs.Reports.{block_report, entry_report, IsNameReport};
-ghost use Rattle.vol_check.specs.Reporting.{IsReport};
+ghost use Rattle.vol_check.specs.SweepReports.{IsReport};
 
 use crate::checker::Checker;
 use crate::gate::Gate;

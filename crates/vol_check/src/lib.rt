@@ -3,28 +3,28 @@
 
 mod checker;
 mod checkers;
-mod dealing;
+mod deal;
 mod entry_counts;
-mod finishing;
+mod finish;
 mod free_walk;
 mod gate;
-mod gathering;
+mod gather;
 mod inode_marks;
 mod levels;
 mod parts;
 mod room;
-mod running;
-pub mod salvaging;
+mod run;
+pub mod salvage_volume;
 mod seats;
 mod slots;
 mod sweep;
 mod sweeps;
-pub mod testing;
+pub mod test_gate;
 
 pub use checker::Checker;
 pub use checkers::{MOST_WORKERS, dcheck, icheck, ncheck};
 pub use gate::{Gate, Open};
-pub use salvaging::{SalvageFault, salvage};
+pub use salvage_volume::{SalvageFault, salvage};
 pub use seats::{CheckSeat, Piece};
 pub use sweeps::Sweep;
 pub use vol_free::FreeFault;

@@ -7,12 +7,12 @@ ghost use Rattle.count_table.specs.Views.{mark};
 ghost use Rattle.count_table.specs.Tallies.{IsSeatAt, table_shape};
 ghost use Rattle.vol_reports.specs.Words.{HasNameWords, name_word};
 ghost use Rattle.vol_reports.specs.Names.{entered};
-ghost use Rattle.vol_judge.specs.Stepping.{rank};
+ghost use Rattle.vol_judge.specs.Steps.{rank};
 ghost use Rattle.vol_check.specs.Pieces.{Adds};
 ghost use Rattle.vol_check.specs.Parts.{part_count};
 ghost use Rattle.vol_check.specs.Slots.{slot_weight, slot_kept, name_weight, part_sum};
 ghost use Rattle.vol_check.specs.Shapes.{HasWordsOf};
-ghost use Rattle.vol_check.specs.Noting.{Notes, Stays};
+ghost use Rattle.vol_check.specs.Notes.{Notes, Stays};
 
 use crate::checker::Checker;
 use crate::entry_counts::{count_blocks, count_entry};

@@ -7,8 +7,8 @@ ghost use Rattle.vol_reports.specs.Words.{HasWords};
 ghost use Rattle.vol_check.specs.declared.checker.Checker.TheVariants.{Blocks};
 ghost use Rattle.vol_check.specs.Seats.{IsSeatOf, IsOf};
 ghost use Rattle.vol_check.specs.Layouts.{IsFor, IsSeatIn, HasSwept};
-ghost use Rattle.vol_check.specs.Noting.{Stays};
-ghost use Rattle.vol_check.specs.Stepping.{Stepped, Works};
+ghost use Rattle.vol_check.specs.Notes.{Stays};
+ghost use Rattle.vol_check.specs.Steps.{Stepped, Works};
 
 use crate::checker::Checker;
 use crate::free_walk::mark_free;

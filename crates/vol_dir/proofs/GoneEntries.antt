@@ -23,13 +23,13 @@ use Rattle.vol_file.specs.Need.{missing_count, need, need_of}
 use Rattle.vol_file.specs.Rules.{size_of, Rules3To7With}
 use Rattle.vol_file.specs.Shape.{is_named, touched, is_on_ways, grows_large, moved_down}
 use Rattle.vol_file.proofs.PlaceLists.{same_bytes}
-use Rattle.vol_dir.specs.Editing.{with_item, HasNamesOnce}
+use Rattle.vol_dir.specs.EntryEdits.{with_item, HasNamesOnce}
 use Rattle.vol_dir.specs.Entries.{slot_count, entry_at, slots}
-use Rattle.vol_dir.specs.Searching.{holds, slot_named}
+use Rattle.vol_dir.specs.Search.{holds, slot_named}
 use Rattle.vol_dir.specs.Names.{get, names_of}
 use Rattle.vol_dir.proofs.NameMaps.{cleared, get_none}
-use Rattle.vol_dir.proofs.Replacing.{Replaces, replaces, spliced_inside, length-with_item, with_item_here, with_item_else}
-use Rattle.vol_dir.proofs.SlotReading.{length-slots, slot_from, slot_is, entry_in_hole, empty_slot}
+use Rattle.vol_dir.proofs.PutSlots.{Replaces, replaces, spliced_inside, length-with_item, with_item_here, with_item_else}
+use Rattle.vol_dir.proofs.ReadSlots.{length-slots, slot_from, slot_is, entry_in_hole, empty_slot}
 
 -- each front of a place that names something names something
 fronts_named : (geometry : Geometry) (image : List ℕ) (i : ℕ) (p q : List ℕ) → Fits geometry image → named geometry image i q ≢ 0

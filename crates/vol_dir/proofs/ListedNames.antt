@@ -22,13 +22,13 @@ use Rattle.vol_layout.specs.declared.geometry.Geometry.{Geometry}
 use Rattle.vol_layout.specs.declared.slot.Slot.{Slot}
 use Rattle.vol_file.specs.Repeats.{below}
 use Rattle.vol_file.proofs.PlaceLists.{bytes_same, same_bytes}
-use Rattle.vol_file.proofs.Repeating.{clear_passes}
+use Rattle.vol_file.proofs.RepeatedNumbers.{clear_passes}
 use Rattle.vol_dir.specs.Entries.{entry_at, slot_count, slots}
 use Rattle.vol_dir.specs.Names.{Names, get, insert, names_of}
 use Rattle.vol_dir.specs.Repeats.{IsEntryFrom, MarksSlots, PassSlots, entry_in_block, passes_in}
 use Rattle.vol_dir.proofs.NameMaps.{sorted}
 use Rattle.vol_dir.proofs.NextEntries.{entry_some}
-use Rattle.vol_dir.specs.Listing.{by_bytes, put_first}
+use Rattle.vol_dir.specs.NameList.{by_bytes, put_first}
 
 -- the entries in the slots of directory d below slot n
 unfoldable pub slots_below : Geometry → List ℕ → ℕ → ℕ → List (Option (List ℕ × ℕ))

@@ -13,10 +13,10 @@ use Rattle.std.proofs.lemmas.Bool.{or_parts, true≢false, false_from_ne_true}
 use Rattle.std.proofs.lemmas.Map.Lookups.{exact_bytes}
 use Rattle.std.proofs.lemmas.Map.Text.{is_eq-slice_cmp}
 use Rattle.vol_file.proofs.PlaceLists.{bytes_same, same_bytes}
-use Rattle.vol_dir.specs.Editing.{with_item}
+use Rattle.vol_dir.specs.EntryEdits.{with_item}
 use Rattle.vol_dir.specs.Names.{Names, get, insert, remove, names_of, names_in}
 use Rattle.vol_dir.specs.Names.{is_dots}
-use Rattle.vol_dir.specs.Searching.{holds, holds_other, emptied, slot_named}
+use Rattle.vol_dir.specs.Search.{holds, holds_other, emptied, slot_named}
 
 -- a name that is put in a map is found there, and every other name as before
 get_insert : (names : Names) (name q : List ℕ) (i : ℕ) → get (insert names name i) q ≡ cond (bytes_eq q name) (Some i) (get names q)

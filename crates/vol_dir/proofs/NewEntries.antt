@@ -18,14 +18,14 @@ use Rattle.vol_layout.specs.declared.geometry.Geometry.{Geometry}
 use Rattle.vol_file.specs.Changes.{spliced, Writes}
 use Rattle.vol_file.specs.Rules.{size_of, Rules3To7With}
 use Rattle.vol_file.proofs.PlaceLists.{same_bytes}
-use Rattle.vol_dir.specs.Editing.{slot_bytes, HasNamesOnce}
+use Rattle.vol_dir.specs.EntryEdits.{slot_bytes, HasNamesOnce}
 use Rattle.vol_dir.specs.Entries.{entry_in, slot_count, entry_at, slots}
 use Rattle.vol_dir.specs.Names.{get, names_of, names_in}
-use Rattle.vol_dir.specs.Searching.{holds, new_slot}
-use Rattle.vol_dir.proofs.Finding.{length-names_in}
+use Rattle.vol_dir.specs.Search.{holds, new_slot}
+use Rattle.vol_dir.proofs.Searches.{length-names_in}
 use Rattle.vol_dir.proofs.NameMaps.{none_held}
-use Rattle.vol_dir.proofs.Replacing.{Replaces, replaces, spliced_inside}
-use Rattle.vol_dir.proofs.SlotReading.{length-slots, slot_is}
+use Rattle.vol_dir.proofs.PutSlots.{Replaces, replaces, spliced_inside}
+use Rattle.vol_dir.proofs.ReadSlots.{length-slots, slot_is}
 
 -- zeros are after a name
 zeros_behind : (name : List ℕ) (k : ℕ) → length name ≤ k → get_or (padded_name name) k 0 ≡ 0

@@ -7,8 +7,8 @@ use Rattle.vol_layout.specs.Slot.{name_of}
 use Rattle.vol_layout.specs.declared.geometry.Geometry.{Geometry}
 use Rattle.vol_layout.specs.declared.slot.Slot.{Slot}
 use Rattle.vol_dir.specs.Entries.{entry_in, entry_at, slot_count}
-use Rattle.vol_dir.specs.Scanning.{IsNextEntry}
-use Rattle.vol_dir.proofs.SlotReading.{entry_at_past}
+use Rattle.vol_dir.specs.Scan.{IsNextEntry}
+use Rattle.vol_dir.proofs.ReadSlots.{entry_at_past}
 
 -- a slot with an i-number holds an entry
 pub entry_some : (slot : Slot) → slot.inode ≢ 0 → entry_in slot ≡ Some (name_of slot.name, slot.inode)

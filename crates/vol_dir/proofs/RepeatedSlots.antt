@@ -10,8 +10,8 @@ use Rattle.vol_layout.specs.declared.geometry.Geometry.{Geometry}
 use Rattle.vol_layout.specs.declared.slot.Slot.{Slot}
 use Rattle.vol_dir.specs.Entries.{entry_in, entry_at, slot_count}
 use Rattle.vol_dir.specs.Repeats.{IsEntryFrom, PassSlots, entry_in_block, passes_in}
-use Rattle.vol_dir.specs.Scanning.{GoesOn}
-use Rattle.vol_dir.proofs.SlotReading.{entry_in_block as entry_of_block, entry_in_hole}
+use Rattle.vol_dir.specs.Scan.{GoesOn}
+use Rattle.vol_dir.proofs.ReadSlots.{entry_in_block as entry_of_block, entry_in_hole}
 
 -- a slot of a directory is one of the block that its logical block is stored in
 slot_of : (geometry : Geometry) (image : List ℕ) (d b s : ℕ) → Fits geometry image → s < 32 → 32 * b + s < slot_count geometry image d

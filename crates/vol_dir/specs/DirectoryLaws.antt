@@ -7,7 +7,7 @@ use Rattle.std.specs.Option.{option_map}
 use Rattle.vol_layout.specs.Places.{IsPlace}
 use Rattle.vol_layout.specs.declared.block_map.BlockMap.{BlockMap}
 use Rattle.vol_dir.specs.Names.{get, names_of}
-use Rattle.vol_dir.specs.Searching.{slot_named}
+use Rattle.vol_dir.specs.Search.{slot_named}
 use Rattle.vol_dir.specs.Tree.{is_place}
 
 -- a name has the i-number of the first slot with that name, or none if no slot has it (Lions on namei)

@@ -5,8 +5,8 @@ ghost use Rattle.vol_layout.specs.Geometry.{Fits};
 ghost use Rattle.vol_layout.specs.Slot.{slot_at};
 ghost use Rattle.vol_dir.specs.Entries.{entry_in, slot_count, entry_at, slots, IsDirectory};
 ghost use Rattle.vol_dir.specs.Names.{get, names_of, names_in, is_dots};
-ghost use Rattle.vol_dir.specs.Scanning.{GoesOn};
-ghost use Rattle.vol_dir.specs.Searching.{is_sought, Searches, Finds, new_slot, slot_named};
+ghost use Rattle.vol_dir.specs.Scan.{GoesOn};
+ghost use Rattle.vol_dir.specs.Search.{is_sought, Searches, Finds, new_slot, slot_named};
 
 use pdp_words::words::word;
 use pdp_words::{BLOCK, Image};

@@ -2,7 +2,7 @@
 ghost use Rattle.std.specs.Prelude.{◌≡◌, ℕ, false, slice_index_or, IfOk, OnOk};
 ghost use Rattle.vol_layout.specs.Geometry.{Fits};
 ghost use Rattle.vol_dir.specs.Entries.{slots, IsDirectory};
-ghost use Rattle.vol_dir.specs.Listing.{by_bytes, put_first};
+ghost use Rattle.vol_dir.specs.NameList.{by_bytes, put_first};
 ghost use Rattle.vol_dir.specs.Names.{names_of};
 
 use crate::entries::{SLOTS, slot_count};

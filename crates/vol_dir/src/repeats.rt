@@ -3,7 +3,7 @@ ghost use Rattle.std.specs.Prelude.{◌≡◌, ℕ, ◌+◌, ◌*◌, ◌<◌, �
 ghost use Rattle.vol_layout.specs.Geometry.{Fits};
 ghost use Rattle.vol_dir.specs.Entries.{IsDirectory, slot_count, entry_at};
 ghost use Rattle.vol_dir.specs.Repeats.{IsEntryFrom, MarksEmpty, MarksSlots, PassSlots};
-ghost use Rattle.vol_dir.specs.Scanning.{GoesOn};
+ghost use Rattle.vol_dir.specs.Scan.{GoesOn};
 
 use crate::entries::{SLOTS, Sought, block_after, first_in_block, slot_count};
 use pdp_words::Image;

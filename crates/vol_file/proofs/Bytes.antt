@@ -23,8 +23,8 @@ use Rattle.vol_file.specs.Rules.{size_of, Rules3To7With, IsCovered}
 use Rattle.vol_file.specs.Steps.{Rewrites}
 use Rattle.vol_file.proofs.Alone.{fits_len, elsewhere_self, elsewhere_then, elsewhere_before, elsewhere_named, elsewhere_names, keeps_then}
 use Rattle.vol_file.proofs.Cells.{block_elsewhere}
-use Rattle.vol_file.proofs.Naming.{kinds_kept, sizes_kept, modes_kept, place_same}
-use Rattle.vol_file.proofs.Taking.{zone_two}
+use Rattle.vol_file.proofs.StoredNames.{kinds_kept, sizes_kept, modes_kept, place_same}
+use Rattle.vol_file.proofs.TakenBlocks.{zone_two}
 use Rattle.vol_file.specs.Changes.{StaysElsewhere}
 
 -- each place of the new image was one before, and names the same block

@@ -21,7 +21,7 @@ use Rattle.vol_file.specs.Rules.{size_of, kind_at, HasKinds, Rules3To7With}
 use Rattle.vol_file.proofs.Fronts.{front_zero}
 use Rattle.vol_file.proofs.Truncated.{addresses_file}
 use Rattle.vol_file.proofs.PlaceLists.{front_first}
-use Rattle.vol_file.proofs.Naming.{root_first}
+use Rattle.vol_file.proofs.StoredNames.{root_first}
 
 -- the size, the links and the addresses of an i-node are 0 if its bytes after the mode are
 size_zero : (edition : Edition) (image : List ℕ) (at : ℕ)

@@ -22,7 +22,7 @@ use Rattle.vol_file.proofs.FirstBlocks.{past_true, past_false, first_front, some
 use Rattle.vol_file.proofs.Lasts.{front_true, way_is}
 use Rattle.vol_file.proofs.PlaceLists.{among_places}
 use Rattle.vol_file.proofs.Ranges.{is_on_at}
-use Rattle.vol_file.proofs.Reaching.{has_front_is}
+use Rattle.vol_file.proofs.ReachedPlaces.{has_front_is}
 
 -- two indexes, and three
 two_same : (a b c d : ℕ) → a ≡ c → b ≡ d → a ∷ (b ∷ []) ≡ c ∷ (d ∷ [])

@@ -14,7 +14,7 @@ use Rattle.vol_layout.proofs.PlaceLaws.{front_to, way_place}
 use Rattle.vol_file.specs.Steps.{Reaches, IsWanted, MayName, NamesNext, MayNameEntry, MayNameWay, WantsWay, NamesWay, has_front, unnamed_of}
 use Rattle.vol_file.specs.Shape.{is_named}
 use Rattle.vol_file.proofs.PlaceLists.{bytes_same}
-use Rattle.vol_file.proofs.Reaching.{extends_as}
+use Rattle.vol_file.proofs.ReachedPlaces.{extends_as}
 
 -- a test that always passes, after a choice
 pub or_true : (x : Bool) → (x || true) ≡ true

@@ -16,7 +16,7 @@ use Rattle.vol_layout.specs.declared.block_map.BlockMap.TheVariants.{Small, Larg
 use Rattle.vol_layout.proofs.PlaceLaws.{last_leaf, has_no_way}
 use Rattle.vol_file.specs.Shape.{touched, is_on_ways, moved_down, grows_large}
 use Rattle.vol_file.specs.Need.{missing_count, need_of}
-use Rattle.vol_file.specs.Missing.{missing_to, missing_at, missing_from, grown_form, grown_names, grows_at}
+use Rattle.vol_file.specs.MissingBlocks.{missing_to, missing_at, missing_from, grown_form, grown_names, grows_at}
 use Rattle.vol_file.proofs.PlaceLists.{bytes_same, same_bytes, first_or_later, count_same, count_none, places_once}
 use Rattle.vol_file.proofs.Fronts.{front_length}
 use Rattle.vol_layout.proofs.LastPlaces.{last_small, last_large, last_huge, last_direct, last_single, last_double, last_triple}

@@ -18,13 +18,13 @@ use Rattle.vol_file.specs.Rules.{Rules3To7With}
 use Rattle.vol_file.specs.Clears.{IsUnder, IsPast, IsPastUnder, first_at, first_block, is_past, places_among, places_below, IsNamedAt, Clears, Drops, IsNamedAtLevel, HasPointer, HasAddress, ClearsBelow, ClearsPast}
 use Rattle.vol_file.proofs.BlockLists.{at_nil}
 use Rattle.vol_file.proofs.Fronts.{front_longer, under_front}
-use Rattle.vol_file.proofs.Clearing.{ClearsFrom, clears_none, clears_as, from_start, from_none_on, from_some_on, from_part_on, from_kept_on, from_above, entry_place, entry_named, below_named, below_empty}
+use Rattle.vol_file.proofs.ClearSteps.{ClearsFrom, clears_none, clears_as, from_start, from_none_on, from_some_on, from_part_on, from_kept_on, from_above, entry_place, entry_named, below_named, below_empty}
 use Rattle.vol_file.proofs.FirstBlocks.{past_front, rest_past, rest_kept, entry_rest, entry_kept}
 use Rattle.vol_file.proofs.PastLists.{past_at}
 use Rattle.vol_file.proofs.PlaceLists.{front_first}
 use Rattle.vol_file.proofs.Entries.{named_zone}
 use Rattle.vol_file.proofs.Cells.{entry_end}
-use Rattle.vol_file.proofs.Naming.{place_same}
+use Rattle.vol_file.proofs.StoredNames.{place_same}
 
 -- an indirect block of a file holds as many numbers as one of its edition
 pub pointers_file : (geometry : Geometry) (image : List ℕ) (i : ℕ) → IsFile geometry image i

@@ -19,7 +19,7 @@ use Rattle.vol_file.specs.Shape.{is_named, is_on_ways}
 use Rattle.vol_file.specs.Steps.{WantsWay, NamesWay, WantsWays, NamesWays}
 use Rattle.vol_file.proofs.Lasts.{or_true}
 use Rattle.vol_file.proofs.PlaceLists.{among_append}
-use Rattle.vol_file.proofs.Reaching.{extends_as, extends_then, extends_none, ready_after}
+use Rattle.vol_file.proofs.ReachedPlaces.{extends_as, extends_then, extends_none, ready_after}
 
 -- a run with one logical block more
 is_on_suc : (form : BlockMap) (p : List ℕ) (a d : ℕ)

@@ -13,7 +13,7 @@ use Rattle.vol_layout.proofs.InodeLaws.{inode_of_kept, mode_kept, size_kept, for
 use Rattle.vol_free.specs.Stack.{IsIn, IsFree}
 use Rattle.vol_file.specs.Rules.{size_of, kind_at, HasKinds, HasSizes, Rules3To7With}
 use Rattle.vol_file.proofs.Alone.{fits_len, elsewhere_inode, elsewhere_before, elsewhere_named}
-use Rattle.vol_file.proofs.Naming.{kinds_kept, links_same, links_kept_byte}
+use Rattle.vol_file.proofs.StoredNames.{kinds_kept, links_same, links_kept_byte}
 use Rattle.vol_file.specs.Changes.{StaysElsewhere}
 
 -- the change of file i: it keeps its kind, its size is within the limits, and each of its places keeps its name, or names nothing

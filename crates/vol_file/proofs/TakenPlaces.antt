@@ -11,13 +11,13 @@ use Rattle.vol_layout.specs.declared.block_map.BlockMap.{BlockMap}
 use Rattle.vol_layout.specs.declared.block_map.BlockMap.TheVariants.{Large}
 use Rattle.vol_layout.proofs.PlaceLaws.{last_leaf}
 use Rattle.vol_file.specs.Laws.{IsAmong}
-use Rattle.vol_file.specs.Missing.{missing_to}
+use Rattle.vol_file.specs.MissingBlocks.{missing_to}
 use Rattle.vol_file.specs.Need.{missing_count, need_of, missing_on_way, missing_places, places_taken}
 use Rattle.vol_file.specs.Shape.{is_on_ways, grows_large, moved_down}
 use Rattle.vol_file.specs.Steps.{unnamed_of}
 use Rattle.vol_file.proofs.PlaceLists.{among_append, bytes_same, same_bytes, count_same, count_none}
 use Rattle.vol_file.proofs.Lasts.{or_true}
-use Rattle.vol_file.proofs.Reaching.{unnamed_step}
+use Rattle.vol_file.proofs.ReachedPlaces.{unnamed_step}
 use Rattle.vol_file.proofs.Ranges.{among_reverse}
 use Rattle.vol_file.proofs.MissingLaws.{is_new, count_apart, fronts_new, count_new}
 

@@ -31,17 +31,17 @@ use Rattle.vol_file.specs.Rules.{size_of, kind_at, Rules3To7With, Rules3To7, IsC
 use Rattle.vol_file.specs.Changes.{StaysElsewhere, is_kept_byte, blocks_of, whole_blocks, is_kept, blocks_past, truncated_mode, Truncates}
 use Rattle.vol_file.specs.Clears.{first_block, is_past, IsPast, blocks_at, Gains, ClearsPast}
 use Rattle.vol_file.proofs.Alone.{fits_len, elsewhere_names, elsewhere_then, elsewhere_changes}
-use Rattle.vol_file.proofs.Taking.{rest_within}
+use Rattle.vol_file.proofs.TakenBlocks.{rest_within}
 use Rattle.vol_file.proofs.Cells.{names_zoned}
-use Rattle.vol_file.proofs.Filling.{limit_of}
+use Rattle.vol_file.proofs.FilledPaths.{limit_of}
 use Rattle.vol_file.proofs.FirstBlocks.{past_true, past_false}
 use Rattle.vol_file.proofs.Fronts.{front_zero}
-use Rattle.vol_file.proofs.Gaining.{gains_given}
+use Rattle.vol_file.proofs.FreedCounts.{gains_given}
 use Rattle.vol_file.proofs.KeptPlaces.{first_leaf, kept_is, past_list}
 use Rattle.vol_file.proofs.Soundness.{Lessens, named_before, sound_after}
 use Rattle.vol_file.proofs.PlaceLists.{front_first}
-use Rattle.vol_file.proofs.Naming.{place_same}
-use Rattle.vol_file.proofs.Sizing.{Resized, resized, size_apart}
+use Rattle.vol_file.proofs.StoredNames.{place_same}
+use Rattle.vol_file.proofs.PutSizes.{Resized, resized, size_apart}
 
 -- each address of a file's i-node is a place
 pub addresses_file : (geometry : Geometry) (image : List ℕ) (i : ℕ) → IsFile geometry image i

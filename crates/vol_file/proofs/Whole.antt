@@ -19,11 +19,11 @@ use Rattle.vol_file.specs.Rules.{size_of, Rules3To7With}
 use Rattle.vol_file.specs.Changes.{Writes, mode_after, place_after, spliced}
 use Rattle.vol_file.specs.Steps.{Fills, Puts, HasRoom}
 use Rattle.vol_file.proofs.Alone.{elsewhere_then, elsewhere_changes, keeps_then}
-use Rattle.vol_file.proofs.Reaching.{map_same}
-use Rattle.vol_file.proofs.Extending.{unnamed_false}
+use Rattle.vol_file.proofs.ReachedPlaces.{map_same}
+use Rattle.vol_file.proofs.OneMoreBlock.{unnamed_false}
 use Rattle.vol_file.proofs.Lasts.{front_true, way_is, or_true}
 use Rattle.vol_file.proofs.Ranges.{is_on_at}
-use Rattle.vol_file.proofs.Splicing.{spliced_is}
+use Rattle.vol_file.proofs.Splices.{spliced_is}
 
 -- the blocks touched are a run
 pub touched_run : (offset len : ℕ) → 1 ≤ len

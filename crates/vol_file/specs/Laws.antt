@@ -6,7 +6,7 @@ use Rattle.vol_layout.specs.Places.{IsPlace, places}
 use Rattle.vol_free.specs.Stack.{IsIn}
 use Rattle.vol_file.specs.Shape.{touched, is_on_ways}
 use Rattle.vol_file.specs.Need.{missing_count, need_of, need, missing_places, places_taken}
-use Rattle.vol_file.specs.Missing.{missing_from}
+use Rattle.vol_file.specs.MissingBlocks.{missing_from}
 use Rattle.vol_layout.specs.declared.geometry.Geometry.{Geometry}
 use Rattle.vol_layout.specs.declared.block_map.BlockMap.{BlockMap}
 

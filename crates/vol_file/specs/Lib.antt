@@ -8,7 +8,7 @@ pub mod Changes
 pub mod Clears
 pub mod Holes
 pub mod Laws
-pub mod Missing
+pub mod MissingBlocks
 pub mod Need
 pub mod Repeats
 pub mod Rules

@@ -7,7 +7,7 @@ ghost use Rattle.vol_layout.specs.Names.{form_at, stored};
 ghost use Rattle.vol_layout.specs.Places.{end_of};
 ghost use Rattle.vol_file.specs.Holes.{IsHole, IsNextStored, blocks_left, direct_count};
 
-use crate::following::entry;
+use crate::follow::entry;
 use crate::pointers::next_pointer;
 use pdp_words::Image;
 use vol_layout::i_list::{address, mode};

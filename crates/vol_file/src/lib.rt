@@ -1,27 +1,27 @@
 //! The files of a volume: their block maps and their bytes.
 #![tactic(auto)]
 
-mod block_taking;
-pub mod following;
+pub mod blocks_needed;
+pub mod follow;
 pub mod holes;
 pub mod laws;
-pub mod needing;
 mod pieces;
 pub mod pointers;
-pub mod reading;
+pub mod read_bytes;
 pub mod repeats;
 pub mod runs;
-pub mod truncating;
-pub mod visiting;
-pub mod writing;
+mod take_blocks;
+pub mod truncate_file;
+pub mod visit;
+pub mod write_bytes;
 
-pub use following::block_at;
+pub use blocks_needed::need;
+pub use follow::block_at;
 pub use holes::next_block;
-pub use needing::need;
 pub use pointers::next_pointer;
-pub use reading::read;
+pub use read_bytes::read;
 pub use repeats::{mark_passed, no_marks, passed_end};
 pub use runs::BlockNumbers;
-pub use truncating::truncate;
-pub use visiting::read_range;
-pub use writing::write;
+pub use truncate_file::truncate;
+pub use visit::read_range;
+pub use write_bytes::write;

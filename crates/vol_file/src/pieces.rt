@@ -5,7 +5,7 @@ ghost use Rattle.vol_layout.specs.Names.{form_at, IsFile, stored};
 ghost use Rattle.vol_file.specs.Rules.{Rules3To7With, Rules3To7};
 ghost use Rattle.vol_file.specs.Steps.{Rewrites, text_at, zeros_at};
 
-use crate::following::number_at;
+use crate::follow::number_at;
 use crate::holes::next_stored;
 use pdp_words::{BLOCK, Image};
 use vol_layout::{BlockMap, Geometry};

@@ -8,7 +8,7 @@ ghost use Rattle.vol_layout.specs.declared.geometry.Geometry.{Geometry};
 ghost use Rattle.vol_layout.specs.Names.{form_at, stored};
 ghost use Rattle.vol_file.specs.Repeats.{is_marked, MarksPassed, PassesBelow};
 
-use crate::following::entry;
+use crate::follow::entry;
 use crate::holes::{blocks_below, left_below};
 use pdp_words::Image;
 use std::alloc::{AllocError, Global};

@@ -5,7 +5,7 @@ ghost use Rattle.vol_layout.specs.Names.{form_at, stored, block_named};
 ghost use Rattle.vol_file.specs.Holes.{IsNextStored};
 ghost use Rattle.vol_file.specs.Runs.{IsRun, LooksUp, number_from};
 
-use crate::following::{entry, follow};
+use crate::follow::{entry, follow};
 use crate::holes::{direct_count, next_stored};
 use pdp_words::Image;
 use vol_layout::i_list::{address, mode};

@@ -1,3 +1,3 @@
 pub mod Noted
 pub mod Soundness
-pub mod Telling
+pub mod OutcomeLaws

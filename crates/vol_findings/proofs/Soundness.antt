@@ -4,16 +4,16 @@ use Rattle.std.proofs.lemmas.Bool.{cases_order}
 use Rattle.vol_layout.specs.Geometry.{geometry_of}
 use Rattle.vol_layout.specs.declared.edition.Edition.{Edition}
 use Rattle.vol_file.specs.Rules.{IsApart}
-use Rattle.vol_judge.specs.Judging.{IsFirstBroken}
+use Rattle.vol_judge.specs.Judge.{IsFirstBroken}
 use Rattle.vol_judge.specs.Sound.{Rule, IsSound, IsJudged}
-use Rattle.vol_judge.proofs.Numbering.{judged}
+use Rattle.vol_judge.proofs.RuleNumbers.{judged}
 use Rattle.vol_judge.specs.Dots.{IsFirstDots}
 use Rattle.vol_judge.specs.Entries.{IsFirstEntry}
 use Rattle.vol_judge.specs.FreeList.{IsFirstFault}
 use Rattle.vol_judge.specs.INodes.{IsFirstKind, IsFirstSize}
 use Rattle.vol_judge.specs.Links.{IsFirstLink}
 use Rattle.vol_judge.specs.Lost.{IsFirstUncovered}
-use Rattle.vol_judge.specs.Sharing.{IsFirstTwice}
+use Rattle.vol_judge.specs.SharedBlocks.{IsFirstTwice}
 use Rattle.vol_judge.specs.Tree.{IsFirstTree}
 use Rattle.vol_judge.specs.Zones.{IsFirstOutside}
 use Rattle.vol_findings.specs.Outcomes.{Says, Tells, Keeps, HasGeometry}

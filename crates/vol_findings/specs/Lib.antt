@@ -7,7 +7,7 @@ pub use Rattle.vol_judge.specs.FreeList
 pub use Rattle.vol_judge.specs.FreeMarks
 pub use Rattle.vol_judge.specs.Lost
 pub use Rattle.vol_judge.specs.Marks
-pub use Rattle.vol_judge.specs.Sharing
+pub use Rattle.vol_judge.specs.SharedBlocks
 pub use Rattle.vol_judge.specs.Sound
 pub use Rattle.vol_judge.specs.Tree
 pub use Rattle.vol_judge.specs.Zones

@@ -14,7 +14,7 @@ use Rattle.vol_judge.specs.FreeList.{IsFirstFault}
 use Rattle.vol_judge.specs.INodes.{IsFirstKind, IsFirstSize}
 use Rattle.vol_judge.specs.Links.{IsFirstLink}
 use Rattle.vol_judge.specs.Lost.{IsFirstUncovered}
-use Rattle.vol_judge.specs.Sharing.{IsUsedOnce, IsFirstTwice}
+use Rattle.vol_judge.specs.SharedBlocks.{IsUsedOnce, IsFirstTwice}
 use Rattle.vol_judge.specs.Tree.{IsFirstTree}
 use Rattle.vol_judge.specs.Zones.{IsFirstOutside}
 use Rattle.vol_judge.specs.declared.finding.Finding.{Finding}

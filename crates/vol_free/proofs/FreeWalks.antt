@@ -8,7 +8,7 @@ use Rattle.vol_layout.specs.Super.{free_head}
 use Rattle.vol_layout.specs.declared.geometry.Geometry.{Geometry}
 use Rattle.vol_free.specs.Stack.{IsIn, Once}
 use Rattle.vol_free.specs.FreeWalk.{walk_rest, free_walk}
-use Rattle.vol_free.specs.Walking.{HasMet, StepFinds, AreZoned, next_count}
+use Rattle.vol_free.specs.Walk.{HasMet, StepFinds, AreZoned, next_count}
 use Rattle.vol_free.specs.declared.free_walk.FreeFault.{FreeFault}
 use Rattle.vol_free.specs.declared.free_walk.FreeWalk.{FreeWalk}
 use Rattle.vol_free.proofs.FreeFaults.{in_any}

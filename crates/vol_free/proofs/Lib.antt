@@ -2,11 +2,11 @@ pub mod Copies
 pub mod Stacks
 pub mod Frames
 pub mod Lengths
-pub mod Taking
-pub mod Giving
-pub mod Counting
+pub mod TakenBlocks
+pub mod GivenBlocks
+pub mod ChainWalks
 pub mod IList
-pub mod Rebuilding
+pub mod RebuildSteps
 pub mod WalkLaws
 pub mod FreeFaults
 pub mod FreeWalks

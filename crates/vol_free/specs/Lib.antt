@@ -4,7 +4,7 @@ pub use Rattle.vol_layout.specs.Geometry
 pub use Rattle.vol_layout.specs.Super
 pub mod Stack
 pub mod FreeWalk
-pub mod Walking
+pub mod Walk
 pub mod Laws
 pub mod Numbers
-pub mod Rebuilding
+pub mod Rebuild

@@ -5,7 +5,7 @@ ghost use Rattle.pdp_words.specs.Words.{SameOutside, word};
 ghost use Rattle.vol_layout.specs.Edition.{constants, number};
 ghost use Rattle.vol_layout.specs.Geometry.{Fits, in_zone};
 ghost use Rattle.vol_layout.specs.Super.{free_head};
-ghost use Rattle.vol_free.specs.Rebuilding.{KeepsUsed, unused};
+ghost use Rattle.vol_free.specs.Rebuild.{KeepsUsed, unused};
 ghost use Rattle.vol_free.specs.Stack.{IsIn, IsFree, HasStack, Pops, HeadTaken, HeadGiven, StaysBut};
 
 use pdp_words::{BLOCK, Image};

@@ -3,7 +3,7 @@ ghost use Rattle.std.specs.Prelude.{◌≡◌, ℕ, ◌+◌, ◌-◌, ◌*◌, �
 ghost use Rattle.pdp_words.specs.Words.{word};
 ghost use Rattle.vol_layout.specs.Geometry.{Fits};
 ghost use Rattle.vol_free.specs.FreeWalk.{free_walk};
-ghost use Rattle.vol_free.specs.Walking.{AreZoned};
+ghost use Rattle.vol_free.specs.Walk.{AreZoned};
 
 use pdp_words::{BLOCK, Image};
 use std::alloc::{AllocError, Global};
@@ -57,7 +57,7 @@ pub struct FreeWalk {
 }
 
 impl FreeWalk {
-    ghost use Rattle.vol_free.specs.Walking.{HasMet, StepFinds};
+    ghost use Rattle.vol_free.specs.Walk.{HasMet, StepFinds};
 
     /// Returns a walk that has met no block yet. No mark is set.
     pub fn new(image: &Image, geometry: &Geometry) -> FreeWalk

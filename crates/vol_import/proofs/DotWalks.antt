@@ -16,17 +16,17 @@ use Rattle.vol_dir.proofs.Components.{one_piece}
 use Rattle.vol_dir.specs.Access.{user}
 use Rattle.vol_dir.specs.Entries.{HasEntries, entry_at}
 use Rattle.vol_dir.specs.Names.{Names, get, dot}
-use Rattle.vol_dir.specs.Searching.{holds}
+use Rattle.vol_dir.specs.Search.{holds}
 use Rattle.vol_dir.specs.Tree.{Tree, tree}
 use Rattle.vol_dir.specs.Walk.{onto_first, pieces, is_nil, components, root, has_zero, search, and_then, find_in, walk_from, walk}
-use Rattle.vol_dir.proofs.Finding.{found_number}
+use Rattle.vol_dir.proofs.Searches.{found_number}
 use Rattle.vol_dir.proofs.PathJoins.{components-join, walk_from-append, walk-onward}
 use Rattle.vol_dir.specs.declared.refusal.Refusal.{Refusal}
 use Rattle.vol_dir.specs.declared.refusal.Refusal.TheVariants as refusals
 use Rattle.vol_judge.specs.Directories.{HasDots}
 use Rattle.vol_judge.specs.Sound.{IsSound}
 use Rattle.vol_judge.proofs.Parts.{sound_dots, sound_entries}
-use Rattle.vol_judge.proofs.Passing.{entry_within}
+use Rattle.vol_judge.proofs.PassedEntries.{entry_within}
 use Rattle.vol_change.specs.Ready.{Rules1To12}
 use Rattle.vol_change.proofs.EntryStates.{names_once}
 use Rattle.vol_change.proofs.ReadyLaws.{ready_entries}

@@ -1,9 +1,9 @@
 -- The faults of an import, and its result if there is none.
 use Rattle.std.proofs.Common.{◌≡◌, ◌≢◌, ◌⊎◌, ℕ, List, Ok, Err, IfOk, IfErr, inl, inr, sym, ap, ◌∙◌, subst}
 use Rattle.std.specs.Prelude.{Result, ◌+◌, nat_le, if◌then◌else◌, length, true, false}
-use Rattle.ustar.specs.Reading.{path_of}
-use Rattle.ustar.specs.declared.reading.HeaderFault.{HeaderFault}
-use Rattle.ustar.specs.declared.reading.HeaderFault.TheVariants as headers
+use Rattle.ustar.specs.Read.{path_of}
+use Rattle.ustar.specs.declared.read.HeaderFault.{HeaderFault}
+use Rattle.ustar.specs.declared.read.HeaderFault.TheVariants as headers
 use Rattle.std.specs.Global.{Vec}
 use Rattle.vol_dir.specs.Tree.{Tree}
 use Rattle.vol_judge.specs.Sound.{IsSound}
@@ -12,21 +12,21 @@ use Rattle.vol_volume.specs.Volume.{Mounted, IsConsistent, mounted, reads_as}
 use Rattle.vol_import.specs.Entries.{block_at}
 use Rattle.vol_import.specs.Members.{members as read_members}
 use Rattle.vol_import.specs.Plan.{plan}
-use Rattle.vol_import.specs.Making.{AreMade, AreStopped, TakesMemory, unmounted, unheaded, unread, unplanned, told, planned, calls_to_make, Tells, IsUnmounted, IsStop, Imports, IsReason}
+use Rattle.vol_import.specs.Make.{AreMade, AreStopped, TakesMemory, unmounted, unheaded, unread, unplanned, told, planned, calls_to_make, Tells, IsUnmounted, IsStop, Imports, IsReason}
 use Rattle.vol_import.proofs.MadeCalls.{imported}
 use Rattle.vol_dir.specs.declared.refusal.Refusal.{Refusal}
 use Rattle.vol_layout.specs.declared.edition.Edition.{Edition}
 use Rattle.vol_volume.specs.declared.calls.Call.{Call}
 use Rattle.vol_volume.specs.declared.volume.MountFault.{MountFault}
 use Rattle.vol_volume.specs.declared.volume.MountFault.TheVariants as mounts
-use Rattle.vol_import.specs.declared.checking.MemberFault.TheVariants as members
+use Rattle.vol_import.specs.declared.member_check.MemberFault.TheVariants as members
 use Rattle.vol_import.specs.declared.faults.ArchiveFault.{ArchiveFault}
 use Rattle.vol_import.specs.declared.faults.ArchiveFault.TheVariants as archives
-use Rattle.vol_import.specs.declared.making.ImportFault.{ImportFault}
-use Rattle.vol_import.specs.declared.making.ImportFault.TheVariants as faults
-use Rattle.vol_import.specs.declared.planning.PlanFault.{PlanFault}
-use Rattle.vol_import.specs.declared.planning.PlanFault.TheVariants as plans
-use Rattle.vol_import.specs.declared.reading.Member.{Member}
+use Rattle.vol_import.specs.declared.make.ImportFault.{ImportFault}
+use Rattle.vol_import.specs.declared.make.ImportFault.TheVariants as faults
+use Rattle.vol_import.specs.declared.import_plan.PlanFault.{PlanFault}
+use Rattle.vol_import.specs.declared.import_plan.PlanFault.TheVariants as plans
+use Rattle.vol_import.specs.declared.archive_members.Member.{Member}
 
 -- a fault that a plan may have
 abbrev pub IsPlans : ImportFault → Type 0

@@ -8,7 +8,7 @@ use Rattle.vol_change.specs.Whole.{StaysAround}
 use Rattle.vol_change.proofs.WholeLaws.{around_then, geometry_kept}
 use Rattle.vol_volume.specs.Journal.{Refuses, IsLegal, after}
 use Rattle.vol_volume.specs.Volume.{Mounted, IsConsistent, Accepts, mounted, reads_as}
-use Rattle.vol_import.specs.Making.{AreMade, AreStopped, ImportsCalls}
+use Rattle.vol_import.specs.Make.{AreMade, AreStopped, ImportsCalls}
 use Rattle.vol_dir.specs.declared.refusal.Refusal.{Refusal}
 use Rattle.vol_layout.specs.declared.edition.Edition.{Edition}
 use Rattle.vol_volume.specs.declared.calls.Call.{Call}

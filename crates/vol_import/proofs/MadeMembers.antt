@@ -26,15 +26,15 @@ use Rattle.vol_volume.specs.declared.queries.Reply.{Reply}
 use Rattle.vol_volume.specs.declared.queries.Reply.TheVariants as replies
 use Rattle.vol_volume.proofs.Journals.{reads_made}
 use Rattle.vol_import.specs.MadeMembers.{HasMember, HasMembers, HasArchive, KeepsNodes, is_among, is_for, is_made_at}
-use Rattle.vol_import.specs.Making.{AreMade, Imports, ImportsCalls, calls_to_make, planned, told}
+use Rattle.vol_import.specs.Make.{AreMade, Imports, ImportsCalls, calls_to_make, planned, told}
 use Rattle.vol_import.specs.Members.{members}
 use Rattle.vol_import.specs.Plan.{and_next, base_permissions, below, check, closed, closing_calls, is_base, is_directory as says_directory, is_directory_at, is_directory_kind, is_long, is_there, joined, made_as, names_of, permissions_given, permissions_of, permissions_told, plan, plan_onto, steps_of}
-use Rattle.vol_import.specs.declared.checking.MadeAs.{MadeAs}
-use Rattle.vol_import.specs.declared.checking.MadeAs.TheVariants.{File, Directory, Link}
-use Rattle.vol_import.specs.declared.checking.MemberFault.{MemberFault}
+use Rattle.vol_import.specs.declared.member_check.MadeAs.{MadeAs}
+use Rattle.vol_import.specs.declared.member_check.MadeAs.TheVariants.{File, Directory, Link}
+use Rattle.vol_import.specs.declared.member_check.MemberFault.{MemberFault}
 use Rattle.vol_import.specs.declared.faults.ArchiveFault.{ArchiveFault}
-use Rattle.vol_import.specs.declared.planning.PlanFault.{PlanFault}
-use Rattle.vol_import.specs.declared.reading.Member.{Member}
+use Rattle.vol_import.specs.declared.import_plan.PlanFault.{PlanFault}
+use Rattle.vol_import.specs.declared.archive_members.Member.{Member}
 use Rattle.vol_import.proofs.DotWalks.{DotsLead, dots_ready, dots_sound, zeros_below}
 use Rattle.vol_import.proofs.GrownTrees.{LeadsToDirectory, grown_directory}
 use Rattle.vol_import.proofs.MadeCalls.{keeps}

@@ -5,8 +5,8 @@ use Rattle.std.proofs.lemmas.List.{reverse-append}
 use Rattle.vol_dir.specs.Tree.{Tree}
 use Rattle.vol_volume.specs.declared.calls.Call.{Call}
 use Rattle.vol_import.specs.Plan.{Drafted, check, onto, and_next, plan_onto}
-use Rattle.vol_import.specs.declared.planning.PlanFault.{PlanFault}
-use Rattle.vol_import.specs.declared.reading.Member.{Member}
+use Rattle.vol_import.specs.declared.import_plan.PlanFault.{PlanFault}
+use Rattle.vol_import.specs.declared.archive_members.Member.{Member}
 
 -- a draft with a member that is to be made as its check says
 abbrev pub with_checked : Tree → List ℕ → ℕ → Drafted → Member → Result Drafted PlanFault

@@ -1,5 +1,5 @@
 pub use Rattle.ustar.specs.Numbers
-pub use Rattle.ustar.specs.Reading
+pub use Rattle.ustar.specs.Read
 pub use Rattle.vol_dir.specs.Access
 pub use Rattle.vol_judge.specs.Sound
 pub use Rattle.vol_volume.specs.Answer
@@ -7,7 +7,7 @@ pub use Rattle.vol_volume.specs.Volume
 pub mod Entries
 pub mod ExportedMembers
 pub mod Faults
-pub mod Making
+pub mod Make
 pub mod MadeMembers
 pub mod Members
 pub mod Names

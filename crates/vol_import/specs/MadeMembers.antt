@@ -10,11 +10,11 @@ use Rattle.vol_volume.specs.declared.queries.Query.TheVariants as queries
 use Rattle.vol_volume.specs.declared.queries.Reply.TheVariants as replies
 use Rattle.vol_volume.specs.declared.queries.Stat.{Stat}
 use Rattle.vol_import.specs.Plan.{below, is_directory, joined, made_as, moment_of, permissions_of, steps_of}
-use Rattle.vol_import.specs.declared.checking.MadeAs.{MadeAs}
-use Rattle.vol_import.specs.declared.checking.MadeAs.TheVariants.{File, Directory, Link}
-use Rattle.vol_import.specs.declared.checking.MemberFault.{MemberFault}
+use Rattle.vol_import.specs.declared.member_check.MadeAs.{MadeAs}
+use Rattle.vol_import.specs.declared.member_check.MadeAs.TheVariants.{File, Directory, Link}
+use Rattle.vol_import.specs.declared.member_check.MemberFault.{MemberFault}
 use Rattle.vol_import.specs.declared.faults.ArchiveFault.{ArchiveFault}
-use Rattle.vol_import.specs.declared.reading.Member.{Member}
+use Rattle.vol_import.specs.declared.archive_members.Member.{Member}
 
 -- a path leads to a regular file of these bytes: a Stat says that it is one, and a Read from any offset on returns them (stat, read)
 pub record HasFile (tree : Tree) (path bytes : List ℕ) : Type 0 where

@@ -8,9 +8,9 @@ use Rattle.std.specs.Option.{option_map}
 use Rattle.std.specs.Ordering.{nat_cmp}
 use Rattle.std.specs.Str.{bytes_eq}
 use Rattle.ustar.specs.declared.header.MemberKind.TheVariants as members
-use Rattle.ustar.specs.declared.reading.ReadHeader.{ReadHeader}
-use Rattle.ustar.specs.declared.reading.TypeFlag.{TypeFlag}
-use Rattle.ustar.specs.declared.reading.TypeFlag.TheVariants as flags
+use Rattle.ustar.specs.declared.read.ReadHeader.{ReadHeader}
+use Rattle.ustar.specs.declared.read.TypeFlag.{TypeFlag}
+use Rattle.ustar.specs.declared.read.TypeFlag.TheVariants as flags
 use Rattle.vol_dir.specs.Tree.{Tree}
 use Rattle.vol_dir.specs.Walk.{components, is_nil}
 use Rattle.vol_dir.specs.declared.cred.Cred.{Cred}
@@ -26,14 +26,14 @@ use Rattle.vol_volume.specs.declared.calls.Call.TheVariants as calls
 use Rattle.vol_volume.specs.declared.queries.Query.TheVariants as queries
 use Rattle.vol_volume.specs.declared.queries.Reply.{Reply}
 use Rattle.vol_volume.specs.declared.queries.Reply.TheVariants as replies
-use Rattle.vol_import.specs.declared.checking.MadeAs.{MadeAs}
-use Rattle.vol_import.specs.declared.checking.MadeAs.TheVariants.{File, Directory, Link}
-use Rattle.vol_import.specs.declared.checking.MemberFault.{MemberFault}
-use Rattle.vol_import.specs.declared.checking.MemberFault.TheVariants as faults
-use Rattle.vol_import.specs.declared.drafting.Draft.{Draft}
-use Rattle.vol_import.specs.declared.planning.PlanFault.{PlanFault}
-use Rattle.vol_import.specs.declared.planning.PlanFault.TheVariants as plans
-use Rattle.vol_import.specs.declared.reading.Member.{Member}
+use Rattle.vol_import.specs.declared.member_check.MadeAs.{MadeAs}
+use Rattle.vol_import.specs.declared.member_check.MadeAs.TheVariants.{File, Directory, Link}
+use Rattle.vol_import.specs.declared.member_check.MemberFault.{MemberFault}
+use Rattle.vol_import.specs.declared.member_check.MemberFault.TheVariants as faults
+use Rattle.vol_import.specs.declared.draft.Draft.{Draft}
+use Rattle.vol_import.specs.declared.import_plan.PlanFault.{PlanFault}
+use Rattle.vol_import.specs.declared.import_plan.PlanFault.TheVariants as plans
+use Rattle.vol_import.specs.declared.archive_members.Member.{Member}
 
 -- the next step after an Ok; a fault ends it (this project)
 abbrev pub and_then : {X Y : Type 0} → Result X MemberFault → (X → Result Y MemberFault) → Result Y MemberFault

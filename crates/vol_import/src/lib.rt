@@ -1,23 +1,23 @@
 //! Reading tar archives, and making their members by the calls of a volume.
 #![tactic(auto)]
 
-pub mod checking;
-mod closing;
-mod drafting;
+pub mod archive_members;
+mod close;
+mod draft;
 pub mod entries;
 pub mod faults;
+pub mod import_plan;
 pub mod laws;
 pub mod long_names;
-pub mod making;
-pub mod planning;
-pub mod reading;
+pub mod make;
+pub mod member_check;
 mod records;
 mod step_path;
 
-pub use checking::{MOST_PATH_BYTES, MadeAs, MemberFault, check};
+pub use archive_members::{Member, members};
 pub use entries::{ArchiveEntry, entry_at};
 pub use faults::ArchiveFault;
+pub use import_plan::{PlanFault, plan};
 pub use long_names::LongNames;
-pub use making::{ImportFault, import, make_all};
-pub use planning::{PlanFault, plan};
-pub use reading::{Member, members};
+pub use make::{ImportFault, import, make_all};
+pub use member_check::{MOST_PATH_BYTES, MadeAs, MemberFault, check};

@@ -10,7 +10,7 @@ use Rattle.vol_layout.specs.declared.geometry.Geometry.{Geometry}
 use Rattle.vol_layout.proofs.NameLaws.{entry_out, zero_out}
 use Rattle.vol_reports.specs.Blocks.{one_if}
 use Rattle.vol_reports.proofs.Ranges.{range_more}
-use Rattle.vol_inspect.specs.Placing.{found_at}
+use Rattle.vol_inspect.specs.PlaceCounts.{found_at}
 
 -- a sum over a range, with one more
 pub sum_more : (f : ℕ → ℕ) (a n m j : ℕ) → m ≡ n + 1 → a + n ≡ j → sum_by f (range_with_len a m) ≡ sum_by f (range_with_len a n) + f j

@@ -10,7 +10,7 @@ use Rattle.vol_layout.specs.Places.{first_count}
 use Rattle.vol_layout.specs.declared.geometry.Geometry.{Geometry}
 use Rattle.vol_reports.proofs.Ranges.{flat_more}
 use Rattle.vol_inspect.specs.declared.extent.Extent.{Extent}
-use Rattle.vol_inspect.specs.declared.gathering.Gathering.{Gathering}
+use Rattle.vol_inspect.specs.declared.extents.Gathering.{Gathering}
 use Rattle.vol_inspect.specs.Extents.{single, joins, extended, gathered, gathering_with, Collects, holdings_from, address_holdings, holdings}
 
 -- nothing was noted

@@ -19,7 +19,7 @@ use Rattle.vol_file.proofs.BlockLists.{at_nil, at_zero, at_some}
 use Rattle.vol_file.proofs.FirstBlocks.{levels_few}
 use Rattle.vol_file.proofs.PlaceLists.{counted_flat, among_places}
 use Rattle.vol_reports.specs.Blocks.{one_if, is_kind, use_count}
-use Rattle.vol_inspect.specs.Placing.{found_at, names_at, node_count, wanted_count, naming_count}
+use Rattle.vol_inspect.specs.PlaceCounts.{found_at, names_at, node_count, wanted_count, naming_count}
 use Rattle.vol_inspect.proofs.Found.{here_at}
 use Rattle.vol_inspect.proofs.LaidOut.{pointers_or_none}
 

@@ -7,8 +7,8 @@ use Rattle.vol_layout.specs.Geometry.{Fits}
 use Rattle.vol_layout.specs.declared.geometry.Geometry.{Geometry}
 use Rattle.vol_layout.specs.declared.mode.Kind.TheVariants as kinds
 use Rattle.vol_reports.specs.Blocks.{use_count}
-use Rattle.vol_inspect.specs.Placing.{CountsKind}
-use Rattle.vol_inspect.specs.Sharing.{is_counted_twice, is_shared}
+use Rattle.vol_inspect.specs.PlaceCounts.{CountsKind}
+use Rattle.vol_inspect.specs.SharedBlocks.{is_counted_twice, is_shared}
 use Rattle.vol_inspect.specs.Uses.{named_in}
 use Rattle.vol_inspect.proofs.UseLaws.{zone_within, named_is}
 

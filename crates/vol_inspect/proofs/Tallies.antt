@@ -4,7 +4,7 @@ use Rattle.std.proofs.lemmas.Bool.{cases_eq}
 use Rattle.vol_layout.specs.Geometry.{in_zone}
 use Rattle.vol_layout.proofs.BodyLaws.{zone_bounds}
 use Rattle.vol_layout.specs.declared.geometry.Geometry.{Geometry}
-use Rattle.vol_inspect.specs.Placing.{found_at, Counts, CountsFrom, IsTally}
+use Rattle.vol_inspect.specs.PlaceCounts.{found_at, Counts, CountsFrom, IsTally}
 use Rattle.vol_inspect.proofs.Found.{here_at, here_yes, here_other, here_level, found_through}
 
 -- nothing more was counted

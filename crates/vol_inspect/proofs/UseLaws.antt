@@ -9,13 +9,13 @@ use Rattle.vol_layout.specs.declared.mode.Kind.{Kind}
 use Rattle.vol_layout.specs.declared.mode.Kind.TheVariants as kinds
 use Rattle.vol_layout.proofs.NameLaws.{zone_some}
 use Rattle.vol_free.specs.FreeWalk.{free_walk}
-use Rattle.vol_free.specs.Walking.{left_after}
+use Rattle.vol_free.specs.Walk.{left_after}
 use Rattle.vol_reports.specs.Blocks.{one_if, use_count, met_count, is_met, is_lost_of}
-use Rattle.vol_inspect.specs.Placing.{CountsKind, naming_count}
-use Rattle.vol_inspect.specs.Listing.{listed_at, listed_in, listed_of}
+use Rattle.vol_inspect.specs.PlaceCounts.{CountsKind, naming_count}
+use Rattle.vol_inspect.specs.FreeListStatus.{listed_at, listed_in, listed_of}
 use Rattle.vol_inspect.specs.Uses.{use_in, use_of, data_use, free_use, is_listed, named_in}
-use Rattle.vol_inspect.specs.declared.listing.Listed.{Listed}
-use Rattle.vol_inspect.specs.declared.listing.Listed.TheVariants.{Absent, Plain, Linking}
+use Rattle.vol_inspect.specs.declared.free_list.Listed.{Listed}
+use Rattle.vol_inspect.specs.declared.free_list.Listed.TheVariants.{Absent, Plain, Linking}
 use Rattle.vol_inspect.specs.declared.uses.Use.{Use}
 use Rattle.vol_inspect.specs.declared.uses.Use.TheVariants as uses
 use Rattle.vol_inspect.proofs.Named.{all_levels, used_by_level}

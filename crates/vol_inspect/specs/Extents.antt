@@ -9,7 +9,7 @@ use Rattle.vol_layout.specs.Names.{form_at, pointer_in}
 use Rattle.vol_layout.specs.declared.geometry.Geometry.{Geometry}
 use Rattle.vol_file.specs.Clears.{first_at}
 use Rattle.vol_inspect.specs.declared.extent.Extent.{Extent}
-use Rattle.vol_inspect.specs.declared.gathering.Gathering.{Gathering}
+use Rattle.vol_inspect.specs.declared.extents.Gathering.{Gathering}
 
 -- one block, with the number of levels of blocks below it, and the first logical block that it holds or leads to (Lions on bmap)
 abbrev pub single : Geometry → ℕ → ℕ → ℕ → Extent

@@ -3,10 +3,10 @@ use Rattle.std.specs.Prelude.{ℕ, ◌+◌, ◌*◌, ◌==◌, nat_lt, Bool, tru
 use Rattle.vol_layout.specs.declared.geometry.Geometry.{Geometry}
 use Rattle.vol_layout.specs.declared.mode.Kind.TheVariants as kinds
 use Rattle.vol_reports.specs.Blocks.{one_if, use_count, is_met, is_lost_of}
-use Rattle.vol_inspect.specs.Placing.{naming_count}
-use Rattle.vol_inspect.specs.Listing.{listed_of}
-use Rattle.vol_inspect.specs.declared.listing.Listed.{Listed}
-use Rattle.vol_inspect.specs.declared.listing.Listed.TheVariants.{Absent, Plain, Linking}
+use Rattle.vol_inspect.specs.PlaceCounts.{naming_count}
+use Rattle.vol_inspect.specs.FreeListStatus.{listed_of}
+use Rattle.vol_inspect.specs.declared.free_list.Listed.{Listed}
+use Rattle.vol_inspect.specs.declared.free_list.Listed.TheVariants.{Absent, Plain, Linking}
 use Rattle.vol_inspect.specs.declared.uses.Use.{Use}
 use Rattle.vol_inspect.specs.declared.uses.Use.TheVariants as uses
 

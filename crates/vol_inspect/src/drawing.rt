@@ -1,7 +1,7 @@
 //! Pictures of the uses of blocks: as text for a terminal, and as SVG.
 ghost use Rattle.std.specs.Prelude.{◌≡◌, ◌≤◌, ◌++◌, IfOk, OnOk};
 ghost use Rattle.std.specs.String.{string_bytes};
-ghost use Rattle.vol_inspect.specs.Drawing.{
+ghost use Rattle.vol_inspect.specs.Pictures.{
   letter,
   name,
   colour,

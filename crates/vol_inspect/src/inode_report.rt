@@ -1,11 +1,11 @@
 //! An i-node and the blocks that it names.
 ghost use Rattle.std.specs.Prelude.{◌≡◌, ◌≤◌, OnOk, IfOk, IfErr, take};
 ghost use Rattle.vol_layout.specs.Geometry.{Fits};
-ghost use Rattle.vol_inspect.specs.Inspecting.{InspectsInode, node_in, IsImagesFault};
+ghost use Rattle.vol_inspect.specs.Inspect.{InspectsInode, node_in, IsImagesFault};
 
 use crate::extent::Extent;
+use crate::extents::extents;
 use crate::fault::InspectFault;
-use crate::gathering::extents;
 use pdp_words::Image;
 use std::alloc::Global;
 use vol_layout::{Edition, Geometry, Inode, inode};
@@ -62,7 +62,7 @@ pub fn inspect_inode(
 }
 
 /// Returns the geometry of an image, or the reason why i-node `number` can't be shown.
-#[tactic(auto, unfolding(crate::specs::Inspecting::node_in))]
+#[tactic(auto, unfolding(crate::specs::Inspect::node_in))]
 fn open(edition: Edition, image: &Image, number: u16) -> Result<Geometry, InspectFault>
     ensures exact { result ≡ node_in edition image.now number }
     ensures cause { IfErr result IsImagesFault }

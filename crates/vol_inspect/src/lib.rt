@@ -2,30 +2,30 @@
 //! that.
 #![tactic(auto)]
 
+mod cell_groups;
 mod drawing;
 mod extent;
+mod extents;
 mod fault;
-mod gathering;
-mod grouping;
+mod free_list;
 mod inode_report;
 pub mod laws;
-mod listing;
 mod lost;
-mod picturing;
-mod placing;
-mod sharing;
+mod place_counts;
+mod shares;
 pub mod super_report;
+mod svg_picture;
 mod texts;
 mod uses;
 
+pub use cell_groups::cells;
 pub use drawing::draw;
 pub use extent::Extent;
 pub use fault::InspectFault;
-pub use grouping::cells;
 pub use inode_report::{InodeReport, inspect_inode};
 pub use lost::lost_inodes;
-pub use picturing::svg;
-pub use sharing::shared_blocks;
+pub use shares::shared_blocks;
 pub use super_report::{SuperReport, inspect_super};
+pub use svg_picture::svg;
 pub use texts::kind_name;
 pub use uses::{Use, block_uses};

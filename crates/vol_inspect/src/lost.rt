@@ -2,13 +2,13 @@
 ghost use Rattle.std.specs.Prelude.{◌≡◌, ◌+◌, ◌++◌, ◌∷◌, [], ◌≤◌, ℕ, All, List, IfOk, OnOk, length, if◌then◌else◌};
 ghost use Rattle.vol_layout.specs.Geometry.{Fits};
 ghost use Rattle.vol_layout.specs.declared.geometry.Geometry.{Geometry};
-ghost use Rattle.vol_judge.specs.Stepping.{rank, IsNextSlot};
+ghost use Rattle.vol_judge.specs.Steps.{rank, IsNextSlot};
 ghost use Rattle.vol_inspect.specs.Lost.{has_content, is_lost, AreLost, IsInList, KnowsNamed, NamedBefore};
 
 use pdp_words::Image;
 use std::alloc::{AllocError, Global};
 use vol_file::no_marks;
-use vol_judge::reading::{EntryAt, EntryPosition, next_entry};
+use vol_judge::entry_walk::{EntryAt, EntryPosition, next_entry};
 use vol_layout::i_list::kind;
 use vol_layout::{Geometry, Kind};
 

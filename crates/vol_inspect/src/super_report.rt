@@ -4,7 +4,7 @@ ghost use Rattle.vol_layout.specs.Geometry.{Fits};
 ghost use Rattle.vol_layout.specs.declared.mode.Kind.TheVariants as kinds;
 ghost use Rattle.vol_file.specs.Rules.{kind_at};
 ghost use Rattle.vol_reports.specs.Blocks.{is_kind, kind_count};
-ghost use Rattle.vol_inspect.specs.Inspecting.{InspectsSuper, IsSuperReport, cached_numbers, flag_bytes, free_numbers, used};
+ghost use Rattle.vol_inspect.specs.Inspect.{InspectsSuper, IsSuperReport, cached_numbers, flag_bytes, free_numbers, used};
 
 use crate::fault::InspectFault;
 use pdp_words::Image;

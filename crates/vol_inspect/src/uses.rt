@@ -2,11 +2,11 @@
 ghost use Rattle.std.specs.Prelude.{◌≡◌, ◌+◌, ◌*◌, ◌<◌, length, map, IfOk, vec_len};
 ghost use Rattle.std.specs.List.{range_with_len};
 ghost use Rattle.vol_layout.specs.Geometry.{Fits};
-ghost use Rattle.vol_inspect.specs.Placing.{CountsKind};
+ghost use Rattle.vol_inspect.specs.PlaceCounts.{CountsKind};
 ghost use Rattle.vol_inspect.specs.Uses.{use_of, use_in, data_use, is_listed, named_in};
 
-use crate::listing::{Listed, listed_blocks};
-use crate::placing::count_kind;
+use crate::free_list::{Listed, listed_blocks};
+use crate::place_counts::count_kind;
 use pdp_words::Image;
 use std::alloc::{AllocError, Global};
 use vol_layout::{Geometry, Kind};

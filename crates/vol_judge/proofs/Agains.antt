@@ -16,7 +16,7 @@ use Rattle.vol_judge.proofs.BlocksFrom.{from_leaf, from_entries, entries_from}
 use Rattle.vol_judge.proofs.FileBlocks.{address_blocks, addresses_from}
 use Rattle.vol_judge.proofs.MarkLists.{flat_more, marked_none, marked_first, marked_again, marked_then, marked_marks}
 use Rattle.vol_judge.proofs.NamedOnce.{in_append, in_left, in_flat, flat_in}
-use Rattle.vol_judge.specs.Sharing.{again, IsTwiceNamed}
+use Rattle.vol_judge.specs.SharedBlocks.{again, IsTwiceNamed}
 
 -- a block without a mark is passed
 pub again_past : (marks : List ℕ) (b : ℕ) (blocks : List ℕ) → get_or marks b 0 ≡ 0 → again marks (b ∷ blocks) ≡ again (set marks b 1) blocks

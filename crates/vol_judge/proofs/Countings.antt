@@ -2,8 +2,8 @@
 use Rattle.std.proofs.Common.{◌≡◌, ℕ, ◌+◌, ◌<◌, ◌≤◌, ◌∙◌, sym, subst, inl, inr, List, arith, get_or}
 use Rattle.std.proofs.lemmas.Bool.{cases_eq}
 use Rattle.vol_layout.specs.declared.geometry.Geometry.{Geometry}
-use Rattle.vol_file.proofs.Naming.{root_first}
-use Rattle.vol_judge.specs.Counting.{HasCounts, IsCounted}
+use Rattle.vol_file.proofs.StoredNames.{root_first}
+use Rattle.vol_judge.specs.EntryCounts.{HasCounts, IsCounted}
 use Rattle.vol_judge.specs.Directories.{entry_count, HasLinks}
 
 module _ (g : Geometry) (image counts : List ℕ) (all : HasCounts g image counts) where

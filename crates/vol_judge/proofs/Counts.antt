@@ -17,10 +17,10 @@ use Rattle.vol_file.specs.Rules.{kind_at}
 use Rattle.vol_file.proofs.PlaceLists.{sum_none}
 use Rattle.vol_dir.specs.Entries.{entry_at, slot_count, slots, IsDirectory, HasEntry}
 use Rattle.vol_judge.specs.Directories.{is_for, count_in, entry_count}
-use Rattle.vol_judge.specs.Counting.{is_before, count_before_in, count_before, CountsBefore, HasCounts}
-use Rattle.vol_judge.specs.Stepping.{rank, IsNextSlot, IsPastEntries}
+use Rattle.vol_judge.specs.EntryCounts.{is_before, count_before_in, count_before, CountsBefore, HasCounts}
+use Rattle.vol_judge.specs.Steps.{rank, IsNextSlot, IsPastEntries}
 use Rattle.vol_judge.proofs.GraphCounts.{sum_same}
-use Rattle.vol_judge.proofs.Passing.{entry_within, split}
+use Rattle.vol_judge.proofs.PassedEntries.{entry_within, split}
 
 -- the last i-number is below 2^28
 last_by : (edition : Edition) (last start end : ℕ) → 1024 + (constants edition).inode_bytes * last ≡ 512 * start → start < end

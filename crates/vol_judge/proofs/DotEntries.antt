@@ -7,9 +7,9 @@ use Rattle.vol_layout.specs.declared.geometry.Geometry.{Geometry}
 use Rattle.vol_layout.specs.declared.slot.Slot.{Slot}
 use Rattle.vol_file.proofs.PlaceLists.{bytes_same, same_bytes}
 use Rattle.vol_dir.specs.Entries.{entry_at, slot_count, IsDirectory, HasEntry, HasEntries}
-use Rattle.vol_dir.specs.Scanning.{IsNextEntry}
+use Rattle.vol_dir.specs.Scan.{IsNextEntry}
 use Rattle.vol_judge.specs.InodeMarks.{IsNamed, IsNamedUpTo}
-use Rattle.vol_judge.proofs.Collecting.{same_entry, none_some}
+use Rattle.vol_judge.proofs.CollectedNames.{same_entry, none_some}
 use Rattle.vol_dir.proofs.NextEntries.{entry_next, none_from}
 
 -- no slot below slot 0 has the name

@@ -12,7 +12,7 @@ use Rattle.vol_judge.specs.Directories.{root_of, HasDots}
 use Rattle.vol_judge.specs.Dots.{NeedsDots, NamesItself, NamesParent, KeepsDots, KnowsDots, IsBeforeFirst}
 use Rattle.vol_judge.specs.InodeMarks.{IsNamed}
 use Rattle.vol_judge.specs.Tree.{NotesParents}
-use Rattle.vol_judge.proofs.Deciding.{not_true, not_false, same_option, other_option}
+use Rattle.vol_judge.proofs.Decisions.{not_true, not_false, same_option, other_option}
 
 -- if rule 10 holds, each directory and the root have their entries
 pub each_keeps : {geometry : Geometry} {image : List ℕ} → HasDots geometry image → (d : ℕ) → NeedsDots geometry image d → KeepsDots geometry image d

@@ -9,10 +9,10 @@ use Rattle.vol_file.specs.Rules.{size_of, kind_at}
 use Rattle.vol_file.proofs.PlaceLists.{bytes_same}
 use Rattle.vol_dir.specs.Entries.{entry_at, slots, IsDirectory}
 use Rattle.vol_dir.specs.Names.{get, names_of, is_dots}
-use Rattle.vol_dir.specs.Searching.{holds, holds_other}
+use Rattle.vol_dir.specs.Search.{holds, holds_other}
 use Rattle.vol_dir.specs.Tree.{is_number}
 use Rattle.vol_dir.proofs.NewEntries.{not_held}
-use Rattle.vol_dir.proofs.Replacing.{Replaces}
+use Rattle.vol_dir.proofs.PutSlots.{Replaces}
 use Rattle.vol_judge.specs.Graph.{entry_by, kind_in, graph_of}
 use Rattle.vol_judge.specs.GraphEdits.{IsSameGraph, IsNewName, ChangesSlot, KeepsOthers}
 use Rattle.vol_judge.proofs.GraphParts.{is_directory}

@@ -6,9 +6,9 @@ use Rattle.vol_layout.specs.Slot.{name_of, padded_name}
 use Rattle.vol_layout.specs.declared.geometry.Geometry.{Geometry}
 use Rattle.vol_layout.specs.declared.slot.Slot.{Slot}
 use Rattle.vol_dir.specs.Entries.{entry_at, slot_count}
-use Rattle.vol_dir.specs.Scanning.{IsNextEntry}
-use Rattle.vol_judge.specs.Naming.{HasEntriesBelow, IsNamedBelow, is_in, HoldsNamesBelow}
-use Rattle.vol_judge.proofs.Collecting.{none_some, name_of-padded}
+use Rattle.vol_dir.specs.Scan.{IsNextEntry}
+use Rattle.vol_judge.specs.DirectoryNames.{HasEntriesBelow, IsNamedBelow, is_in, HoldsNamesBelow}
+use Rattle.vol_judge.proofs.CollectedNames.{none_some, name_of-padded}
 
 -- an entry before the one that a search finds is before the start of the search
 early : (geometry : Geometry) (image : List ℕ) (d : ℕ) {from s : ℕ} {slot : Slot} (t i : ℕ) (name : List ℕ)

@@ -11,7 +11,7 @@ use Rattle.vol_file.specs.Rules.{size_of, kind_at, HasSizes}
 use Rattle.vol_dir.specs.Entries.{slot_count, entry_at, slots, IsDirectory, HasEntry, HasEntries}
 use Rattle.vol_dir.specs.Names.{dot, dot_dot}
 use Rattle.vol_dir.specs.Tree.{is_number}
-use Rattle.vol_file.proofs.Naming.{root_first}
+use Rattle.vol_file.proofs.StoredNames.{root_first}
 use Rattle.vol_judge.specs.Directories.{is_for, count_in, entry_count, root_of, Enters, IsReached, at_root as root_reached, below as one_reached, HasDots, IsTree, HasLinks}
 use Rattle.vol_judge.specs.Graph.{entry_by, kind_in, graph_of, IsGraphWithin, Leads, IsBelow, at_root as root_below, below as one_below, counted_in, counted, IsGraphSound}
 use Rattle.vol_judge.proofs.GraphParts.{is_directory}

@@ -11,7 +11,7 @@ use Rattle.vol_free.proofs.Frames.{free_zone}
 use Rattle.vol_file.specs.Rules.{IsApart}
 use Rattle.vol_judge.specs.Finds.{Finds}
 use Rattle.vol_judge.specs.Marks.{MarksZone}
-use Rattle.vol_judge.specs.Sharing.{AreClear, IsFirstMarked, IsNamedFree, IsFirstTwice}
+use Rattle.vol_judge.specs.SharedBlocks.{AreClear, IsFirstMarked, IsNamedFree, IsFirstTwice}
 use Rattle.vol_judge.specs.Sound.{IsFreeApart}
 use Rattle.vol_judge.specs.declared.finding.Finding.TheVariants.{UsedAndFree}
 use Rattle.vol_judge.proofs.NamedOnce.{in_append, in_left, in_right}

@@ -11,12 +11,12 @@ use Rattle.vol_dir.specs.Names.{is_dots}
 use Rattle.vol_judge.specs.Directories.{root_of, Enters}
 use Rattle.vol_judge.specs.Finds.{Finds}
 use Rattle.vol_judge.specs.InodeMarks.{IsOnce}
-use Rattle.vol_judge.specs.Stepping.{rank, IsNextSlot, IsPastEntries}
+use Rattle.vol_judge.specs.Steps.{rank, IsNextSlot, IsPastEntries}
 use Rattle.vol_judge.specs.Tree.{HasOnceBefore, NotesParentsBefore, NotesParents, KnowsParents, IsEnteredAgain, IsFirstTree}
 use Rattle.vol_judge.specs.declared.finding.Finding.{Finding}
 use Rattle.vol_judge.specs.declared.finding.Finding.TheVariants as findings
 use Rattle.vol_judge.proofs.Parents.{some_number}
-use Rattle.vol_judge.proofs.Passing.{split}
+use Rattle.vol_judge.proofs.PassedEntries.{split}
 
 -- an option that isn't some is none
 pub none_of : (o : Option ℕ) → is_some o ≡ false → o ≡ None

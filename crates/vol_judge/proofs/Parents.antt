@@ -7,7 +7,7 @@ use Rattle.vol_layout.specs.declared.geometry.Geometry.{Geometry}
 use Rattle.vol_file.proofs.PlaceLists.{same_bytes}
 use Rattle.vol_dir.specs.Entries.{IsDirectory, HasEntry}
 use Rattle.vol_dir.specs.Names.{dot, dot_dot}
-use Rattle.vol_dir.specs.Searching.{holds}
+use Rattle.vol_dir.specs.Search.{holds}
 use Rattle.vol_judge.specs.Dots.{NamesItself, KnowsDots}
 use Rattle.vol_judge.specs.InodeMarks.{IsNamed, NameThemselvesBelow}
 use Rattle.vol_judge.proofs.EachDirectory.{directories_more}

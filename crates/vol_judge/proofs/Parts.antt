@@ -11,7 +11,7 @@ use Rattle.vol_file.specs.Rules.{IsCovered, Rules3To7With, Rules3To7}
 use Rattle.vol_dir.specs.Entries.{HasEntries}
 use Rattle.vol_judge.specs.Directories.{HasDots, IsTree, HasLinks}
 use Rattle.vol_judge.specs.Sound.{Rule, IsSound}
-use Rattle.vol_judge.proofs.Numbering.{judged}
+use Rattle.vol_judge.proofs.RuleNumbers.{judged}
 
 -- an image that is sound is whole
 pub sound_whole : (edition : Edition) (image : List ℕ) → IsSound edition image → is_whole edition image ≡ true

@@ -5,10 +5,10 @@ use Rattle.std.proofs.lemmas.Bool.{cases_eq}
 use Rattle.std.proofs.lemmas.Bool.Decides.{nat_tests}
 use Rattle.std.proofs.lemmas.List.Sums.{sum_by-set}
 use Rattle.vol_layout.specs.declared.geometry.Geometry.{Geometry}
-use Rattle.vol_file.proofs.Naming.{root_first}
+use Rattle.vol_file.proofs.StoredNames.{root_first}
 use Rattle.vol_dir.specs.Entries.{IsDirectory}
 use Rattle.vol_judge.specs.Directories.{root_of, IsReached, at_root}
-use Rattle.vol_judge.specs.Reaching.{AreWalked, WalksUp, unwalked}
+use Rattle.vol_judge.specs.Reach.{AreWalked, WalksUp, unwalked}
 
 -- first the root alone is marked
 pub walked_first : (geometry : Geometry) (image walks : List ℕ) → length walks ≡ geometry.last_inode + 1 → ((i : ℕ) → get_or walks i 0 ≡ 0)

@@ -4,7 +4,7 @@ use Rattle.std.proofs.Math.ListN.{set, length-set}
 use Rattle.std.proofs.lemmas.Bool.{cases_eq}
 use Rattle.vol_layout.specs.declared.geometry.Geometry.{Geometry}
 use Rattle.vol_judge.specs.Directories.{root_of, Enters, IsReached, at_root, below}
-use Rattle.vol_judge.specs.Reaching.{WalksUp}
+use Rattle.vol_judge.specs.Reach.{WalksUp}
 use Rattle.vol_judge.specs.Tree.{KnowsParents}
 
 -- a mark of a way is kept, and so is the one that is set

@@ -4,7 +4,7 @@ use Rattle.std.specs.List.{list_any}
 use Rattle.vol_layout.specs.Edition.{constants}
 use Rattle.vol_file.specs.Rules.{size_of, kind_at}
 use Rattle.vol_dir.specs.Entries.{entry_at, IsDirectory}
-use Rattle.vol_judge.specs.Naming.{IsValidEntry, HasEntriesBelow, HasEntriesIn, IsNamedBelow}
+use Rattle.vol_judge.specs.DirectoryNames.{IsValidEntry, HasEntriesBelow, HasEntriesIn, IsNamedBelow}
 use Rattle.vol_layout.specs.declared.geometry.Geometry.{Geometry}
 use Rattle.vol_layout.specs.declared.mode.Kind.TheVariants as kinds
 use Rattle.vol_judge.specs.declared.finding.Finding.{Finding}

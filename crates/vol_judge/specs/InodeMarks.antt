@@ -4,7 +4,7 @@ use Rattle.vol_dir.specs.Entries.{IsDirectory, HasEntry}
 use Rattle.vol_dir.specs.Names.{dot, dot_dot}
 use Rattle.vol_layout.specs.declared.geometry.Geometry.{Geometry}
 use Rattle.vol_judge.specs.Directories.{root_of, Enters}
-use Rattle.vol_judge.specs.Stepping.{rank}
+use Rattle.vol_judge.specs.Steps.{rank}
 
 -- the i-number that directory d has for a name, if it has such an entry (manual section 5, directories)
 pub record IsNamed (geometry : Geometry) (image : List ℕ) (d : ℕ) (name : List ℕ) (number : Option ℕ) : Type 0 where

@@ -1,7 +1,7 @@
 -- The first violation of the rule about link counts.
 use Rattle.std.specs.Prelude.{◌≡◌, ℕ, ◌<◌, ◌≤◌, List}
 use Rattle.vol_layout.specs.Inode.{inode_of}
-use Rattle.vol_judge.specs.Counting.{IsCounted}
+use Rattle.vol_judge.specs.EntryCounts.{IsCounted}
 use Rattle.vol_judge.specs.Directories.{entry_count}
 use Rattle.vol_layout.specs.declared.geometry.Geometry.{Geometry}
 use Rattle.vol_judge.specs.declared.finding.Finding.{Finding}

@@ -1,7 +1,7 @@
 //! Rules 9 to 12: the directories and their tree.
 ghost use Rattle.std.specs.Prelude.{IfOk};
 ghost use Rattle.vol_layout.specs.Geometry.{Fits};
-ghost use Rattle.vol_judge.specs.Judging.{IsFirstBroken};
+ghost use Rattle.vol_judge.specs.Judge.{IsFirstBroken};
 ghost use Rattle.vol_judge.specs.Sound.{directory_rules};
 
 mod dots;

@@ -4,12 +4,12 @@ ghost use Rattle.vol_dir.specs.Repeats.{MarksEmpty};
 ghost use Rattle.vol_layout.specs.Geometry.{Fits};
 ghost use Rattle.vol_layout.specs.Slot.{name_of, padded_name};
 ghost use Rattle.vol_dir.specs.Entries.{IsDirectory, HasEntries};
-ghost use Rattle.vol_judge.specs.Naming.{IsValidEntry, HasEntriesIn};
+ghost use Rattle.vol_judge.specs.DirectoryNames.{IsValidEntry, HasEntriesIn};
 ghost use Rattle.vol_judge.specs.Finds.{Finds};
 ghost use Rattle.vol_judge.specs.Entries.{IsNumbered, IsWrongEntry, IsFirstIn, IsFirstEntry};
 
+use crate::entry_walk::{is_directory, marks_for};
 use crate::finding::Finding;
-use crate::reading::{is_directory, marks_for};
 use pdp_words::Image;
 use std::alloc::{AllocError, Global};
 use std::collections::BTreeSet;

@@ -10,7 +10,7 @@ ghost use Rattle.vol_judge.specs.Finds.{Finds};
 ghost use Rattle.vol_judge.specs.FreeList.{IsFirstFault};
 ghost use Rattle.vol_judge.specs.FreeMarks.{AreFreeMarks};
 ghost use Rattle.vol_judge.specs.Marks.{MarksZone};
-ghost use Rattle.vol_judge.specs.Sharing.{AreClear, IsFirstMarked, IsFirstTwice};
+ghost use Rattle.vol_judge.specs.SharedBlocks.{AreClear, IsFirstMarked, IsFirstTwice};
 ghost use Rattle.vol_judge.specs.Sound.{IsFreeApart};
 
 use crate::finding::Finding;

@@ -3,14 +3,14 @@
 
 mod directories;
 mod entries;
+pub mod entry_walk;
 mod finding;
 mod free_list;
 mod i_nodes;
-mod judging;
 mod lost;
-mod marking;
+mod mark;
 mod named;
-pub mod reading;
+mod verdict;
 mod zones;
 
 pub use directories::{Entered, Ups, find_dots, find_entered, find_link, find_tree, find_ups};
@@ -18,8 +18,8 @@ pub use entries::find_entry;
 pub use finding::Finding;
 pub use free_list::{FreeStack, find_fault};
 pub use i_nodes::{find_kind, find_size};
-pub use judging::{Examined, examine, judge};
 pub use lost::find_lost;
-pub use marking::{find_twice, named_blocks};
+pub use mark::{find_twice, named_blocks};
 pub use named::mark_named;
+pub use verdict::{Examined, examine, judge};
 pub use zones::find_outside;

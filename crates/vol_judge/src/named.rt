@@ -4,7 +4,7 @@ ghost use Rattle.vol_layout.specs.Geometry.{Fits};
 ghost use Rattle.vol_file.specs.Changes.{blocks_of};
 ghost use Rattle.vol_judge.specs.Marks.{MarksZone, ExtendsMarks, KnowsMarked, blocks_from};
 
-use crate::marking::clear;
+use crate::mark::clear;
 use pdp_words::{BLOCK, Image};
 use vol_file::next_pointer;
 use vol_layout::i_list::{address, mode};

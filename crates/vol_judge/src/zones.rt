@@ -8,7 +8,7 @@ ghost use Rattle.vol_judge.specs.Finds.{Finds};
 ghost use Rattle.vol_judge.specs.Zones.{IsFirstOutside, first_outside};
 
 use crate::finding::Finding;
-use crate::marking::clear;
+use crate::mark::clear;
 use pdp_words::{BLOCK, Image};
 use vol_file::next_pointer;
 use vol_layout::i_list::{address, mode};

@@ -15,7 +15,7 @@ use Rattle.vol_listing.specs.Depths.{opens}
 use Rattle.vol_listing.specs.ListingJson.{all_data, device_members, entries_data, entry_data, row_data, with_device, with_file, with_numbers}
 use Rattle.vol_listing.specs.Places.{joined, names_under}
 use Rattle.vol_listing.specs.Rows.{row_of}
-use Rattle.escaped_text.specs.Escaping.{escaped, escaped_byte}
+use Rattle.escaped_text.specs.Escape.{escaped, escaped_byte}
 use Rattle.vol_listing.specs.declared.options.Depth.{Depth}
 use Rattle.vol_listing.specs.declared.places.ListedNode.{ListedNode}
 use Rattle.vol_listing.specs.declared.rows.Row.{Row}

@@ -1,4 +1,4 @@
-pub use Rattle.escaped_text.specs.Escaping
+pub use Rattle.escaped_text.specs.Escape
 pub use Rattle.jiff_core.specs.Calendar
 pub use Rattle.vol_change.specs.Nodes
 pub use Rattle.vol_dir.specs.Access
@@ -11,7 +11,7 @@ pub mod Digits
 pub mod Json
 pub mod Laws
 pub mod Lines
-pub mod Listing
+pub mod Listings
 pub mod ListingJson
 pub mod LongLines
 pub mod Places

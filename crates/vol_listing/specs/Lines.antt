@@ -2,7 +2,7 @@
 use Rattle.std.specs.Prelude.{ℕ, if◌then◌else◌, List, [], ◌∷◌, ◌++◌, codes}
 use Rattle.std.specs.List.{flat_map}
 use Rattle.vol_dir.specs.Tree.{Tree}
-use Rattle.escaped_text.specs.Escaping.{escaped}
+use Rattle.escaped_text.specs.Escape.{escaped}
 use Rattle.vol_change.specs.Nodes.{node_at}
 use Rattle.vol_listing.specs.Depths.{goes_below, opens}
 use Rattle.vol_listing.specs.Digits.{padded_number}

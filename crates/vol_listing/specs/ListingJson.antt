@@ -10,7 +10,7 @@ use Rattle.vol_listing.specs.Depths.{opens}
 use Rattle.vol_listing.specs.Json.{count}
 use Rattle.vol_listing.specs.Places.{joined, names_under}
 use Rattle.vol_listing.specs.Rows.{row_of}
-use Rattle.escaped_text.specs.Escaping.{escaped}
+use Rattle.escaped_text.specs.Escape.{escaped}
 use Rattle.vol_listing.specs.declared.options.Depth.{Depth}
 use Rattle.vol_listing.specs.declared.places.ListedNode.{ListedNode}
 use Rattle.vol_listing.specs.declared.rows.Row.{Row}

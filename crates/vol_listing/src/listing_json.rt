@@ -6,7 +6,7 @@ ghost use Rattle.vol_dir.specs.Tree.{tree};
 ghost use Rattle.vol_layout.specs.Geometry.{Fits};
 ghost use Rattle.vol_listing.specs.ListingJson.{sort_word, row_data, entry_data, entries_data, all_data, json_text, with_numbers, with_file, with_device};
 ghost use Rattle.vol_listing.specs.Places.{IsVolume};
-ghost use Rattle.escaped_text.specs.Escaping.{escaped};
+ghost use Rattle.escaped_text.specs.Escape.{escaped};
 
 use crate::directories::{names, opens};
 use crate::json::{line, put_count};

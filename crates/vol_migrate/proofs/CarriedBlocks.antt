@@ -28,7 +28,7 @@ use Rattle.vol_judge.proofs.GraphCounts.{sum_same}
 use Rattle.vol_change.proofs.PlaceCounts.{stored_count, sum_split}
 use Rattle.vol_change.proofs.States.{shape_here}
 use Rattle.vol_migrate.specs.Raised.{names_block, stored_blocks, raised_shape, size_in}
-use Rattle.vol_migrate.specs.Refusing.{places_needed}
+use Rattle.vol_migrate.specs.Refuse.{places_needed}
 use Rattle.vol_migrate.specs.Stages.{places_for, file_need, need_before}
 
 -- a range of one more number

@@ -21,7 +21,7 @@ use Rattle.vol_layout.proofs.PlaceLaws.{last_leaf}
 use Rattle.vol_layout.proofs.SlotLaws.{slot_copied}
 use Rattle.vol_file.specs.Rules.{IsZoned, Rules3To7With, kind_at, size_of}
 use Rattle.vol_dir.specs.Entries.{IsDirectory, entry_at}
-use Rattle.vol_dir.proofs.SlotReading.{entry_at_in}
+use Rattle.vol_dir.proofs.ReadSlots.{entry_at_in}
 use Rattle.vol_change.proofs.ReadyLaws.{ready_entries, ready_slots}
 use Rattle.vol_mkfs.specs.Mkfs.{IsMakeable, is_size}
 use Rattle.vol_free.proofs.Stacks.{IsFree_unique, zone_behind}

@@ -22,8 +22,8 @@ use Rattle.vol_layout.proofs.NameLaws.{entry_out, stored_is, stored_none, zero_o
 use Rattle.vol_layout.proofs.NewInodes.{zeros_at}
 use Rattle.vol_layout.proofs.PlaceLaws.{last_leaf}
 use Rattle.vol_free.specs.Stack.{IsFree}
-use Rattle.vol_free.specs.Rebuilding.{KeepsUsed, unused, unused_from}
-use Rattle.vol_free.proofs.Rebuilding.{unused_end, unused_given, unused_in}
+use Rattle.vol_free.specs.Rebuild.{KeepsUsed, unused, unused_from}
+use Rattle.vol_free.proofs.RebuildSteps.{unused_end, unused_given, unused_in}
 use Rattle.vol_file.specs.Rules.{HasKinds, HasSizes, kind_at, size_of}
 use Rattle.vol_dir.specs.Tree.{shapes}
 use Rattle.vol_layout.proofs.EditionLaws.{super_order, mode_room}

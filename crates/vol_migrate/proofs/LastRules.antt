@@ -13,7 +13,7 @@ use Rattle.vol_judge.specs.Directories.{HasDots, HasLinks, IsTree, root_of}
 use Rattle.vol_judge.specs.Graph.{graph_of, IsGraphSound}
 use Rattle.vol_judge.specs.Sound.{KeepsRules}
 use Rattle.vol_judge.proofs.ImageGraphs.{graph_within, rules_from_graph}
-use Rattle.vol_judge.proofs.Numbering.{judged}
+use Rattle.vol_judge.proofs.RuleNumbers.{judged}
 use Rattle.vol_change.proofs.ReadyLaws.{ready_graph}
 use Rattle.vol_mkfs.proofs.NewSizes.{read_makeable}
 use Rattle.vol_migrate.specs.Stages.{MayMigrate}

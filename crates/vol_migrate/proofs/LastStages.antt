@@ -18,7 +18,7 @@ use Rattle.vol_file.specs.Changes.{whole_blocks}
 use Rattle.vol_file.specs.Rules.{kind_at, size_of}
 use Rattle.vol_dir.specs.Entries.{entry_at, entry_in, slot_count, slots}
 use Rattle.vol_dir.specs.Tree.{tree, shapes, node_of, node_with, content_of, shape_of, no_shape, is_number}
-use Rattle.vol_dir.proofs.SlotReading.{entry_at_in, entry_at_past}
+use Rattle.vol_dir.proofs.ReadSlots.{entry_at_in, entry_at_past}
 use Rattle.vol_dir.proofs.WalkLaws.{node_inside}
 use Rattle.vol_judge.specs.Graph.{graph_of, kind_in, entry_by}
 use Rattle.vol_judge.proofs.ImageGraphs.{kind_inside}

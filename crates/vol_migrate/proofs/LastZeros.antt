@@ -6,13 +6,13 @@ use Rattle.vol_layout.specs.Inode.{kind_of}
 use Rattle.vol_layout.specs.declared.geometry.Geometry.{Geometry}
 use Rattle.vol_layout.specs.declared.mode.Kind.TheVariants as kinds
 use Rattle.vol_layout.proofs.InodeLaws.{mode_kept}
-use Rattle.vol_free.specs.Rebuilding.{KeepsUsed}
+use Rattle.vol_free.specs.Rebuild.{KeepsUsed}
 use Rattle.vol_file.specs.Changes.{whole_blocks}
 use Rattle.vol_file.specs.Rules.{kind_at, size_of}
 use Rattle.vol_judge.specs.Marks.{AreNamed}
 use Rattle.vol_change.proofs.WholeLaws.{zone_behind}
 use Rattle.vol_check.proofs.Remade.{remade_inode, remade_content}
-use Rattle.vol_migrate.specs.Migrating.{HasZeros, HasRaisedSlots}
+use Rattle.vol_migrate.specs.Migrate.{HasZeros, HasRaisedSlots}
 use Rattle.vol_migrate.specs.Stages.{IsUsed, MayMigrate, carried_byte}
 use Rattle.vol_migrate.proofs.StageSteps.{carried_kind, super_stays}
 use Rattle.vol_migrate.proofs.StageLaws.{old_rules, carried_file}

@@ -7,7 +7,7 @@ use Rattle.vol_layout.specs.Geometry.{Fits, geometry_of, geometry_read, is_whole
 use Rattle.vol_layout.specs.Super.{free_head, time_place}
 use Rattle.vol_layout.specs.declared.edition.Edition.TheVariants.{V6, V7}
 use Rattle.vol_layout.specs.declared.geometry.Geometry.{Geometry}
-use Rattle.vol_free.specs.Rebuilding.{KeepsUsed, unused}
+use Rattle.vol_free.specs.Rebuild.{KeepsUsed, unused}
 use Rattle.vol_free.specs.Stack.{IsFree}
 use Rattle.vol_layout.proofs.NewInodes.{zeros_at}
 use Rattle.vol_file.specs.Rules.{HasSizes}
@@ -21,9 +21,9 @@ use Rattle.vol_layout.proofs.EditionLaws.{super_order}
 use Rattle.vol_change.proofs.WholeLaws.{zone_behind}
 use Rattle.vol_check.proofs.Remade.{salvaged}
 use Rattle.vol_mkfs.specs.Mkfs.{is_size, sizes_bytes, volume_of, IsMakeable, IsNoneOf}
-use Rattle.vol_migrate.specs.Migrating.{HasZeros, HasRaisedSlots, IsMigrated, IsRelisted}
+use Rattle.vol_migrate.specs.Migrate.{HasZeros, HasRaisedSlots, IsMigrated, IsRelisted}
 use Rattle.vol_migrate.specs.Raised.{raised}
-use Rattle.vol_migrate.specs.Refusing.{has_device, has_above, places_needed, refusal}
+use Rattle.vol_migrate.specs.Refuse.{has_device, has_above, places_needed, refusal}
 use Rattle.vol_migrate.specs.Stages.{HasInodes, HasSuper, IsStage, MayMigrate}
 use Rattle.vol_migrate.specs.declared.fault.MigrateFault.TheVariants as faults
 use Rattle.vol_mkfs.proofs.NewSizes.{fits_makeable}

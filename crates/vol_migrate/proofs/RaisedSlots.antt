@@ -8,7 +8,7 @@ use Rattle.vol_layout.specs.Slot.{slot_at, name_of, padded_name}
 use Rattle.vol_layout.specs.declared.slot.Slot.{Slot}
 use Rattle.vol_layout.proofs.BodyLaws.{get_or-slice_range, length-slice_range}
 use Rattle.vol_dir.specs.Entries.{entry_in}
-use Rattle.vol_judge.proofs.Collecting.{name_of-padded}
+use Rattle.vol_judge.proofs.CollectedNames.{name_of-padded}
 use Rattle.vol_migrate.specs.Raised.{raised_slot}
 use Rattle.vol_migrate.specs.Stages.{raised_byte, bytes_of_slot}
 use Rattle.vol_migrate.proofs.RaisedGraphs.{raised_entry}

@@ -15,7 +15,7 @@ use Rattle.vol_dir.specs.Tree.{Node, Tree, tree, node_of, node_with, content_of}
 use Rattle.vol_change.proofs.FileInodes.{none_passes}
 use Rattle.vol_dir.proofs.WalkLaws.{node_inside}
 use Rattle.vol_volume.specs.Verdict.{is_device}
-use Rattle.vol_migrate.specs.Refusing.{has_device, has_above, is_device_at, is_node_at, is_above_at}
+use Rattle.vol_migrate.specs.Refuse.{has_device, has_above, is_device_at, is_node_at, is_above_at}
 use Rattle.vol_migrate.specs.Stages.{IsUsed}
 
 -- a range of one more number

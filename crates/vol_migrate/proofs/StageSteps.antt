@@ -26,7 +26,7 @@ use Rattle.vol_file.specs.Rules.{HasKinds, kind_at, size_of}
 use Rattle.vol_file.specs.Shape.{is_named, is_on_ways, grows_large, touched, filled}
 use Rattle.vol_file.proofs.Alone.{elsewhere_inode}
 use Rattle.vol_dir.specs.Tree.{shapes}
-use Rattle.vol_dir.proofs.Replacing.{spliced_before, spliced_inside, spliced_after}
+use Rattle.vol_dir.proofs.PutSlots.{spliced_before, spliced_inside, spliced_after}
 use Rattle.vol_change.proofs.FileInodes.{KeepsFields, fields_kept}
 use Rattle.vol_layout.proofs.EditionLaws.{super_order}
 use Rattle.vol_mkfs.proofs.NewSizes.{sizes_kept}

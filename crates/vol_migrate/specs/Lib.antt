@@ -4,7 +4,7 @@ pub use Rattle.vol_file.specs.Changes
 pub use Rattle.vol_file.specs.Need
 pub use Rattle.vol_file.specs.Rules
 pub use Rattle.vol_file.specs.Shape
-pub use Rattle.vol_free.specs.Rebuilding
+pub use Rattle.vol_free.specs.Rebuild
 pub use Rattle.vol_free.specs.Stack
 pub use Rattle.vol_judge.specs.Sound
 pub use Rattle.vol_layout.specs.Geometry
@@ -13,6 +13,6 @@ pub use Rattle.vol_layout.specs.Places
 pub use Rattle.vol_mkfs.specs.Mkfs
 pub use Rattle.vol_volume.specs.Volume
 pub mod Raised
-pub mod Refusing
-pub mod Migrating
+pub mod Refuse
+pub mod Migrate
 pub mod Stages

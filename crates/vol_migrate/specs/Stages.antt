@@ -22,7 +22,7 @@ use Rattle.vol_dir.specs.Tree.{Shape, shapes, state}
 use Rattle.vol_change.specs.Ready.{Rules1To12}
 use Rattle.vol_mkfs.specs.Mkfs.{sizes_bytes, IsMakeable, IsNoneOf}
 use Rattle.vol_migrate.specs.Raised.{names_block, stored_blocks, raised_slot}
-use Rattle.vol_migrate.specs.Refusing.{places_needed}
+use Rattle.vol_migrate.specs.Refuse.{places_needed}
 
 -- i-node i isn't free (manual section 5, file system)
 pub record IsUsed (geometry : Geometry) (image : List ℕ) (i : ℕ) : Type 0 where

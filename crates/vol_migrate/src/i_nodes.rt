@@ -4,7 +4,7 @@ ghost use Rattle.pdp_words.specs.Words.{SameOutside, long};
 ghost use Rattle.vol_layout.specs.Geometry.{Fits, geometry_of};
 ghost use Rattle.vol_layout.specs.Super.{time_place};
 ghost use Rattle.vol_free.specs.Stack.{IsFree};
-ghost use Rattle.vol_free.specs.Rebuilding.{KeepsUsed, unused};
+ghost use Rattle.vol_free.specs.Rebuild.{KeepsUsed, unused};
 ghost use Rattle.vol_file.specs.Rules.{kind_at};
 ghost use Rattle.vol_mkfs.specs.Mkfs.{sizes_bytes, IsMakeable, IsNoneOf};
 ghost use Rattle.vol_migrate.specs.Stages.{HasInodes, HasInodesBelow, MayMigrate};

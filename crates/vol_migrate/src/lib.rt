@@ -1,13 +1,13 @@
 //! Migrating a volume of the sixth edition to the seventh.
 #![tactic(auto)]
 
-mod copying;
-mod counting;
+mod copy;
+mod count;
 mod fault;
 mod i_nodes;
-mod migrating;
-mod refusing;
+mod migrate_volume;
+mod refuse;
 mod slots;
 
 pub use fault::MigrateFault;
-pub use migrating::migrate;
+pub use migrate_volume::migrate;

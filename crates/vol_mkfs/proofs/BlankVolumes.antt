@@ -14,7 +14,7 @@ use Rattle.vol_layout.proofs.CopyLaws.{IsCopy, word_copied}
 use Rattle.vol_layout.proofs.InodeLaws.{place_from, place_room, place_apart, inode_copied}
 use Rattle.vol_layout.proofs.SlotLaws.{slot_copied}
 use Rattle.vol_free.proofs.Stacks.{head_end}
-use Rattle.vol_file.proofs.Naming.{root_first}
+use Rattle.vol_file.proofs.StoredNames.{root_first}
 use Rattle.vol_mkfs.proofs.BlankStacks.{blank_free}
 use Rattle.vol_mkfs.proofs.NewRules.{new_sound}
 use Rattle.vol_layout.proofs.EditionLaws.{super_order}

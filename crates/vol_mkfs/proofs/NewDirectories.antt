@@ -27,7 +27,7 @@ use Rattle.vol_dir.specs.Names.{dot, dot_dot, is_dots}
 use Rattle.vol_judge.specs.Directories.{Enters, IsReached, is_for, count_in, entry_count, HasDots, IsTree, HasLinks}
 use Rattle.vol_judge.specs.Directories.IsReached.{at_root}
 use Rattle.vol_mkfs.specs.Mkfs.{root_mode, IsNewVolume}
-use Rattle.vol_file.proofs.Naming.{root_first}
+use Rattle.vol_file.proofs.StoredNames.{root_first}
 use Rattle.vol_file.proofs.PlaceLists.{sum_none}
 use Rattle.vol_layout.proofs.EditionLaws.{dots_fit}
 use Rattle.vol_mkfs.proofs.NewFiles

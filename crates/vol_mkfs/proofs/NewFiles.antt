@@ -20,7 +20,7 @@ use Rattle.vol_free.proofs.Frames.{free_from}
 use Rattle.vol_free.proofs.Stacks.{zone_from, zone_below, IsFree_unique}
 use Rattle.vol_file.specs.Rules.{size_of, kind_at, HasKinds, HasSizes, IsZoned, IsApart, IsOutside, IsCovered}
 use Rattle.vol_mkfs.specs.Mkfs.{root_mode, IsNewVolume}
-use Rattle.vol_file.proofs.Naming.{root_first}
+use Rattle.vol_file.proofs.StoredNames.{root_first}
 use Rattle.vol_layout.proofs.EditionLaws.{mode_room, few_links, dots_fit}
 use Rattle.vol_mkfs.proofs.NewVolumes.{addresses_above, none_below}
 

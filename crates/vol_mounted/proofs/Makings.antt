@@ -2,7 +2,7 @@
 use Rattle.std.proofs.Common.{◌≡◌, ◌≢◌, sym, subst, inl, inr, List, Result, Ok, Err}
 use Rattle.vol_volume.specs.Volume.{Mounted}
 use Rattle.vol_volume.specs.declared.calls.Call.{Call}
-use Rattle.vol_import.specs.Making.{AreMade}
+use Rattle.vol_import.specs.Make.{AreMade}
 use Rattle.vol_mounted.specs.Refusals.{no_memory}
 use Rattle.vol_mounted.specs.Servers.{IsStopped, Made, Unmade}
 use Rattle.vol_mounted.specs.declared.refusal.MountedRefusal.{MountedRefusal}

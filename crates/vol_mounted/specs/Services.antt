@@ -2,8 +2,8 @@
 use Rattle.std.specs.Prelude.{◌≡◌, ◌≢◌, ℕ, ◌-◌, ◌^◌, Bool, true, false, List, [], ◌∷◌, ◌++◌, length, map, Option, None, Result, Ok, Err}
 use Rattle.std.specs.List.{filter_map, flat_map}
 use Rattle.vol_serve.specs.Messages.{Grows}
-use Rattle.vol_serve.specs.declared.serving.ServeFault.{ServeFault}
-use Rattle.vol_serve.specs.declared.serving.ServeFault.TheVariants.{NoMemory, Send, Requests}
+use Rattle.vol_serve.specs.declared.request_loop.ServeFault.{ServeFault}
+use Rattle.vol_serve.specs.declared.request_loop.ServeFault.TheVariants.{NoMemory, Send, Requests}
 use Rattle.vol_mounted.specs.Turns.{Turn, Follow, IsSaved}
 use Rattle.vol_mounted.specs.declared.server.MountedServer.{MountedServer}
 use Rattle.vol_mounted.specs.declared.service.MountedFault.{MountedFault}

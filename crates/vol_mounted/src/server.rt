@@ -10,7 +10,7 @@ use crate::refusal::MountedRefusal;
 use crate::scene::Scene;
 use crate::table::NodeTable;
 use std::alloc::{AllocError, Global};
-use vol_import::making::make_all;
+use vol_import::make::make_all;
 use vol_layout::Geometry;
 use vol_volume::Volume;
 
@@ -38,7 +38,7 @@ impl MountedServer {
     ghost use Rattle.std.specs.Prelude.{ℕ, List, IfOk, OnOk, IfErr};
     ghost use Rattle.vol_serve.specs.Messages.{Grows};
     ghost use Rattle.vol_mounted.specs.Turns.{IsSaved, IsCutOrNot};
-    ghost use Rattle.vol_import.specs.Making.{AreMade};
+    ghost use Rattle.vol_import.specs.Make.{AreMade};
     ghost use Rattle.vol_mounted.specs.Scenes.{sight_of};
     ghost use Rattle.vol_mounted.specs.Servers.{volume_in, owner_in, sight_at, IsStopped};
 

@@ -6,7 +6,7 @@ use Rattle.vol_layout.specs.declared.geometry.Geometry.{Geometry}
 use Rattle.vol_layout.specs.declared.slot.Slot.{Slot}
 use Rattle.vol_dir.specs.Entries.{entry_in, entry_at, slot_count, slots}
 use Rattle.vol_dir.specs.Names.{insert, names_of}
-use Rattle.vol_dir.specs.Scanning.{IsNextEntry}
+use Rattle.vol_dir.specs.Scan.{IsNextEntry}
 use Rattle.vol_nodes.specs.Laws.{IsListed}
 
 -- the entries of a listing

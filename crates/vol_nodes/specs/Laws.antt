@@ -7,7 +7,7 @@ use Rattle.vol_judge.specs.Sound.{IsSound}
 use Rattle.vol_dir.specs.Access.{user}
 use Rattle.vol_dir.specs.Entries.{entry_in, entry_at, slot_count, IsDirectory}
 use Rattle.vol_dir.specs.Names.{names_of}
-use Rattle.vol_dir.specs.Scanning.{GoesOn}
+use Rattle.vol_dir.specs.Scan.{GoesOn}
 use Rattle.vol_dir.specs.Tree.{tree}
 use Rattle.vol_dir.specs.Walk.{IsComponent, has_zero, walk}
 use Rattle.vol_volume.specs.Answer.{answer}

@@ -3,7 +3,7 @@ ghost use Rattle.std.specs.Prelude.{◌≡◌, Ok, Err, IfOk, OnOk, MatchResult}
 ghost use Rattle.vol_layout.specs.Geometry.{Fits};
 ghost use Rattle.vol_dir.specs.Entries.{slots, IsDirectory, entry_at, slot_count};
 ghost use Rattle.vol_dir.specs.Names.{names_of};
-ghost use Rattle.vol_dir.specs.Scanning.{GoesOn};
+ghost use Rattle.vol_dir.specs.Scan.{GoesOn};
 ghost use Rattle.vol_dir.specs.Tree.{tree};
 ghost use Rattle.vol_nodes.specs.Nodes.{names_in, look_up};
 

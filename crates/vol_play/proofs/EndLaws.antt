@@ -8,7 +8,7 @@ use Rattle.count_table.specs.Sums.{total, below}
 use Rattle.count_table.proofs.Totals.{total_append}
 use Rattle.vol_receipts.specs.Agrees.{origin_of, Agrees}
 use Rattle.vol_receipts.specs.declared.receipts.Receipt.{Receipt}
-use Rattle.vol_scripts.specs.Ending.{receipts_in}
+use Rattle.vol_scripts.specs.Endings.{receipts_in}
 use Rattle.vol_scripts.specs.declared.played.Played.{Played}
 use Rattle.vol_scripts.specs.declared.steps.Script.{Script}
 use Rattle.vol_shared.specs.Lists.{greatest, greatest_of}
@@ -20,10 +20,10 @@ use Rattle.vol_views.specs.Views.{Watched}
 use Rattle.vol_volume.specs.Volume.{Mounted}
 use Rattle.vol_play.specs.Opened.{Closes, fresh_session}
 use Rattle.vol_play.specs.Players.{InPairs, played_by, sessions_of, views_of}
-use Rattle.vol_play.specs.Playing.{ArePlayed}
+use Rattle.vol_play.specs.Play.{ArePlayed}
 use Rattle.vol_play.specs.Steps.{CameOfScript, is_seen, cuts_made, places_made}
-use Rattle.vol_play.specs.declared.preparing.Player.{Player}
-use Rattle.vol_play.specs.declared.preparing.Player.TheVariants.{Caller, Viewer}
+use Rattle.vol_play.specs.declared.prepare.Player.{Player}
+use Rattle.vol_play.specs.declared.prepare.Player.TheVariants.{Caller, Viewer}
 use Rattle.vol_play.proofs.ListLaws.{all_after, greatest_none, total_none}
 use Rattle.vol_play.proofs.PlayerLaws.{IsEnded}
 use Rattle.vol_play.proofs.StepLaws.{known_all_of, known_cuts, known_places, known_receipts}

@@ -7,12 +7,12 @@ use Rattle.vol_scripts.specs.declared.steps.Script.TheVariants as kinds
 use Rattle.vol_shared.specs.Opened.{Opened}
 use Rattle.vol_shared.specs.Sessions.{Known}
 use Rattle.vol_shared.specs.Stored.{Stored, stored_of, unpublished}
-use Rattle.vol_shared.specs.Watching.{IsNewView}
+use Rattle.vol_shared.specs.Watch.{IsNewView}
 use Rattle.vol_views.specs.Views.{Watched}
 use Rattle.vol_volume.specs.Volume.{Mounted}
 use Rattle.vol_play.specs.Opened.{fresh_session, IsFreshView, IsOpened}
 use Rattle.vol_play.specs.Players.{is_session, is_view, wants_session, wants_view}
-use Rattle.vol_play.specs.declared.preparing.Prepared.{Prepared}
+use Rattle.vol_play.specs.declared.prepare.Prepared.{Prepared}
 use Rattle.vol_play.proofs.ListLaws.{counted_first}
 
 -- a volume that is shared without views

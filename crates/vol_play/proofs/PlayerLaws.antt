@@ -6,7 +6,7 @@ use Rattle.std.specs.Global.{Global}
 use Rattle.std.specs.List.{AllByRecursion}
 use Rattle.vol_views.specs.Logs.{number_of}
 use Rattle.vol_receipts.specs.declared.receipts.Origin.{Origin}
-use Rattle.vol_scripts.specs.Ending.{receipts_in}
+use Rattle.vol_scripts.specs.Endings.{receipts_in}
 use Rattle.vol_scripts.specs.declared.played.Played.{Played}
 use Rattle.vol_scripts.specs.declared.steps.Script.{Script}
 use Rattle.vol_scripts.specs.declared.steps.Script.TheVariants as kinds
@@ -20,9 +20,9 @@ use Rattle.vol_volume.specs.declared.queries.Query.{Query}
 use Rattle.vol_play.specs.Opened.{fresh_session, IsFreshView}
 use Rattle.vol_play.specs.Players.{CanPlay, HasPlayed, InPairs, IsDealt, IsDealtTo, IsPrepared, is_session, is_view, lines_of, played_by, sessions_of, views_of, wants_session, wants_view}
 use Rattle.vol_play.specs.Steps.{CameInTurn, CameOf, CameOfScript, CameOfView, is_seen, cuts_made, known_after_all, places_made}
-use Rattle.vol_play.specs.declared.preparing.Prepared.{Prepared}
-use Rattle.vol_play.specs.declared.preparing.Player.{Player}
-use Rattle.vol_play.specs.declared.preparing.Player.TheVariants.{Caller, Viewer}
+use Rattle.vol_play.specs.declared.prepare.Prepared.{Prepared}
+use Rattle.vol_play.specs.declared.prepare.Player.{Player}
+use Rattle.vol_play.specs.declared.prepare.Player.TheVariants.{Caller, Viewer}
 use Rattle.vol_play.proofs.ListLaws.{counted_first}
 use Rattle.vol_play.proofs.QueryLaws.{view_cuts, view_places, view_seen}
 

@@ -5,7 +5,7 @@ use Rattle.std.specs.Prelude.{Vec, cond, count_by, drop, nat_le, ◌&&◌, if◌
 use Rattle.std.specs.Result.{result_map_both}
 use Rattle.std.specs.Global.{Global}
 use Rattle.vol_scripts.specs.Grammar.{query_in, step_in}
-use Rattle.vol_scripts.specs.Reading.{asked_in, before_scripts, is_for_view, script_after, scripts_from, views_after}
+use Rattle.vol_scripts.specs.Scripts.{asked_in, before_scripts, is_for_view, script_after, scripts_from, views_after}
 use Rattle.vol_scripts.specs.declared.steps.Script.{Script}
 use Rattle.vol_scripts.specs.declared.steps.Script.TheVariants as kinds
 use Rattle.vol_scripts.specs.declared.steps.ScriptStep.{ScriptStep}

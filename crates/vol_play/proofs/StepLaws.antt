@@ -1,7 +1,7 @@
 -- The results of a script's steps, and their effect on its session.
 use Rattle.std.proofs.Common.{◌≡◌, ℕ, ◌∙◌, List, [], ◌∷◌, ◌++◌, refl, sym, ap, subst, append-nil, append_assoc, length, arith}
 use Rattle.vol_receipts.specs.declared.receipts.Receipt.{Receipt}
-use Rattle.vol_scripts.specs.Ending.{receipts_in}
+use Rattle.vol_scripts.specs.Endings.{receipts_in}
 use Rattle.vol_scripts.specs.declared.played.Played.{Played}
 use Rattle.vol_scripts.specs.declared.played.Played.TheVariants as played
 use Rattle.vol_shared.specs.Sessions.{Known, Got, HasCut}

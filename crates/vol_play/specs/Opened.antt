@@ -6,7 +6,7 @@ use Rattle.vol_shared.specs.Lists.{BeginsWith, greatest, greatest_of}
 use Rattle.vol_shared.specs.Opened.{Opened}
 use Rattle.vol_shared.specs.Sessions.{Known, new_session}
 use Rattle.vol_shared.specs.Stored.{Stored, Continues, next_number, stored_of, unpublished}
-use Rattle.vol_shared.specs.Watching.{IsNewView}
+use Rattle.vol_shared.specs.Watch.{IsNewView}
 use Rattle.vol_views.specs.Views.{Watched}
 use Rattle.vol_volume.specs.Volume.{Mounted}
 

@@ -2,7 +2,7 @@
 use Rattle.std.specs.Prelude.{◌≡◌, ℕ, ◌+◌, ◌≤◌, ◌++◌, Bool, true, false, List, [], ◌∷◌, length, Vec, vec_capacity}
 use Rattle.std.specs.Global.{Global}
 use Rattle.vol_views.specs.Logs.{number_of}
-use Rattle.vol_scripts.specs.Ending.{receipts_in}
+use Rattle.vol_scripts.specs.Endings.{receipts_in}
 use Rattle.vol_scripts.specs.declared.played.Played.{Played}
 use Rattle.vol_scripts.specs.declared.steps.Script.{Script}
 use Rattle.vol_scripts.specs.declared.steps.Script.TheVariants as kinds
@@ -11,9 +11,9 @@ use Rattle.vol_shared.specs.Sessions.{Identity, Known}
 use Rattle.vol_views.specs.Views.{Watched}
 use Rattle.vol_play.specs.Opened.{fresh_session, IsFreshView}
 use Rattle.vol_play.specs.Steps.{CameOf, CameInTurn, CameOfView, known_after_all}
-use Rattle.vol_play.specs.declared.preparing.Prepared.{Prepared}
-use Rattle.vol_play.specs.declared.preparing.Player.{Player}
-use Rattle.vol_play.specs.declared.preparing.Player.TheVariants.{Caller, Viewer}
+use Rattle.vol_play.specs.declared.prepare.Prepared.{Prepared}
+use Rattle.vol_play.specs.declared.prepare.Player.{Player}
+use Rattle.vol_play.specs.declared.prepare.Player.TheVariants.{Caller, Viewer}
 
 -- two lists have the same length, and a relation holds between the elements at each index (this project)
 abbrev pub InPairs : {A B : Type 0} → (A → B → Type 0) → List A → List B → Type 0

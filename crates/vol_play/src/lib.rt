@@ -2,14 +2,14 @@
 //! one thread.
 #![tactic(auto)]
 
-mod dealing;
-mod gathering;
-mod opening;
-mod performing;
-mod playing;
-mod preparing;
+mod deal;
+mod gather;
+mod open;
+mod performance;
+mod play_command;
+mod prepare;
 mod queries;
-mod running;
+mod run;
 mod steps;
 
-pub use playing::{perform, play};
+pub use play_command::{perform, play};

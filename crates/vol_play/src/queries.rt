@@ -1,7 +1,7 @@
 //! Plays the lines of a script for a view.
 ghost use Rattle.std.specs.Prelude.{◌≡◌, ◌++◌, ◌∷◌, ◌+◌, ◌≤◌, [], length, vec_capacity};
 ghost use Rattle.vol_views.specs.Logs.{number_of};
-ghost use Rattle.vol_scripts.specs.Ending.{receipts_in};
+ghost use Rattle.vol_scripts.specs.Endings.{receipts_in};
 ghost use Rattle.vol_play.specs.Steps.{CameOfQuery, CameOfView, next_after};
 
 use std::alloc::Global;

@@ -12,8 +12,8 @@ use Rattle.vol_volume.specs.Volume.{Mounted}
 use Rattle.vol_volume.specs.declared.calls.Record.{Record}
 use Rattle.vol_receipts.specs.Findings.{IsFound, AreFound, IsNumberOf, IsInOrder}
 use Rattle.vol_receipts.specs.Replay.{HasAtMost}
-use Rattle.vol_receipts.specs.declared.finding.ReceiptStatus.{ReceiptStatus}
-use Rattle.vol_receipts.specs.declared.finding.Numbered.{Numbered}
+use Rattle.vol_receipts.specs.declared.confirm_many.ReceiptStatus.{ReceiptStatus}
+use Rattle.vol_receipts.specs.declared.confirm_many.Numbered.{Numbered}
 use Rattle.vol_receipts.specs.declared.receipts.Origin.{Origin}
 use Rattle.vol_receipts.specs.declared.receipts.Receipt.{Receipt}
 

@@ -6,10 +6,10 @@ use Rattle.vol_volume.specs.declared.calls.Record.{Record}
 use Rattle.vol_receipts.specs.Agrees.{Agrees}
 use Rattle.vol_receipts.specs.declared.receipts.Origin.{Origin}
 use Rattle.vol_receipts.specs.declared.receipts.Receipt.{Receipt}
-use Rattle.vol_receipts.specs.declared.finding.Confirmed.{Confirmed}
-use Rattle.vol_receipts.specs.declared.finding.ReceiptStatus.{ReceiptStatus}
-use Rattle.vol_receipts.specs.declared.finding.ReceiptStatus.TheVariants as kinds
-use Rattle.vol_receipts.specs.declared.finding.Numbered.{Numbered}
+use Rattle.vol_receipts.specs.declared.confirm_many.Confirmed.{Confirmed}
+use Rattle.vol_receipts.specs.declared.confirm_many.ReceiptStatus.{ReceiptStatus}
+use Rattle.vol_receipts.specs.declared.confirm_many.ReceiptStatus.TheVariants as kinds
+use Rattle.vol_receipts.specs.declared.confirm_many.Numbered.{Numbered}
 
 -- the finding on a receipt is right: it agrees with the journal, it doesn't, or its record was cut (this project)
 abbrev pub IsFound : Origin → List Record → Receipt → ReceiptStatus → Type 0

@@ -1,14 +1,14 @@
 //! Receipts: a call or query with its outcome, and checks that a journal agrees with them.
 #![tactic(auto)]
 
-mod agreeing;
-pub mod changing;
-pub mod confirming;
-pub mod finding;
+mod agree;
+pub mod confirm_many;
+pub mod confirm_one;
 pub mod receipts;
-mod replaying;
+pub mod recorded_calls;
+mod replay;
 
-pub use changing::{change, reply};
-pub use confirming::{ConfirmFault, confirm};
-pub use finding::{Confirmed, ReceiptStatus, confirm_all, find_all};
+pub use confirm_many::{Confirmed, ReceiptStatus, confirm_all, find_all};
+pub use confirm_one::{ConfirmFault, confirm};
 pub use receipts::{Asked, Origin, Outcome, Receipt};
+pub use recorded_calls::{change, reply};

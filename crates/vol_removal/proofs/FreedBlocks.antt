@@ -34,7 +34,7 @@ use Rattle.vol_change.proofs.NodeLinks.{content_there}
 use Rattle.vol_change.proofs.ReadyLaws.{ready_whole}
 use Rattle.vol_change.proofs.WholeLaws.{geometry_kept, whole_of}
 use Rattle.vol_file.proofs.Alone.{fits_len}
-use Rattle.vol_volume.specs.Leaving.{Reach, gives, unlinked, removed, without_entry, reach_of_parent, reached_by}
+use Rattle.vol_volume.specs.Reach.{Reach, gives, unlinked, removed, without_entry, reach_of_parent, reached_by}
 use Rattle.vol_volume.specs.Step.{on_parent, changed_by}
 use Rattle.vol_volume.specs.Verdict.{verdict, of_parent, unlink_tests, rmdir_tests}
 use Rattle.vol_volume.specs.Volume.{Mounted, Accepts, Performs}
@@ -42,9 +42,9 @@ use Rattle.vol_volume.specs.declared.calls.Call.{Call}
 use Rattle.vol_volume.specs.declared.calls.Call.TheVariants.{Unlink, Rmdir}
 use Rattle.vol_volume.specs.declared.calls.Done.{Done}
 use Rattle.vol_volume.proofs.NodeReadings.{node_of_kind}
-use Rattle.vol_import.specs.Making.{AreMade}
+use Rattle.vol_import.specs.Make.{AreMade}
 use Rattle.vol_import.proofs.TreeWalks.{passes_first, parent_found}
-use Rattle.vol_removal.specs.Freeing.{IsFreeBlock, FreesBlocks}
+use Rattle.vol_removal.specs.FreedNumbers.{IsFreeBlock, FreesBlocks}
 use Rattle.vol_removal.specs.Removal.{call_of}
 use Rattle.vol_removal.proofs.FreedNumbers.{AreTaking, IsTaking, links_of, set_alike, without_links}
 use Rattle.vol_removal.proofs.GoneTrees.{without}

@@ -7,11 +7,11 @@ use Rattle.vol_change.specs.Ready.{Rules1To12}
 use Rattle.vol_volume.specs.Answer.{answer}
 use Rattle.vol_volume.specs.Faults.{IsFaultOf}
 use Rattle.vol_volume.specs.Volume.{Mounted, IsConsistent, Accepts, mounted, reads_as}
-use Rattle.vol_import.specs.Making.{AreMade}
+use Rattle.vol_import.specs.Make.{AreMade}
 use Rattle.vol_import.proofs.MadeCalls.{imported}
-use Rattle.vol_removal.specs.Freeing.{FreesNumbers}
+use Rattle.vol_removal.specs.FreedNumbers.{FreesNumbers}
 use Rattle.vol_removal.specs.Removal.{IsRemoval, IsNotFound, names_of, call_of}
-use Rattle.vol_removal.specs.Removing.{Removes, IsReason, IsUnmounted, IsStop, unmounted}
+use Rattle.vol_removal.specs.Remove.{Removes, IsReason, IsUnmounted, IsStop, unmounted}
 use Rattle.vol_removal.proofs.FreedBlocks.{blocks_free}
 use Rattle.vol_removal.proofs.FreedNumbers.{takes_taking, numbers_freed}
 use Rattle.vol_removal.proofs.GoneCalls.{call_gone}

@@ -29,7 +29,7 @@ impl From<AllocError> for RemovalFault {
 }
 
 impl From<MountFault> for RemovalFault {
-    ghost use Rattle.vol_removal.specs.Removing.{unmounted};
+    ghost use Rattle.vol_removal.specs.Remove.{unmounted};
 
     ghost from_gives = { λ why fault. fault ≡ unmounted why };
 

@@ -3,9 +3,9 @@
 
 pub mod faults;
 pub mod laws;
-pub mod planning;
-pub mod removing;
+pub mod plan;
+pub mod remove;
 
 pub use faults::RemovalFault;
-pub use planning::removal;
-pub use removing::remove_all;
+pub use plan::removal;
+pub use remove::remove_all;

@@ -7,7 +7,7 @@ use Rattle.std.proofs.lemmas.List.Sums.{sum_by-set, sum_by-append, count_by-le-l
 use Rattle.std.proofs.lemmas.Bool.{eq-eqb, ne_eqb, cases_eq}
 use Rattle.vol_reports.specs.Placed.{Placed}
 use Rattle.vol_reports.specs.Names.{slashed, dots, path_up}
-use Rattle.vol_reports.specs.Climbing.{naming_in, trail, path_start, AreBefore, Steps, Climbs}
+use Rattle.vol_reports.specs.Climb.{naming_in, trail, path_start, AreBefore, Steps, Climbs}
 
 -- a count with one more item before the others
 count_front : {X : Type 0} (t : X → Bool) (x : X) (xs : List X) → count_by t (x ∷ xs) ≡ cond (t x) 1 0 + count_by t xs

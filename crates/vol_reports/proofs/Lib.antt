@@ -2,7 +2,7 @@ pub mod Ranges
 pub mod BlockLines
 pub mod EntryLines
 pub mod Climbs
-pub mod Naming
+pub mod NamingEntries
 pub mod NameLines
 pub mod PathLists
 pub mod Digits

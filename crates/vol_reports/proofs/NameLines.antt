@@ -16,11 +16,11 @@ use Rattle.vol_file.proofs.PlaceLists.{bytes_same, same_bytes}
 use Rattle.vol_dir.specs.Entries.{entry_at, slot_count}
 use Rattle.vol_dir.specs.Names.{is_dots}
 use Rattle.vol_judge.specs.Directories.{root_of}
-use Rattle.vol_judge.specs.Stepping.{rank}
+use Rattle.vol_judge.specs.Steps.{rank}
 use Rattle.vol_reports.specs.Placed.{Placed, placed}
 use Rattle.vol_reports.specs.Names.{slashed, entered, entries_of, entries_in, all_entries, naming_entry, path_up, named_path, named_paths}
 use Rattle.vol_reports.specs.Counted.{CountsNames, rank_of}
-use Rattle.vol_reports.specs.Climbing.{naming_in, IsNaming, HasNaming, path_in}
+use Rattle.vol_reports.specs.Climb.{naming_in, IsNaming, HasNaming, path_in}
 
 -- an item before others adds its weight to their sum
 sum_front : {X : Type 0} (f : X → ℕ) (x : X) (xs : List X) → sum_by f (x ∷ xs) ≡ f x + sum_by f xs

@@ -8,7 +8,7 @@ use Rattle.std.proofs.lemmas.List.Sorted.{IsPermutation-map, sum_by-IsPermutatio
 use Rattle.vol_reports.specs.Placed.{Placed}
 use Rattle.vol_reports.specs.Names.{slashed, path_up, pair_cmp, name_line}
 use Rattle.vol_reports.specs.declared.line.Line.{Line}
-use Rattle.vol_reports.specs.Climbing.{naming_in, path_in, seen_pair}
+use Rattle.vol_reports.specs.Climb.{naming_in, path_in, seen_pair}
 
 -- a loop's step: the path of one more entry
 pub paths_more : (root : ℕ) (naming : List (Option (Bor Placed))) (entries : List Placed) (k : ℕ) (entry : Placed) (old new : List (ℕ × Vec ℕ Global))

@@ -1,6 +1,6 @@
 pub use Rattle.count_table.specs.Tallies
 pub use Rattle.vol_judge.specs.Directories
-pub use Rattle.vol_judge.specs.Stepping
+pub use Rattle.vol_judge.specs.Steps
 pub use Rattle.vol_layout.specs.Geometry
 pub use Rattle.vol_layout.specs.Slot
 pub mod Words
@@ -12,4 +12,4 @@ pub mod Reports
 pub mod Texts
 pub mod Counted
 pub mod FromWords
-pub mod Climbing
+pub mod Climb

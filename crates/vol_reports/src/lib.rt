@@ -2,7 +2,7 @@
 #![tactic(auto)]
 
 mod blocks;
-mod climbing;
+mod climb;
 mod entered;
 mod entries;
 mod line;

@@ -4,9 +4,9 @@ ghost use Rattle.count_table.specs.Tallies.{items_of};
 ghost use Rattle.vol_judge.specs.Directories.{root_of};
 ghost use Rattle.vol_reports.specs.Names.{IsNameLines, name_line};
 ghost use Rattle.vol_reports.specs.Counted.{CountsNames, HasEntryWidth};
-ghost use Rattle.vol_reports.specs.Climbing.{HasNaming, PutsNaming, path_in, seen_pair};
+ghost use Rattle.vol_reports.specs.Climb.{HasNaming, PutsNaming, path_in, seen_pair};
 
-use crate::climbing::entry_path;
+use crate::climb::entry_path;
 use crate::entered::EnteredName;
 use crate::line::Line;
 use crate::report::Report;

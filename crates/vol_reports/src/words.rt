@@ -2,7 +2,7 @@
 ghost use Rattle.std.specs.Prelude.{◌≡◌, ◌^◌, ◌≤◌, ◌<◌, true};
 ghost use Rattle.vol_layout.specs.Geometry.{in_zone};
 ghost use Rattle.vol_reports.specs.Words.{place_word, free_word, bad_word, kind_word, least_word, entry_word, name_word, zone_len};
-ghost use Rattle.vol_judge.specs.Stepping.{rank};
+ghost use Rattle.vol_judge.specs.Steps.{rank};
 
 use vol_layout::Geometry;
 

@@ -2,7 +2,7 @@
 use Rattle.std.proofs.Common.{◌≡◌, ◌≢◌, ℕ, ◌+◌, ◌∙◌, ◌==◌, false, List, [], ◌∷◌, ◌++◌, length, Option, Some, None, Result, Ok, Err, refl, sym, ap, append-nil, append_assoc, arith, length-append, drop, drop-cons, suc, ◌<◌, get_or, add-one}
 use Rattle.std.specs.Global.{Global}
 use Rattle.std.specs.Prelude.{Vec}
-use Rattle.vol_scripts.specs.Reading.{asked_from, before, before_scripts, script_after, scripts_from, views_after}
+use Rattle.vol_scripts.specs.Scripts.{asked_from, before, before_scripts, script_after, scripts_from, views_after}
 use Rattle.vol_scripts.specs.declared.steps.Script.{Script}
 
 -- the steps read before, and those that follow, unless a line can't be read

@@ -2,7 +2,7 @@
 use Rattle.std.proofs.Common.{◌≡◌, ℕ, ◌+◌, ◌/◌, ◌%◌, ◌++◌, List, [], ◌∷◌, codes, refl, arith, append_assoc}
 use Rattle.std.proofs.lemmas.Fmt.{decimal_digit}
 use Rattle.std.specs.Fmt.{decimal}
-use Rattle.vol_scripts.specs.Refusing.{unread_text}
+use Rattle.vol_scripts.specs.Refuse.{unread_text}
 use Rattle.vol_scripts.specs.Texts.{kind_text, node_text, permissions_text, stat_text}
 use Rattle.vol_volume.specs.declared.queries.Stat.{Stat}
 

@@ -1,10 +1,10 @@
 pub use Rattle.command_faults.specs.Faults
 pub use Rattle.command_faults.specs.Streams
-pub mod Ending
+pub mod Endings
 pub mod Grammar
 pub mod Numbers
 pub mod Pieces
-pub mod Reading
-pub mod Refusing
+pub mod Scripts
+pub mod Refuse
 pub mod Report
 pub mod Texts

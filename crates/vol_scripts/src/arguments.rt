@@ -1,7 +1,7 @@
 //! The words after the command, and their values.
 ghost use Rattle.std.specs.Prelude.{◌≡◌, Some, None, MatchOption, IfOk};
 ghost use Rattle.vol_scripts.specs.Grammar.{one_of, two_of, three_of, none_of, cred_in, path_and_permissions, path_and_length, path_and_owner, path_and_bytes, path_and_numbers};
-ghost use Rattle.vol_scripts.specs.Reading.{Reads};
+ghost use Rattle.vol_scripts.specs.Scripts.{Reads};
 
 use crate::lines::LineFault;
 use crate::numbers::{bytes_in, long_in, permissions_in, short_in};

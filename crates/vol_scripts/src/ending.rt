@@ -3,7 +3,7 @@ ghost use Rattle.std.specs.Prelude.{◌≡◌, ◌++◌, IfOk, IfErr, None, OnOk
 ghost use Rattle.std.specs.String.{string_bytes};
 ghost use Rattle.command_faults.specs.Faults.{fault_status};
 ghost use Rattle.command_faults.specs.Streams.{says, ErrorStream, Hears};
-ghost use Rattle.vol_scripts.specs.Ending.{AreConfirmed, Finishes, PrintsPlay, Reports, all_receipts, receipts_in, script_status, scripts_status, scripts_text, step_status};
+ghost use Rattle.vol_scripts.specs.Endings.{AreConfirmed, Finishes, PrintsPlay, Reports, all_receipts, receipts_in, script_status, scripts_status, scripts_text, step_status};
 
 use crate::played::Played;
 use crate::report::{push_lines, push_totals};

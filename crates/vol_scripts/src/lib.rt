@@ -8,14 +8,14 @@ mod lines;
 mod numbers;
 mod pieces;
 pub mod played;
-pub mod reading;
-pub mod refusing;
+pub mod read;
+pub mod refusals;
 mod report;
 pub mod steps;
 mod texts;
 
 pub use ending::finish;
 pub use played::Played;
-pub use reading::{ScriptFault, ScriptsFault, read_script, read_scripts};
-pub use refusing::refuse;
+pub use read::{ScriptFault, ScriptsFault, read_script, read_scripts};
+pub use refusals::refuse;
 pub use steps::{Script, ScriptStep, Sequence};

@@ -1,7 +1,7 @@
 //! Reads one line of a script.
 ghost use Rattle.std.specs.Prelude.{◌≡◌, ◌∷◌, ℕ, None, MatchOption};
 ghost use Rattle.vol_scripts.specs.Grammar.{asked_by, step_by, step_in};
-ghost use Rattle.vol_scripts.specs.Reading.{Reads};
+ghost use Rattle.vol_scripts.specs.Scripts.{Reads};
 
 use crate::arguments::{
     cred_in, none_of, path_alone, path_and_bytes, path_and_length, path_and_numbers,

@@ -1,7 +1,7 @@
 //! Reads numbers and bytes in scripts.
 ghost use Rattle.std.specs.Prelude.{◌≡◌, ◌≤◌, ◌+◌, ◌*◌, SomeIff};
 ghost use Rattle.vol_scripts.specs.Numbers.{number_in, long_in, short_in, permissions_in, bytes_in};
-ghost use Rattle.vol_scripts.specs.Reading.{Reads};
+ghost use Rattle.vol_scripts.specs.Scripts.{Reads};
 
 use crate::lines::LineFault;
 use hex::FromHexError;

@@ -10,11 +10,11 @@ use Rattle.vol_layout.specs.declared.geometry.Geometry.{Geometry}
 use Rattle.vol_layout.specs.declared.slot.Slot.{Slot}
 use Rattle.vol_dir.specs.Entries.{entry_in, entry_at, slot_count}
 use Rattle.vol_dir.specs.Names.{Names}
-use Rattle.vol_dir.specs.Scanning.{IsNextEntry}
+use Rattle.vol_dir.specs.Scan.{IsNextEntry}
 use Rattle.vol_dir.specs.Tree.{tree}
 use Rattle.vol_nodes.specs.Nodes.{after_ok, names_in}
 use Rattle.vol_serve.specs.Attributes.{entry_kind_in}
-use Rattle.vol_serve.specs.Listing.{listed, entries_from, listing_in}
+use Rattle.vol_serve.specs.Listings.{listed, entries_from, listing_in}
 
 -- slots without an entry list nothing
 pub none_on : (entry : ℕ → Option (List ℕ × ℕ)) (kind : ℕ → EntryKind) (count slot found room : ℕ) → slot ≤ found → found ≤ slot + count

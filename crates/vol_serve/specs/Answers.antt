@@ -22,7 +22,7 @@ use Rattle.vol_nodes.specs.declared.fault.NodeFault.{NodeFault}
 use Rattle.vol_nodes.specs.declared.fault.NodeFault.TheVariants as nodes
 use Rattle.vol_serve.specs.Attributes.{attributes_in}
 use Rattle.vol_serve.specs.Errno.{errno}
-use Rattle.vol_serve.specs.Listing.{listing_in}
+use Rattle.vol_serve.specs.Listings.{listing_in}
 use Rattle.vol_serve.specs.NodeNumbers.{node_number, i_number}
 use Rattle.vol_serve.specs.Statistics.{statistics_of}
 use Rattle.vol_serve.specs.declared.errno.RequestRefusal.{RequestRefusal}

@@ -1,9 +1,9 @@
 pub mod Answers
 pub mod Attributes
 pub mod Errno
-pub mod Listing
+pub mod Listings
 pub mod Messages
 pub mod NodeNumbers
-pub mod Serving
+pub mod Serve
 pub mod Statistics
 pub mod Streams

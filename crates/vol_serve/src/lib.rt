@@ -1,7 +1,7 @@
 //! Serves a volume read-only to a Linux kernel over the FUSE protocol: each request gets the reply that the image determines.
 #![tactic(auto)]
 
-mod answering;
+mod answer;
 pub mod attributes;
 pub mod errno;
 mod listing;
@@ -9,11 +9,11 @@ pub mod memory;
 pub mod messages;
 pub mod node_numbers;
 pub mod node_replies;
+pub mod request_loop;
 mod served;
-pub mod serving;
 pub mod statistics;
 pub mod streams;
 
 pub use messages::{Replies, Requests};
-pub use serving::{ServeFault, serve};
+pub use request_loop::{ServeFault, serve};
 pub use streams::{ReplyWriter, RequestReader};

@@ -4,7 +4,7 @@ ghost use Rattle.vol_layout.specs.Geometry.{Fits};
 ghost use Rattle.vol_dir.specs.Entries.{entry_in};
 ghost use Rattle.vol_dir.specs.Tree.{tree};
 ghost use Rattle.vol_serve.specs.Attributes.{entry_kind_in};
-ghost use Rattle.vol_serve.specs.Listing.{listed, listing_in};
+ghost use Rattle.vol_serve.specs.Listings.{listed, listing_in};
 
 use crate::attributes::entry_kind;
 use fuse_words::push_entry;

@@ -30,9 +30,9 @@ use Rattle.vol_views.specs.Views.{Watched, GoesOn, AgreesIn, IsNew}
 use Rattle.vol_views.proofs.Views.{agree_on}
 use Rattle.vol_shared.specs.Stored.{Stored, stored_of, stored_with, unpublished, next_number, IsCut, Follows}
 use Rattle.vol_shared.specs.Plays.{IsAnswered}
-use Rattle.vol_shared.specs.Closing.{IsSettled}
+use Rattle.vol_shared.specs.Close.{IsSettled}
 use Rattle.vol_shared.specs.Published.{IsPublished}
-use Rattle.vol_shared.specs.Watching.{IsNewView, IsBehind, Covers}
+use Rattle.vol_shared.specs.Watch.{IsNewView, IsBehind, Covers}
 use Rattle.vol_shared.specs.declared.knowledge.Knowledge.{Knowledge}
 
 -- a volume that is published as it is

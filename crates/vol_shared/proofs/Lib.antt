@@ -3,5 +3,5 @@ pub mod Agreement
 pub mod Steps
 pub mod Seats
 pub mod Calls
-pub mod Ending
+pub mod ClosedVolumes
 pub mod Fronts

@@ -19,7 +19,7 @@ use Rattle.vol_shared.specs.Lists.{BeginsWith, longer, greatest, greatest_of}
 use Rattle.vol_shared.specs.Stored.{Stored, Follows}
 use Rattle.vol_shared.specs.Rule.{hold_of, SeatFits, Locked}
 use Rattle.vol_shared.specs.Plays.{fresh, first_knowledge, nobody, kept_part, given_part, as_one}
-use Rattle.vol_shared.specs.Closing.{IsSettled}
+use Rattle.vol_shared.specs.Close.{IsSettled}
 use Rattle.vol_shared.specs.declared.knowledge.Knowledge.{Knowledge}
 use Rattle.vol_shared.specs.declared.knowledge.TableStart.{TableStart}
 use Rattle.vol_shared.proofs.Lists.{begins_itself, longer_first, longer_second, longer_front, set_there, greatest_nil, greatest_cons, greatest_push, greatest_append, greatest_set, greatest_part, greatest_all}

@@ -14,5 +14,5 @@ pub mod Rule
 pub mod Plays
 pub mod Sessions
 pub mod Opened
-pub mod Watching
-pub mod Closing
+pub mod Watch
+pub mod Close

@@ -2,7 +2,7 @@
 ghost use Rattle.std.specs.Prelude.{◌≡◌, ◌+◌, ◌<◌, ◌≤◌, [], ◌∷◌, ◌++◌, length, vec_len, vec_capacity, All, IsSome, IfOk, IfErr, IfSome};
 ghost use Rattle.vol_views.specs.Logs.{number_of};
 ghost use Rattle.vol_views.specs.Views.{book_in};
-ghost use Rattle.vol_shared.specs.Closing.{IsLock};
+ghost use Rattle.vol_shared.specs.Close.{IsLock};
 ghost use Rattle.vol_shared.specs.Plays.{fresh};
 ghost use Rattle.vol_shared.specs.Sessions.{new_session};
 ghost use Rattle.vol_shared.specs.Stored.{Stored, next_number};

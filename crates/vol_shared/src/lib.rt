@@ -4,16 +4,16 @@
 #![tactic(auto)]
 
 mod board;
+mod close;
 mod closed;
-mod closing;
 mod kept;
 mod knowledge;
 mod lock;
-mod publishing;
+mod publish;
 mod session;
 mod shared;
 mod stock;
-mod watching;
+mod watch;
 
 pub use closed::Closed;
 pub use session::Session;

@@ -7,15 +7,15 @@ ghost use Rattle.vol_receipts.specs.declared.receipts.Asked.TheVariants.{Change,
 ghost use Rattle.vol_shared.specs.Lists.{BeginsWith, greatest, greatest_of};
 ghost use Rattle.vol_shared.specs.Sessions.{new_session, Got, HasCut};
 ghost use Rattle.vol_shared.specs.Stored.{stored_of, unpublished, next_number, Continues};
-ghost use Rattle.vol_shared.specs.Watching.{IsNewView, Covers};
+ghost use Rattle.vol_shared.specs.Watch.{IsNewView, Covers};
 
 use crate::board::{Board, deal, lay};
+use crate::close::{finish, gather};
 use crate::closed::Closed;
-use crate::closing::{finish, gather};
 use crate::lock::{give_answered, give_back, give_cut};
 use crate::session::{Session, enter, note};
 use crate::stock::Stock;
-use crate::watching::{settle, watch};
+use crate::watch::{settle, watch};
 use std::alloc::{AllocError, Global};
 use std::marker::Model;
 use std::sync::Wait;
@@ -47,7 +47,7 @@ pub enum OpenFault {
 }
 
 impl Model for Shared {
-    ghost use Rattle.vol_shared.specs.Closing.{IsLock};
+    ghost use Rattle.vol_shared.specs.Close.{IsLock};
     ghost use Rattle.vol_shared.specs.Opened.{Opened};
 
     ghost Value = { Opened };

@@ -13,7 +13,7 @@ ghost use Rattle.vol_shared.specs.Plays.{IsAnswered};
 ghost use Rattle.vol_shared.specs.Published.{IsPublished};
 
 use crate::kept::LockedVolume;
-use crate::publishing::change_published;
+use crate::publish::change_published;
 use std::alloc::{AllocError, Global};
 use std::marker::Model;
 use std::snapshot::Snapshot;

@@ -15,7 +15,7 @@ use Rattle.vol_views.specs.LogRule.{first_log}
 use Rattle.vol_views.specs.declared.history.LogEntry.{LogEntry}
 use Rattle.vol_views.specs.declared.history.LogEntry.TheVariants.{Made}
 use Rattle.vol_views.specs.States.{state_of}
-use Rattle.vol_views.specs.Absorbing.{absorbed, empty_operation}
+use Rattle.vol_views.specs.Absorb.{absorbed, empty_operation}
 use Rattle.vol_views.specs.Logs.{number_of, origin_in, history_of}
 use Rattle.vol_views.specs.PublishedRule.{IsRight, Begins, Holds, Enters, MayShow, nothing_reached}
 use Rattle.vol_views.specs.declared.published.Published.{Published}

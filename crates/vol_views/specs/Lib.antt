@@ -8,6 +8,6 @@ pub mod History
 pub mod LogRule
 pub mod States
 pub mod Logs
-pub mod Absorbing
+pub mod Absorb
 pub mod PublishedRule
 pub mod Views

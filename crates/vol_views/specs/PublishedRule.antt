@@ -8,7 +8,7 @@ use Rattle.vol_receipts.specs.Agrees.{start}
 use Rattle.vol_views.specs.History.{Reached}
 use Rattle.vol_views.specs.States.{state_of}
 use Rattle.vol_views.specs.Logs.{history_of, origin_in, number_of}
-use Rattle.vol_views.specs.Absorbing.{absorbed}
+use Rattle.vol_views.specs.Absorb.{absorbed}
 use Rattle.vol_views.specs.declared.published.Published.{Published}
 use Rattle.vol_views.specs.declared.published.Operation.{Operation}
 

@@ -4,10 +4,10 @@ ghost use mathlib.Core.List.{IsPrefix};
 ghost use Rattle.vol_views.specs.LogRule.{first_log};
 ghost use Rattle.vol_views.specs.declared.history.LogEntry.TheVariants.{Made};
 
-use crate::front::SeenPrefix;
 use crate::history::LogEntry;
 use crate::log_rule::{Append, Begin, Beginning, Compare, Head, Nothing, OneOwner};
 use crate::pens::new_pen;
+use crate::seen_prefix::SeenPrefix;
 use logbook::{Offer, Pen, Seen, Start};
 use std::marker::Model;
 use vol_volume::{Record, Volume};

@@ -4,27 +4,27 @@
 //! that take no lock. Views answer queries from the published version and leave receipts.
 #![tactic(auto)]
 
-pub mod front;
 mod ghost_list;
 pub mod history;
 pub mod ledger;
+pub mod log_prefix;
 mod log_rule;
 mod pens;
 pub mod published;
 mod published_rule;
 pub mod publisher;
-mod showing;
+pub mod seen_prefix;
+mod show;
 pub mod subscriber;
-pub mod told;
 pub mod version;
 pub mod view;
 
-pub use front::SeenPrefix;
 pub use history::LogEntry;
 pub use ledger::{Ledger, Permit};
+pub use log_prefix::{Informed, LogPrefix};
 pub use published::{Operation, Published};
 pub use publisher::Publisher;
+pub use seen_prefix::SeenPrefix;
 pub use subscriber::{Answered, Subscriber};
-pub use told::{Informed, LogPrefix};
 pub use version::Version;
 pub use view::{MOST_VIEWS, View, ViewFault};

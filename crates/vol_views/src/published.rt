@@ -1,8 +1,8 @@
 //! The published version, and the operations that advance it.
 ghost use Rattle.std.specs.Prelude.{◌≡◌, ◌++◌};
-ghost use Rattle.vol_views.specs.Absorbing.{entries_of};
+ghost use Rattle.vol_views.specs.Absorb.{entries_of};
 
-use crate::front::SeenPrefix;
+use crate::seen_prefix::SeenPrefix;
 use crate::version::Version;
 use left_right::Absorb;
 use std::alloc::AllocError;
@@ -32,7 +32,7 @@ pub struct Operation {
 }
 
 impl Absorb<Operation> for Published {
-    ghost use Rattle.vol_views.specs.Absorbing.{absorbed};
+    ghost use Rattle.vol_views.specs.Absorb.{absorbed};
 
     type State = Published;
 

@@ -1,6 +1,6 @@
 //! The invariant of the published version and its readers, and the effect of each step.
-use crate::front::SeenPrefix;
 use crate::published::{Operation, Published};
+use crate::seen_prefix::SeenPrefix;
 use atomic_table::{Join, Split};
 use crossbeam_utils::rule::{Outcome, Protocol};
 use left_right::writer::Writer;

@@ -6,14 +6,14 @@ ghost use Rattle.vol_receipts.specs.Agrees.{start};
 ghost use Rattle.vol_views.specs.LogRule.{first_log};
 ghost use Rattle.vol_views.specs.declared.history.LogEntry.TheVariants.{Made};
 ghost use Rattle.vol_views.specs.States.{state_of};
-ghost use Rattle.vol_views.specs.Absorbing.{empty_operation};
+ghost use Rattle.vol_views.specs.Absorb.{empty_operation};
 ghost use Rattle.vol_views.specs.Logs.{history_of, origin_in, number_of};
 
-use crate::front::SeenPrefix;
 use crate::ledger::{Ledger, Permit};
 use crate::published::{Operation, Published};
 use crate::published_rule::{Copies, Learn, Tell};
-use crate::showing::{add, show};
+use crate::seen_prefix::SeenPrefix;
+use crate::show::{add, show};
 use crate::subscriber::Subscriber;
 use crate::version::Version;
 use std::alloc::{AllocError, Global};

@@ -7,9 +7,9 @@ ghost use Rattle.vol_receipts.specs.Agrees.{start};
 ghost use Rattle.vol_views.specs.Logs.{history_of, origin_in, number_of};
 ghost use Rattle.vol_views.specs.PublishedRule.{IsRight};
 
-use crate::front::SeenPrefix;
 use crate::published::Published;
 use crate::published_rule::{Enter, OneHistory};
+use crate::seen_prefix::SeenPrefix;
 use left_right::reader::Reader;
 use std::alloc::Global;
 use std::marker::Model;

@@ -9,9 +9,9 @@ ghost use Rattle.vol_views.specs.Logs.{history_of, origin_in, number_of};
 ghost use Rattle.vol_views.specs.Views.{GoesOn, Sees, IsNew, AgreesIn};
 
 use crate::ghost_list::{GhostList, Itself, empty, longer};
+use crate::log_prefix::{Informed, LogPrefix};
 use crate::publisher::Publisher;
 use crate::subscriber::{Answered, Subscriber};
-use crate::told::{Informed, LogPrefix};
 use std::alloc::Global;
 use std::marker::Model;
 use thiserror::Error;

@@ -6,7 +6,7 @@ use Rattle.vol_layout.specs.declared.geometry.Geometry.{Geometry}
 use Rattle.vol_dir.specs.Tree.{state, shapes, tree, free_count}
 use Rattle.vol_change.specs.Ready.{free_in}
 use Rattle.vol_volume.specs.Journal.{Refuses}
-use Rattle.vol_volume.specs.Performing.{IsPerformed}
+use Rattle.vol_volume.specs.Perform.{IsPerformed}
 use Rattle.vol_volume.specs.Verdict.{verdict}
 use Rattle.vol_volume.specs.Volume.{Mounted, reads_as, IsConsistent, Performs, Accepts}
 use Rattle.vol_volume.proofs.Journals.{kept_consistent}

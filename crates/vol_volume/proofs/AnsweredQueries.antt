@@ -12,7 +12,7 @@ use Rattle.vol_layout.specs.declared.geometry.Geometry.{Geometry}
 use Rattle.vol_change.specs.Nodes.{node_at, names_at}
 use Rattle.vol_change.specs.Edits.{body_of}
 use Rattle.vol_volume.specs.Answer.{list_tests, query_refusal, read_bytes, reply_at, reply_of, refused_or, stat_of, Answers}
-use Rattle.vol_volume.specs.Answering.{IsPathRefused, LeadsTo}
+use Rattle.vol_volume.specs.NodeLookup.{IsPathRefused, LeadsTo}
 use Rattle.vol_layout.specs.Ids.{is_bad_id}
 use Rattle.vol_volume.specs.Verdict.{first_of, body_tests, then_others, of_node}
 use Rattle.vol_volume.specs.declared.queries.Query.{Query}

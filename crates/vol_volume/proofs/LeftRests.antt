@@ -5,10 +5,10 @@ use Rattle.std.proofs.lemmas.Bool.Decides.{nat_tests}
 use Rattle.vol_layout.specs.declared.geometry.Geometry.{Geometry}
 use Rattle.vol_file.specs.Changes.{blocks_past}
 use Rattle.vol_file.specs.Shape.{touched}
-use Rattle.vol_dir.specs.Editing.{slot_bytes}
+use Rattle.vol_dir.specs.EntryEdits.{slot_bytes}
 use Rattle.vol_dir.specs.Entries.{slots}
 use Rattle.vol_dir.specs.Names.{get}
-use Rattle.vol_dir.specs.Searching.{new_slot, slot_named}
+use Rattle.vol_dir.specs.Search.{new_slot, slot_named}
 use Rattle.vol_dir.specs.Tree.{tree, shapes, state}
 use Rattle.vol_dir.specs.Walk.{walk, walk_parent}
 use Rattle.vol_dir.specs.declared.cred.Cred.{Cred}
@@ -18,7 +18,7 @@ use Rattle.vol_change.specs.Nodes.{node_at, names_at, number_of_name}
 use Rattle.vol_change.specs.Ready.{entry_need}
 use Rattle.vol_change.specs.Shapes.{need_in}
 use Rattle.vol_change.proofs.FreeAfter.{entry_is}
-use Rattle.vol_volume.specs.Leaving.{Reach, takes, gives, unlinked, removed, with_entry, without_entry, reach_of_node, reach_of_parent, reached_by, KeepsBytes, LeavesTheRest}
+use Rattle.vol_volume.specs.Reach.{Reach, takes, gives, unlinked, removed, with_entry, without_entry, reach_of_node, reach_of_parent, reached_by, KeepsBytes, LeavesTheRest}
 use Rattle.vol_volume.specs.declared.calls.Call.{Call}
 use Rattle.vol_volume.specs.declared.calls.Call.TheVariants.{Create, Mkdir, Link, Unlink, Rmdir, Write, Truncate, Chmod, Chown, Times}
 use Rattle.vol_volume.specs.declared.calls.Done.{Done}

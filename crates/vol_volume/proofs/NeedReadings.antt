@@ -12,7 +12,7 @@ use Rattle.vol_file.specs.Rules.{size_of, kind_at}
 use Rattle.vol_file.specs.Shape.{is_named, touched}
 use Rattle.vol_dir.specs.Entries.{slots, IsDirectory}
 use Rattle.vol_dir.specs.Names.{names_in}
-use Rattle.vol_dir.specs.Searching.{new_slot}
+use Rattle.vol_dir.specs.Search.{new_slot}
 use Rattle.vol_dir.specs.Tree.{shapes, tree, state}
 use Rattle.vol_change.specs.Nodes.{size_with_entry}
 use Rattle.vol_change.specs.Shapes.{entry_blocks}

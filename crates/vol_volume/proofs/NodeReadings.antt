@@ -9,7 +9,7 @@ use Rattle.vol_layout.specs.declared.mode.Kind.{Kind}
 use Rattle.vol_layout.specs.declared.mode.Kind.TheVariants as kinds
 use Rattle.vol_layout.proofs.InodeLaws.{inode_size}
 use Rattle.vol_file.specs.Rules.{kind_at, size_of, Rules3To7}
-use Rattle.vol_file.proofs.Naming.{root_first}
+use Rattle.vol_file.proofs.StoredNames.{root_first}
 use Rattle.vol_dir.specs.Entries.{slots, IsDirectory, IsInUse}
 use Rattle.vol_dir.specs.Names.{names_of}
 use Rattle.vol_dir.specs.Tree.{Node, node_of, node_with, content_of, tree}

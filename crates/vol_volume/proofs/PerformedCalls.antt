@@ -15,8 +15,8 @@ use Rattle.vol_change.specs.Ready.{Rules1To12, Becomes, free_in}
 use Rattle.vol_change.proofs.FreeAfter.{free_after_unlink, free_after_last_unlink}
 use Rattle.vol_volume.specs.Inodes.{KeepsInodes}
 use Rattle.vol_volume.specs.Journal.{MayAnswer}
-use Rattle.vol_volume.specs.Leaving.{LeavesTheRest}
-use Rattle.vol_volume.specs.Performing.{IsPerformed}
+use Rattle.vol_volume.specs.Reach.{LeavesTheRest}
+use Rattle.vol_volume.specs.Perform.{IsPerformed}
 use Rattle.vol_volume.specs.Step.{on_node, on_parent, changed_by, step}
 use Rattle.vol_dir.specs.declared.cred.Cred.{Cred}
 use Rattle.vol_layout.specs.declared.geometry.Geometry.{Geometry}

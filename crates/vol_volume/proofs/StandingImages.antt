@@ -12,7 +12,7 @@ use Rattle.vol_dir.specs.Tree.{free_count, shapes}
 use Rattle.vol_judge.specs.Sound.{IsSound}
 use Rattle.vol_judge.proofs.Parts.{sound_whole, sound_bounded, sound_fits, sound_files, sound_covered, sound_entries}
 use Rattle.vol_change.proofs.FreeCounts.{free_blocks}
-use Rattle.vol_volume.specs.Standing.{Rules3To7And9}
+use Rattle.vol_volume.specs.Stands.{Rules3To7And9}
 
 -- a sound image has blocks 0 and 1
 pub sound_length : (edition : Edition) (image : List ℕ) → IsSound edition image → 1024 ≤ length image

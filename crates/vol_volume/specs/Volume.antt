@@ -8,7 +8,7 @@ use Rattle.vol_volume.specs.Verdict.{verdict}
 use Rattle.vol_volume.specs.Step.{step}
 use Rattle.vol_volume.specs.Inodes.{KeepsInodes}
 use Rattle.vol_volume.specs.Journal.{MayAnswer, after, IsLegal}
-use Rattle.vol_volume.specs.Leaving.{LeavesTheRest}
+use Rattle.vol_volume.specs.Reach.{LeavesTheRest}
 use Rattle.vol_layout.specs.declared.edition.Edition.{Edition}
 use Rattle.vol_layout.specs.declared.geometry.Geometry.{Geometry}
 use Rattle.vol_volume.specs.declared.calls.Call.{Call}

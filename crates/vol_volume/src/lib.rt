@@ -1,20 +1,20 @@
 //! Mounted volumes, their calls and their queries.
 #![tactic(auto)]
 
-pub mod answering;
-pub mod applying;
-pub mod asking;
+pub mod answer;
+pub mod apply_records;
 pub mod calls;
+pub mod image_queries;
 pub mod laws;
 pub mod queries;
 pub mod reserved;
 mod steps;
 pub mod volume;
 
-pub use answering::ask_image;
-pub use applying::apply;
-pub use asking::ask;
+pub use answer::ask_image;
+pub use apply_records::apply;
 pub use calls::{Call, Done, Record};
+pub use image_queries::ask;
 pub use pdp_words::Bytes;
 pub use queries::{Listing, Query, Reply, Stat};
 pub use reserved::Reserved;

@@ -7,8 +7,8 @@ ghost use Rattle.vol_dir.specs.Tree.{state};
 ghost use Rattle.vol_judge.specs.Sound.{IsSound};
 ghost use Rattle.vol_change.specs.Ready.{Rules1To12, free_in};
 ghost use Rattle.vol_volume.specs.Journal.{MayAnswer};
-ghost use Rattle.vol_volume.specs.Performing.{IsPerformed, caller_of, recorded_number};
-ghost use Rattle.vol_volume.specs.Standing.{Rules3To7And9};
+ghost use Rattle.vol_volume.specs.Perform.{IsPerformed, caller_of, recorded_number};
+ghost use Rattle.vol_volume.specs.Stands.{Rules3To7And9};
 ghost use Rattle.vol_volume.specs.Verdict.{verdict};
 
 pub(crate) mod asked;

@@ -11,7 +11,7 @@ ghost use Rattle.vol_volume.specs.Parts.{held, IsKept};
 ghost use Rattle.vol_volume.specs.Verdict.{verdict};
 ghost use Rattle.vol_volume.specs.Volume.{IsConsistent, Accepts, mounted, after_cut, reads_as};
 
-use crate::answering::ask_image;
+use crate::answer::ask_image;
 use crate::calls::{Call, Done, Record};
 use crate::queries::{Query, Reply};
 use crate::steps::{check, make, stands};

@@ -1,7 +1,7 @@
 // The bytes written of a new volume are those that `mkfs` makes.
 use crate::fixtures::NOW;
 use pdp_words::IntoWrite;
-use pdp_words::testing::ScriptedWriter;
+use pdp_words::test_streams::ScriptedWriter;
 use std::alloc::Global;
 use std::process::Abort;
 use vol_layout::Edition;

@@ -2,7 +2,7 @@
 use crate::fixtures::{Piece, check_bytes, check_whole, new_bytes, put};
 use command_changes::{Change, do_change};
 use pdp_words::IntoWrite;
-use pdp_words::testing::ScriptedWriter;
+use pdp_words::test_streams::ScriptedWriter;
 use std::alloc::Global;
 use std::process::Abort;
 use vol_layout::Edition;

@@ -3,7 +3,7 @@ use crate::trees::{EDITIONS, NOW, grown};
 use command_changes::{NewFile, put_all};
 use command_reads::get_all;
 use pdp_words::IntoWrite;
-use pdp_words::testing::ScriptedWriter;
+use pdp_words::test_streams::ScriptedWriter;
 use std::alloc::Global;
 use std::process::Abort;
 use vol_layout::Edition;

@@ -3,7 +3,7 @@ ghost use Rattle.std.specs.Prelude.{◌<◌};
 
 use crate::fixtures::{Piece, check_whole, with_pieces};
 use command_reads::cat::{CatFault, cat};
-use pdp_words::testing::{ScriptedReader, ScriptedWriter, WriteMishap};
+use pdp_words::test_streams::{ScriptedReader, ScriptedWriter, WriteMishap};
 use pdp_words::{
     FromRead, Image, IntoWrite, LoadFault, SaveFault, Sink, Source, load, load_with_capacity, save,
     words, write_all,

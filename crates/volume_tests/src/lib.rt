@@ -3,7 +3,7 @@
 #![tactic(auto)]
 
 #[cfg(test)]
-mod answering;
+mod answer;
 #[cfg(test)]
 mod blank;
 #[cfg(test)]
@@ -17,13 +17,13 @@ mod cuts;
 #[cfg(test)]
 mod devices;
 #[cfg(test)]
-mod exporting;
+mod export;
 #[cfg(test)]
 mod fixtures;
 #[cfg(test)]
 mod headers;
 #[cfg(test)]
-mod migrating;
+mod migrate;
 #[cfg(test)]
 mod removals;
 #[cfg(test)]

@@ -1,5 +1,5 @@
 use Rattle.std.proofs.Common.{inl, inr, rules}
-use Rattle.command_line.proofs.Reading.{asks_nothing, handed_on, memory_ran_out, met_by, reads, refuses, takes, tells, tells_of}
+use Rattle.command_line.proofs.ReadWords.{asks_nothing, handed_on, memory_ran_out, met_by, reads, refuses, takes, tells, tells_of}
 use Rattle.command_line.proofs.read.Goals as goal
 
 pub returns-in_err-command-clause-refused : goal.returns-in_err-command-clause-refused

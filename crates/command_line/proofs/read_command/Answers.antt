@@ -1,6 +1,6 @@
 use Rattle.std.proofs.Common.{inr}
 use Rattle.command_line.specs.CommandLine.{words_of}
-use Rattle.command_line.proofs.Reading.{told_nothing}
+use Rattle.command_line.proofs.ReadWords.{told_nothing}
 use Rattle.command_line.proofs.read_command.Goals as goal
 
 pub returns-in_ok-told-in-Err-clause-refused : goal.returns-in_ok-told-in-Err-clause-refused

@@ -1,5 +1,5 @@
 use Rattle.std.proofs.Common.{sym}
-use Rattle.command_line.proofs.Reading.{asked, missed, none_met, refused}
+use Rattle.command_line.proofs.ReadWords.{asked, missed, none_met, refused}
 use Rattle.command_line.proofs.read_matches.Goals as goal
 
 pub returns-in-Some-clause-read : goal.returns-in-Some-clause-read

@@ -1,7 +1,7 @@
 use Rattle.std.proofs.Common.{◌++◌, ap, ◌∙◌, arith}
 use Rattle.std.specs.List.{flat_map}
 use Rattle.std.proofs.lemmas.List.{take_all}
-use Rattle.escaped_text.specs.Escaping.{escaped, escaped_byte}
+use Rattle.escaped_text.specs.Escape.{escaped, escaped_byte}
 use Rattle.escaped_text.proofs.push_escaped.Goals as goal
 
 pub returns : goal.returns

@@ -1,6 +1,6 @@
 use Rattle.std.proofs.Common.{◌≡◌, ◌++◌, take}
 use Rattle.std.specs.List.{flat_map}
-use Rattle.escaped_text.specs.Escaping.{escaped_byte}
+use Rattle.escaped_text.specs.Escape.{escaped_byte}
 use Rattle.escaped_text.proofs.push_escaped.Given as goal
 
 -- the bytes so far have been added

@@ -3,7 +3,7 @@ ghost use Rattle.std.specs.Prelude.{◌≡◌, ◌≢◌, ℕ, ◌≤◌, List, 
 ghost use Rattle.std.specs.List.{list_any};
 ghost use Rattle.vol_dir.specs.Entries.{IsDirectory, slots};
 ghost use Rattle.vol_dir.specs.Names.{get, is_dots};
-ghost use Rattle.vol_dir.specs.Searching.{slot_named};
+ghost use Rattle.vol_dir.specs.Search.{slot_named};
 ghost use Rattle.vol_dir.specs.Tree.{place_count, shapes, state};
 ghost use Rattle.vol_change.specs.Changed.{FreeBecomes, KeepsFilesBut, blocks_freed, PutsInBody};
 ghost use Rattle.vol_change.specs.Edits.{at_time};
@@ -13,7 +13,7 @@ ghost use Rattle.vol_change.specs.Effects.{after_rmdir};
 ghost use Rattle.vol_change.specs.Ready.{Rules1To12, Becomes};
 
 use crate::entries::leave;
-use crate::freeing::free_node;
+use crate::free::free_node;
 use crate::links::drop_link;
 use crate::times::put_time;
 use pdp_words::Image;

@@ -5,7 +5,7 @@ ghost use Rattle.vol_layout.specs.declared.mode.Kind.TheVariants as kinds;
 ghost use Rattle.vol_file.specs.Rules.{kind_at};
 ghost use Rattle.vol_dir.specs.Entries.{IsDirectory, slots};
 ghost use Rattle.vol_dir.specs.Names.{get};
-ghost use Rattle.vol_dir.specs.Searching.{slot_named};
+ghost use Rattle.vol_dir.specs.Search.{slot_named};
 ghost use Rattle.vol_dir.specs.Tree.{place_count, shapes, state};
 ghost use Rattle.vol_change.specs.Alone.{KeepsContent};
 ghost use Rattle.vol_change.specs.Changed.{FreeBecomes, KeepsFilesBut, as_before, blocks_freed, PutsInBody};
@@ -16,7 +16,7 @@ ghost use Rattle.vol_change.specs.Effects.{after_unlink};
 ghost use Rattle.vol_change.specs.Ready.{Rules1To12, Becomes};
 
 use crate::entries::leave;
-use crate::freeing::free_node;
+use crate::free::free_node;
 use crate::links::drop_link;
 use crate::times::put_time;
 use pdp_words::Image;

@@ -12,8 +12,8 @@ ghost use Rattle.vol_judge.specs.Finds.{Finds};
 ghost use Rattle.vol_judge.specs.InodeMarks.{IsNamed};
 ghost use Rattle.vol_judge.specs.Tree.{NotesParents};
 
+use crate::entry_walk::{is_directory, marks_for};
 use crate::finding::Finding;
-use crate::reading::{is_directory, marks_for};
 use pdp_words::Image;
 use std::alloc::{AllocError, Global};
 use vol_layout::{Geometry, Slot};

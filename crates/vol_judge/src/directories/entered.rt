@@ -3,14 +3,14 @@ ghost use Rattle.std.specs.Prelude.{◌≡◌, ℕ, ◌+◌, IfNone, IfSome, IfO
 ghost use Rattle.vol_layout.specs.Geometry.{Fits};
 ghost use Rattle.vol_dir.specs.Entries.{IsDirectory};
 ghost use Rattle.vol_dir.specs.Repeats.{MarksEmpty};
-ghost use Rattle.vol_judge.specs.Counting.{HasCounts};
+ghost use Rattle.vol_judge.specs.EntryCounts.{HasCounts};
 ghost use Rattle.vol_judge.specs.Finds.{Finds};
 ghost use Rattle.vol_judge.specs.InodeMarks.{IsOnce};
-ghost use Rattle.vol_judge.specs.Stepping.{rank, IsNextSlot};
+ghost use Rattle.vol_judge.specs.Steps.{rank, IsNextSlot};
 ghost use Rattle.vol_judge.specs.Tree.{NotesParentsBefore, NotesParents, KnowsParents, HasOnceBefore, IsEnteredAgain};
 
+use crate::entry_walk::{EntryAt, EntryPosition, is_directory, marks_for, next_entry};
 use crate::finding::Finding;
-use crate::reading::{EntryAt, EntryPosition, is_directory, marks_for, next_entry};
 use pdp_words::Image;
 use std::alloc::{AllocError, Global};
 use vol_layout::Geometry;

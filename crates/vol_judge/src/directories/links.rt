@@ -2,7 +2,7 @@
 ghost use Rattle.std.specs.Prelude.{◌≤◌, IsTrue, ◌↔◌};
 ghost use Rattle.vol_layout.specs.Geometry.{Fits};
 ghost use Rattle.vol_judge.specs.Directories.{HasLinks};
-ghost use Rattle.vol_judge.specs.Counting.{HasCounts, IsCounted};
+ghost use Rattle.vol_judge.specs.EntryCounts.{HasCounts, IsCounted};
 ghost use Rattle.vol_judge.specs.Finds.{Finds};
 ghost use Rattle.vol_judge.specs.Links.{IsFirstLink};
 

@@ -5,11 +5,11 @@ ghost use Rattle.vol_dir.specs.Entries.{IsDirectory};
 ghost use Rattle.vol_judge.specs.Directories.{IsTree, IsReached, root_of};
 ghost use Rattle.vol_judge.specs.Finds.{Finds};
 ghost use Rattle.vol_judge.specs.InodeMarks.{IsOnce};
-ghost use Rattle.vol_judge.specs.Reaching.{AreWalked};
+ghost use Rattle.vol_judge.specs.Reach.{AreWalked};
 ghost use Rattle.vol_judge.specs.Tree.{KnowsParents, IsEnteredAgain, IsFirstTree};
 
+use crate::entry_walk::is_directory;
 use crate::finding::Finding;
-use crate::reading::is_directory;
 use pdp_words::Image;
 use std::alloc::{AllocError, Global};
 use vol_layout::Geometry;

@@ -6,14 +6,14 @@ ghost use Rattle.vol_file.specs.Rules.{kind_at};
 ghost use Rattle.vol_dir.specs.Access.{bit_of, grants};
 ghost use Rattle.vol_dir.specs.Entries.{IsDirectory, IsInUse, slots};
 ghost use Rattle.vol_dir.specs.Names.{get, names_in};
-ghost use Rattle.vol_dir.specs.Searching.{new_slot, slot_named};
+ghost use Rattle.vol_dir.specs.Search.{new_slot, slot_named};
 ghost use Rattle.vol_dir.specs.Tree.{tree, state};
 ghost use Rattle.vol_dir.specs.Walk.{IsComponent, has_zero, is_directory, walk, walk_parent};
 ghost use Rattle.vol_change.specs.Nodes.{node_at, names_at, size_with_entry};
-ghost use Rattle.vol_volume.specs.Answering.{IsPathRefused, LeadsTo, IsParentRefused, IsParentAsked};
+ghost use Rattle.vol_volume.specs.NodeLookup.{IsPathRefused, LeadsTo, IsParentRefused, IsParentAsked};
 ghost use Rattle.vol_layout.specs.Ids.{is_bad_id};
-ghost use Rattle.vol_volume.specs.Performing.{LeadsToParent, LeadsToNode};
-ghost use Rattle.vol_volume.specs.Standing.{Rules3To7And9};
+ghost use Rattle.vol_volume.specs.Perform.{LeadsToParent, LeadsToNode};
+ghost use Rattle.vol_volume.specs.Stands.{Rules3To7And9};
 ghost use Rattle.vol_volume.specs.Verdict.{first_of, has_name, has_others, is_device, has_free_number, is_free_number, is_too_great, is_full, is_owner, then_others, of_node, of_parent, body_tests, owner_tests};
 ghost use Rattle.vol_change.specs.Ready.{entry_need};
 
@@ -182,7 +182,7 @@ pub(crate) fn is_too_great_with_entry(
 }
 
 /// Returns the number of blocks that the next entry of directory `dir` needs, in `slot`.
-#[tactic(auto, using(crate::proofs::NeedReadings::entry_need_is, vol_dir::proofs::Finding::slots_low, vol_dir::proofs::NewEntries::new_within))]
+#[tactic(auto, using(crate::proofs::NeedReadings::entry_need_is, vol_dir::proofs::Searches::slots_low, vol_dir::proofs::NewEntries::new_within))]
 pub(crate) fn entry_need(image: &Image, geometry: &Geometry, dir: u16, slot: u32) -> u32
     requires fits { Fits geometry.now image.now }
     requires directory { IsDirectory geometry.now image.now dir }

@@ -5,8 +5,8 @@ ghost use Rattle.vol_dir.specs.Tree.{tree, state};
 ghost use Rattle.vol_dir.specs.Walk.{walk};
 ghost use Rattle.vol_change.specs.Ready.{Rules1To12, free_in};
 ghost use Rattle.vol_layout.specs.Ids.{is_bad_id};
-ghost use Rattle.vol_volume.specs.Performing.{LeadsToNode, IsPerformed};
-ghost use Rattle.vol_volume.specs.Standing.{Rules3To7And9};
+ghost use Rattle.vol_volume.specs.Perform.{LeadsToNode, IsPerformed};
+ghost use Rattle.vol_volume.specs.Stands.{Rules3To7And9};
 ghost use Rattle.vol_volume.specs.Verdict.{first_of, then_others, of_node, chown_tests, verdict};
 
 use crate::calls::{Call, Done};

@@ -5,8 +5,8 @@ ghost use Rattle.vol_dir.specs.Entries.{IsDirectory};
 ghost use Rattle.vol_dir.specs.Tree.{tree, state};
 ghost use Rattle.vol_dir.specs.Walk.{walk_parent};
 ghost use Rattle.vol_change.specs.Ready.{Rules1To12, free_in};
-ghost use Rattle.vol_volume.specs.Performing.{LeadsToParent, IsEntryPlace, IsPerformed};
-ghost use Rattle.vol_volume.specs.Standing.{Rules3To7And9};
+ghost use Rattle.vol_volume.specs.Perform.{LeadsToParent, IsEntryPlace, IsPerformed};
+ghost use Rattle.vol_volume.specs.Stands.{Rules3To7And9};
 ghost use Rattle.vol_volume.specs.Verdict.{first_of, then_others, of_parent, create_tests, is_free_number, verdict};
 
 use crate::calls::{Call, Done};

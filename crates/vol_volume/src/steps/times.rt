@@ -3,7 +3,7 @@ ghost use Rattle.std.specs.Prelude.{◌≡◌, IfOk, OnErr};
 ghost use Rattle.std.specs.Result.{result_err};
 ghost use Rattle.vol_dir.specs.Tree.{state};
 ghost use Rattle.vol_change.specs.Ready.{Rules1To12, free_in};
-ghost use Rattle.vol_volume.specs.Performing.{IsPerformed};
+ghost use Rattle.vol_volume.specs.Perform.{IsPerformed};
 ghost use Rattle.vol_volume.specs.Verdict.{verdict};
 
 use crate::calls::{Call, Done};

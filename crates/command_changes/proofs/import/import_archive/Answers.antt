@@ -1,6 +1,6 @@
 use Rattle.std.proofs.Common.{List, ℕ, IfErr, IfOk, subst}
 use Rattle.vol_volume.specs.Volume.{reads_as}
-use Rattle.vol_import.specs.Making.{Imports, IsReason, calls_to_make}
+use Rattle.vol_import.specs.Make.{Imports, IsReason, calls_to_make}
 use Rattle.command_changes.proofs.Imported.{concluded}
 use Rattle.command_changes.proofs.import.import_archive.Goals as goal
 

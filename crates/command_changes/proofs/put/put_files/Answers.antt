@@ -1,6 +1,6 @@
 use Rattle.std.proofs.Common.{List, ℕ, IfErr, IfOk, subst}
 use Rattle.vol_volume.specs.Volume.{reads_as}
-use Rattle.vol_import.specs.Making.{Imports, IsReason, told}
+use Rattle.vol_import.specs.Make.{Imports, IsReason, told}
 use Rattle.command_changes.specs.Put.{calls_to_put}
 use Rattle.command_changes.proofs.Imported.{concluded}
 use Rattle.command_changes.proofs.put.put_files.Goals as goal

@@ -1,12 +1,12 @@
 use Rattle.std.proofs.Common.{List, ℕ, Option, Result, refl, subst, ◌∙◌}
 use Rattle.std.proofs.KnownBytes.{Keeps-refl}
-use Rattle.vol_archive.specs.Exporting.{start_of}
-use Rattle.vol_archive.specs.declared.exporting.ExportStart.{ExportStart}
-use Rattle.vol_archive.specs.declared.exporting.StartFault.{StartFault}
+use Rattle.vol_archive.specs.Export.{start_of}
+use Rattle.vol_archive.specs.declared.export_tree.ExportStart.{ExportStart}
+use Rattle.vol_archive.specs.declared.export_tree.StartFault.{StartFault}
 use Rattle.command_faults.specs.Streams.{Hears, Streams, streams}
 use Rattle.command_faults.specs.declared.fault.Fault.{Fault}
 use Rattle.command_reads.specs.Export.{ExportsFrom, ExportsTo}
-use Rattle.command_reads.specs.Printing.{IsTold}
+use Rattle.command_reads.specs.Print.{IsTold}
 use Rattle.command_reads.proofs.export.export.Goals as goal
 
 pub returns-in-Ok : goal.returns-in-Ok

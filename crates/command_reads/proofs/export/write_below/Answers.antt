@@ -2,7 +2,7 @@ use Rattle.std.proofs.Common.{◌≡◌, ◌⊎◌, List, true, sym, subst}
 use Rattle.std.specs.Io.KnownBytes.{Appends}
 use Rattle.pdp_words.specs.Devices.{AppendsFront}
 use Rattle.vol_archive.specs.Members.{archive_bytes}
-use Rattle.vol_archive.specs.declared.found.MetEntry.{MetEntry}
+use Rattle.vol_archive.specs.declared.met_entries.MetEntry.{MetEntry}
 use Rattle.command_faults.specs.Faults.{no_memory}
 use Rattle.command_faults.specs.declared.fault.Fault.{Fault}
 use Rattle.command_faults.specs.declared.fault.Fault.TheVariants as faults

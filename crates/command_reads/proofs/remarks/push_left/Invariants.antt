@@ -1,6 +1,6 @@
 use Rattle.std.proofs.Common.{◌≡◌, ◌++◌, take}
 use Rattle.std.specs.List.{flat_map}
-use Rattle.vol_archive.specs.declared.found.MetEntry.{MetEntry}
+use Rattle.vol_archive.specs.declared.met_entries.MetEntry.{MetEntry}
 use Rattle.command_reads.specs.Remarks.{role_line}
 use Rattle.command_reads.proofs.remarks.push_left.Given as goal
 

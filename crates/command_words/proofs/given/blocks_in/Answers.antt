@@ -1,6 +1,6 @@
 -- A word that is no number of blocks isn't valid.
 use Rattle.std.proofs.Common.{ℕ, codes, subst, sym}
-use Rattle.command_words.specs.Asking.{the_word}
+use Rattle.command_words.specs.Invocations.{the_word}
 use Rattle.command_words.specs.Disks.{AreBlocksOf}
 use Rattle.command_words.proofs.Moments.{refused}
 use Rattle.command_words.proofs.given.blocks_in.Goals as goal

@@ -1,6 +1,6 @@
 -- The first word, if there is one, is the time that is meant; if it is no time, there is none.
 use Rattle.std.proofs.Common.{ℕ, codes}
-use Rattle.command_words.specs.Asking.{IsMomentGiven}
+use Rattle.command_words.specs.Invocations.{IsMomentGiven}
 use Rattle.command_words.proofs.Moments.{refused, written}
 use Rattle.command_words.proofs.given.moment_in.Goals as goal
 

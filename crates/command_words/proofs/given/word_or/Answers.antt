@@ -1,7 +1,7 @@
 -- The first word, if there is one, is the number that is meant; if it is no number, the words aren't valid.
 use Rattle.std.proofs.Common.{ℕ, Option, SomeIff, subst}
 use Rattle.std.specs.Str.Parse.{digits_value}
-use Rattle.command_words.specs.Asking.{IsWordIfAny}
+use Rattle.command_words.specs.Invocations.{IsWordIfAny}
 use Rattle.command_words.specs.Decimal.{IsNumberUpTo}
 use Rattle.command_words.proofs.Moments.{first_number, refused}
 use Rattle.command_words.proofs.given.word_or.Goals as goal

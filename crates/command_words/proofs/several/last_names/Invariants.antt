@@ -1,5 +1,5 @@
 use Rattle.std.proofs.Common.{◌≡◌, map, take}
-use Rattle.command_words.specs.Asking.{last_names}
+use Rattle.command_words.specs.Invocations.{last_names}
 use Rattle.command_words.proofs.several.last_names.Given as goal
 
 -- the names of the paths so far have been added

@@ -1,7 +1,7 @@
 use Rattle.std.proofs.Common.{◌≡◌, ◌∙◌, true, List, ℕ, Bor, ap, sym, subst, refl, arith, get_or, take}
 use Rattle.std.specs.BTreeSet.{contains}
 use Rattle.std.proofs.lemmas.List.{take_all}
-use Rattle.command_words.specs.Asking.{are_distinct}
+use Rattle.command_words.specs.Invocations.{are_distinct}
 use Rattle.command_words.proofs.FileWords.{HoldsNames, distinct_more, holds_more, holds_none, no_name, not_distinct, not_false, not_true, text_cmp, texts, texts_more}
 use Rattle.command_words.proofs.several.repeated.Goals as goal
 

@@ -1,5 +1,5 @@
 use Rattle.std.proofs.Common.{◌≡◌, take, true}
-use Rattle.command_words.specs.Asking.{are_distinct}
+use Rattle.command_words.specs.Invocations.{are_distinct}
 use Rattle.command_words.proofs.FileWords.{HoldsNames, texts}
 use Rattle.command_words.proofs.several.repeated.Given as goal
 

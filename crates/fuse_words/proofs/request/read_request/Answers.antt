@@ -1,5 +1,5 @@
 use Rattle.std.proofs.Common.{◌∙◌, sym, Some, None}
-use Rattle.fuse_words.proofs.Reading.{read_by}
+use Rattle.fuse_words.proofs.ReadRequests.{read_by}
 use Rattle.fuse_words.proofs.request.read_request.Goals as goal
 
 pub returns-in-Some-read_operation : goal.returns-in-Some-read_operation

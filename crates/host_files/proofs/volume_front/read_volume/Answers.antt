@@ -1,7 +1,7 @@
 use Rattle.std.proofs.Common.{◌≡◌, ◌∙◌, ◌-◌, ◌*◌, ◌<◌, List, ℕ, ap, sym, subst, arith, false}
 use Rattle.vol_layout.specs.Geometry.{block_count}
 use Rattle.vol_layout.specs.declared.edition.Constants.{Constants}
-use Rattle.host_files.specs.Reading.{IsReadOn, IsSkipped, IsVolumeRead}
+use Rattle.host_files.specs.ReadParts.{IsReadOn, IsSkipped, IsVolumeRead}
 use Rattle.host_files.proofs.Fronts.{loses_both, more_than_one, on_err, read_ended, read_endless, read_far}
 use Rattle.host_files.proofs.volume_front.read_volume.Goals as goal
 

@@ -1,7 +1,7 @@
 use Rattle.std.proofs.Common.{◌∙◌, inl, inr, refl, rules, sym}
 use Rattle.std.proofs.KnownBytes.{Keeps-refl}
 use Rattle.command_faults.specs.Streams.{still}
-use Rattle.unixvol.specs.Running.{GaveArchive, GaveBytes, IsGivenTo, IsUngiven, IsUnread}
+use Rattle.unixvol.specs.Runs.{GaveArchive, GaveBytes, IsGivenTo, IsUngiven, IsUnread}
 use Rattle.unixvol.proofs.Concluded.{ends_unread}
 use Rattle.unixvol.proofs.Done.{ends_change, ends_ungiven}
 use Rattle.unixvol.proofs.changes.run.Goals as goal

@@ -2,7 +2,7 @@ use Rattle.std.proofs.Common.{false, refl}
 use Rattle.std.specs.Process.{exit_status}
 use Rattle.pdp_words.specs.Adapters.{writer_in, has_write_failed}
 use Rattle.command_faults.specs.Streams.{heard}
-use Rattle.unixvol.specs.Running.{RunsChange, Ends, host_files, host_input}
+use Rattle.unixvol.specs.Runs.{RunsChange, Ends, host_files, host_input}
 use Rattle.unixvol.proofs.Begun.{begun, ended}
 use Rattle.unixvol.proofs.changes.run_to_end.Goals as goal
 

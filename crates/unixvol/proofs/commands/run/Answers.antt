@@ -1,5 +1,5 @@
 use Rattle.command_faults.specs.Streams.{streams}
-use Rattle.unixvol.specs.Running.{host_files}
+use Rattle.unixvol.specs.Runs.{host_files}
 use Rattle.unixvol.proofs.Asked.{refusal_runs}
 use Rattle.unixvol.proofs.commands.run.Goals as goal
 

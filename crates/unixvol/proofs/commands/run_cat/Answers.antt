@@ -1,7 +1,7 @@
 use Rattle.std.proofs.Common.{ap, inl, inr, refl, subst, sym, ◌∙◌}
 use Rattle.std.proofs.KnownBytes.{Keeps-refl}
 use Rattle.host_files.specs.declared.volume_front.UpTo.TheVariants.{Volume}
-use Rattle.unixvol.specs.Running.{Gave, status_after}
+use Rattle.unixvol.specs.Runs.{Gave, status_after}
 use Rattle.unixvol.proofs.commands.run_cat.Goals as goal
 
 pub returns-in-Err-clause-shown : goal.returns-in-Err-clause-shown

@@ -2,7 +2,7 @@ use Rattle.std.proofs.Common.{inl, inr, refl}
 use Rattle.std.proofs.KnownBytes.{Keeps-refl}
 use Rattle.command_faults.specs.Streams.{still}
 use Rattle.command_changes.specs.Migrate.{IsObstacle, Migrates}
-use Rattle.host_files.specs.Saving.{IsTaken}
+use Rattle.host_files.specs.Save.{IsTaken}
 use Rattle.unixvol.proofs.Concluded.{ends_concluded, ends_unread}
 use Rattle.unixvol.proofs.commands.run_migrate.Goals as goal
 

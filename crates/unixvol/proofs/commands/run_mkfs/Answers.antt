@@ -1,7 +1,7 @@
 use Rattle.std.proofs.Common.{refl}
 use Rattle.std.proofs.KnownBytes.{Keeps-refl}
 use Rattle.command_faults.specs.Streams.{still}
-use Rattle.host_files.specs.Saving.{IsTaken}
+use Rattle.host_files.specs.Save.{IsTaken}
 use Rattle.unixvol.proofs.MadeVolumes.{runs_by, told_at}
 use Rattle.unixvol.proofs.commands.run_mkfs.Goals as goal
 

@@ -1,7 +1,7 @@
 use Rattle.std.specs.Process.{exit_status}
 use Rattle.pdp_words.specs.Adapters.{writer_in, has_write_failed}
 use Rattle.command_faults.specs.Streams.{heard}
-use Rattle.unixvol.specs.Running.{RunsRead, Ends, host_files}
+use Rattle.unixvol.specs.Runs.{RunsRead, Ends, host_files}
 use Rattle.unixvol.proofs.Begun.{begun, ended}
 use Rattle.unixvol.proofs.commands.run_to_end.Goals as goal
 

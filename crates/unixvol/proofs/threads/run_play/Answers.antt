@@ -2,7 +2,7 @@ use Rattle.std.proofs.Common.{◌≡◌, ◌∙◌, All, ap, inl, inr, length, r
 use Rattle.std.specs.Global.{Vec}
 use Rattle.std.proofs.KnownBytes.{Keeps-refl}
 use Rattle.std.proofs.lemmas.List.Elements.{All-same}
-use Rattle.unixvol.specs.Running.{GaveBytes, IsUnread}
+use Rattle.unixvol.specs.Runs.{GaveBytes, IsUnread}
 use Rattle.unixvol.proofs.threads.run_play.Goals as goal
 
 pub returns-in-Err : goal.returns-in-Err

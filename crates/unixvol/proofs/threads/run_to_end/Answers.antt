@@ -1,7 +1,7 @@
 use Rattle.std.specs.Process.{exit_status}
 use Rattle.pdp_words.specs.Adapters.{writer_in, has_write_failed}
 use Rattle.command_faults.specs.Streams.{heard}
-use Rattle.unixvol.specs.Running.{RunsWork, IsEnd, host_files}
+use Rattle.unixvol.specs.Runs.{RunsWork, IsEnd, host_files}
 use Rattle.unixvol.proofs.Begun.{begun, ended_printed}
 use Rattle.unixvol.proofs.threads.run_to_end.Goals as goal
 

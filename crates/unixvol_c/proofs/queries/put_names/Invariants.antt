@@ -1,5 +1,5 @@
 use Rattle.std.proofs.Common.{◌≡◌, length, map, take, drop}
-use Rattle.unixvol_c.specs.Told.{entry_of}
+use Rattle.unixvol_c.specs.Structs.{entry_of}
 use Rattle.unixvol_c.proofs.queries.put_names.Given as goal
 
 abbrev pub invariant-loop-i : goal.invariant-loop-i

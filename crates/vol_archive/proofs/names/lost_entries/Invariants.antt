@@ -1,5 +1,5 @@
 use Rattle.std.proofs.Common.{◌≡◌, map, take}
-use Rattle.vol_archive.specs.Walking.{lost_entry}
+use Rattle.vol_archive.specs.Walk.{lost_entry}
 use Rattle.vol_archive.proofs.names.lost_entries.Given as goal
 
 -- the entries of the i-nodes so far have been added

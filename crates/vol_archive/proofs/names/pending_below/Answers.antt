@@ -1,7 +1,7 @@
 use Rattle.std.proofs.Common.{ap, ◌∙◌, arith}
 use Rattle.std.specs.List.{flat_map}
 use Rattle.std.proofs.lemmas.List.{take_all}
-use Rattle.vol_archive.specs.Walking.{entry_below, pending_below}
+use Rattle.vol_archive.specs.Walk.{entry_below, pending_below}
 use Rattle.vol_archive.proofs.names.pending_below.Goals as goal
 
 pub returns : goal.returns

@@ -1,6 +1,6 @@
 use Rattle.std.proofs.Common.{◌≡◌, take}
 use Rattle.std.specs.List.{flat_map}
-use Rattle.vol_archive.specs.Walking.{entry_below}
+use Rattle.vol_archive.specs.Walk.{entry_below}
 use Rattle.vol_archive.proofs.names.pending_below.Given as goal
 
 -- the entries of the names so far have been added

@@ -3,13 +3,13 @@ use Rattle.vol_layout.specs.Names.{IsFile}
 use Rattle.vol_layout.specs.Places.{has_places}
 use Rattle.vol_layout.specs.declared.mode.Kind.TheVariants as kinds
 use Rattle.vol_file.specs.Need.{need}
-use Rattle.vol_dir.specs.Editing.{slot_bytes}
+use Rattle.vol_dir.specs.EntryEdits.{slot_bytes}
 use Rattle.vol_dir.specs.Entries.{slots, IsDirectory}
 use Rattle.vol_dir.specs.Names.{names_in}
-use Rattle.vol_dir.specs.Searching.{new_slot}
+use Rattle.vol_dir.specs.Search.{new_slot}
 use Rattle.vol_dir.specs.Tree.{state}
 use Rattle.vol_dir.proofs.NewEntries.{adds, length-slot_bytes, new_empty}
-use Rattle.vol_dir.proofs.SlotReading.{slot_is}
+use Rattle.vol_dir.proofs.ReadSlots.{slot_is}
 use Rattle.vol_judge.proofs.EditedGraphs.{changes_slot}
 use Rattle.vol_layout.specs.Body.{body}
 use Rattle.vol_file.specs.Changes.{spliced}

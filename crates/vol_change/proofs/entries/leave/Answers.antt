@@ -2,7 +2,7 @@ use Rattle.std.proofs.Common.{◌∙◌, ap, None}
 use Rattle.std.specs.Option.{option_map}
 use Rattle.vol_dir.specs.Entries.{slots}
 use Rattle.vol_dir.specs.Names.{get, names_of}
-use Rattle.vol_dir.specs.Searching.{slot_named}
+use Rattle.vol_dir.specs.Search.{slot_named}
 use Rattle.vol_dir.specs.Tree.{state}
 use Rattle.vol_judge.specs.Graph.{graph_of}
 use Rattle.vol_change.specs.Edits.{change_node, modified}

@@ -5,7 +5,7 @@ use Rattle.vol_layout.specs.Places.{has_places}
 use Rattle.vol_layout.specs.declared.mode.Kind.TheVariants as kinds
 use Rattle.vol_dir.specs.Entries.{slots, IsDirectory}
 use Rattle.vol_dir.specs.Names.{get, names_of}
-use Rattle.vol_dir.specs.Searching.{slot_named}
+use Rattle.vol_dir.specs.Search.{slot_named}
 use Rattle.vol_dir.proofs.GoneEntries.{removes}
 use Rattle.vol_judge.proofs.EditedGraphs.{changes_slot}
 use Rattle.vol_layout.specs.Body.{body}

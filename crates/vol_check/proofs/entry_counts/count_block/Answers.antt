@@ -4,7 +4,7 @@ use Rattle.count_table.proofs.Totals.{below_more, below_none}
 use Rattle.vol_layout.specs.Slot.{slot_at}
 use Rattle.vol_dir.specs.Entries.{entry_in}
 use Rattle.vol_check.specs.Slots.{entry_weight, entries_of}
-use Rattle.vol_check.proofs.Adding.{adds_none, adds_then, adds_as}
+use Rattle.vol_check.proofs.AddedMarks.{adds_none, adds_then, adds_as}
 use Rattle.vol_check.proofs.LevelLaws.{spread, no_times}
 use Rattle.vol_check.proofs.entry_counts.count_block.Goals as goal
 

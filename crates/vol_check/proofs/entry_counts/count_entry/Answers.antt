@@ -2,7 +2,7 @@ use Rattle.std.proofs.Common.{◌*◌, ◌∙◌, sym, ap, if◌then◌else◌, 
 use Rattle.std.proofs.lemmas.Bool.{le-leb}
 use Rattle.count_table.specs.Views.{mark}
 use Rattle.vol_reports.specs.Words.{entry_word}
-use Rattle.vol_check.proofs.Adding.{added_times}
+use Rattle.vol_check.proofs.AddedMarks.{added_times}
 use Rattle.vol_check.proofs.entry_counts.count_entry.Goals as goal
 
 pub returns-then-i-geometry : goal.returns-then-i-geometry

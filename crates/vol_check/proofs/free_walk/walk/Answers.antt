@@ -10,11 +10,11 @@ use Rattle.vol_layout.specs.declared.geometry.Geometry.{Geometry}
 use Rattle.vol_layout.proofs.BodyLaws.{zone_bounds}
 use Rattle.vol_free.specs.declared.free_walk.FreeFault.{FreeFault}
 use Rattle.vol_free.specs.FreeWalk.{Walked, free_walk}
-use Rattle.vol_free.specs.Walking.{StepFinds}
+use Rattle.vol_free.specs.Walk.{StepFinds}
 use Rattle.vol_free.proofs.FreeWalks.{met_most, met_one, zoned_last}
 use Rattle.vol_reports.specs.Words.{free_word}
 use Rattle.vol_check.specs.Pieces.{Adds, free_weight}
-use Rattle.vol_check.proofs.Adding.{added, adds_none, adds_then, adds_as}
+use Rattle.vol_check.proofs.AddedMarks.{added, adds_none, adds_then, adds_as}
 use Rattle.vol_check.proofs.free_walk.walk.Goals as goal
 
 pub walk-init : goal.walk-init

@@ -1,7 +1,7 @@
 use Rattle.std.proofs.Common.{ℕ, ◌-◌, List}
 use Rattle.count_table.specs.Sums.{total}
 use Rattle.count_table.specs.Views.{mark}
-use Rattle.vol_free.specs.Walking.{HasMet}
+use Rattle.vol_free.specs.Walk.{HasMet}
 use Rattle.vol_reports.specs.Words.{free_word}
 use Rattle.vol_check.specs.Pieces.{Adds}
 use Rattle.vol_check.proofs.free_walk.walk.Given as goal

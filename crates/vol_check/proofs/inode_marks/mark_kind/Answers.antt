@@ -1,7 +1,7 @@
 use Rattle.std.proofs.Common.{sym, ap, ◌∙◌}
 use Rattle.count_table.specs.Views.{mark}
 use Rattle.vol_check.specs.Pieces.{kind_weight}
-use Rattle.vol_check.proofs.Adding.{added}
+use Rattle.vol_check.proofs.AddedMarks.{added}
 use Rattle.vol_check.proofs.inode_marks.mark_kind.Goals as goal
 
 pub returns-in-Regular : goal.returns-in-Regular

@@ -8,7 +8,7 @@ use Rattle.vol_judge.proofs.FileBlocks.{address_blocks}
 use Rattle.count_table.specs.Sums.{total, below}
 use Rattle.count_table.proofs.Totals.{below_more, below_none}
 use Rattle.vol_check.specs.Pieces.{place_weight}
-use Rattle.vol_check.proofs.Adding.{adds_none, adds_then, adds_as}
+use Rattle.vol_check.proofs.AddedMarks.{adds_none, adds_then, adds_as}
 use Rattle.vol_check.proofs.Weights.{weigh_file}
 use Rattle.vol_check.proofs.inode_marks.mark_places.Goals as goal
 

@@ -3,7 +3,7 @@ use Rattle.vol_layout.specs.Geometry.{in_zone}
 use Rattle.count_table.specs.Views.{mark}
 use Rattle.vol_reports.specs.Words.{bad_word, least_word}
 use Rattle.vol_check.specs.Pieces.{place_weight}
-use Rattle.vol_check.proofs.Adding.{added_times, adds_then}
+use Rattle.vol_check.proofs.AddedMarks.{added_times, adds_then}
 use Rattle.vol_check.proofs.LevelLaws.{spread}
 use Rattle.vol_check.proofs.Weights.{place_inside, place_outside}
 use Rattle.vol_check.proofs.levels.mark_times.Goals as goal

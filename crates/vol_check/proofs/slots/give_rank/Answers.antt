@@ -1,9 +1,9 @@
 use Rattle.std.proofs.Common.{◌≤◌, ◌∙◌, sym, ap, if◌then◌else◌, nat_le, arith}
 use Rattle.std.proofs.lemmas.Bool.{le-leb}
 use Rattle.count_table.specs.Views.{mark}
-use Rattle.vol_judge.specs.Stepping.{rank}
+use Rattle.vol_judge.specs.Steps.{rank}
 use Rattle.vol_reports.specs.Words.{name_word}
-use Rattle.vol_check.proofs.Adding.{added}
+use Rattle.vol_check.proofs.AddedMarks.{added}
 use Rattle.vol_check.proofs.slots.give_rank.Goals as goal
 
 pub returns-then-inode-geometry : goal.returns-then-inode-geometry

@@ -3,12 +3,12 @@ use Rattle.count_table.specs.Views.{mark}
 use Rattle.count_table.specs.Sums.{total}
 use Rattle.count_table.proofs.Totals.{total_nil, total_cons, total_push}
 use Rattle.vol_dir.specs.Names.{is_dots}
-use Rattle.vol_judge.specs.Stepping.{rank}
+use Rattle.vol_judge.specs.Steps.{rank}
 use Rattle.vol_reports.specs.Words.{name_word}
 use Rattle.vol_reports.specs.Placed.{placed}
 use Rattle.vol_reports.specs.Names.{entered}
 use Rattle.vol_check.specs.Slots.{name_weight}
-use Rattle.vol_check.proofs.Adding.{adds_as}
+use Rattle.vol_check.proofs.AddedMarks.{adds_as}
 use Rattle.vol_check.proofs.Noted.{notes_none}
 use Rattle.vol_check.proofs.slots.keep_entry.Goals as goal
 

@@ -2,10 +2,10 @@ use Rattle.std.proofs.Common.{◌≡◌, ◌≢◌, ◌∙◌, ◌+◌, ◌*◌,
 use Rattle.vol_layout.specs.Names.{form_at, stored}
 use Rattle.vol_layout.proofs.NameLaws.{zero_out}
 use Rattle.vol_dir.specs.Entries.{entry_at, slot_count}
-use Rattle.vol_dir.specs.Searching.{is_sought}
+use Rattle.vol_dir.specs.Search.{is_sought}
 use Rattle.vol_dir.specs.declared.entries.Sought.{Sought}
 use Rattle.vol_dir.specs.declared.entries.Sought.TheVariants.{Named, Empty, NamedOrEmpty, Any, Other}
-use Rattle.vol_dir.proofs.SlotReading.{entry_in_hole}
+use Rattle.vol_dir.proofs.ReadSlots.{entry_in_hole}
 use Rattle.vol_dir.proofs.entries.after_hole.Goals as goal
 
 -- a search for anything else skips an empty slot

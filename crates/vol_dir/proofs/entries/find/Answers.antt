@@ -1,5 +1,5 @@
 use Rattle.std.proofs.Common.{◌∙◌, sym, arith}
-use Rattle.vol_dir.proofs.Finding.{named_number, missing_number}
+use Rattle.vol_dir.proofs.Searches.{named_number, missing_number}
 use Rattle.vol_dir.proofs.entries.find.Goals as goal
 
 pub returns-in_err-first_entry : goal.returns-in_err-first_entry

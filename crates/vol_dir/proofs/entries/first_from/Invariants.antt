@@ -1,7 +1,7 @@
 use Rattle.std.proofs.Common.{◌+◌, ◌*◌}
 use Rattle.vol_layout.specs.Slot.{slot_at}
 use Rattle.vol_dir.specs.Entries.{entry_in}
-use Rattle.vol_dir.specs.Searching.{IsMissing}
+use Rattle.vol_dir.specs.Search.{IsMissing}
 use Rattle.vol_dir.proofs.entries.first_from.Given as goal
 
 -- none of the slots from `start` to s is sought

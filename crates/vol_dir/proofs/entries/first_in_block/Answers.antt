@@ -4,7 +4,7 @@ use Rattle.vol_layout.specs.Names.{form_at, stored}
 use Rattle.vol_layout.specs.Slot.{slot_at}
 use Rattle.vol_layout.proofs.NameLaws.{zero_out}
 use Rattle.vol_dir.specs.Entries.{entry_in, entry_at}
-use Rattle.vol_dir.proofs.SlotReading.{entry_in_block, entry_in_hole, number_named, number_missing, searches_same}
+use Rattle.vol_dir.proofs.ReadSlots.{entry_in_block, entry_in_hole, number_named, number_missing, searches_same}
 use Rattle.vol_dir.proofs.entries.first_in_block.Goals as goal
 use Rattle.vol_dir.proofs.entries.first_in_block.Goals.{in_default-via-in-Some+else-in_zone, in_default-via-in_default}
 

@@ -1,7 +1,7 @@
 use Rattle.std.proofs.Common.{◌≡◌, ◌∙◌, ◌+◌, ◌-◌, ◌*◌, ap, arith, inl, inr}
 use Rattle.std.proofs.lemmas.Bool.{cases_lt}
 use Rattle.vol_dir.specs.Entries.{entry_at, slot_count}
-use Rattle.vol_dir.specs.Searching.{is_sought}
+use Rattle.vol_dir.specs.Search.{is_sought}
 use Rattle.vol_dir.proofs.entries.first_slot.Goals as goal
 
 pub returns-in-Some : goal.returns-in-Some

@@ -1,6 +1,6 @@
 use Rattle.std.proofs.Common.{◌≡◌, ℕ, ◌-◌, ◌*◌, ◌<◌, ◌≤◌, false}
 use Rattle.vol_dir.specs.Entries.{entry_at}
-use Rattle.vol_dir.specs.Searching.{is_sought}
+use Rattle.vol_dir.specs.Search.{is_sought}
 use Rattle.vol_dir.proofs.entries.first_slot.Given as goal
 
 -- none of the slots from `from` to the blocks before b is sought

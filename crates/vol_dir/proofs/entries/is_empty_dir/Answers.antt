@@ -1,5 +1,5 @@
 use Rattle.std.proofs.Common.{◌≡◌, ◌∙◌, sym, ap, not, refl, Bool, true, false}
-use Rattle.vol_dir.proofs.Finding.{others_are}
+use Rattle.vol_dir.proofs.Searches.{others_are}
 use Rattle.vol_dir.proofs.entries.is_empty_dir.Goals as goal
 
 -- a test turned twice

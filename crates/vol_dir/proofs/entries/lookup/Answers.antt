@@ -1,7 +1,7 @@
 use Rattle.std.proofs.Common.{◌∙◌, sym, ap, subst, refl, arith, Err}
 use Rattle.std.specs.Option.{is_none}
 use Rattle.std.proofs.lemmas.Bool.{ne_eqb}
-use Rattle.vol_dir.proofs.Finding.{IsLookedUp, empty_open, looked_past, looked_first, looked_on}
+use Rattle.vol_dir.proofs.Searches.{IsLookedUp, empty_open, looked_past, looked_first, looked_on}
 use Rattle.vol_dir.proofs.entries.lookup.Goals as goal
 
 pub returns-in_default : goal.returns-in_default

@@ -1,5 +1,5 @@
 use Rattle.std.proofs.Common.{◌∙◌, sym}
-use Rattle.vol_dir.proofs.Finding.{new_slot_found, new_slot_past}
+use Rattle.vol_dir.proofs.Searches.{new_slot_found, new_slot_past}
 use Rattle.vol_dir.proofs.entries.new_slot.Goals as goal
 
 pub returns-in-Some : goal.returns-in-Some

@@ -1,5 +1,5 @@
 use Rattle.std.proofs.Common.{arith}
-use Rattle.vol_dir.proofs.Finding.{slots_low}
+use Rattle.vol_dir.proofs.Searches.{slots_low}
 use Rattle.vol_dir.proofs.NewEntries.{new_within}
 use Rattle.vol_dir.proofs.entries.place_for.Goals as goal
 

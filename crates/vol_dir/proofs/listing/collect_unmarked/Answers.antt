@@ -1,5 +1,5 @@
 use Rattle.std.proofs.Common.{refl}
-use Rattle.vol_dir.specs.Listing.{by_bytes}
+use Rattle.vol_dir.specs.NameList.{by_bytes}
 use Rattle.vol_dir.proofs.ListedNames.{is_met, collected_none, collected_next, collected_all}
 use Rattle.vol_dir.proofs.listing.collect_unmarked.Goals as goal
 

@@ -1,4 +1,4 @@
-use Rattle.vol_file.proofs.Touching.{touched_byte, byte_touched}
+use Rattle.vol_file.proofs.TouchedBlocks.{touched_byte, byte_touched}
 use Rattle.vol_file.proofs.laws.blocks_are_touched_where_bytes_lie.Goals as goal
 
 pub returns : goal.returns

@@ -5,7 +5,7 @@ use Rattle.vol_layout.specs.Names.{form_at, named, pointer_in}
 use Rattle.vol_layout.specs.Places.{form_of, block_limit, last_place, place_to}
 use Rattle.vol_file.specs.Repeats.{MarksPassed, PassesBelow}
 use Rattle.vol_file.proofs.Indexes.{named_more}
-use Rattle.vol_file.proofs.Repeating.{passes_stored}
+use Rattle.vol_file.proofs.RepeatedNumbers.{passes_stored}
 use Rattle.vol_file.proofs.Subtrees.{few_entries, low_block}
 use Rattle.vol_file.proofs.repeats.mark_passed.Goals as goal
 use Rattle.vol_file.proofs.repeats.mark_passed.Goals.{then-is_between, else-is_between}

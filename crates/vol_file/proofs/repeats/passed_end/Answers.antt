@@ -2,7 +2,7 @@ use Rattle.std.proofs.Common.{◌≡◌, ◌∙◌, ◌-◌, ◌+◌, ◌<◌, a
 use Rattle.vol_layout.specs.Names.{form_at, named}
 use Rattle.vol_layout.specs.Places.{form_of, last_place, place_to}
 use Rattle.vol_file.specs.Repeats.{PassesBelow}
-use Rattle.vol_file.proofs.Repeating.{stored_passes}
+use Rattle.vol_file.proofs.RepeatedNumbers.{stored_passes}
 use Rattle.vol_file.proofs.Subtrees.{few_entries, low_block}
 use Rattle.vol_file.proofs.repeats.passed_end.Goals as goal
 

@@ -5,13 +5,13 @@ use Rattle.vol_file.specs.Rules.{IsZoned, IsApart}
 use Rattle.vol_judge.specs.Finds.{Finds}
 use Rattle.vol_judge.specs.FreeList.{IsFirstFault}
 use Rattle.vol_judge.specs.Marks.{MarksZone}
-use Rattle.vol_judge.specs.Sharing.{IsFirstTwice}
+use Rattle.vol_judge.specs.SharedBlocks.{IsFirstTwice}
 use Rattle.vol_judge.specs.Sound.{IsFreeApart}
 use Rattle.vol_judge.specs.declared.free_list.FreeStack.{FreeStack}
 use Rattle.vol_judge.specs.Zones.{IsFirstOutside}
 use Rattle.vol_findings.specs.Outcomes.{Says}
 use Rattle.vol_findings.specs.declared.outcome.RuleOutcome.TheVariants.{Holds}
-use Rattle.vol_findings.proofs.Telling.{said_as}
+use Rattle.vol_findings.proofs.OutcomeLaws.{said_as}
 use Rattle.vol_findings.proofs.blocks.check_marks.Goals as goal
 
 pub returns : goal.returns

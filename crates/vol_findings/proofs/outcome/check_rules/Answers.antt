@@ -1,6 +1,6 @@
 use Rattle.std.proofs.Common.{sym, subst}
 use Rattle.vol_findings.specs.Outcomes.{Tells}
-use Rattle.vol_findings.proofs.Telling.{tells_short, tells_bounds, if_tells}
+use Rattle.vol_findings.proofs.OutcomeLaws.{tells_short, tells_bounds, if_tells}
 use Rattle.vol_findings.proofs.outcome.check_rules.Goals as goal
 
 pub returns-in-Ok : goal.returns-in-Ok

@@ -1,6 +1,6 @@
 use Rattle.std.proofs.Common.{◌≤◌, arith}
 use Rattle.vol_free.proofs.Stacks.{zone_below, zone_behind, limit_below}
-use Rattle.vol_free.proofs.Counting.{left_within, left_next, left_last, left_none}
+use Rattle.vol_free.proofs.ChainWalks.{left_within, left_next, left_last, left_none}
 use Rattle.vol_free.proofs.free_list.free_count.Goals as goal
 
 pub overflow_add-result : goal.overflow_add-result

@@ -1,7 +1,7 @@
 use Rattle.std.proofs.Common.{ℕ, ◌+◌, ◌-◌, ◌≤◌, List, length}
 use Rattle.vol_layout.specs.Edition.{constants}
 use Rattle.vol_free.specs.Stack.{IsFree}
-use Rattle.vol_free.proofs.Counting.{IsLeft}
+use Rattle.vol_free.proofs.ChainWalks.{IsLeft}
 use Rattle.vol_free.proofs.free_list.free_count.Given as goal
 
 -- a head is at `head`, and the blocks not yet counted are its stack

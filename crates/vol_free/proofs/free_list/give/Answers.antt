@@ -3,7 +3,7 @@ use Rattle.vol_layout.specs.Edition.{constants}
 use Rattle.vol_layout.specs.declared.edition.Constants.{Constants}
 use Rattle.vol_layout.specs.Super.{free_head}
 use Rattle.vol_free.proofs.Stacks.{zone_from, zone_behind, head_end}
-use Rattle.vol_free.proofs.Giving.{pushed_above, pushed_first, pushed_chained, head_stays, chained_stays, given_full, given_above, head_given}
+use Rattle.vol_free.proofs.GivenBlocks.{pushed_above, pushed_first, pushed_chained, head_stays, chained_stays, given_full, given_above, head_given}
 use Rattle.vol_free.proofs.free_list.give.Goals as goal
 
 pub returns-then-count-eq0-clause-pushed : goal.returns-then-count-eq0-clause-pushed

@@ -1,8 +1,8 @@
 use Rattle.std.proofs.Common.{◌≡◌, ◌-◌, ◌≤◌, [], ◌∷◌, refl, arith, rules}
-use Rattle.vol_free.specs.Rebuilding.{unused_from}
+use Rattle.vol_free.specs.Rebuild.{unused_from}
 use Rattle.vol_free.proofs.Stacks.{zone_behind, IsFree_unique}
 use Rattle.vol_free.proofs.Frames.{IsFree-none}
-use Rattle.vol_free.proofs.Rebuilding.{unused_given, unused_kept, unused_end, unused_in, keeps_start, keeps_given}
+use Rattle.vol_free.proofs.RebuildSteps.{unused_given, unused_kept, unused_end, unused_in, keeps_start, keeps_given}
 use Rattle.vol_free.proofs.free_list.rebuild.Goals as goal
 
 pub loop-b-init : goal.loop-b-init

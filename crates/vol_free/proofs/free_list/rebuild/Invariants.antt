@@ -1,7 +1,7 @@
 use Rattle.std.proofs.Common.{◌≤◌}
 use Rattle.vol_layout.specs.Geometry.{Fits}
 use Rattle.vol_free.specs.Stack.{IsFree}
-use Rattle.vol_free.specs.Rebuilding.{unused_from, KeepsUsed}
+use Rattle.vol_free.specs.Rebuild.{unused_from, KeepsUsed}
 use Rattle.vol_free.proofs.free_list.rebuild.Given as goal
 
 -- the blocks from b on that have no mark are the free ones, and the others are as they were

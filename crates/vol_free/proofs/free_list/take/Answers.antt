@@ -1,7 +1,7 @@
 use Rattle.std.proofs.Common.{◌≡◌, ◌<◌, ◌≤◌, inl, inr, length, arith, sym, ◌∙◌}
 use Rattle.pdp_words.proofs.Outside.{widen}
 use Rattle.vol_free.proofs.Stacks.{zone_below, zone_from, zone_behind}
-use Rattle.vol_free.proofs.Taking.{pops_none, pops_lowered, pops_refilled, pops_left, taken_zone, head_lowered, head_refilled}
+use Rattle.vol_free.proofs.TakenBlocks.{pops_none, pops_lowered, pops_refilled, pops_left, taken_zone, head_lowered, head_refilled}
 use Rattle.vol_free.proofs.free_list.take.Goals as goal
 use Rattle.vol_free.proofs.free_list.take.Goals.{then-count-eq1, else-count-eq1}
 

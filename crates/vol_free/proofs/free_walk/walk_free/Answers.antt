@@ -1,7 +1,7 @@
 use Rattle.std.proofs.Common.{◌∷◌, [], reverse, sym, ap, ◌∙◌, subst, arith}
 use Rattle.std.specs.Vec.{with_items}
 use Rattle.std.proofs.lemmas.List.{reverse-append, with_items_is}
-use Rattle.vol_free.specs.Walking.{HasMet, AreZoned}
+use Rattle.vol_free.specs.Walk.{HasMet, AreZoned}
 use Rattle.vol_free.proofs.FreeWalks.{met_most, met_one, zoned_last, zoned_more}
 use Rattle.vol_free.proofs.free_walk.walk_free.Goals as goal
 

@@ -1,5 +1,5 @@
 use Rattle.std.proofs.Common.{◌-◌, reverse}
-use Rattle.vol_free.specs.Walking.{HasMet, AreZoned}
+use Rattle.vol_free.specs.Walk.{HasMet, AreZoned}
 use Rattle.vol_free.proofs.free_walk.walk_free.Given as goal
 
 -- the blocks met so far

@@ -2,7 +2,7 @@ use Rattle.std.proofs.Common.{◌++◌, ap, ◌∙◌, arith}
 use Rattle.std.specs.List.{flat_map}
 use Rattle.std.specs.String.{string_bytes}
 use Rattle.std.proofs.lemmas.List.{take_all}
-use Rattle.vol_inspect.specs.Drawing.{legend_line, legend_lines}
+use Rattle.vol_inspect.specs.Pictures.{legend_line, legend_lines}
 use Rattle.vol_inspect.proofs.drawing.push_legend_lines.Goals as goal
 
 pub returns : goal.returns

@@ -1,7 +1,7 @@
 use Rattle.std.proofs.Common.{◌≡◌, ◌++◌, take}
 use Rattle.std.specs.List.{flat_map}
 use Rattle.std.specs.String.{string_bytes}
-use Rattle.vol_inspect.specs.Drawing.{legend_line}
+use Rattle.vol_inspect.specs.Pictures.{legend_line}
 use Rattle.vol_inspect.proofs.drawing.push_legend_lines.Given as goal
 
 -- the lines so far have been added

@@ -2,7 +2,7 @@ use Rattle.std.proofs.Common.{◌≡◌, ◌+◌, ◌++◌, ap, ◌∙◌, arith
 use Rattle.std.specs.List.{flat_map, range_with_len}
 use Rattle.std.specs.String.{string_bytes}
 use Rattle.vol_reports.proofs.Ranges.{appended_more}
-use Rattle.vol_inspect.specs.Drawing.{row_cell, rows_text}
+use Rattle.vol_inspect.specs.Pictures.{row_cell, rows_text}
 use Rattle.vol_inspect.specs.declared.uses.Use.TheVariants as uses
 use Rattle.vol_inspect.proofs.drawing.push_rows.Goals as goal
 

@@ -1,7 +1,7 @@
 use Rattle.std.proofs.Common.{◌≡◌, ◌++◌, get_or}
 use Rattle.std.specs.List.{flat_map, range_with_len}
 use Rattle.std.specs.String.{string_bytes}
-use Rattle.vol_inspect.specs.Drawing.{row_cell}
+use Rattle.vol_inspect.specs.Pictures.{row_cell}
 use Rattle.vol_inspect.specs.declared.uses.Use.TheVariants as uses
 use Rattle.vol_inspect.proofs.drawing.push_rows.Given as goal
 

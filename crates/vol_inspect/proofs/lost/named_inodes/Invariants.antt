@@ -1,6 +1,6 @@
 use Rattle.std.proofs.Common.{◌-◌, ◌≤◌}
 use Rattle.vol_dir.specs.Repeats.{MarksEmpty}
-use Rattle.vol_judge.specs.Stepping.{rank}
+use Rattle.vol_judge.specs.Steps.{rank}
 use Rattle.vol_inspect.specs.Lost.{NamedBefore}
 use Rattle.vol_inspect.proofs.lost.named_inodes.Given as goal
 

@@ -3,7 +3,7 @@ use Rattle.std.specs.List.{range_with_len}
 use Rattle.std.proofs.lemmas.List.FromFn.{map-range_with_len_more}
 use Rattle.pdp_words.specs.Words.{word}
 use Rattle.vol_layout.specs.Super.{cache_head}
-use Rattle.vol_inspect.specs.Inspecting.{cached_numbers, used}
+use Rattle.vol_inspect.specs.Inspect.{cached_numbers, used}
 use Rattle.vol_inspect.proofs.super_report.cached_numbers.Goals as goal
 
 pub loop-k-preserved : goal.loop-k-preserved

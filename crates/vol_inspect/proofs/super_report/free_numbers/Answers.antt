@@ -5,7 +5,7 @@ use Rattle.pdp_words.specs.Words.{word}
 use Rattle.vol_layout.specs.Edition.{number}
 use Rattle.vol_layout.specs.declared.edition.Constants.{Constants}
 use Rattle.vol_layout.specs.Super.{free_head}
-use Rattle.vol_inspect.specs.Inspecting.{free_numbers, used}
+use Rattle.vol_inspect.specs.Inspect.{free_numbers, used}
 use Rattle.vol_inspect.proofs.super_report.free_numbers.Goals as goal
 
 pub loop-k-preserved : goal.loop-k-preserved

@@ -1,8 +1,8 @@
 use Rattle.std.proofs.Common.{◌≡◌, inl, inr, refl}
 use Rattle.vol_layout.specs.Slot.{name_of, padded_name}
-use Rattle.vol_judge.specs.Naming.{is_in}
-use Rattle.vol_judge.proofs.Deciding.{not_true, not_false}
-use Rattle.vol_judge.proofs.Collecting.{below_next, names_next, twice, all_below}
+use Rattle.vol_judge.specs.DirectoryNames.{is_in}
+use Rattle.vol_judge.proofs.Decisions.{not_true, not_false}
+use Rattle.vol_judge.proofs.CollectedNames.{below_next, names_next, twice, all_below}
 use Rattle.vol_dir.proofs.NextEntries.{entry_next}
 use Rattle.vol_judge.proofs.FirstEntries.{below_reached, named_reached}
 use Rattle.vol_judge.proofs.entries.find_in.Goals as goal

@@ -1,7 +1,7 @@
 use Rattle.std.proofs.Common.{◌≡◌, ◌-◌, ◌%◌}
 use Rattle.vol_file.specs.Rules.{size_of}
 use Rattle.vol_dir.specs.Repeats.{MarksEmpty}
-use Rattle.vol_judge.specs.Naming.{HasEntriesBelow, HoldsNamesBelow}
+use Rattle.vol_judge.specs.DirectoryNames.{HasEntriesBelow, HoldsNamesBelow}
 use Rattle.vol_judge.proofs.entries.find_in.Given as goal
 
 -- rule 9 holds below slot `from`, and the names of the entries there are collected

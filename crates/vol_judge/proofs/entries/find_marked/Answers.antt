@@ -1,8 +1,8 @@
 use Rattle.std.proofs.Common.{◌<◌, ◌+◌, arith}
 use Rattle.vol_dir.specs.Entries.{IsDirectory}
-use Rattle.vol_judge.specs.Naming.{HasEntriesIn}
-use Rattle.vol_judge.proofs.Deciding.{holds, fails}
-use Rattle.vol_judge.proofs.Collecting.{each_more, each_holds, fails_in}
+use Rattle.vol_judge.specs.DirectoryNames.{HasEntriesIn}
+use Rattle.vol_judge.proofs.Decisions.{holds, fails}
+use Rattle.vol_judge.proofs.CollectedNames.{each_more, each_holds, fails_in}
 use Rattle.vol_judge.proofs.entries.find_marked.Goals as goal
 use Rattle.vol_judge.proofs.entries.find_marked.Goals.{then-is_directory+in_ok-finding+in_default, else-is_directory}
 

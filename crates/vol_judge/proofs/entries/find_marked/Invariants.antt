@@ -1,7 +1,7 @@
 use Rattle.std.proofs.Common.{ℕ, ◌<◌}
 use Rattle.vol_dir.specs.Entries.{IsDirectory}
 use Rattle.vol_dir.specs.Repeats.{MarksEmpty}
-use Rattle.vol_judge.specs.Naming.{HasEntriesIn}
+use Rattle.vol_judge.specs.DirectoryNames.{HasEntriesIn}
 use Rattle.vol_judge.proofs.entries.find_marked.Given as goal
 
 -- rule 9 holds of the directories below d

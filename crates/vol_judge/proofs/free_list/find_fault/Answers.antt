@@ -3,7 +3,7 @@ use Rattle.std.proofs.lemmas.List.{reverse-append, reverse-reverse, length-rever
 use Rattle.vol_layout.specs.declared.geometry.Geometry.{Geometry}
 use Rattle.vol_free.specs.FreeWalk.{Walked, free_walk}
 use Rattle.vol_free.specs.Stack.{IsIn, IsFree}
-use Rattle.vol_free.specs.Walking.{HasMet, StepFinds}
+use Rattle.vol_free.specs.Walk.{HasMet, StepFinds}
 use Rattle.vol_free.proofs.FreeFaults.{in_any, any_in, in_reverse, fault_breaks, no_fault_free}
 use Rattle.vol_free.proofs.FreeWalks.{met_most, met_one, zoned_last}
 use Rattle.vol_free.proofs.Stacks.{IsFree_unique, zone_behind, zone_below}

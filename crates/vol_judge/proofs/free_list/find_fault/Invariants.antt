@@ -1,5 +1,5 @@
 use Rattle.std.proofs.Common.{ℕ, ◌-◌, List, reverse}
-use Rattle.vol_free.specs.Walking.{HasMet}
+use Rattle.vol_free.specs.Walk.{HasMet}
 use Rattle.vol_judge.proofs.NamedFree.{FindsMarked}
 use Rattle.vol_judge.proofs.free_list.find_fault.Given as goal
 

@@ -1,6 +1,6 @@
 use Rattle.std.proofs.Common.{◌+◌, arith}
 use Rattle.vol_judge.specs.Limits.{IsSized, IsLinked}
-use Rattle.vol_judge.proofs.Limiting.{up_to, sizes_of_all}
+use Rattle.vol_judge.proofs.Limits.{up_to, sizes_of_all}
 use Rattle.vol_judge.proofs.i_nodes.find_size.Goals as goal
 
 pub loop-i-preserved : goal.loop-i-preserved

@@ -1,5 +1,5 @@
 use Rattle.std.proofs.Common.{arith}
-use Rattle.vol_judge.proofs.Comparing.{first_lost, none_lost}
+use Rattle.vol_judge.proofs.MarksCompared.{first_lost, none_lost}
 use Rattle.vol_judge.proofs.lost.find_lost.Goals as goal
 
 pub returns-then-not-free-b : goal.returns-then-not-free-b

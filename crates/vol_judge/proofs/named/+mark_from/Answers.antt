@@ -6,7 +6,7 @@ use Rattle.vol_layout.proofs.BodyLaws.{zone_bounds}
 use Rattle.vol_layout.proofs.NameLaws.{entry_in, zone_some}
 use Rattle.vol_judge.specs.Marks.{ExtendsMarks, blocks_from}
 use Rattle.vol_judge.proofs.BlocksFrom.{entries_from}
-use Rattle.vol_judge.proofs.Extending.{ext_out, ext_again, ext_leaf, ext_from, ext_start, ext_entry, ext_zeros, known_more}
+use Rattle.vol_judge.proofs.MoreMarks.{ext_out, ext_again, ext_leaf, ext_from, ext_start, ext_entry, ext_zeros, known_more}
 use Rattle.vol_judge.proofs.named.+mark_from.Goals as goal
 
 pub returns-then-not-in_zone-clause-extends : goal.returns-then-not-in_zone-clause-extends

@@ -4,7 +4,7 @@ use Rattle.vol_layout.specs.Names.{form_at}
 use Rattle.vol_layout.specs.Places.{form_of, first_count, levels}
 use Rattle.vol_file.specs.Changes.{blocks_of}
 use Rattle.vol_judge.specs.Marks.{ExtendsMarks, blocks_from}
-use Rattle.vol_judge.proofs.Extending.{ext_first, ext_address}
+use Rattle.vol_judge.proofs.MoreMarks.{ext_first, ext_address}
 use Rattle.vol_judge.proofs.FileBlocks.{address_blocks, addresses_from, blocks_by_address}
 use Rattle.vol_judge.proofs.named.mark_file.Goals as goal
 

@@ -1,5 +1,5 @@
 use Rattle.std.proofs.Common.{◌≡◌, ◌+◌, ◌-◌, arith}
-use Rattle.vol_judge.proofs.Extending.{ext_begin, ext_file, ext_all, known_none}
+use Rattle.vol_judge.proofs.MoreMarks.{ext_begin, ext_file, ext_all, known_none}
 use Rattle.vol_judge.proofs.named.mark_named.Goals as goal
 
 pub loop-i-init : goal.loop-i-init

@@ -1,7 +1,7 @@
 use Rattle.std.proofs.Common.{◌∙◌, ◌++◌, ◌∷◌, [], List, length, arith, ap, refl, sym, subst, append_assoc}
 use Rattle.vol_views.specs.Logs.{number_of}
 use Rattle.vol_volume.specs.declared.queries.Query.{Query}
-use Rattle.vol_scripts.specs.Ending.{receipts_in}
+use Rattle.vol_scripts.specs.Endings.{receipts_in}
 use Rattle.vol_play.specs.Steps.{CameInTurn, CameOfQuery, CameOfView, next_after}
 use Rattle.vol_play.proofs.QueryLaws.{in_turn_less}
 use Rattle.vol_play.proofs.StepLaws.{came_end, came_more, receipts_push}

@@ -1,6 +1,6 @@
 use Rattle.std.proofs.Common.{◌≡◌, ◌+◌, ◌≤◌, List, ◌++◌, length, vec_capacity}
 use Rattle.vol_views.specs.Logs.{number_of}
-use Rattle.vol_scripts.specs.Ending.{receipts_in}
+use Rattle.vol_scripts.specs.Endings.{receipts_in}
 use Rattle.vol_scripts.specs.declared.played.Played.{Played}
 use Rattle.vol_play.specs.Steps.{CameInTurn, CameOfQuery, CameOfView}
 use Rattle.vol_play.proofs.queries.play_queries.Given as goal

@@ -1,6 +1,6 @@
 use Rattle.std.proofs.Common.{◌≡◌, map}
 use Rattle.vol_reports.specs.Names.{name_line}
-use Rattle.vol_reports.specs.Climbing.{seen_pair}
+use Rattle.vol_reports.specs.Climb.{seen_pair}
 use Rattle.vol_reports.proofs.names.lines_of.Given as goal
 
 -- the lines of the pairs so far have been added

@@ -1,7 +1,7 @@
 use Rattle.std.proofs.Common.{map, ap, ◌∙◌}
 use Rattle.std.specs.List.{sum_by}
 use Rattle.vol_judge.specs.Directories.{root_of}
-use Rattle.vol_reports.specs.Climbing.{path_in, seen_pair}
+use Rattle.vol_reports.specs.Climb.{path_in, seen_pair}
 use Rattle.vol_reports.proofs.NameLines.{paths_weigh}
 use Rattle.vol_reports.proofs.PathLists.{sorted_weigh, sorted_pairs}
 use Rattle.vol_reports.proofs.names.name_report.Goals as goal

@@ -2,8 +2,8 @@ use Rattle.std.proofs.Common.{◌≡◌, ◌+◌, ◌++◌, ◌∷◌, [], lengt
 use Rattle.std.proofs.lemmas.List.{take_more, take_all}
 use Rattle.count_table.specs.Tallies.{items_of}
 use Rattle.vol_judge.proofs.Once.{marks_written}
-use Rattle.vol_reports.specs.Climbing.{HasNaming}
-use Rattle.vol_reports.proofs.Naming.{naming_more}
+use Rattle.vol_reports.specs.Climb.{HasNaming}
+use Rattle.vol_reports.proofs.NamingEntries.{naming_more}
 use Rattle.vol_reports.proofs.names.naming_entries.Goals as goal
 
 pub loop-entry-preserved : goal.loop-entry-preserved

@@ -1,6 +1,6 @@
 use Rattle.std.proofs.Common.{◌≡◌, ℕ, ◌+◌, ◌≤◌, length, take}
 use Rattle.count_table.specs.Tallies.{items_of}
-use Rattle.vol_reports.specs.Climbing.{HasNaming}
+use Rattle.vol_reports.specs.Climb.{HasNaming}
 use Rattle.vol_reports.proofs.names.naming_entries.Given as goal
 
 -- the naming entries among those so far have been added

@@ -2,7 +2,7 @@ use Rattle.std.proofs.Common.{◌≡◌, ◌+◌, ◌++◌, length, map, take, d
 use Rattle.std.proofs.lemmas.List.{take_all}
 use Rattle.vol_judge.specs.Directories.{root_of}
 use Rattle.vol_judge.proofs.Once.{marks_written}
-use Rattle.vol_reports.specs.Climbing.{AreBefore, path_in}
+use Rattle.vol_reports.specs.Climb.{AreBefore, path_in}
 use Rattle.vol_reports.proofs.PathLists.{paths_more}
 use Rattle.vol_reports.proofs.names.paths_of.Goals as goal
 

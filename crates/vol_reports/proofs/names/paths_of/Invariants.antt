@@ -1,6 +1,6 @@
 use Rattle.std.proofs.Common.{◌≡◌, ◌+◌, [], length, map, take}
 use Rattle.vol_judge.specs.Directories.{root_of}
-use Rattle.vol_reports.specs.Climbing.{AreBefore, path_in, seen_pair}
+use Rattle.vol_reports.specs.Climb.{AreBefore, path_in, seen_pair}
 use Rattle.vol_reports.proofs.names.paths_of.Given as goal
 
 -- the paths of the entries before k are there

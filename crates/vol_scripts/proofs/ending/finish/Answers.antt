@@ -1,4 +1,4 @@
-use Rattle.vol_scripts.specs.Ending.{PrintsPlay}
+use Rattle.vol_scripts.specs.Endings.{PrintsPlay}
 use Rattle.vol_scripts.proofs.EndingLemmas.{ends}
 use Rattle.vol_scripts.proofs.ending.finish.Goals as goal
 

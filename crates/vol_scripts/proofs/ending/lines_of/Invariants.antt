@@ -1,6 +1,6 @@
 use Rattle.std.proofs.Common.{◌≡◌, ◌+◌, ◌++◌, drop}
 use Rattle.std.specs.String.{string_bytes}
-use Rattle.vol_scripts.specs.Ending.{scripts_text}
+use Rattle.vol_scripts.specs.Endings.{scripts_text}
 use Rattle.vol_scripts.proofs.ending.lines_of.Given as goal
 
 -- the appended lines, followed by those of the scripts that are left, are the lines of all

@@ -1,5 +1,5 @@
 use Rattle.std.proofs.Common.{◌≡◌, ◌++◌}
-use Rattle.vol_scripts.specs.Ending.{all_receipts}
+use Rattle.vol_scripts.specs.Endings.{all_receipts}
 use Rattle.vol_scripts.proofs.ending.receipts_of.Given as goal
 
 -- the receipts so far, and those of the scripts that are left, are the receipts of all

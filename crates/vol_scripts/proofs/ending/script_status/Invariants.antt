@@ -1,5 +1,5 @@
 use Rattle.std.proofs.Common.{◌≡◌, take}
-use Rattle.vol_scripts.specs.Ending.{script_status}
+use Rattle.vol_scripts.specs.Endings.{script_status}
 use Rattle.vol_scripts.proofs.ending.script_status.Given as goal
 
 -- the worst of the steps so far

@@ -1,5 +1,5 @@
 use Rattle.std.proofs.Common.{◌≡◌, take}
-use Rattle.vol_scripts.specs.Ending.{scripts_status}
+use Rattle.vol_scripts.specs.Endings.{scripts_status}
 use Rattle.vol_scripts.proofs.ending.scripts_status.Given as goal
 
 -- the worst of the scripts so far

@@ -2,10 +2,10 @@ use Rattle.std.proofs.Common.{◌∙◌, ap, subst, ℕ, ◌++◌, ◌-◌, ◌+
 use Rattle.std.proofs.lemmas.List.{append-nil}
 use Rattle.vol_layout.specs.declared.slot.Slot.{Slot}
 use Rattle.vol_dir.specs.Entries.{entry_at, slot_count}
-use Rattle.vol_dir.specs.Scanning.{GoesOn}
+use Rattle.vol_dir.specs.Scan.{GoesOn}
 use Rattle.vol_dir.specs.Tree.{tree}
 use Rattle.vol_serve.specs.Attributes.{entry_kind_in}
-use Rattle.vol_serve.specs.Listing.{entries_from}
+use Rattle.vol_serve.specs.Listings.{entries_from}
 use Rattle.vol_serve.proofs.ListedEntries.{from_next, from_last, from_first, few_slots, listing_done}
 use Rattle.vol_serve.proofs.listing.put_entries.Goals as goal
 

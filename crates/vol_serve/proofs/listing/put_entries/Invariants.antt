@@ -3,7 +3,7 @@ use Rattle.std.proofs.Common.{◌≡◌, ◌-◌, ◌^◌, ◌≤◌, ◌++◌, 
 use Rattle.vol_dir.specs.Entries.{entry_at, slot_count}
 use Rattle.vol_dir.specs.Tree.{tree}
 use Rattle.vol_serve.specs.Attributes.{entry_kind_in}
-use Rattle.vol_serve.specs.Listing.{entries_from}
+use Rattle.vol_serve.specs.Listings.{entries_from}
 use Rattle.vol_serve.proofs.listing.put_entries.Given as goal
 
 abbrev pub invariant-entries : goal.invariant-entries

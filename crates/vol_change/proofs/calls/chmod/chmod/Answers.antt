@@ -1,6 +1,6 @@
 use Rattle.std.proofs.Common.{◌≤◌, ◌∙◌, ap, arith}
 use Rattle.vol_layout.specs.Places.{has_places}
-use Rattle.vol_file.proofs.Naming.{root_first}
+use Rattle.vol_file.proofs.StoredNames.{root_first}
 use Rattle.vol_dir.specs.Tree.{state}
 use Rattle.vol_change.specs.Effects.{after_chmod}
 use Rattle.vol_change.proofs.CallSteps.{changed, no_step, step_more}

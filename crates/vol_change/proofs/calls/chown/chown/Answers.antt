@@ -1,5 +1,5 @@
 use Rattle.std.proofs.Common.{arith}
-use Rattle.vol_file.proofs.Naming.{root_first}
+use Rattle.vol_file.proofs.StoredNames.{root_first}
 use Rattle.vol_dir.specs.Tree.{state}
 use Rattle.vol_change.specs.Effects.{after_chown}
 use Rattle.vol_change.proofs.CallSteps.{changed, no_step, step_more}

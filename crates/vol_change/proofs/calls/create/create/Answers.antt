@@ -2,14 +2,14 @@ use Rattle.std.proofs.Common.{◌∙◌, sym, ap, subst, ◌≤◌, [], Some, ar
 use Rattle.vol_layout.specs.declared.mode.Kind.TheVariants as kinds
 use Rattle.vol_dir.specs.Entries.{slots}
 use Rattle.vol_dir.specs.Names.{names_in}
-use Rattle.vol_dir.specs.Searching.{new_slot}
+use Rattle.vol_dir.specs.Search.{new_slot}
 use Rattle.vol_dir.specs.Tree.{Body, State, no_shape, tree, state}
 use Rattle.vol_judge.specs.Graph.{graph_of}
 use Rattle.vol_judge.proofs.ImageGraphs.{directory_to, graph_within}
 use Rattle.vol_free.specs.Stack.{IsFree}
 use Rattle.vol_judge.specs.Directories.{root_of}
 use Rattle.vol_judge.proofs.NamedGraphs.{added_file_sound}
-use Rattle.vol_dir.specs.Editing.{slot_bytes}
+use Rattle.vol_dir.specs.EntryEdits.{slot_bytes}
 use Rattle.vol_change.proofs.OneNode.{content_then, bytes_put, directory_stays}
 use Rattle.vol_change.specs.Edits.{add_entry, at_time, new_node, put_node, put_shape}
 use Rattle.vol_change.proofs.UnusedBytes.{unused_then}

@@ -1,17 +1,17 @@
 use Rattle.std.proofs.Common.{◌∙◌, sym, ap, ◌+◌, arith, ◌≡◌, subst, drop, ◌*◌}
 use Rattle.vol_layout.specs.Inode.{inode_of}
 use Rattle.vol_file.specs.Rules.{kind_at}
-use Rattle.vol_file.proofs.Naming.{root_first}
+use Rattle.vol_file.proofs.StoredNames.{root_first}
 use Rattle.vol_dir.specs.Entries.{slots}
 use Rattle.vol_dir.specs.Names.{names_in}
-use Rattle.vol_dir.specs.Searching.{new_slot}
+use Rattle.vol_dir.specs.Search.{new_slot}
 use Rattle.vol_dir.specs.Tree.{tree, State, state}
 use Rattle.vol_judge.specs.Graph.{graph_of}
 use Rattle.vol_judge.proofs.ImageGraphs.{directory_to, graph_within, kind_inside}
 use Rattle.vol_free.specs.Stack.{IsFree}
 use Rattle.vol_judge.specs.Directories.{root_of}
 use Rattle.vol_judge.proofs.NamedGraphs.{added_link_sound}
-use Rattle.vol_dir.specs.Editing.{slot_bytes}
+use Rattle.vol_dir.specs.EntryEdits.{slot_bytes}
 use Rattle.vol_change.specs.Ready.{entry_need}
 use Rattle.vol_change.proofs.OneNode.{content_then, bytes_put, directory_stays}
 use Rattle.vol_change.specs.Edits.{add_entry, at_time}

@@ -1,7 +1,7 @@
 use Rattle.std.proofs.Common.{◌∙◌, ap, sym, ◌%◌, [], arith, subst, drop, length, ◌≢◌, ℕ, ◌≤◌}
 use Rattle.vol_dir.specs.Entries.{slots}
 use Rattle.vol_dir.specs.Names.{dot, dot_dot, get, names_in}
-use Rattle.vol_dir.specs.Searching.{new_slot}
+use Rattle.vol_dir.specs.Search.{new_slot}
 use Rattle.vol_dir.specs.Tree.{no_shape, tree, state}
 use Rattle.vol_judge.specs.Graph.{graph_of, entry_by}
 use Rattle.vol_judge.proofs.ImageGraphs.{directory_to}

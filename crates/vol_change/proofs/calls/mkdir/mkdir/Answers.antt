@@ -2,7 +2,7 @@ use Rattle.std.proofs.Common.{◌≢◌, ◌∙◌, sym, ap, subst, ◌+◌, ◌
 use Rattle.vol_layout.specs.declared.mode.Kind.TheVariants as kinds
 use Rattle.vol_dir.specs.Entries.{slots}
 use Rattle.vol_dir.specs.Names.{names_in}
-use Rattle.vol_dir.specs.Searching.{new_slot}
+use Rattle.vol_dir.specs.Search.{new_slot}
 use Rattle.vol_dir.specs.Tree.{State, state, tree}
 use Rattle.vol_judge.specs.Graph.{graph_of}
 use Rattle.vol_judge.proofs.GraphParts.{not_free}
@@ -10,7 +10,7 @@ use Rattle.vol_judge.proofs.ImageGraphs.{directory_to, directory_from, graph_wit
 use Rattle.vol_free.specs.Stack.{IsFree}
 use Rattle.vol_judge.specs.Directories.{root_of}
 use Rattle.vol_judge.proofs.MadeGraphs.{added_directory_sound}
-use Rattle.vol_dir.specs.Editing.{slot_bytes}
+use Rattle.vol_dir.specs.EntryEdits.{slot_bytes}
 use Rattle.vol_change.proofs.FirstBlocks.{first_kept, first_left}
 use Rattle.vol_change.proofs.FreeLists.{drop_next}
 use Rattle.vol_change.proofs.OneNode.{content_then, bytes_put, directory_stays}

@@ -2,7 +2,7 @@ use Rattle.std.proofs.Common.{◌≡◌, ◌≢◌, if◌then◌else◌, sym, ap
 use Rattle.std.proofs.lemmas.Bool.{eq-eqb, ne_eqb}
 use Rattle.vol_free.specs.FreeWalk.{free_walk}
 use Rattle.vol_check.specs.Pieces.{piece_weight, free_weight, inode_weight}
-use Rattle.vol_check.proofs.Adding.{adds_as}
+use Rattle.vol_check.proofs.AddedMarks.{adds_as}
 use Rattle.vol_check.proofs.PastPieces.{free_piece, inode_piece}
 use Rattle.vol_check.proofs.sweeps.Sweep.check_blocks.Goals as goal
 

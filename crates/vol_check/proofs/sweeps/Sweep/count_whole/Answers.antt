@@ -4,7 +4,7 @@ use Rattle.vol_check.specs.declared.checker.Checker.TheVariants.{Entries}
 use Rattle.vol_dir.specs.Entries.{entry_at}
 use Rattle.vol_check.specs.Slots.{slot_weight, slot_kept}
 use Rattle.vol_check.proofs.Sums.{below_zero, none_over}
-use Rattle.vol_check.proofs.Adding.{adds_as}
+use Rattle.vol_check.proofs.AddedMarks.{adds_as}
 use Rattle.vol_check.proofs.Noted.{notes_none, notes_marks, marked_over, kept_over}
 use Rattle.vol_check.proofs.sweeps.Sweep.count_whole.Goals as goal
 

@@ -11,7 +11,7 @@ use Rattle.vol_check.specs.declared.checker.Checker.TheVariants.{Blocks, Entries
 use Rattle.vol_check.specs.Shapes.{Layout}
 use Rattle.vol_check.specs.Seats.{IsOf}
 use Rattle.vol_check.specs.Layouts.{IsFor}
-use Rattle.vol_check.specs.Reporting.{IsReport}
+use Rattle.vol_check.specs.SweepReports.{IsReport}
 use Rattle.vol_check.proofs.Layouts.{read_fits}
 use Rattle.vol_check.proofs.Reported.{walked, counts_blocks}
 use Rattle.vol_check.proofs.EntriesReported.{counts_entries}

@@ -9,7 +9,7 @@ use Rattle.vol_check.specs.Shapes.{HasWordsOf, Layout}
 use Rattle.vol_check.specs.Layouts.{pieces_in}
 use Rattle.vol_check.proofs.Layouts.{laid_out, counted_in}
 use Rattle.vol_check.proofs.SameHeads.{read_same, starts_same, links_same}
-use Rattle.vol_check.proofs.Drawing.{fresh_own, fresh_knows}
+use Rattle.vol_check.proofs.Draws.{fresh_own, fresh_knows}
 use Rattle.vol_check.proofs.sweeps.Sweep.new.Goals as goal
 
 pub invariant_of-result : goal.invariant_of-result

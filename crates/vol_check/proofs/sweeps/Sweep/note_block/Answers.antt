@@ -5,7 +5,7 @@ use Rattle.vol_layout.specs.Names.{form_at, stored}
 use Rattle.vol_layout.specs.Slot.{slot_at}
 use Rattle.vol_layout.proofs.NameLaws.{zero_out}
 use Rattle.vol_dir.specs.Entries.{entry_in, entry_at, slot_count}
-use Rattle.vol_dir.proofs.SlotReading.{entry_in_block, number_named, number_missing}
+use Rattle.vol_dir.proofs.ReadSlots.{entry_in_block, number_named, number_missing}
 use Rattle.vol_check.specs.Slots.{slot_weight, slot_kept}
 use Rattle.vol_check.proofs.Noted.{notes_none, notes_then, notes_as, marked_over, kept_over, blank_weight, blank_kept, over_blank, over_block, block_hole}
 use Rattle.vol_check.proofs.sweeps.Sweep.note_block.Goals as goal

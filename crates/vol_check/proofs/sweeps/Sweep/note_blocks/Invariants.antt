@@ -1,5 +1,5 @@
 use Rattle.std.proofs.Common.{◌-◌, ◌*◌, ◌≤◌}
-use Rattle.vol_check.specs.Noting.{Notes}
+use Rattle.vol_check.specs.Notes.{Notes}
 use Rattle.vol_check.proofs.Noted.{marked_over, kept_over}
 use Rattle.vol_check.proofs.sweeps.Sweep.note_blocks.Given as goal
 

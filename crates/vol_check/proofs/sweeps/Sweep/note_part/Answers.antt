@@ -2,7 +2,7 @@ use Rattle.std.proofs.Common.{◌≡◌, ◌∙◌, ◌+◌, ◌-◌, ◌*◌, �
 use Rattle.std.proofs.lemmas.Result.{IfOk-weaker}
 use Rattle.vol_dir.specs.Entries.{slot_count}
 use Rattle.vol_check.specs.Slots.{slot_weight, slot_kept, part_sum}
-use Rattle.vol_check.specs.Noting.{Notes}
+use Rattle.vol_check.specs.Notes.{Notes}
 use Rattle.vol_check.proofs.PartCounts.{directory_parts, few_parts}
 use Rattle.vol_check.proofs.Noted.{notes_none, notes_as, marked_over, kept_over, blank_weight, blank_kept, part_none, part_over}
 use Rattle.vol_check.proofs.sweeps.Sweep.note_part.Goals as goal

@@ -2,8 +2,8 @@ use Rattle.std.proofs.Common.{◌∙◌, ℕ, List, ap, subst, slice_index, arit
 use Rattle.std.proofs.lemmas.Result.{IfOk-weaker}
 use Rattle.vol_check.specs.Parts.{IsPart}
 use Rattle.vol_check.specs.Slots.{slot_weight, slot_kept, part_sum}
-use Rattle.vol_check.specs.Noting.{Notes}
-use Rattle.vol_check.specs.Stepping.{Works}
+use Rattle.vol_check.specs.Notes.{Notes}
+use Rattle.vol_check.specs.Steps.{Works}
 use Rattle.vol_check.proofs.Layouts.{read_fits}
 use Rattle.vol_check.proofs.DirectoryPieces.{part_within, note_works}
 use Rattle.vol_check.proofs.sweeps.Sweep.note_piece.Goals as goal

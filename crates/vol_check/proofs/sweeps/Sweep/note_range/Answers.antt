@@ -1,7 +1,7 @@
 use Rattle.std.proofs.Common.{◌-◌, ◌*◌}
 use Rattle.std.proofs.lemmas.Result.{IfOk-weaker, IfErr-weaker}
 use Rattle.vol_check.specs.Slots.{slot_weight, slot_kept}
-use Rattle.vol_check.specs.Noting.{Notes, Stays}
+use Rattle.vol_check.specs.Notes.{Notes, Stays}
 use Rattle.vol_check.proofs.Noted.{notes_then, notes_stay, marked_over, kept_over, blank_weight, blank_kept, over_two}
 use Rattle.vol_check.proofs.sweeps.Sweep.note_range.Goals as goal
 

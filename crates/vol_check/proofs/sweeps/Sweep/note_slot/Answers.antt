@@ -8,9 +8,9 @@ use Rattle.vol_reports.specs.Placed.{Placed}
 use Rattle.vol_reports.specs.Names.{entered}
 use Rattle.vol_check.specs.declared.checker.Checker.{Checker}
 use Rattle.vol_check.specs.Slots.{slot_weight, slot_kept, entry_weight, name_weight}
-use Rattle.vol_check.specs.Noting.{Notes}
+use Rattle.vol_check.specs.Notes.{Notes}
 use Rattle.vol_check.proofs.Noted.{notes_none, notes_marks, notes_as, blank_weight, blank_kept, slot_none, slot_some}
-use Rattle.vol_check.proofs.Adding.{adds_as}
+use Rattle.vol_check.proofs.AddedMarks.{adds_as}
 use Rattle.vol_check.proofs.LevelLaws.{one_time}
 use Rattle.vol_check.proofs.sweeps.Sweep.note_slot.Goals as goal
 

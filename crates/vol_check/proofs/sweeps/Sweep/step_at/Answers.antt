@@ -4,7 +4,7 @@ use Rattle.vol_check.specs.declared.seats.CheckSeat.{CheckSeat}
 use Rattle.vol_check.specs.Seats.{is_stopped}
 use Rattle.vol_check.proofs.PastPieces.{is_past}
 use Rattle.vol_check.proofs.DirectoryPieces.{laid}
-use Rattle.vol_check.proofs.Drawing.{done_own, done_knows, end_own, end_knows, fail_own, spoiled_knows, clash, goes_on}
+use Rattle.vol_check.proofs.Draws.{done_own, done_knows, end_own, end_knows, fail_own, spoiled_knows, clash, goes_on}
 use Rattle.vol_check.proofs.sweeps.Sweep.step_at.Goals as goal
 
 pub returns-in-Ok : goal.returns-in-Ok

@@ -5,7 +5,7 @@ use Rattle.vol_layout.specs.Edition.{constants}
 use Rattle.vol_layout.specs.Geometry.{in_zone}
 use Rattle.vol_layout.proofs.BodyLaws.{zone_room}
 use Rattle.vol_free.specs.FreeWalk.{walk_rest}
-use Rattle.vol_free.specs.Walking.{next_count}
+use Rattle.vol_free.specs.Walk.{next_count}
 use Rattle.vol_free.specs.declared.free_walk.FreeFault.TheVariants.{TooMany, OutOfZone, Repeat}
 use Rattle.vol_free.proofs.Stacks.{limit_below}
 use Rattle.vol_free.proofs.WalkLaws.{failed, walk_none, walk_many, walk_end, walk_out, walk_again, walk_chain, walk_on}

@@ -1,5 +1,5 @@
 use Rattle.std.proofs.Common.{◌+◌, arith}
-use Rattle.vol_judge.proofs.Deciding.{holds, fails}
+use Rattle.vol_judge.proofs.Decisions.{holds, fails}
 use Rattle.vol_judge.proofs.Dotted.{each_keeps, keep_more, keep_all, none_before}
 use Rattle.vol_judge.proofs.directories.dots.find_dots.Goals as goal
 use Rattle.vol_judge.proofs.directories.dots.find_dots.Goals.{then-needs_dots+in_default, else-needs_dots}

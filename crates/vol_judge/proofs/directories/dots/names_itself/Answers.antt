@@ -1,4 +1,4 @@
-use Rattle.vol_judge.proofs.Deciding.{holds}
+use Rattle.vol_judge.proofs.Decisions.{holds}
 use Rattle.vol_judge.proofs.Dotted.{itself_decides, up_known}
 use Rattle.vol_judge.proofs.directories.dots.names_itself.Goals as goal
 

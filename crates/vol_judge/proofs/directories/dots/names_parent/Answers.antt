@@ -1,6 +1,6 @@
 use Rattle.std.proofs.Common.{◌≡◌, ◌∙◌, sym}
 use Rattle.vol_judge.specs.Directories.{root_of}
-use Rattle.vol_judge.proofs.Deciding.{refuted}
+use Rattle.vol_judge.proofs.Decisions.{refuted}
 use Rattle.vol_judge.proofs.Dotted.{no_parent, root_parent, other_parent}
 use Rattle.vol_judge.proofs.directories.dots.names_parent.Goals as goal
 

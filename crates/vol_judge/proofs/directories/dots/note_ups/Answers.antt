@@ -1,7 +1,7 @@
 use Rattle.std.proofs.Common.{Some, arith}
 use Rattle.std.specs.Option.{option_eq}
 use Rattle.std.proofs.Math.Dec.{eqb}
-use Rattle.vol_judge.proofs.Deciding.{fails, not_true, not_false, same_option, other_option}
+use Rattle.vol_judge.proofs.Decisions.{fails, not_true, not_false, same_option, other_option}
 use Rattle.vol_judge.proofs.Parents.{themselves_named, themselves_other, dots_until, dots_all}
 use Rattle.vol_judge.proofs.directories.dots.note_ups.Goals as goal
 use Rattle.vol_judge.proofs.directories.dots.note_ups.Goals.{else-loop-d-test, then-loop-d-test+else-d-d-end, then-is_directory+else-ne, else-is_directory}

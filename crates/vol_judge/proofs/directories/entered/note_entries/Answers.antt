@@ -1,7 +1,7 @@
 use Rattle.std.proofs.Common.{◌≡◌, ◌<◌, take, drop, ◌++◌, get_or, length, refl, arith, rules}
 use Rattle.std.proofs.lemmas.Grind.{common_steps}
 use Rattle.std.proofs.lemmas.List.{get_or_read_under}
-use Rattle.vol_judge.specs.Stepping.{rank}
+use Rattle.vol_judge.specs.Steps.{rank}
 use Rattle.vol_judge.specs.Tree.{NotesParentsBefore}
 use Rattle.vol_judge.proofs.Counts.{last_low, counts_first, counts_next, counts_past, counts_all}
 use Rattle.vol_judge.proofs.Once.{marks_written}

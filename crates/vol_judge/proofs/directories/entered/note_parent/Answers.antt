@@ -2,7 +2,7 @@ use Rattle.std.proofs.Common.{◌≡◌, ◌<◌, ◌∙◌, sym, inl, inr, true
 use Rattle.std.specs.Option.{option_eq}
 use Rattle.std.proofs.Math.Dec.{eqb}
 use Rattle.vol_judge.specs.Directories.{root_of}
-use Rattle.vol_judge.proofs.Deciding.{holds, fails, not_true, not_false, same_option, other_option}
+use Rattle.vol_judge.proofs.Decisions.{holds, fails, not_true, not_false, same_option, other_option}
 use Rattle.vol_judge.proofs.Parented.{none_of, parents_kept, parents_noted, once_passed, once_noted, again_root, again_second}
 use Rattle.vol_judge.proofs.Parents.{some_number}
 use Rattle.vol_judge.proofs.directories.entered.note_parent.Goals as goal

@@ -1,5 +1,5 @@
 use Rattle.std.proofs.Common.{◌+◌, refl, arith, rules}
-use Rattle.vol_judge.proofs.Deciding.{holds, fails}
+use Rattle.vol_judge.proofs.Decisions.{holds, fails}
 use Rattle.vol_judge.proofs.Countings.{links_hold, links_each, counted, uncounted, links_more}
 use Rattle.vol_judge.proofs.directories.links.find_link.Goals as goal
 

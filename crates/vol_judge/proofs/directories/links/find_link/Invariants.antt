@@ -1,5 +1,5 @@
 use Rattle.std.proofs.Common.{ℕ, ◌<◌, ◌≤◌}
-use Rattle.vol_judge.specs.Counting.{IsCounted}
+use Rattle.vol_judge.specs.EntryCounts.{IsCounted}
 use Rattle.vol_judge.specs.Directories.{entry_count}
 use Rattle.vol_judge.proofs.directories.links.find_link.Given as goal
 

@@ -1,7 +1,7 @@
 use Rattle.std.proofs.Common.{◌≡◌, ◌+◌, ◌++◌, take, drop, length, arith, rules}
 use Rattle.std.proofs.lemmas.Grind.{common_steps}
 use Rattle.vol_judge.specs.Directories.{root_of, IsReached, at_root}
-use Rattle.vol_judge.proofs.Deciding.{fails}
+use Rattle.vol_judge.proofs.Decisions.{fails}
 use Rattle.vol_judge.proofs.EachDirectory.{directories_more}
 use Rattle.vol_judge.proofs.Once.{marks_written}
 use Rattle.vol_judge.proofs.Reaches.{walked_first, walked_later}

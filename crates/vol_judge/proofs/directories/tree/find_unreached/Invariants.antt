@@ -1,7 +1,7 @@
 use Rattle.std.proofs.Common.{ℕ, ◌<◌}
 use Rattle.vol_dir.specs.Entries.{IsDirectory}
 use Rattle.vol_judge.specs.Directories.{IsReached}
-use Rattle.vol_judge.specs.Reaching.{AreWalked}
+use Rattle.vol_judge.specs.Reach.{AreWalked}
 use Rattle.vol_judge.proofs.directories.tree.find_unreached.Given as goal
 
 -- the directories below d are reached

@@ -1,5 +1,5 @@
 use Rattle.std.proofs.Common.{not, nat_eq, get_or, refl, arith, eqb-true}
-use Rattle.vol_judge.proofs.Deciding.{not_false}
+use Rattle.vol_judge.proofs.Decisions.{not_false}
 use Rattle.vol_judge.proofs.Reaches.{not_root}
 use Rattle.vol_judge.proofs.Upwards.{goes_on, goes_round, goes_nowhere}
 use Rattle.vol_judge.proofs.directories.tree.goes_to_root.Goals as goal

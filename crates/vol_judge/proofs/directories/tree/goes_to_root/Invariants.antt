@@ -1,4 +1,4 @@
-use Rattle.vol_judge.specs.Reaching.{WalksUp, unwalked}
+use Rattle.vol_judge.specs.Reach.{WalksUp, unwalked}
 use Rattle.vol_judge.proofs.directories.tree.goes_to_root.Given as goal
 
 -- the way has reached `at`

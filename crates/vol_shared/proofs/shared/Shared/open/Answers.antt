@@ -1,5 +1,5 @@
 use Rattle.std.proofs.Common.{◌∙◌}
-use Rattle.vol_shared.proofs.Ending.{same_volume}
+use Rattle.vol_shared.proofs.ClosedVolumes.{same_volume}
 use Rattle.vol_shared.proofs.shared.Shared.open.Goals as goal
 
 pub returns-in_default-clause-handed_back : goal.returns-in_default-clause-handed_back

@@ -1,0 +1,52 @@
+//! Prints a text, or reports why there is none.
+ghost use Rattle.std.specs.Prelude.{◌≡◌, ◌⊎◌, ℕ, true, IfErr, IfOk, OnErr, OnOk, string_bytes};
+ghost use Rattle.std.specs.Io.KnownBytes.{Appends, Keeps};
+ghost use Rattle.pdp_words.specs.Devices.{AppendsFront};
+ghost use Rattle.command_faults.specs.Streams.{ErrorStream, Hears, streams};
+ghost use Rattle.command_reads.specs.Print.{IsTold, Prints, PrintsWith};
+
+use command_faults::status::DONE;
+use command_faults::{Ending, Fault};
+use pdp_words::{Sink, write_all};
+
+/// Prints a text, or returns its fault.
+#[tactic(auto, using(crate::proofs::Printed::kept_same))]
+pub(crate) fn finish<O: Sink>(text: Result<String, Fault>, output: &mut O) -> Ending
+    ensures printed { (errors : ErrorStream) → Hears errors result.fault
+        → IfOk text (λ text. Prints (streams O.contents O.failed output.old output.new errors) (string_bytes text) result.status) }
+    ensures told { (errors : ErrorStream) → Hears errors result.fault
+        → IfErr text (λ fault. IsTold (streams O.contents O.failed output.old output.new errors) fault result.status) }
+{
+    match text {
+        Ok(text) => print_with(text.as_bytes(), DONE, output),
+        Err(fault) => Ending::from(fault),
+    }
+}
+
+/// Prints a text of any bytes, or returns its fault.
+#[tactic(auto, using(crate::proofs::Printed::kept_same))]
+pub(crate) fn finish_bytes<O: Sink>(text: Result<Vec<u8>, Fault>, output: &mut O) -> Ending
+    ensures printed { (errors : ErrorStream) → Hears errors result.fault
+        → IfOk text (λ text. Prints (streams O.contents O.failed output.old output.new errors) text.items result.status) }
+    ensures told { (errors : ErrorStream) → Hears errors result.fault
+        → IfErr text (λ fault. IsTold (streams O.contents O.failed output.old output.new errors) fault result.status) }
+{
+    match text {
+        Ok(text) => print_with(&text, DONE, output),
+        Err(fault) => Ending::from(fault),
+    }
+}
+
+/// Prints a text, and returns a status for it.
+pub(crate) fn print_with<O: Sink>(text: &[u8], status: u8, output: &mut O) -> Ending
+    ensures { (errors : ErrorStream) → Hears errors result.fault
+        → PrintsWith status (streams O.contents O.failed output.old output.new errors) text.now result.status }
+{
+    match write_all(output, text) {
+        Ok(()) => Ending {
+            status,
+            fault: None,
+        },
+        Err(_) => Ending::from(Fault::Output),
+    }
+}

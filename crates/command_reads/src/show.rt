@@ -1,0 +1,58 @@
+//! Shows the part of an image that the command line names.
+ghost use Rattle.command_faults.specs.Streams.{heard, ErrorStream, Hears, streams};
+ghost use Rattle.command_reads.specs.Look.{Looks};
+
+use crate::check::check;
+use crate::export::export;
+use crate::inode::show_inode;
+use crate::looks::Look;
+use crate::ls::list;
+use crate::map::draw_map;
+use crate::super_block::show_super;
+use command_faults::Ending;
+use command_faults::answer::tell;
+use pdp_words::Sink;
+use std::alloc::Global;
+use vol_layout::Edition;
+use vol_listing::Screen;
+
+/// Shows part of an image as [`perform`] does, writes the line of a fault to `errors`, and returns the status.
+pub fn look<O: Sink, E: Sink>(
+    alloc: Global,
+    edition: Edition,
+    image: Vec<u8>,
+    look: Look<'_>,
+    screen: Screen,
+    output: &mut O,
+    errors: &mut E,
+) -> u8
+    ensures { Looks edition image.items screen (streams O.contents O.failed output.old output.new (heard E.contents E.failed errors.old errors.new)) result look.entry }
+{
+    let ending = perform(alloc, edition, image, look, screen, output);
+    tell(&ending.fault, errors);
+    ending.status
+}
+
+/// Shows part of an image, which may be any bytes, on `output`. The status is 0; 1 if the image isn't sound enough for the
+/// command, or the named part doesn't exist; 3 if `output` failed, 4 if memory ran out. Costs what the command costs, and
+/// takes no right to wait.
+pub fn perform<O: Sink>(
+    alloc: Global,
+    edition: Edition,
+    image: Vec<u8>,
+    look: Look<'_>,
+    screen: Screen,
+    output: &mut O,
+) -> Ending
+    ensures { (errors : ErrorStream) → Hears errors result.fault
+        → Looks edition image.items screen (streams O.contents O.failed output.old output.new errors) result.status look.entry }
+{
+    match look {
+        Look::Export { path } => export(alloc, edition, image, path, screen, output),
+        Look::Inode { number, form } => show_inode(alloc, edition, image, number, form, output),
+        Look::Super { form } => show_super(alloc, edition, image, form, output),
+        Look::Map { picture } => draw_map(alloc, edition, image, picture, screen, output),
+        Look::Check => check(alloc, edition, image, output),
+        Look::List { path, listing } => list(alloc, edition, image, path, listing, screen, output),
+    }
+}

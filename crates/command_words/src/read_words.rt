@@ -1,0 +1,536 @@
+//! Reads the words after a command.
+ghost use Rattle.std.specs.Prelude.{◌≡◌, ℕ, None, Option, IfOk, IfErr, codes};
+ghost use Rattle.command_words.specs.Invocations.{AreLinesGiven, AsksFor, AsksForNothing, IsDepthGiven, IsFormGiven, IsMadeGiven, IsOneWrong, IsPictureGiven, IsValue, IsVolumeGiven, TellsOf, checker_verb};
+ghost use Rattle.command_words.specs.Verbs.{arguments_of, of_checker};
+ghost use Rattle.command_words.specs.declared.parameters.WordKind.TheVariants as kinds;
+ghost use Rattle.command_words.specs.declared.verbs.Verb.TheVariants as verbs;
+
+use crate::disks::list_default;
+use crate::fault::WordFault;
+use crate::given::{
+    Given, blocks_in, edition_in, flag_in, long_in, moment_in, option_in, permissions_in,
+    scripts_in, text_in, threads_in, word_in, word_or,
+};
+use crate::invocation::{Copying, Invocation, MadeFile, VolumeFile, Work};
+use crate::several::{PutFiles, file_in, files_in, no_more, not_empty, paths_in};
+use crate::texts;
+use crate::verbs::Verb;
+use command_changes::{Change, Migration};
+use command_reads::{Look, OutputForm, Picture};
+use std::alloc::Global;
+use vol_check::Checker;
+use vol_listing::{Depth, Lines, ListOptions};
+use vol_mkfs::NewVolume;
+
+/// Reads the words after a command. `clock` is the time of the program's clock, in seconds since the beginning of 1970, if
+/// it has one; it is used if the command's time was left out. Returns a fault if a word isn't valid for its argument, a word
+/// is missing or one too many, there is no time, two files to copy have the same last name, or the place to copy them to is
+/// the empty word.
+pub fn read<'a, G: Given<'a>>(
+    alloc: Global,
+    verb: Verb,
+    given: &G,
+    clock: Option<u32>,
+) -> Result<Invocation<'a>, WordFault<'a>>
+    ensures read { IfOk result (AsksFor clock verb (G.words given.now)) }
+    ensures refused { IfErr result (TellsOf (AsksForNothing clock verb (G.words given.now))) }
+{
+    match verb {
+        Verb::Cat => read_cat(given),
+        Verb::Ls => read_ls(given),
+        Verb::Get => read_get(alloc, given),
+        Verb::Export => read_export(given),
+        Verb::Inode => read_inode(given),
+        Verb::Super => read_super(given),
+        Verb::Map => read_map(given),
+        Verb::Check => read_check(given),
+        Verb::Icheck => read_checker(given, Checker::Blocks),
+        Verb::Dcheck => read_checker(given, Checker::Entries),
+        Verb::Ncheck => read_checker(given, Checker::Names),
+        Verb::Mkfs => read_mkfs(given, clock),
+        Verb::Put => read_put(alloc, given, clock),
+        Verb::Import => read_import(given, clock),
+        Verb::Rm => read_rm(given, clock),
+        Verb::Rmdir => read_rmdir(given, clock),
+        Verb::Mkdir => read_mkdir(given, clock),
+        Verb::Ln => read_ln(given, clock),
+        Verb::Mv => read_mv(given, clock),
+        Verb::Chmod => read_chmod(given, clock),
+        Verb::Chown => read_chown(given, clock),
+        Verb::Touch => read_touch(given, clock),
+        Verb::Salvage => read_salvage(given),
+        Verb::Play => read_play(alloc, given),
+        Verb::Migrate => read_migrate(given, clock),
+        Verb::Serve => read_serve(given),
+    }
+}
+
+/// Reads the words of `cat`.
+fn read_cat<'a, G: Given<'a>>(given: &G) -> Result<Invocation<'a>, WordFault<'a>>
+    ensures read { IfOk result (AsksFor None verbs.Cat (G.words given.now)) }
+    ensures refused { IfErr result (TellsOf (IsOneWrong None (G.words given.now) (arguments_of verbs.Cat))) }
+{
+    let volume = volume_in(given)?;
+    let ino = word_in(given, "INO")?;
+    Ok(Invocation::Cat { volume, ino })
+}
+
+/// Reads the words of `ls`.
+fn read_ls<'a, G: Given<'a>>(given: &G) -> Result<Invocation<'a>, WordFault<'a>>
+    ensures read { IfOk result (AsksFor None verbs.Ls (G.words given.now)) }
+    ensures refused { IfErr result (TellsOf (IsOneWrong None (G.words given.now) (arguments_of verbs.Ls))) }
+{
+    let volume = volume_in(given)?;
+    let path = text_in(given, "PATH");
+    let listing = ListOptions {
+        lines: lines_in(given),
+        depth: depth_in(given),
+    };
+    Ok(Invocation::Look {
+        volume,
+        look: Look::List { path, listing },
+    })
+}
+
+/// Reads the form of the lines.
+fn lines_in<'a, G: Given<'a>>(given: &G) -> Lines
+    ensures { AreLinesGiven (G.words given.now) result }
+{
+    if flag_in(given, "json") {
+        Lines::Json
+    } else if flag_in(given, "long") {
+        Lines::Long
+    } else {
+        Lines::Plain
+    }
+}
+
+/// Reads the depth of a listing.
+fn depth_in<'a, G: Given<'a>>(given: &G) -> Depth
+    ensures { IsDepthGiven (G.words given.now) result }
+{
+    if flag_in(given, "directory") {
+        Depth::Itself
+    } else if flag_in(given, "recursive") {
+        Depth::Below
+    } else {
+        Depth::Names
+    }
+}
+
+/// Reads the words of `get`.
+fn read_get<'a, G: Given<'a>>(alloc: Global, given: &G) -> Result<Invocation<'a>, WordFault<'a>>
+    ensures read { IfOk result (AsksFor None verbs.Get (G.words given.now)) }
+    ensures refused { (clock : Option ℕ) → IfErr result (TellsOf (AsksForNothing clock verbs.Get (G.words given.now))) }
+{
+    let volume = volume_in(given)?;
+    match given.first("output") {
+        Some(folder) => {
+            not_empty("FOLDER", folder, texts::EMPTY_FOLDER)?;
+            let paths = paths_in(alloc, given)?;
+            let copying = Copying::Get { folder, paths };
+            Ok(Invocation::Copy { volume, copying })
+        }
+        None => {
+            let path = text_in(given, "PATH");
+            no_more(given, texts::WANTS_OUTPUT)?;
+            Ok(Invocation::Get { volume, path })
+        }
+    }
+}
+
+/// Reads the words of `export`.
+fn read_export<'a, G: Given<'a>>(given: &G) -> Result<Invocation<'a>, WordFault<'a>>
+    ensures read { IfOk result (AsksFor None verbs.Export (G.words given.now)) }
+    ensures refused { IfErr result (TellsOf (IsOneWrong None (G.words given.now) (arguments_of verbs.Export))) }
+{
+    let volume = volume_in(given)?;
+    let path = text_in(given, "PATH");
+    Ok(Invocation::Look {
+        volume,
+        look: Look::Export { path },
+    })
+}
+
+/// Reads the words of `inode`.
+fn read_inode<'a, G: Given<'a>>(given: &G) -> Result<Invocation<'a>, WordFault<'a>>
+    ensures read { IfOk result (AsksFor None verbs.Inode (G.words given.now)) }
+    ensures refused { IfErr result (TellsOf (IsOneWrong None (G.words given.now) (arguments_of verbs.Inode))) }
+{
+    let volume = volume_in(given)?;
+    let number = word_in(given, "INO")?;
+    let form = form_in(given);
+    Ok(Invocation::Look {
+        volume,
+        look: Look::Inode { number, form },
+    })
+}
+
+/// Reads the words of `super`.
+fn read_super<'a, G: Given<'a>>(given: &G) -> Result<Invocation<'a>, WordFault<'a>>
+    ensures read { IfOk result (AsksFor None verbs.Super (G.words given.now)) }
+    ensures refused { IfErr result (TellsOf (IsOneWrong None (G.words given.now) (arguments_of verbs.Super))) }
+{
+    let volume = volume_in(given)?;
+    let form = form_in(given);
+    Ok(Invocation::Look {
+        volume,
+        look: Look::Super { form },
+    })
+}
+
+/// Reads the words of `map`.
+fn read_map<'a, G: Given<'a>>(given: &G) -> Result<Invocation<'a>, WordFault<'a>>
+    ensures read { IfOk result (AsksFor None verbs.Map (G.words given.now)) }
+    ensures refused { IfErr result (TellsOf (IsOneWrong None (G.words given.now) (arguments_of verbs.Map))) }
+{
+    let volume = volume_in(given)?;
+    let picture = picture_in(given);
+    Ok(Invocation::Look {
+        volume,
+        look: Look::Map { picture },
+    })
+}
+
+/// Reads the words of `check`.
+fn read_check<'a, G: Given<'a>>(given: &G) -> Result<Invocation<'a>, WordFault<'a>>
+    ensures read { IfOk result (AsksFor None verbs.Check (G.words given.now)) }
+    ensures refused { IfErr result (TellsOf (IsOneWrong None (G.words given.now) (arguments_of verbs.Check))) }
+{
+    let volume = volume_in(given)?;
+    Ok(Invocation::Look {
+        volume,
+        look: Look::Check,
+    })
+}
+
+/// Reads the form of a report.
+fn form_in<'a, G: Given<'a>>(given: &G) -> OutputForm
+    ensures { IsFormGiven (G.words given.now) result }
+{
+    if flag_in(given, "json") {
+        OutputForm::Json
+    } else {
+        OutputForm::Text
+    }
+}
+
+/// Reads the form of a block map.
+fn picture_in<'a, G: Given<'a>>(given: &G) -> Picture
+    ensures { IsPictureGiven (G.words given.now) result }
+{
+    if flag_in(given, "svg") {
+        Picture::Svg
+    } else {
+        Picture::Cells
+    }
+}
+
+/// Reads the words of `mkfs`.
+fn read_mkfs<'a, G: Given<'a>>(
+    given: &G,
+    clock: Option<u32>,
+) -> Result<Invocation<'a>, WordFault<'a>>
+    ensures read { IfOk result (AsksFor clock verbs.Mkfs (G.words given.now)) }
+    ensures refused { IfErr result (TellsOf (IsOneWrong clock (G.words given.now) (arguments_of verbs.Mkfs))) }
+{
+    let image = made_in(given, "IMAGE");
+    let edition = edition_in(given)?;
+    let blocks = blocks_in(given)?;
+    let volume = NewVolume {
+        edition,
+        blocks,
+        list_blocks: word_or(given, "IBLOCKS", list_default(edition, blocks))?,
+        uid: word_or(given, "UID", 0)?,
+        gid: word_or(given, "GID", 0)?,
+        now: moment_in(given, clock)?,
+    };
+    Ok(Invocation::Mkfs { image, volume })
+}
+
+/// Reads the file to make, whose path was given for an argument.
+fn made_in<'a, G: Given<'a>>(given: &G, name: &str) -> MadeFile<'a>
+    ensures { IsMadeGiven (G.words given.now) name.now result }
+{
+    MadeFile {
+        path: text_in(given, name),
+        is_new: flag_in(given, "new"),
+    }
+}
+
+/// Reads the words of `migrate`.
+fn read_migrate<'a, G: Given<'a>>(
+    given: &G,
+    clock: Option<u32>,
+) -> Result<Invocation<'a>, WordFault<'a>>
+    ensures read { IfOk result (AsksFor clock verbs.Migrate (G.words given.now)) }
+    ensures refused { IfErr result (TellsOf (IsOneWrong clock (G.words given.now) (arguments_of verbs.Migrate))) }
+{
+    let old = text_in(given, "OLD");
+    let new = made_in(given, "NEW");
+    let migration = Migration {
+        blocks: long_in(given, "FSIZE")?,
+        list_blocks: word_in(given, "IBLOCKS")?,
+        now: moment_in(given, clock)?,
+    };
+    Ok(Invocation::Migrate {
+        old,
+        new,
+        migration,
+    })
+}
+
+/// Reads the words of `put`.
+fn read_put<'a, G: Given<'a>>(
+    alloc: Global,
+    given: &G,
+    clock: Option<u32>,
+) -> Result<Invocation<'a>, WordFault<'a>>
+    ensures read { IfOk result (AsksFor clock verbs.Put (G.words given.now)) }
+    ensures refused { IfErr result (TellsOf (AsksForNothing clock verbs.Put (G.words given.now))) }
+{
+    let volume = volume_in(given)?;
+    match given.first("target-directory") {
+        Some(directory) => {
+            not_empty("DIR", directory, texts::EMPTY_TARGET)?;
+            let PutFiles { files, now } = files_in(alloc, given, clock)?;
+            let copying = Copying::Put {
+                directory,
+                files,
+                now,
+            };
+            Ok(Invocation::Copy { volume, copying })
+        }
+        None => {
+            let path = text_in(given, "PATH");
+            let file = file_in(given)?;
+            no_more(given, texts::WANTS_TARGET)?;
+            let now = moment_in(given, clock)?;
+            let change = Change::Put { path, file, now };
+            Ok(Invocation::Change { volume, change })
+        }
+    }
+}
+
+/// Reads the words of `import`.
+fn read_import<'a, G: Given<'a>>(
+    given: &G,
+    clock: Option<u32>,
+) -> Result<Invocation<'a>, WordFault<'a>>
+    ensures read { IfOk result (AsksFor clock verbs.Import (G.words given.now)) }
+    ensures refused { IfErr result (TellsOf (IsOneWrong clock (G.words given.now) (arguments_of verbs.Import))) }
+{
+    let volume = volume_in(given)?;
+    let path = text_in(given, "PATH");
+    let now = moment_in(given, clock)?;
+    Ok(Invocation::Change {
+        volume,
+        change: Change::Import { path, now },
+    })
+}
+
+/// Reads the words of `rm`.
+fn read_rm<'a, G: Given<'a>>(given: &G, clock: Option<u32>) -> Result<Invocation<'a>, WordFault<'a>>
+    ensures read { IfOk result (AsksFor clock verbs.Rm (G.words given.now)) }
+    ensures refused { IfErr result (TellsOf (IsOneWrong clock (G.words given.now) (arguments_of verbs.Rm))) }
+{
+    let volume = volume_in(given)?;
+    let path = text_in(given, "PATH");
+    let now = moment_in(given, clock)?;
+    if flag_in(given, "recursive") {
+        return Ok(Invocation::Change {
+            volume,
+            change: Change::RmAll { path, now },
+        });
+    }
+    Ok(Invocation::Change {
+        volume,
+        change: Change::Rm { path, now },
+    })
+}
+
+/// Reads the words of `rmdir`.
+fn read_rmdir<'a, G: Given<'a>>(
+    given: &G,
+    clock: Option<u32>,
+) -> Result<Invocation<'a>, WordFault<'a>>
+    ensures read { IfOk result (AsksFor clock verbs.Rmdir (G.words given.now)) }
+    ensures refused { IfErr result (TellsOf (IsOneWrong clock (G.words given.now) (arguments_of verbs.Rmdir))) }
+{
+    let volume = volume_in(given)?;
+    let path = text_in(given, "PATH");
+    let now = moment_in(given, clock)?;
+    Ok(Invocation::Change {
+        volume,
+        change: Change::Rmdir { path, now },
+    })
+}
+
+/// Reads the words of `mkdir`.
+fn read_mkdir<'a, G: Given<'a>>(
+    given: &G,
+    clock: Option<u32>,
+) -> Result<Invocation<'a>, WordFault<'a>>
+    ensures read { IfOk result (AsksFor clock verbs.Mkdir (G.words given.now)) }
+    ensures refused { IfErr result (TellsOf (IsOneWrong clock (G.words given.now) (arguments_of verbs.Mkdir))) }
+{
+    let volume = volume_in(given)?;
+    let path = text_in(given, "PATH");
+    let now = moment_in(given, clock)?;
+    if flag_in(given, "parents") {
+        return Ok(Invocation::Change {
+            volume,
+            change: Change::MkdirAll { path, now },
+        });
+    }
+    Ok(Invocation::Change {
+        volume,
+        change: Change::Mkdir { path, now },
+    })
+}
+
+/// Reads the words of `ln`.
+fn read_ln<'a, G: Given<'a>>(given: &G, clock: Option<u32>) -> Result<Invocation<'a>, WordFault<'a>>
+    ensures read { IfOk result (AsksFor clock verbs.Ln (G.words given.now)) }
+    ensures refused { IfErr result (TellsOf (IsOneWrong clock (G.words given.now) (arguments_of verbs.Ln))) }
+{
+    let volume = volume_in(given)?;
+    let from = text_in(given, "FROM");
+    let to = text_in(given, "TO");
+    let now = moment_in(given, clock)?;
+    Ok(Invocation::Change {
+        volume,
+        change: Change::Ln { from, to, now },
+    })
+}
+
+/// Reads the words of `mv`.
+fn read_mv<'a, G: Given<'a>>(given: &G, clock: Option<u32>) -> Result<Invocation<'a>, WordFault<'a>>
+    ensures read { IfOk result (AsksFor clock verbs.Mv (G.words given.now)) }
+    ensures refused { IfErr result (TellsOf (IsOneWrong clock (G.words given.now) (arguments_of verbs.Mv))) }
+{
+    let volume = volume_in(given)?;
+    let from = text_in(given, "FROM");
+    let to = text_in(given, "TO");
+    let now = moment_in(given, clock)?;
+    Ok(Invocation::Change {
+        volume,
+        change: Change::Mv { from, to, now },
+    })
+}
+
+/// Reads the words of `chmod`.
+fn read_chmod<'a, G: Given<'a>>(
+    given: &G,
+    clock: Option<u32>,
+) -> Result<Invocation<'a>, WordFault<'a>>
+    ensures read { IfOk result (AsksFor clock verbs.Chmod (G.words given.now)) }
+    ensures refused { IfErr result (TellsOf (IsOneWrong clock (G.words given.now) (arguments_of verbs.Chmod))) }
+{
+    let volume = volume_in(given)?;
+    let path = text_in(given, "PATH");
+    let perm = permissions_in(given, "PERM")?;
+    let now = moment_in(given, clock)?;
+    Ok(Invocation::Change {
+        volume,
+        change: Change::Chmod { path, perm, now },
+    })
+}
+
+/// Reads the words of `chown`.
+fn read_chown<'a, G: Given<'a>>(
+    given: &G,
+    clock: Option<u32>,
+) -> Result<Invocation<'a>, WordFault<'a>>
+    ensures read { IfOk result (AsksFor clock verbs.Chown (G.words given.now)) }
+    ensures refused { IfErr result (TellsOf (IsOneWrong clock (G.words given.now) (arguments_of verbs.Chown))) }
+{
+    let volume = volume_in(given)?;
+    let path = text_in(given, "PATH");
+    let uid = word_in(given, "UID")?;
+    let gid = word_in(given, "GID")?;
+    let now = moment_in(given, clock)?;
+    Ok(Invocation::Change {
+        volume,
+        change: Change::Chown {
+            path,
+            uid,
+            gid,
+            now,
+        },
+    })
+}
+
+/// Reads the words of `touch`.
+fn read_touch<'a, G: Given<'a>>(
+    given: &G,
+    clock: Option<u32>,
+) -> Result<Invocation<'a>, WordFault<'a>>
+    ensures read { IfOk result (AsksFor clock verbs.Touch (G.words given.now)) }
+    ensures refused { IfErr result (TellsOf (IsOneWrong clock (G.words given.now) (arguments_of verbs.Touch))) }
+{
+    let volume = volume_in(given)?;
+    let path = text_in(given, "PATH");
+    let now = moment_in(given, clock)?;
+    Ok(Invocation::Change {
+        volume,
+        change: Change::Touch { path, now },
+    })
+}
+
+/// Reads the words of `salvage`.
+fn read_salvage<'a, G: Given<'a>>(given: &G) -> Result<Invocation<'a>, WordFault<'a>>
+    ensures read { IfOk result (AsksFor None verbs.Salvage (G.words given.now)) }
+    ensures refused { IfErr result (TellsOf (IsOneWrong None (G.words given.now) (arguments_of verbs.Salvage))) }
+{
+    let volume = volume_in(given)?;
+    Ok(Invocation::Change {
+        volume,
+        change: Change::Salvage,
+    })
+}
+
+/// Reads the words of a checker's command.
+fn read_checker<'a, G: Given<'a>>(
+    given: &G,
+    checker: Checker,
+) -> Result<Invocation<'a>, WordFault<'a>>
+    ensures read { IfOk result (AsksFor None (checker_verb checker) (G.words given.now)) }
+    ensures refused { IfErr result (TellsOf (IsOneWrong None (G.words given.now) of_checker)) }
+{
+    let volume = volume_in(given)?;
+    let workers = threads_in(given, "WORKERS")?;
+    let work = Work::Check { checker, workers };
+    Ok(Invocation::Work { volume, work })
+}
+
+/// Reads the words of `play`.
+fn read_play<'a, G: Given<'a>>(alloc: Global, given: &G) -> Result<Invocation<'a>, WordFault<'a>>
+    ensures read { IfOk result (AsksFor None verbs.Play (G.words given.now)) }
+    ensures refused { IfErr result (TellsOf (IsOneWrong None (G.words given.now) (arguments_of verbs.Play))) }
+{
+    let volume = volume_in(given)?;
+    let scripts = scripts_in(alloc, given)?;
+    let work = Work::Play { scripts };
+    Ok(Invocation::Work { volume, work })
+}
+
+/// Reads the words of `serve`.
+fn read_serve<'a, G: Given<'a>>(given: &G) -> Result<Invocation<'a>, WordFault<'a>>
+    ensures read { IfOk result (AsksFor None verbs.Serve (G.words given.now)) }
+    ensures refused { IfErr result (TellsOf (IsOneWrong None (G.words given.now) (arguments_of verbs.Serve))) }
+{
+    let volume = volume_in(given)?;
+    option_in(given, "read-only", texts::WANTS_READ_ONLY)?;
+    Ok(Invocation::Serve { volume })
+}
+
+/// Reads the edition and the file of the volume.
+fn volume_in<'a, G: Given<'a>>(given: &G) -> Result<VolumeFile<'a>, WordFault<'a>>
+    ensures read { IfOk result (IsVolumeGiven (G.words given.now)) }
+    ensures refused { IfErr result (TellsOf (IsValue None kinds.Edition (G.words given.now (codes "EDITION")) → ⊥)) }
+{
+    let edition = edition_in(given)?;
+    let image = text_in(given, "IMAGE");
+    Ok(VolumeFile { edition, image })
+}

@@ -1,0 +1,22 @@
+-- The file from which the image of a changing command is read.
+use Rattle.std.specs.Prelude.{◌≢◌, ℕ, List, Option}
+use Rattle.vol_layout.specs.declared.edition.Edition.{Edition}
+use Rattle.host_files.specs.ReadParts.{IsReadUpTo, up_to_kept}
+use Rattle.host_files.specs.declared.image_file.FileKind.TheVariants as kinds
+use Rattle.host_files.specs.declared.image_file.Stamp.{Stamp}
+use Rattle.host_files.specs.declared.image_file.Try.{Try}
+use Rattle.host_files.specs.declared.image_file.Try.TheVariants.{Open}
+
+-- the system reported this stamp for an open file, and it is no pipe, socket or terminal (this project)
+abbrev pub OpensTo : {F : Type 0} → (F → Stamp → Type 0) → F → Stamp → Type 0
+OpensTo had file stamp = had file stamp × (stamp.kind ≢ kinds.Stream)
+
+-- if a try opened a file, the file opens with its stamp (this project)
+abbrev pub IsOpenTo : {F : Type 0} → (F → Stamp → Type 0) → Try F → Type 0
+IsOpenTo had (Open file stamp) = OpensTo had file stamp
+IsOpenTo had _ = Unit {0}
+
+-- some file, which opens with this stamp, gave this image from then on: all that it had left, if it is a regular file, and otherwise its volume's (this project)
+abbrev pub IsOpened : {F : Type 0} → Edition → (F → Option (List ℕ)) → (F → Stamp → Type 0) → List ℕ → Stamp → Type 0
+IsOpened {F} edition remaining had image stamp =
+    (old : F) × (new : F) × OpensTo had old stamp × IsReadUpTo (up_to_kept edition stamp.kind) (remaining old) (remaining new) image

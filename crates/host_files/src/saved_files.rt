@@ -1,0 +1,393 @@
+//! Saves an image in a file, so that a failure leaves the old file.
+ghost use Rattle.std.specs.Prelude.{◌≡◌, true, IfOk, IfSome, OnErr, OnOk};
+ghost use Rattle.std.specs.Path.{path_bytes, path_buf_bytes};
+ghost use Rattle.host_files.specs.Save.{IsBeside, Grows, Saves, IsPlaced, Holds};
+
+use crate::image_file::{FileKind, ImageFiles, Stamp};
+use crate::noted::noted_writer;
+use pdp_words::{SaveFault, Sink, write_all};
+use std::fs::{self, Files, Metadata, OpenFile, OpenOptions, Permissions};
+use std::io::{self, ErrorKind, Write};
+use std::os::unix::fs::{MetadataExt, OpenOptionsExt, PermissionsExt};
+use std::path::{Path, PathBuf};
+use vol_mkfs::BlankVolume;
+
+/// The number of names that are tried for the new file.
+const TRIES: u32 = 1000;
+
+/// The greatest number of symbolic links that are followed in a row: as many as the system follows.
+const MOST_LINKS: u32 = 40;
+
+/// The message for a file whose stamp has changed since it was read.
+const CHANGED: &str = "it has changed since it was read";
+
+/// The message for a file that another program has replaced.
+const REPLACED: &str = "another program has put another file in its place";
+
+/// The message for a new file whose name another program gave to something else.
+const MOVED: &str = "another program moved the new file that was to take its place";
+
+/// The message for a new file that another program has locked.
+const TAKEN: &str = "another program has locked the new file that was to take its place";
+
+/// The message for a path with too many symbolic links.
+const TOO_MANY_LINKS: &str = "more than 40 symbolic links lead on from it";
+
+/// The message for a folder in which no new file can be made.
+const NO_NAME: &str = "beside it .unixvol-0 to .unixvol-999 are all there";
+
+/// The permissions of a new file that will get those of an old one: until then it is private.
+const PRIVATE: u32 = 0o600;
+
+/// The permissions that a new file takes over from the old one. An image isn't run, so it never runs with its owner's rights.
+const RIGHTS: u32 = 0o777;
+
+/// The content to save in a file.
+#[derive(Clone, Copy)]
+pub enum Content<'a> {
+    /// Bytes in memory.
+    Bytes(&'a [u8]),
+    /// A new volume, whose bytes are made while they are written.
+    Volume(&'a BlankVolume),
+}
+
+/// The regular file that a new one will replace.
+#[derive(Drop)]
+struct Replaced {
+    /// Its stamp.
+    stamp: Stamp,
+    /// Its owner, its group and its permissions.
+    metadata: Metadata,
+}
+
+/// The file in which a content was saved, and its stamp now.
+#[derive(Drop)]
+enum Place<F> {
+    /// A new file, which replaced the old one and is locked.
+    New(F, Stamp),
+    /// The old file, which isn't a regular file.
+    Old(Stamp),
+}
+
+/// The file of an image, which stays open and locked while the image changes and is saved in it.
+#[derive(Drop)]
+pub struct HeldFile<F> {
+    /// The file.
+    pub file: F,
+    /// Its stamp when it was last read or saved.
+    pub stamp: Stamp,
+}
+
+impl Content<'_> {
+    /// Writes all bytes of the content, from the first to the last.
+    fn write_to<W: Sink>(self, sink: &mut W) -> Result<(), SaveFault>
+        ensures ok { OnOk result (Grows self.entry (W.contents sink.old) (W.contents sink.new)) }
+        ensures fault { OnErr result (W.failed sink.new ≡ true) }
+    {
+        match self {
+            Content::Bytes(bytes) => write_all(sink, bytes),
+            Content::Volume(volume) => volume.write_to(sink),
+        }
+    }
+}
+
+/// Saves a content in the file `path`. Its bytes are written to a new file in the same folder, which then replaces the old one. The
+/// new file gets the old one's owner, group and permissions if the system allows it; otherwise it is the caller's, without the rights
+/// of a group that it can't have. So a failure leaves the old file as it was, and no new one. A symbolic link is followed. Anything
+/// but a regular file, such as a device or a pipe, is written in place.
+///
+/// If the content was made from what the file had, `read` is the stamp that it had then. The stamp must be the same just before the
+/// new file replaces it or the first byte is written.
+///
+/// The error is the system's if a file can't be opened, written, synchronised or renamed; `ResourceBusy` if the stamp differs, or
+/// another program gave the new file's name to something else; `FilesystemLoop` past 40 symbolic links; `AlreadyExists` if a thousand
+/// names of new files were taken; `OutOfMemory` if an allocation was refused.
+pub fn save_file<R: ImageFiles + AllocGlobal>(
+    rt: &R,
+    path: &str,
+    read: Option<Stamp>,
+    content: Content<'_>,
+) -> io::Result<()>
+    ensures saved { OnOk result (Saves R.File.contents content.entry) }
+    ensures unchanged { OnOk result (IfSome read R.stood) }
+{
+    put_content(rt, path, read, content)?;
+    Ok(())
+}
+
+/// Saves a content in the file `path`, from which `held` was opened and locked, as [`save_file`] does with the stamp of `held`. The new file
+/// is locked before it replaces the old one, and is held from then on, so no other command comes between two saves. A file that
+/// isn't regular stays held.
+///
+/// The errors are those of [`save_file`], and leave `held` unchanged.
+pub fn save_held<R: ImageFiles + AllocGlobal>(
+    rt: &R,
+    path: &str,
+    held: &mut HeldFile<R::File>,
+    content: Content<'_>,
+) -> io::Result<()>
+    ensures saved { OnOk result (Saves R.File.contents content.entry) }
+    ensures unchanged { OnOk result (R.stood held.old.stamp) }
+    ensures held { OnOk result (Holds R.File.contents R.had content.entry held.old held.new) }
+    ensures kept { OnErr result (held.new ≡ held.old) }
+{
+    match put_content(rt, path, Some(held.stamp), content)? {
+        Place::New(file, stamp) => *held = HeldFile { file, stamp },
+        Place::Old(stamp) => held.stamp = stamp,
+    }
+    Ok(())
+}
+
+/// Saves a content in the file `path`, as [`save_file`] does, and returns its place.
+fn put_content<R: ImageFiles + AllocGlobal>(
+    rt: &R,
+    path: &str,
+    read: Option<Stamp>,
+    content: Content<'_>,
+) -> io::Result<Place<R::File>>
+    ensures saved { IfOk result (IsPlaced R.File.contents R.had content.entry) }
+    ensures unchanged { OnOk result (IfSome read R.stood) }
+{
+    match OpenOptions::new().write(true).open(rt, path) {
+        Ok(file) => {
+            let metadata = file.metadata()?;
+            let stamp = rt.stamp_of(&file)?;
+            if metadata.is_file() {
+                let place = end_of_links(rt, path)?;
+                let old = Replaced { stamp, metadata };
+                replace(rt, place.as_path(), Some(&old), read, content)
+            } else {
+                expect_unchanged(rt, path, read)?;
+                expect_same(stamp, rt.stamp_at(path)?)?;
+                let file = write_in_place(file, content)?;
+                Ok(Place::Old(rt.stamp_of(&file)?))
+            }
+        }
+        Err(error) if error.kind() == ErrorKind::NotFound => {
+            let place = end_of_links(rt, path)?;
+            replace(rt, place.as_path(), None, read, content)
+        }
+        Err(error) => Err(error),
+    }
+}
+
+/// Fails if the file at `path` doesn't have the stamp that it had when it was read.
+fn expect_unchanged<R: ImageFiles>(rt: &R, path: &str, read: Option<Stamp>) -> io::Result<()>
+    ensures { OnOk result (IfSome read R.stood) }
+{
+    match read {
+        Some(read) if rt.stamp_at(path)? != read => Err(io::Error::new(
+            ErrorKind::ResourceBusy,
+            CHANGED,
+        )),
+        _ => Ok(()),
+    }
+}
+
+/// Fails if two stamps are of different files.
+fn expect_same(one: Stamp, other: Stamp) -> io::Result<()> {
+    if one.is_of(other) {
+        Ok(())
+    } else {
+        Err(io::Error::new(ErrorKind::ResourceBusy, REPLACED))
+    }
+}
+
+/// Fails if another file than `old` is at `path`, or, if there is no old one, if any file is.
+fn expect_there<R: ImageFiles>(rt: &R, path: &str, old: Option<&Replaced>) -> io::Result<()> {
+    match old {
+        Some(old) => expect_same(old.stamp, rt.stamp_of_name(path)?),
+        None if rt.is_there(path) => Err(io::Error::new(ErrorKind::ResourceBusy, REPLACED)),
+        None => Ok(()),
+    }
+}
+
+/// Follows the symbolic links from `path` to a file or to nothing, and returns that path; `path` itself if it is no link.
+fn end_of_links<R: Files + AllocGlobal>(rt: &R, path: &str) -> io::Result<PathBuf> {
+    let mut place = PathBuf::from_str(rt.alloc(), path)?;
+    for _ in 0..=MOST_LINKS {
+        let target = match fs::read_link(rt, place.as_path()) {
+            Err(error) if is_end(error) => return Ok(place),
+            read => read?,
+        };
+        place = place.with_file_name(rt.alloc(), target.as_str())?;
+    }
+    Err(io::Error::new(ErrorKind::FilesystemLoop, TOO_MANY_LINKS))
+}
+
+/// True if `path`, or the end of its symbolic links, names a pipe or a socket: opening a pipe for writing waits until another program
+/// reads from it. A path that the system can't examine counts as none, and so does a pipe without a name, as `/dev/stdout` may lead
+/// to.
+pub fn is_pipe<R: ImageFiles + AllocGlobal>(rt: &R, path: &str) -> bool {
+    let Ok(place) = end_of_links(rt, path) else {
+        return false;
+    };
+    match rt.stamp_of_name(place.as_path().as_str()) {
+        Ok(stamp) => stamp.kind == FileKind::Stream,
+        Err(_) => false,
+    }
+}
+
+/// True if the system's error for reading a link means that the path is not a link: it is another file, or doesn't exist.
+fn is_end(error: io::Error) -> bool {
+    let kind = error.kind();
+    kind == ErrorKind::InvalidInput || kind == ErrorKind::NotFound
+}
+
+/// Replaces `path`, which is no symbolic link and must still have the stamp `read`, if one is given, by a new file with this content.
+/// Returns the new file, locked.
+fn replace<R: ImageFiles + AllocGlobal>(
+    rt: &R,
+    path: Path<'_>,
+    old: Option<&Replaced>,
+    read: Option<Stamp>,
+    content: Content<'_>,
+) -> io::Result<Place<R::File>>
+    ensures saved { IfOk result (IsPlaced R.File.contents R.had content.entry) }
+    ensures unchanged { OnOk result (IfSome read R.stood) }
+{
+    expect_there(rt, path.as_str(), old)?;
+    let (file, beside) = new_file(rt, path, old.is_some())?;
+    let result = match fill(rt, file, old, content) {
+        Ok(file) => rename_over(rt, file, beside.as_path(), path, old, read),
+        Err(error) => Err(error),
+    };
+    match result {
+        Ok((file, stamp)) => Ok(Place::New(file, stamp)),
+        Err(error) => {
+            let _ = fs::remove_file(rt, beside.as_path());
+            Err(error)
+        }
+    }
+}
+
+/// Locks the new file, open as `file` and named `beside`, renames it to `path`, and returns it with its stamp. Each of the two names must
+/// still belong to the same file, and the old file must still have the stamp `read`.
+fn rename_over<R: ImageFiles>(
+    rt: &R,
+    file: R::File,
+    beside: Path<'_>,
+    path: Path<'_>,
+    old: Option<&Replaced>,
+    read: Option<Stamp>,
+) -> io::Result<(R::File, Stamp)>
+    ensures same { IfOk result (λ renamed. renamed.0 ≡ file) }
+    ensures stamp { IfOk result (λ renamed. R.had renamed.0 renamed.1) }
+    ensures unchanged { OnOk result (IfSome read R.stood) }
+{
+    if !rt.try_lock(&file) {
+        return Err(io::Error::new(ErrorKind::ResourceBusy, TAKEN));
+    }
+    let stamp = rt.stamp_of(&file)?;
+    expect_unchanged(rt, path.as_str(), read)?;
+    expect_there(rt, path.as_str(), old)?;
+    if !rt.stamp_of_name(beside.as_str())?.is_of(stamp) {
+        return Err(io::Error::new(ErrorKind::ResourceBusy, MOVED));
+    }
+    fs::rename(rt, beside, path)?;
+    sync_folder(rt, path);
+    Ok((file, stamp))
+}
+
+/// Synchronises the folder of `path`, if the system allows it: the image is complete in any case.
+fn sync_folder<R: Files>(rt: &R, path: Path<'_>) {
+    let folder = match path.parent() {
+        Some(folder) if folder.as_str() != "" => folder,
+        _ => Path::new("."),
+    };
+    if let Ok(folder) = fs::open(rt, folder) {
+        let _ = folder.sync_all();
+    }
+}
+
+/// Makes an empty file in the folder of `path`, with an unused name.
+fn new_file<R: Files + AllocGlobal>(
+    rt: &R,
+    path: Path<'_>,
+    is_private: bool,
+) -> io::Result<(R::File, PathBuf)>
+    ensures { IfOk result (λ made. IsBeside (path_bytes path.entry) (path_buf_bytes made.1)) }
+{
+    let mut options = OpenOptions::new();
+    options.write(true).create_new(true);
+    if is_private {
+        options.mode(PRIVATE);
+    }
+    for number in 0..TRIES {
+        let name = format!(in rt.alloc(); ".unixvol-{number}")?;
+        let beside = path.with_file_name(rt.alloc(), name.as_str())?;
+        match options.open(rt, beside.as_path()) {
+            Err(error) if error.kind() == ErrorKind::AlreadyExists => {}
+            opened => return Ok((opened?, beside)),
+        }
+    }
+    Err(io::Error::new(ErrorKind::AlreadyExists, NO_NAME))
+}
+
+/// Fills the new file `file`, makes sure that its bytes are on the disk, and returns the file.
+fn fill<R: ImageFiles>(
+    rt: &R,
+    file: R::File,
+    old: Option<&Replaced>,
+    content: Content<'_>,
+) -> io::Result<R::File>
+    ensures { IfOk result (λ filled. Grows content.entry (R.File.contents file) (R.File.contents filled)) }
+{
+    if let Some(old) = old {
+        keep_owner(rt, &file, &old.metadata)?;
+    }
+    let file = write(file, content)?;
+    file.sync_all()?;
+    Ok(file)
+}
+
+/// Gives an open file the owner, group and permissions of an old one. Only the super-user can give a file to another user; others
+/// remain its owner, and can only choose one of their groups.
+fn keep_owner<R: ImageFiles>(rt: &R, file: &R::File, old: &Metadata) -> io::Result<()> {
+    let new = file.metadata()?;
+    let mut mode = old.permissions().mode() & RIGHTS;
+    if new.gid() != old.gid() && !rt.give(file, None, Some(old.gid())) {
+        mode = without_group(mode);
+    }
+    if new.uid() != old.uid() {
+        let _ = rt.give(file, Some(old.uid()), None);
+    }
+    file.set_permissions(Permissions::from_mode(mode))
+}
+
+/// Returns the permissions of a file that can't have its old group: none for the new group, and for others only those that the old
+/// group had too.
+fn without_group(mode: u32) -> u32 {
+    (mode & 0o700) | (mode & (mode >> 3) & 0o007)
+}
+
+/// Writes a content into something other than a regular file, synchronises it if it is on a disk, and returns the file.
+fn write_in_place<F: Write + OpenFile + Drop>(file: F, content: Content<'_>) -> io::Result<F>
+    ensures { IfOk result (λ written. Grows content.entry (F.contents file) (F.contents written)) }
+{
+    let file = write(file, content)?;
+    match file.sync_all() {
+        // A pipe or a terminal has no disk.
+        Err(error) if error.kind() != ErrorKind::InvalidInput => Err(error),
+        _ => Ok(file),
+    }
+}
+
+/// Writes a content after the bytes that a file has taken, and returns the file.
+fn write<F: Write + Drop>(file: F, content: Content<'_>) -> io::Result<F>
+    ensures { IfOk result (λ written. Grows content.entry (F.contents file) (F.contents written)) }
+{
+    let mut sink = noted_writer(file);
+    match content.write_to(&mut sink) {
+        Ok(()) => Ok(sink.into_inner().into_inner()),
+        Err(_) => Err(unwritten(sink.error())),
+    }
+}
+
+/// Returns the error for a file that didn't take all bytes: the system's, unless that would mean that the program's memory ran out.
+fn unwritten(error: Option<io::Error>) -> io::Error {
+    match error {
+        Some(error) if error.kind() != ErrorKind::OutOfMemory => error,
+        _ => io::Error::from(ErrorKind::WriteZero),
+    }
+}

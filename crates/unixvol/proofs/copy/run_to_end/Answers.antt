@@ -1,0 +1,26 @@
+use Rattle.std.proofs.Common.{false, refl}
+use Rattle.std.specs.Process.{exit_status}
+use Rattle.pdp_words.specs.Adapters.{writer_in, has_write_failed}
+use Rattle.command_faults.specs.Streams.{heard}
+use Rattle.unixvol.specs.Copies.{RunsCopy}
+use Rattle.unixvol.specs.Runs.{Ends, host_files}
+use Rattle.unixvol.proofs.Begun.{begun, ended}
+use Rattle.unixvol.proofs.copy.run_to_end.Goals as goal
+
+pub returns : goal.returns
+returns g c =
+    let files = host_files g.R.File.Read.remaining g.R.File.Write.contents g.R.ImageFiles.had g.R.ImageFiles.stood in
+    let known = g.O.Write.contents c.args.output in
+    let status = c.run-ending.result.status in
+    let after = heard (λ sink. g.E.Write.contents (writer_in sink)) has_write_failed c.new-errors.result c.tell_fault.new.errors in (
+      known,
+      false,
+      after.new,
+      after.failed,
+      status,
+      begun (λ streams. RunsCopy streams files g.R.ImageFiles.stands c.args.volume.edition c.args.copying status) known (g.E.Write.contents c.args.errors) known _ false known _ false _
+          refl c.new-errors.ensures.bytes refl (c.run-ending.ensures.runs known false after c.tell_fault.ensures),
+      begun (λ streams. Ends streams status) known (g.E.Write.contents c.args.errors) known _ false known _ false _
+          refl c.new-errors.ensures.bytes refl (c.run-ending.ensures.ends known false after c.tell_fault.ensures),
+      ended status c.finish.result (exit_status c.from.result) c.from.ensures c.finish.ensures,
+    )

@@ -1,8 +1,0 @@
-use Rattle.std.proofs.Common.{take}
-use Rattle.unixvol.specs.Copying.{AreSaved}
-use Rattle.host_files.specs.Saving.{IsTaken}
-use Rattle.unixvol.proofs.copying.save_files.Given as goal
-
--- the files so far are saved
-abbrev pub invariant-files : goal.invariant-files
-invariant-files g l = AreSaved (IsTaken g.R.File.Write.contents) (take l.file-index l.files)

@@ -1,7 +1,0 @@
-use Rattle.std.proofs.Common.{◌≡◌, All, length}
-use Rattle.unixvol.specs.Running.{GaveBytes}
-use Rattle.unixvol.proofs.reading.read_files.Given as goal
-
--- files gave the bytes read so far, and there are as many files as paths so far
-abbrev pub invariant-files : goal.invariant-files
-invariant-files g l = All (λ file. GaveBytes g.R.File.Read.remaining file.items) l.files.items × (length l.files.items ≡ l.path-index)

@@ -1,0 +1,92 @@
+-- The result of copying several files between the host and a volume.
+use Rattle.std.specs.Prelude.{All, ◌≡◌, ◌⊎◌, ℕ, List, [], map, Option, Some, IsSome, IfSome, Bool, true, false, unwrap_or}
+use Rattle.std.specs.Borrow.{Bor}
+use Rattle.std.specs.Io.KnownBytes.{Keeps}
+use Rattle.std.specs.Path.{path_file_name}
+use Rattle.vol_import.specs.Make.{told}
+use Rattle.vol_volume.specs.Volume.{reads_as}
+use Rattle.command_faults.specs.Streams.{Gets, Streams}
+use Rattle.command_faults.specs.declared.answer.Answer.{Answer}
+use Rattle.vol_layout.specs.declared.edition.Edition.{Edition}
+use Rattle.command_words.specs.declared.invocation.Copying.{Copying}
+use Rattle.command_words.specs.declared.invocation.Copying.TheVariants as copyings
+use Rattle.command_words.specs.declared.invocation.Moment.{Moment}
+use Rattle.command_reads.specs.GetFiles.{GetsFiles}
+use Rattle.command_changes.specs.Import.{ImportsArchive}
+use Rattle.command_changes.specs.Put.{calls_to_put}
+use Rattle.command_reads.specs.declared.get.FileRead.{FileRead}
+use Rattle.command_reads.specs.declared.get.FilesRead.{FilesRead}
+use Rattle.command_changes.specs.declared.put.NewFile.{NewFile}
+use Rattle.unixvol.specs.Runs.{Ends, EndsSaved, HostFiles, IsStatusOfFileOrMemory, RunsNothing}
+use Rattle.host_files.specs.declared.image_file.Stamp.{Stamp}
+
+-- the last name of a path; empty if the path ends in `..` or has no names (std::path)
+abbrev pub name_of : List ℕ → List ℕ
+name_of path = unwrap_or (path_file_name path) []
+
+-- files gave the bytes of new files, which have these names (this project)
+abbrev pub AreGiven : (List ℕ → Type 0) → List (List ℕ) → List NewFile → Type 0
+AreGiven given names news =
+    All (λ (file : NewFile). given file.bytes.items) news × (map (λ (file : NewFile). file.name.now) news ≡ names)
+
+-- the system's reports on whether something exists at a path (this project)
+abbrev pub Standing : Type 1
+Standing = List ℕ → Bool → Type 0
+
+-- the word that was read as the time, if any, is no file's path: the system reported that nothing exists there (this project)
+abbrev pub IsMomentAlone : Standing → Moment → Type 0
+IsMomentAlone stands now = IfSome now.word (λ word. stands word.now false)
+
+-- this word was read as the time, and is the path of a file too: the system reported that something exists there (this project)
+abbrev pub IsFileToo : Standing → Moment → Bor (List ℕ) → Type 0
+IsFileToo stands now word = (now.word ≡ Some word) × stands word.now true
+
+-- nothing is done, with the status of words that can't be read: one of them was read as the time, and may be meant as one of the files; and nothing is printed (this project)
+abbrev pub LeavesMoment : Streams → Standing → Moment → ℕ → Type 0
+LeavesMoment streams stands now status =
+    (status ≡ 2) × ((word : Bor (List ℕ)) × IsFileToo stands now word)
+    × Keeps streams.old streams.new × (streams.failed ≡ streams.had_failed) × streams.said []
+
+-- files with these names are put into a directory: nothing is done; or files gave their bytes, these are put into an image that may be changed and that a file gave, and the result of the calls is saved if the system reported that some file had the stamp of the one that was read (this project)
+abbrev pub PutsFiles : Streams → HostFiles → Edition → List ℕ → List (List ℕ) → ℕ → ℕ → Type 0
+PutsFiles streams files edition directory names now status =
+    RunsNothing streams files status
+    ⊎ ((image : List ℕ) × (stamp : Stamp) × (news : List NewFile) × (answer : Answer) × files.opened edition image stamp × AreGiven files.given names news
+    × ImportsArchive edition image (told (calls_to_put (reads_as edition image).tree now directory news)) streams.said answer
+    × Keeps streams.old streams.new × (streams.failed ≡ streams.had_failed) × EndsSaved (λ saved. files.taken saved × files.stood stamp) answer status)
+
+-- several files are to be put at a time: if the word that was read as the time is a file's path too, nothing is done; otherwise they are put (this project)
+abbrev pub RunsPut : Streams → HostFiles → Standing → Edition → List ℕ → List (List ℕ) → Moment → ℕ → Type 0
+RunsPut streams files stands edition directory names now status =
+    LeavesMoment streams stands now status
+    ⊎ (IsMomentAlone stands now × PutsFiles streams files edition directory names now.seconds status)
+
+-- each of these files was saved: a file of the host took all its bytes (this project)
+abbrev pub AreSaved : (List ℕ → Type 0) → List FileRead → Type 0
+AreSaved taken files = All (λ (file : FileRead). taken file.bytes.items) files
+
+-- the status after files of a volume were read: its own if all were saved, if they were read, or that of a file (this project)
+abbrev pub ReadSaved : (List ℕ → Type 0) → FilesRead → ℕ → Type 0
+ReadSaved taken read status =
+    ((status ≡ read.status) × IfSome read.files (λ files. AreSaved taken files.items)) ⊎ (IsSome read.files × IsStatusOfFileOrMemory status)
+
+-- the files at these paths of a volume are copied to the host: nothing is done; or those of an image that a file gave are read, nothing is printed, and each is saved once all are read (this project)
+abbrev pub RunsGet : Streams → HostFiles → Edition → List (List ℕ) → ℕ → Type 0
+RunsGet streams files edition paths status =
+    RunsNothing streams files status
+    ⊎ ((image : List ℕ) × (read : FilesRead) × files.shown edition image × GetsFiles edition image paths streams.said read
+    × Keeps streams.old streams.new × (streams.failed ≡ streams.had_failed) × ReadSaved files.taken read status)
+
+-- several files are copied (this project)
+abbrev pub RunsCopy : Streams → HostFiles → Standing → Edition → Copying → ℕ → Type 0
+RunsCopy streams files stands edition (copyings.Put directory paths now) status =
+    RunsPut streams files stands edition directory.now (map (λ path. name_of path.now) paths.items) now status
+RunsCopy streams files stands edition (copyings.Get folder paths) status = RunsGet streams files edition (map (λ path. path.now) paths.items) status
+
+-- the copying of several files runs to its end, as a plain command does (this project)
+abbrev pub CopiesToEnd : HostFiles → Standing → Option (List ℕ) → Option (List ℕ) → Edition → Copying → ℕ → Type 0
+CopiesToEnd files stands output errors edition copying end =
+    (new : Option (List ℕ)) × (failed : Bool) × (told : Option (List ℕ)) × (untold : Bool) × (status : ℕ)
+    × RunsCopy (record { old = output; new = new; had_failed = false; failed = failed; said = Gets untold errors told }) files stands edition copying status
+    × Ends (record { old = output; new = new; had_failed = false; failed = failed; said = Gets untold errors told }) status
+    × ((end ≡ status) ⊎ ((status ≡ 0) × (end ≡ 3)))

@@ -1,0 +1,322 @@
+-- The result of a run of the program, from the bytes that its files give.
+use Rattle.std.specs.Prelude.{All, length, ◌≡◌, ◌≢◌, ◌⊎◌, ◌↔◌, ◌≤◌, ℕ, false, true, List, [], Option, IsSome, IfSome, Result, Ok, Err, IsErrAnd, Bool}
+use Rattle.std.specs.Io.KnownBytes.{Keeps}
+use Rattle.clap.specs.Words.{kind_of}
+use Rattle.clap.specs.declared.error.Error.{Error}
+use Rattle.clap.specs.declared.error.kind.ErrorKind.{ErrorKind}
+use Rattle.clap.specs.declared.error.kind.ErrorKind.TheVariants as kinds
+use Rattle.vol_mkfs.specs.Blank.{blank_of, IsMade}
+use Rattle.vol_mkfs.specs.Mkfs.{is_size}
+use Rattle.vol_layout.specs.Ids.{is_bad_id}
+use Rattle.pdp_words.specs.Devices.{LosesFront}
+use Rattle.command_reads.specs.Get.{GetsFile}
+use Rattle.command_reads.specs.Look.{Looks}
+use Rattle.command_reads.specs.declared.looks.Look.{Look}
+use Rattle.command_reads.specs.declared.looks.Look.TheVariants as looks
+use Rattle.vol_listing.specs.declared.options.Screen.{Screen}
+use Rattle.vol_listing.specs.declared.options.Screen.TheVariants as screens
+use Rattle.command_changes.specs.Changes.{Changes}
+use Rattle.command_changes.specs.declared.changes.Change.{Change}
+use Rattle.command_changes.specs.declared.changes.Change.TheVariants as changes
+use Rattle.command_reads.specs.Checkers.{Checks}
+use Rattle.command_reads.specs.Cat.{PrintsFile, IsNoWriters, cat_status, file_of}
+use Rattle.command_faults.specs.Streams.{Gets, Streams}
+use Rattle.command_changes.specs.Mkfs.{mkfs_line_at}
+use Rattle.command_changes.specs.Migrate.{MigratesVolume}
+use Rattle.vol_layout.specs.declared.edition.Edition.{Edition}
+use Rattle.vol_layout.specs.declared.edition.Edition.TheVariants.{V6}
+use Rattle.std.specs.Global.{Vec}
+use Rattle.vol_play.specs.Play.{PlaysVolume}
+use Rattle.command_faults.specs.declared.answer.Answer.{Answer}
+use Rattle.command_reads.specs.declared.cat.CatFault.{CatFault}
+use Rattle.command_reads.specs.declared.cat.CatFault.TheVariants.{Writer}
+use Rattle.command_words.specs.declared.invocation.Invocation.{Invocation}
+use Rattle.command_words.specs.declared.invocation.Invocation.TheVariants as invocations
+use Rattle.command_words.specs.declared.invocation.Work.{Work}
+use Rattle.command_words.specs.declared.invocation.Work.TheVariants as works
+use Rattle.vol_check.specs.declared.checker.Checker.{Checker}
+use Rattle.command_changes.specs.declared.mkfs.MadeVolume.{MadeVolume}
+use Rattle.command_changes.specs.declared.migrate.Migration.{Migration}
+use Rattle.vol_mkfs.specs.declared.blank.NewVolume.{NewVolume}
+use Rattle.host_files.specs.OpenedFiles.{IsOpened}
+use Rattle.host_files.specs.ReadParts.{IsReadUpTo}
+use Rattle.host_files.specs.declared.volume_front.UpTo.{UpTo}
+use Rattle.host_files.specs.declared.volume_front.UpTo.TheVariants.{End, Volume, Archive}
+use Rattle.host_files.specs.Save.{IsTaken}
+use Rattle.host_files.specs.declared.image_file.Stamp.{Stamp}
+
+-- some file, which was read up to this point, gave these bytes (std::io::Read)
+abbrev pub Gave : {F : Type 0} → UpTo → (F → Option (List ℕ)) → List ℕ → Type 0
+Gave {F} up_to remaining bytes = (old : F) × (new : F) × IsReadUpTo up_to (remaining old) (remaining new) bytes
+
+-- some file gave these bytes, all that it had left (std::io::Read)
+abbrev pub GaveBytes : {F : Type 0} → (F → Option (List ℕ)) → List ℕ → Type 0
+GaveBytes remaining bytes = Gave End remaining bytes
+
+-- some file gave this archive, of at most `blocks` blocks, and what followed it, if anything, may be left (std::io::Read)
+abbrev pub GaveArchive : {F : Type 0} → (F → Option (List ℕ)) → List ℕ → Type 0
+GaveArchive remaining archive = (blocks : ℕ) × Gave (Archive blocks) remaining archive
+
+-- some file gave this image of a volume, or all that it had (std::io::Read)
+abbrev pub GaveImage : {F : Type 0} → Edition → (F → Option (List ℕ)) → List ℕ → Type 0
+GaveImage edition remaining image = Gave (Volume edition) remaining image ⊎ Gave End remaining image
+
+-- a file isn't read, with this status: 3 if it can't be opened, can't be read to the end, is longer than the greatest volume or has a longer archive than it may, or may not be changed; or 4 for out of memory, after some file was open and gave at most a prefix of its bytes (this project)
+abbrev pub IsUnread : {F : Type 0} → (F → Option (List ℕ)) → ℕ → Type 0
+IsUnread {F} remaining status = (status ≡ 3) ⊎ ((status ≡ 4) × (old : F) × (new : F) × LosesFront (remaining old) (remaining new))
+
+-- the effects of files on the program: none could be read, with this status; one gave these bytes; one gave this image of a volume of an edition; the same, or all that it had; one that will be changed gave such an image, and had this stamp before; one took these bytes; some path had this stamp (this project)
+pub record HostFiles : Type 1 where
+  pub unread : ℕ → Type 0
+  pub given : List ℕ → Type 0
+  pub shown : Edition → List ℕ → Type 0
+  pub checked : Edition → List ℕ → Type 0
+  pub opened : Edition → List ℕ → Stamp → Type 0
+  pub taken : List ℕ → Type 0
+  pub stood : Stamp → Type 0
+
+-- the effects of files, from what is known of them (std::io::Read and Write)
+abbrev pub host_files : {F : Type 0} → (F → Option (List ℕ)) → (F → Option (List ℕ)) → (F → Stamp → Type 0) → (Stamp → Type 0) → HostFiles
+host_files remaining contents had stood =
+    record {
+      unread = IsUnread remaining;
+      given = GaveBytes remaining;
+      shown = λ edition. Gave (Volume edition) remaining;
+      checked = λ edition. GaveImage edition remaining;
+      opened = λ edition. IsOpened edition remaining had;
+      taken = IsTaken contents;
+      stood = stood;
+    }
+
+-- the status if a file can't be read or written, or if memory ran out (this project)
+abbrev pub IsStatusOfFileOrMemory : ℕ → Type 0
+IsStatusOfFileOrMemory status = (status ≡ 3) ⊎ (status ≡ 4)
+
+-- the status after `cat`: 0, or that of its fault (this project)
+abbrev pub status_after : Result (Unit {0}) CatFault → ℕ
+status_after (Ok done) = 0
+status_after (Err fault) = cat_status fault
+
+-- `cat` prints: nothing if a file isn't read; or, from an image that a file gave, its output, whether standard output failed (if its fault is a writer's, and otherwise no more than before), and the status (this project)
+abbrev pub PrintsBody : (ℕ → Type 0) → (List ℕ → Type 0) → Option (List ℕ) → Option (List ℕ) → Bool → Bool → Edition → ℕ → ℕ → Type 0
+PrintsBody unread shown old new had_failed failed edition i status =
+    (unread status × Keeps old new × (failed ≡ had_failed))
+    ⊎ ((image : List ℕ) × (result : Result (Unit {0}) CatFault) × shown image × PrintsFile old new image i (file_of edition image i) result
+    × (IsErrAnd result (λ fault. (count : ℕ) × (fault ≡ Writer count)) → failed ≡ true) × (IsNoWriters result → failed ≡ had_failed)
+    × (status ≡ status_after result))
+
+-- `cat` runs: its output, and the status, which is 0 only if standard output didn't fail (this project)
+abbrev pub RunsCat : Streams → HostFiles → Edition → ℕ → ℕ → Type 0
+RunsCat streams files edition i status =
+    PrintsBody files.unread (files.shown edition) streams.old streams.new streams.had_failed streams.failed edition i status × (status ≡ 0 → streams.failed ≡ streams.had_failed) × streams.said []
+
+-- `mkfs` runs: nothing is printed; it is refused exactly if its numbers aren't a volume's, with the line for that; any other line is that of memory, with its status; and if it succeeds, a file took the volume (this project)
+pub record RunsMkfs (streams : Streams) (taken : List ℕ → Type 0) (volume : NewVolume) (status : ℕ) : Type 0 where
+  pub unprinted : Keeps streams.old streams.new
+  pub unused : streams.failed ≡ streams.had_failed
+  pub refused : status ≡ 1 ↔ ((is_size volume.edition volume.blocks volume.list_blocks ≡ false)
+      ⊎ (is_bad_id volume.edition volume.uid volume.gid ≡ true))
+  pub within : (status ≤ 4) × (status ≢ 2)
+  pub made : status ≡ 0
+      → (bytes : List ℕ)
+      × IsMade (blank_of volume) bytes × taken bytes
+  pub quiet : status ≡ 0 → streams.said []
+  pub told : status ≡ 1 → streams.said (mkfs_line_at (is_size volume.edition volume.blocks volume.list_blocks) 1)
+  pub unsaved : status ≡ 3 → streams.said []
+  pub wanting : status ≡ 4 → streams.said [] ⊎ streams.said (mkfs_line_at (is_size volume.edition volume.blocks volume.list_blocks) 4)
+
+-- the status after an answer: its own if its image, if any, was saved; 3 or 4 if the saving failed (this project)
+abbrev pub EndsSaved : (List ℕ → Type 0) → Answer → ℕ → Type 0
+EndsSaved taken answer status =
+    ((status ≡ answer.status) × IfSome answer.image (λ bytes. taken bytes.items)) ⊎ (IsSome answer.image × IsStatusOfFileOrMemory status)
+
+-- the status after a play: as after another command that saves; and if it was that of an output that failed, it still is (this project)
+abbrev pub EndsPlayed : (List ℕ → Type 0) → Answer → ℕ → Type 0
+EndsPlayed taken answer status = EndsSaved taken answer status × (answer.status ≡ 3 → status ≡ 3)
+
+-- the status after `mkfs`: its own if the volume that it made, if any, was taken, or that of a file (this project)
+abbrev pub MadeSaved : (List ℕ → Type 0) → MadeVolume → ℕ → Type 0
+MadeSaved taken made status =
+    ((status ≡ made.status) × IfSome made.volume (λ blank. (bytes : List ℕ) × IsMade blank bytes × taken bytes))
+    ⊎ (IsSome made.volume × IsStatusOfFileOrMemory status)
+
+-- nothing is done: a file isn't read, and nothing is printed (this project)
+abbrev pub RunsNothing : Streams → HostFiles → ℕ → Type 0
+RunsNothing streams files status =
+    files.unread status × Keeps streams.old streams.new × (streams.failed ≡ streams.had_failed) × streams.said []
+
+-- `migrate` runs: nothing is done; or the volume in an image that a file gave is migrated, nothing is printed, and the result is saved (this project)
+abbrev pub RunsMigrate : Streams → HostFiles → Migration → ℕ → Type 0
+RunsMigrate streams files migration status =
+    RunsNothing streams files status
+    ⊎ ((image : List ℕ) × (answer : Answer) × files.shown V6 image × MigratesVolume image migration streams.said answer
+    × Keeps streams.old streams.new × (streams.failed ≡ streams.had_failed) × EndsSaved files.taken answer status)
+
+-- `get` runs: nothing is done; or the file at a path of an image that a file gave is printed (this project)
+abbrev pub RunsGetOne : Streams → HostFiles → Edition → List ℕ → ℕ → Type 0
+RunsGetOne streams files edition path status =
+    RunsNothing streams files status ⊎ ((image : List ℕ) × files.shown edition image × GetsFile edition image path streams status)
+
+-- a checker runs: nothing is done; or its findings on an image that a file gave are printed (this project)
+abbrev pub RunsCheck : Streams → HostFiles → Screen → Edition → Checker → ℕ → Type 0
+RunsCheck streams files screen edition checker status =
+    RunsNothing streams files status ⊎ ((image : List ℕ) × files.shown edition image × Checks checker edition image screen streams status)
+
+-- `count` scripts are played: nothing is done; or files gave them, they are played on an image that may be changed and that a file gave, and the volume is saved if the system reported that some file had the stamp of the one that was read (this project)
+abbrev pub RunsPlay : Streams → HostFiles → Edition → ℕ → ℕ → Type 0
+RunsPlay streams files edition count status =
+    RunsNothing streams files status
+    ⊎ ((image : List ℕ) × (stamp : Stamp) × (scripts : List (Vec ℕ)) × (answer : Answer) × files.opened edition image stamp
+    × All (λ script. files.given script.items) scripts × (length scripts ≡ count)
+    × PlaysVolume edition image scripts streams answer × EndsPlayed (λ saved. files.taken saved × files.stood stamp) answer status)
+
+-- work with several threads runs (this project)
+abbrev pub RunsWork : Streams → HostFiles → Screen → Edition → Work → ℕ → Type 0
+RunsWork streams files screen edition (works.Check checker workers) status = RunsCheck streams files screen edition checker status
+RunsWork streams files screen edition (works.Play scripts) status = RunsPlay streams files edition (length scripts.items) status
+
+-- the screen is a terminal with at least one column if the system says that standard output is a terminal, and otherwise none (this project)
+abbrev pub IsShownBy : Bool → Screen → Type 0
+IsShownBy true (screens.Terminal columns colours) = 1 ≤ columns
+IsShownBy true screens.Stream = ⊥
+IsShownBy false (screens.Terminal columns colours) = ⊥
+IsShownBy false screens.Stream = Unit {0}
+
+-- the image to show; `check` may see the whole file, since it also looks at the sizes of the other edition (this project)
+abbrev pub IsSeen : HostFiles → Edition → Look → List ℕ → Type 0
+IsSeen files edition looks.Check image = files.checked edition image
+IsSeen files edition (looks.List path listing) image = files.shown edition image
+IsSeen files edition (looks.Export path) image = files.shown edition image
+IsSeen files edition (looks.Inode number form) image = files.shown edition image
+IsSeen files edition (looks.Super form) image = files.shown edition image
+IsSeen files edition (looks.Map picture) image = files.shown edition image
+
+-- part of an image is shown: nothing is done; or it is shown from an image that a file gave (this project)
+abbrev pub RunsLook : Streams → HostFiles → Screen → Edition → Look → ℕ → Type 0
+RunsLook streams files screen edition look status =
+    RunsNothing streams files status ⊎ ((image : List ℕ) × IsSeen files edition look image × Looks edition image screen streams status look)
+
+-- the effects of standard input on the program: it couldn't be read, with this status; it gave this archive (this project)
+pub record HostInput : Type 1 where
+  pub unread : ℕ → Type 0
+  pub given : List ℕ → Type 0
+
+-- the effects of standard input, from what is known of it (std::io::Read)
+abbrev pub host_input : {F : Type 0} → (F → Option (List ℕ)) → HostInput
+host_input remaining = record { unread = IsUnread remaining; given = GaveArchive remaining }
+
+-- the bytes that a change needs aren't read, with this status: those of the file to put, or of the archive on standard input (this project)
+abbrev pub IsUngiven : (ℕ → Type 0) → (ℕ → Type 0) → Change → ℕ → Type 0
+IsUngiven unread unheard (changes.Put path file now) status = unread status
+IsUngiven unread unheard (changes.Import path now) status = unheard status
+IsUngiven unread unheard _ status = ⊥
+
+-- nothing is done: the bytes that a change needs aren't read, and nothing is printed (this project)
+abbrev pub TakesNothing : Streams → HostFiles → HostInput → Change → ℕ → Type 0
+TakesNothing streams files input change status =
+    IsUngiven files.unread input.unread change status × Keeps streams.old streams.new × (streams.failed ≡ streams.had_failed) × streams.said []
+
+-- a file gave the bytes to put, and standard input the archive to import; other changes need no bytes (this project)
+abbrev pub IsGivenTo : (List ℕ → Type 0) → (List ℕ → Type 0) → Change → List ℕ → Type 0
+IsGivenTo given heard (changes.Put path file now) bytes = given bytes
+IsGivenTo given heard (changes.Import path now) bytes = heard bytes
+IsGivenTo given heard _ bytes = Unit {0}
+
+-- true if a change imports an archive from standard input, which is a terminal and gives none (this project)
+abbrev pub wants_terminal : Bool → Change → Bool
+wants_terminal is_terminal (changes.Import path now) = is_terminal
+wants_terminal is_terminal _ = false
+
+-- nothing is done, since an archive is needed from a terminal: the status is that of a file that can't be read, and nothing is printed (this project)
+abbrev pub LeavesTerminal : Streams → ℕ → Type 0
+LeavesTerminal streams status = (status ≡ 3) × Keeps streams.old streams.new × (streams.failed ≡ streams.had_failed) × streams.said []
+
+-- a volume is changed: nothing is done; or it is changed in an image that may be changed and that a file gave, with the bytes that were given, and the result is saved if the system reported that some file had the stamp of the one that was read (this project)
+abbrev pub ChangesImage : Streams → HostFiles → HostInput → Edition → Change → ℕ → Type 0
+ChangesImage streams files input edition change status =
+    RunsNothing streams files status ⊎ (TakesNothing streams files input change status
+    ⊎ ((image : List ℕ) × (stamp : Stamp) × (bytes : List ℕ) × (answer : Answer) × files.opened edition image stamp × IsGivenTo files.given input.given change bytes
+    × Changes edition image bytes streams answer change × EndsSaved (λ saved. files.taken saved × files.stood stamp) answer status))
+
+-- a change runs: if an archive is needed from a terminal, nothing is done; otherwise the volume is changed (this project)
+abbrev pub RunsChange : Streams → HostFiles → HostInput → Bool → Edition → Change → ℕ → Type 0
+RunsChange streams files input is_terminal edition change status =
+    ((wants_terminal is_terminal change ≡ true) × LeavesTerminal streams status)
+    ⊎ ((wants_terminal is_terminal change ≡ false) × ChangesImage streams files input edition change status)
+
+-- the invocation is a plain command: it doesn't show part of an image, change a volume, copy several files or use several threads (this project)
+abbrev pub IsPlainCommand : Invocation → Type 0
+IsPlainCommand (invocations.Look volume look) = ⊥
+IsPlainCommand (invocations.Change volume change) = ⊥
+IsPlainCommand (invocations.Copy volume copying) = ⊥
+IsPlainCommand (invocations.Work volume work) = ⊥
+IsPlainCommand (invocations.Serve volume) = ⊥
+IsPlainCommand _ = Unit {0}
+
+-- a plain command runs: its output, what files give and take, and the status; other commands run elsewhere (this project)
+abbrev pub Runs : Streams → HostFiles → ℕ → Invocation → Type 0
+Runs streams files status (invocations.Cat volume i) = RunsCat streams files volume.edition i status
+Runs streams files status (invocations.Get volume path) = RunsGetOne streams files volume.edition path.now status
+Runs streams files status (invocations.Mkfs image volume) = RunsMkfs streams files.taken volume status
+Runs streams files status (invocations.Migrate old new migration) = RunsMigrate streams files migration status
+Runs streams files status (invocations.Look volume look) = ⊥
+Runs streams files status (invocations.Change volume change) = ⊥
+Runs streams files status (invocations.Copy volume copying) = ⊥
+Runs streams files status (invocations.Work volume work) = ⊥
+Runs streams files status (invocations.Serve volume) = ⊥
+
+-- the result of an error of the command line: the status by its kind, which is 3 only if standard output failed, and no line of a command (this project)
+pub record Tells (streams : Streams) (kind : ErrorKind) (status : ℕ) : Type 0 where
+  pub memory : kind ≡ kinds.OutOfMemory → status ≡ 4
+  pub mistake : kind ≢ kinds.OutOfMemory → kind ≢ kinds.DisplayHelp → kind ≢ kinds.DisplayVersion → status ≡ 2
+  pub shown : (kind ≡ kinds.DisplayHelp) ⊎ (kind ≡ kinds.DisplayVersion) → (status ≡ 0) ⊎ IsStatusOfFileOrMemory status
+  pub failed : status ≡ 3 → streams.failed ≡ true
+  pub quiet : streams.said []
+
+-- the words that were read run: their invocation is carried out, or they are refused, with the status for that (this project)
+abbrev pub RunsRead : Streams → HostFiles → ℕ → Result Invocation Error → Type 0
+RunsRead streams files status (Ok invocation) = Runs streams files status invocation
+RunsRead streams files status (Err error) = Tells streams (kind_of error) status
+
+-- a run ends: the status is at most 4; nothing was printed, unless it is 0 or 3; if it is 0, no output failed and no fault was reported (this project)
+pub record Ends (streams : Streams) (status : ℕ) : Type 0 where
+  pub within : status ≤ 4
+  pub silent : status ≢ 0 → status ≢ 3 → Keeps streams.old streams.new
+  pub whole : status ≡ 0 → (streams.failed ≡ streams.had_failed) × streams.said []
+
+-- the program runs to its end, from the contents of its two streams: their contents afterwards, whether they failed, and the status of the run, which is the exit status, or 3 is in place of 0 (this project)
+abbrev pub RunsToEnd : HostFiles → Option (List ℕ) → Option (List ℕ) → Result Invocation Error → ℕ → Type 0
+RunsToEnd files output errors read end =
+    (new : Option (List ℕ)) × (failed : Bool) × (told : Option (List ℕ)) × (untold : Bool) × (status : ℕ)
+    × RunsRead (record { old = output; new = new; had_failed = false; failed = failed; said = Gets untold errors told }) files status read
+    × Ends (record { old = output; new = new; had_failed = false; failed = failed; said = Gets untold errors told }) status
+    × ((end ≡ status) ⊎ ((status ≡ 0) × (end ≡ 3)))
+
+-- a run that may have printed something with any status ends: the status is at most 4; if it is 0, no output failed and no fault was reported (this project)
+pub record IsEnd (streams : Streams) (status : ℕ) : Type 0 where
+  pub within : status ≤ 4
+  pub whole : status ≡ 0 → (streams.failed ≡ streams.had_failed) × streams.said []
+
+-- work with several threads runs to its end, from the contents of the program's two streams: their contents afterwards, whether they failed, and the status of the run, which is the exit status, or 3 is in place of another (this project)
+abbrev pub WorksToEnd : HostFiles → Screen → Option (List ℕ) → Option (List ℕ) → Edition → Work → ℕ → Type 0
+WorksToEnd files screen output errors edition work end =
+    (new : Option (List ℕ)) × (failed : Bool) × (told : Option (List ℕ)) × (untold : Bool) × (status : ℕ)
+    × RunsWork (record { old = output; new = new; had_failed = false; failed = failed; said = Gets untold errors told }) files screen edition work status
+    × IsEnd (record { old = output; new = new; had_failed = false; failed = failed; said = Gets untold errors told }) status
+    × ((end ≡ status) ⊎ (end ≡ 3))
+
+-- a command that shows part of an image runs to its end, as work with several threads does (this project)
+abbrev pub LooksToEnd : HostFiles → Screen → Option (List ℕ) → Option (List ℕ) → Edition → Look → ℕ → Type 0
+LooksToEnd files screen output errors edition look end =
+    (new : Option (List ℕ)) × (failed : Bool) × (told : Option (List ℕ)) × (untold : Bool) × (status : ℕ)
+    × RunsLook (record { old = output; new = new; had_failed = false; failed = failed; said = Gets untold errors told }) files screen edition look status
+    × IsEnd (record { old = output; new = new; had_failed = false; failed = failed; said = Gets untold errors told }) status
+    × ((end ≡ status) ⊎ (end ≡ 3))
+
+-- a change runs to its end, as a plain command does (this project)
+abbrev pub ChangesToEnd : HostFiles → HostInput → Bool → Option (List ℕ) → Option (List ℕ) → Edition → Change → ℕ → Type 0
+ChangesToEnd files input is_terminal output errors edition change end =
+    (new : Option (List ℕ)) × (failed : Bool) × (told : Option (List ℕ)) × (untold : Bool) × (status : ℕ)
+    × RunsChange (record { old = output; new = new; had_failed = false; failed = failed; said = Gets untold errors told }) files input is_terminal edition change status
+    × Ends (record { old = output; new = new; had_failed = false; failed = failed; said = Gets untold errors told }) status
+    × ((end ≡ status) ⊎ ((status ≡ 0) × (end ≡ 3)))

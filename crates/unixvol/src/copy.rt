@@ -1,0 +1,243 @@
+//! The commands that copy several files between the host and a volume: the files they open and save.
+ghost use Rattle.std.specs.Prelude.{◌≡◌, ◌≢◌, ◌⊎◌, ℕ, All, Bool, IfErr, IfOk, IfSome, List, None, Option, map};
+ghost use Rattle.std.specs.Process.{exit_status};
+ghost use Rattle.command_faults.specs.Streams.{ErrorStream, Hears, still};
+ghost use Rattle.unixvol.specs.Copies.{AreGiven, AreSaved, CopiesToEnd, IsFileToo, IsMomentAlone, ReadSaved, RunsCopy, RunsGet, RunsPut, name_of};
+ghost use Rattle.unixvol.specs.Runs.{Ends, GaveBytes, IsStatusOfFileOrMemory, IsUnread, host_files};
+ghost use Rattle.host_files.specs.Save.{IsTaken};
+
+use crate::explain::{
+    NamedFile, explain_moment, explain_no_memory, explain_unwritten, finish, tell_fault,
+};
+use crate::host::Surroundings;
+use crate::read::{Begun, begin, read_file, read_stamped};
+use crate::save::{save_answer, save_new};
+use crate::subject::Subject;
+use command_changes::put::{NewFile, put_files};
+use command_faults::Ending;
+use command_faults::status::DONE;
+use command_line::{Copying, VolumeFile};
+use command_reads::get::{FileRead, FilesRead, get_files};
+use command_words::Moment;
+use host_files::{ImageFiles, Stamp, is_pipe};
+use pdp_words::IntoWrite;
+use std::fs::Files;
+use std::io::{self, Write};
+use std::path::Path;
+use std::process::ExitCode;
+use std::rt::Clock;
+
+/// The message for a name in the folder that belongs to a pipe or a socket.
+const PIPE: &str = "it is a pipe or a socket, which keeps no file";
+
+/// Copies several files between the host and the volume in a file, and returns the exit code. A fault is one line on standard error,
+/// to which `errors` writes too. Nothing is written to `output`, which is standard output.
+pub fn run_to_end<R: ImageFiles + Clock + Eprint + AllocGlobal, O: Write + Drop, E: Write + Drop>(
+    host: &Surroundings<'_, R>,
+    output: O,
+    errors: E,
+    volume: VolumeFile<'_>,
+    copying: Copying<'_>,
+) -> ExitCode
+    ensures { CopiesToEnd (host_files R.File.remaining R.File.contents R.had R.stood) R.stands (O.contents output) (E.contents errors)
+        volume.entry.edition copying.entry (exit_status result) }
+{
+    let mut errors = IntoWrite::new(errors);
+    let subject = Subject::of_copying(volume, &copying);
+    let ending = run(host, volume, copying);
+    tell_fault(host, &mut errors, &ending.fault, None, Some(subject));
+    ExitCode::from(finish(host, output, ending.status))
+}
+
+/// Copies several files, and returns how the run ends.
+fn run<R: ImageFiles + Clock + Eprint + AllocGlobal>(
+    host: &Surroundings<'_, R>,
+    volume: VolumeFile<'_>,
+    copying: Copying<'_>,
+) -> Ending
+    ensures runs { (known : Option (List ℕ)) (failed : Bool) (errors : ErrorStream) → Hears errors result.fault
+        → RunsCopy (still known failed errors) (host_files R.File.remaining R.File.contents R.had R.stood) R.stands volume.entry.edition copying.entry result.status }
+    ensures ends { (known : Option (List ℕ)) (failed : Bool) (errors : ErrorStream) → Hears errors result.fault
+        → Ends (still known failed errors) result.status }
+{
+    match copying {
+        Copying::Put {
+            directory,
+            files,
+            now,
+        } => run_put(host, volume, directory, &files, now),
+        Copying::Get { folder, paths } => run_get(host, volume, folder, &paths),
+    }
+}
+
+/// Puts the files at some paths into a directory of the volume in a file, saves the volume, and returns how the run ends. If a file
+/// exists at the word that was read as the time, the word may be meant as one of the files: then nothing is opened.
+fn run_put<R: ImageFiles + Clock + Eprint + AllocGlobal>(
+    host: &Surroundings<'_, R>,
+    volume: VolumeFile<'_>,
+    directory: &str,
+    paths: &[&str],
+    now: Moment<'_>,
+) -> Ending
+    ensures runs { (known : Option (List ℕ)) (failed : Bool) (errors : ErrorStream) → Hears errors result.fault
+        → RunsPut (still known failed errors) (host_files R.File.remaining R.File.contents R.had R.stood) R.stands volume.entry.edition directory.now
+        (map (λ path. name_of path.now) paths.now) now.entry result.status }
+    ensures ends { (known : Option (List ℕ)) (failed : Bool) (errors : ErrorStream) → Hears errors result.fault
+        → Ends (still known failed errors) result.status }
+{
+    if let Some(word) = moment_file(host.rt, now) {
+        return Ending {
+            status: explain_moment(host, word),
+            fault: None,
+        };
+    }
+    let read = ||
+        ensures given { IfOk result (λ files. AreGiven (GaveBytes R.File.remaining) (map (λ path. name_of path.now) paths.entry.now) files.items) }
+        ensures fault { IfErr result (IsUnread R.File.remaining) }
+    { read_named(host, paths) };
+    let begun = match begin(host, volume, read) {
+        Ok(begun) => begun,
+        Err(status) => {
+            return Ending {
+                status,
+                fault: None,
+            };
+        }
+    };
+    // The image's file stays open, and so locked, until the result is saved.
+    let Begun {
+        given: files,
+        image,
+        stamp,
+        locked: _locked,
+    } = begun;
+    let alloc = host.rt.alloc();
+    let answer = put_files(alloc, volume.edition, image, directory, files, now.seconds);
+    let status = save_answer(host, volume.image, stamp, &answer);
+    Ending {
+        status,
+        fault: answer.fault,
+    }
+}
+
+/// Returns the word that was read as the time, if a file exists at it as a path.
+fn moment_file<'a, R: ImageFiles>(rt: &R, now: Moment<'a>) -> Option<&'a str>
+    ensures some { IfSome result (IsFileToo R.stands now.entry) }
+    ensures none { result ≡ None → IsMomentAlone R.stands now.entry }
+{
+    let word = now.word?;
+    if rt.is_there(word) { Some(word) } else { None }
+}
+
+/// Reads the files at some paths, in order, each with the last name of its path. If one can't be read, prints the fault and returns
+/// the status.
+fn read_named<'a, R: Files + Eprint + AllocGlobal>(
+    host: &Surroundings<'_, R>,
+    paths: &[&'a str],
+) -> Result<Vec<NewFile<'a>>, u8>
+    ensures given { IfOk result (λ files. All (λ file. GaveBytes R.File.remaining file.bytes.items) files.items) }
+    ensures named { IfOk result (λ files. map (λ file. file.name.now) files.items ≡ map (λ path. name_of path.now) paths.now) }
+    ensures fault { IfErr result (IsUnread R.File.remaining) }
+{
+    let mut files = Vec::new(host.rt.alloc());
+    'files: for path in paths {
+        let bytes = read_file(host, path)?;
+        let name = name_of(path);
+        let Ok(()) = files.push(NewFile { name, bytes }) else {
+            return Err(explain_no_memory(host));
+        };
+    }
+    Ok(files)
+}
+
+/// Returns the last name of a path; empty if the path ends in `..` or has no names.
+fn name_of(path: &str) -> &str
+    ensures { result.now ≡ name_of path.now }
+{
+    Path::new(path).file_name().unwrap_or("")
+}
+
+/// Reads the files at some paths of the volume in a file, then saves each in a folder under its last name, and returns how the run
+/// ends. Never replaces the file of the volume, whatever its path.
+fn run_get<R: ImageFiles + Clock + Eprint + AllocGlobal>(
+    host: &Surroundings<'_, R>,
+    volume: VolumeFile<'_>,
+    folder: &str,
+    paths: &[&str],
+) -> Ending
+    ensures runs { (known : Option (List ℕ)) (failed : Bool) (errors : ErrorStream) → Hears errors result.fault
+        → RunsGet (still known failed errors) (host_files R.File.remaining R.File.contents R.had R.stood) volume.entry.edition (map (λ path. path.now) paths.now) result.status }
+    ensures ends { (known : Option (List ℕ)) (failed : Bool) (errors : ErrorStream) → Hears errors result.fault
+        → Ends (still known failed errors) result.status }
+{
+    let (image, stamp) = match read_stamped(host, volume.edition, volume.image) {
+        Ok(read) => read,
+        Err(status) => {
+            return Ending {
+                status,
+                fault: None,
+            };
+        }
+    };
+    let read = get_files(host.rt.alloc(), volume.edition, image, paths);
+    let status = save_read(host, folder, stamp, &read);
+    Ending {
+        status,
+        fault: read.fault,
+    }
+}
+
+/// Saves the files that were read from a volume in a folder, if they were, and returns the exit status.
+fn save_read<R: ImageFiles + Clock + Eprint + AllocGlobal>(
+    host: &Surroundings<'_, R>,
+    folder: &str,
+    image: Stamp,
+    read: &FilesRead<'_>,
+) -> u8
+    ensures { ReadSaved (IsTaken R.File.contents) read.now result }
+{
+    match &read.files {
+        Some(files) => save_files(host, folder, image, files, read.status),
+        None => read.status,
+    }
+}
+
+/// Saves files of a volume in a folder, each under the last name of its path, and returns the exit status: `status`, or that of the
+/// first file that can't be saved, after which no other is.
+fn save_files<R: ImageFiles + Clock + Eprint + AllocGlobal>(
+    host: &Surroundings<'_, R>,
+    folder: &str,
+    image: Stamp,
+    files: &[FileRead<'_>],
+    status: u8,
+) -> u8
+    ensures { ((result ≡ status) × AreSaved (IsTaken R.File.contents) files.now) ⊎ IsStatusOfFileOrMemory result }
+{
+    'files: for file in files {
+        let saved = save_file_read(host, folder, image, file);
+        if saved != DONE {
+            return saved;
+        }
+    }
+    status
+}
+
+/// Saves a file of a volume in a folder, under the last name of its path, and returns the exit status. A pipe or a socket with this
+/// name is left alone.
+fn save_file_read<R: ImageFiles + Clock + Eprint + AllocGlobal>(
+    host: &Surroundings<'_, R>,
+    folder: &str,
+    image: Stamp,
+    file: &FileRead<'_>,
+) -> u8
+    ensures { ((result ≡ 0) × IsTaken R.File.contents file.now.bytes.items) ⊎ IsStatusOfFileOrMemory result }
+{
+    let Ok(place) = Path::new(folder).join(host.rt.alloc(), name_of(file.path)) else {
+        return explain_no_memory(host);
+    };
+    let place = place.as_path().as_str();
+    if is_pipe(host.rt, place) {
+        return explain_unwritten(host, NamedFile::File(place), io::Error::other(PIPE));
+    }
+    save_new(host, place, image, &file.bytes, DONE)
+}

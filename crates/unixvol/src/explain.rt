@@ -1,0 +1,310 @@
+//! Messages for failures, and their statuses.
+ghost use Rattle.std.specs.Prelude.{◌≡◌, ◌≢◌, ◌⊎◌, ◌≤◌, true};
+ghost use Rattle.std.specs.Io.KnownBytes.{Keeps};
+ghost use Rattle.std.specs.IoError.{error_kind};
+ghost use Rattle.std.specs.declared.io.ErrorKind.TheVariants as io_kinds;
+ghost use Rattle.clap.specs.Words.{kind_of};
+ghost use Rattle.clap.specs.declared.error.kind.ErrorKind.TheVariants as clap_kinds;
+ghost use Rattle.command_reads.specs.Cat.{cat_status};
+ghost use Rattle.command_faults.specs.Streams.{Hears, heard};
+ghost use Rattle.unixvol.specs.Runs.{IsStatusOfFileOrMemory};
+
+use crate::host::Surroundings;
+use crate::meanings::{self, meaning_of, shown};
+use crate::sizes::{Sizes, sizes_in};
+use crate::subject::Subject;
+use clap::error::ErrorKind;
+use command_faults::Fault;
+use command_faults::answer::tell;
+use command_faults::status::{BAD_COMMAND_LINE, BAD_FILE, DONE, NO_MEMORY};
+use command_line::reworded;
+use command_reads::CatFault;
+use host_files::ImageFiles;
+use pdp_words::{Sink, write_all};
+use std::io::{self, Write};
+
+/// The name of standard output and standard input in the line of a fault.
+const STREAM: &str = "-";
+
+/// A file, or one of the standard streams.
+#[derive(Clone, Copy, Debug, PartialEq, Eq)]
+pub enum NamedFile<'a> {
+    /// The file at a path.
+    File(&'a str),
+    /// Standard input.
+    Input,
+    /// Standard output.
+    Output,
+}
+
+impl<'a> NamedFile<'a> {
+    /// Returns its name in the line of a fault.
+    fn name(self) -> &'a str {
+        match self {
+            NamedFile::File(path) => path,
+            NamedFile::Input | NamedFile::Output => STREAM,
+        }
+    }
+
+    /// Returns its name in the second line.
+    fn in_words(self) -> &'a str {
+        match self {
+            NamedFile::File(path) => path,
+            NamedFile::Input => "standard input",
+            NamedFile::Output => "standard output",
+        }
+    }
+}
+
+/// Prints that a file can't be read, and returns the status.
+pub fn explain_unread<R: Eprint + AllocGlobal>(
+    host: &Surroundings<'_, R>,
+    file: NamedFile<'_>,
+    why: io::Error,
+) -> u8
+    ensures { result ≡ 3 }
+{
+    let name = file.name();
+    let _ = eprintln!(host.rt; "unixvol: cannot read {name}");
+    tell_why(host, file, why);
+    BAD_FILE
+}
+
+/// Prints that a file can't be written, and returns the status.
+pub fn explain_unwritten<R: Eprint + AllocGlobal>(
+    host: &Surroundings<'_, R>,
+    file: NamedFile<'_>,
+    why: io::Error,
+) -> u8
+    ensures { result ≡ 3 }
+{
+    let name = file.name();
+    let _ = eprintln!(host.rt; "unixvol: cannot write {name}");
+    tell_why(host, file, why);
+    BAD_FILE
+}
+
+/// Prints that the word which was read as the time is the path of a file too, and returns the status.
+pub fn explain_moment<R: Eprint>(host: &Surroundings<'_, R>, word: &str) -> u8
+    ensures { result ≡ 2 }
+{
+    let _ = eprintln!(host.rt;
+        "unixvol: {word}: a moment, and a file too: write ./{word}, or the moment in another form"
+    );
+    BAD_COMMAND_LINE
+}
+
+/// Returns the reason why a device failed: its last error, if that is known.
+pub fn reason_of(error: Option<io::Error>) -> io::Error {
+    error.unwrap_or(io::Error::from(io::ErrorKind::Other))
+}
+
+/// Prints the second line for a file that failed, if it is wanted.
+fn tell_why<R: Eprint + AllocGlobal>(
+    host: &Surroundings<'_, R>,
+    file: NamedFile<'_>,
+    why: io::Error,
+) {
+    if !host.explains {
+        return;
+    }
+    if let Ok(name) = shown(host.rt.alloc(), file.in_words()) {
+        let _ = eprintln!(host.rt; "unixvol: {name}: {why}");
+    }
+}
+
+/// Prints the line of a fault, if a run had one, and its second line, if that is wanted.
+pub fn tell_fault<R: ImageFiles + Eprint + AllocGlobal, E: Sink>(
+    host: &Surroundings<'_, R>,
+    errors: &mut E,
+    fault: &Option<Fault>,
+    output: Option<io::Error>,
+    subject: Option<Subject<'_>>,
+)
+    ensures { Hears (heard E.contents E.failed errors.old errors.new) fault.now }
+{
+    tell(fault, errors);
+    explain(host, fault, output, subject);
+}
+
+/// Prints the second line of a run, if it is wanted: the system's error if standard output failed, else the meaning of the fault. A
+/// fault in words has no second line; without memory for it, it is left out.
+fn explain<R: ImageFiles + Eprint + AllocGlobal>(
+    host: &Surroundings<'_, R>,
+    fault: &Option<Fault>,
+    output: Option<io::Error>,
+    subject: Option<Subject<'_>>,
+) {
+    if !host.explains {
+        return;
+    }
+    if let Some(why) = output {
+        return tell_why(host, NamedFile::Output, why);
+    }
+    let Some(subject) = subject else {
+        return;
+    };
+    let Some(fault) = fault else {
+        return;
+    };
+    let sizes = sizes_of(host, fault, subject);
+    if let Ok(Some(meaning)) = meaning_of(host.rt.alloc(), fault, subject, sizes) {
+        let _ = eprintln!(host.rt; "unixvol: {meaning}");
+    }
+}
+
+/// Returns the sizes in an image that breaks rule 1 or rule 2.
+fn sizes_of<R: ImageFiles + AllocGlobal>(
+    host: &Surroundings<'_, R>,
+    fault: &Fault,
+    subject: Subject<'_>,
+) -> Option<Sizes> {
+    let rule = match fault {
+        Fault::Unsound(rule) => *rule,
+        Fault::Worded { rule, .. } => rule.unwrap_or(0),
+        _ => 0,
+    };
+    if rule == 1 || rule == 2 {
+        sizes_in(host.rt, subject.image, subject.edition)
+    } else {
+        None
+    }
+}
+
+/// Prints the line of a fault of `cat`, and returns its status. The second line for standard output is printed when the run has ended.
+pub fn explain_cat<R: ImageFiles + Eprint + AllocGlobal>(
+    host: &Surroundings<'_, R>,
+    fault: CatFault,
+    subject: Subject<'_>,
+) -> u8
+    ensures { result ≡ cat_status fault }
+{
+    // If standard error can't be written either, only the status reports the fault.
+    let line = fault.line();
+    let _ = eprint!(host.rt; "{line}");
+    explain(host, &fault.as_fault(), None, Some(subject));
+    fault.status()
+}
+
+/// Prints the text for a wrong command line, or the requested help, and returns its status.
+pub fn explain_command_line<R: Eprint + AllocGlobal, O: Sink>(
+    host: &Surroundings<'_, R>,
+    output: &mut O,
+    error: &clap::Error,
+) -> u8
+    ensures memory { kind_of error.now ≡ clap_kinds.OutOfMemory → result ≡ 4 }
+    ensures mistake { kind_of error.now ≢ clap_kinds.OutOfMemory → kind_of error.now ≢ clap_kinds.DisplayHelp
+        → kind_of error.now ≢ clap_kinds.DisplayVersion → result ≡ 2 }
+    ensures shown { (kind_of error.now ≡ clap_kinds.DisplayHelp) ⊎ (kind_of error.now ≡ clap_kinds.DisplayVersion)
+        → (result ≡ 0) ⊎ IsStatusOfFileOrMemory result }
+    ensures failed { result ≡ 3 → O.failed output.new ≡ true }
+    ensures within { result ≤ 4 }
+    ensures silent { result ≢ 0 → result ≢ 3 → Keeps (O.contents output.old) (O.contents output.new) }
+    ensures whole { result ≡ 0 → O.failed output.new ≡ O.failed output.old }
+{
+    if error.kind() == ErrorKind::OutOfMemory {
+        return explain_no_memory(host);
+    }
+    if error.use_stderr() {
+        tell_mistake(host, error);
+        return BAD_COMMAND_LINE;
+    }
+    let Ok(text) = format!(in host.rt.alloc(); "{error}") else {
+        return explain_no_memory(host);
+    };
+    match write_all(output, text.as_bytes()) {
+        Ok(()) => DONE,
+        Err(_) => explain_unshown(host),
+    }
+}
+
+/// Prints the text for a mistake on the command line, reworded if that is better.
+fn tell_mistake<R: Eprint + AllocGlobal>(host: &Surroundings<'_, R>, error: &clap::Error) {
+    let _ = match reworded(host.rt.alloc(), host.words, error) {
+        Ok(Some(better)) => host.rt.eprint(&better),
+        Ok(None) | Err(_) => host.rt.eprint(error),
+    };
+}
+
+/// Prints that standard output can't be written, and returns the status. Its second line is printed when the run has ended.
+fn explain_unshown<R: Eprint>(host: &Surroundings<'_, R>) -> u8
+    ensures { result ≡ 3 }
+{
+    let _ = eprintln!(host.rt; "unixvol: cannot write {STREAM}");
+    BAD_FILE
+}
+
+/// Flushes standard output after a run with status 0, and returns the exit status.
+pub fn finish<R: Eprint + AllocGlobal, W: Write + Drop>(
+    host: &Surroundings<'_, R>,
+    output: W,
+    status: u8,
+) -> u8
+    ensures { (result ≡ status) ⊎ ((status ≡ 0) × (result ≡ 3)) }
+{
+    if status == DONE {
+        return flush(host, output, status);
+    }
+    status
+}
+
+/// Flushes standard output as [`finish`] does, after a run that may have printed something with any status.
+pub fn finish_printed<R: Eprint + AllocGlobal, W: Write + Drop>(
+    host: &Surroundings<'_, R>,
+    output: W,
+    status: u8,
+) -> u8
+    ensures { (result ≡ status) ⊎ (result ≡ 3) }
+{
+    if status != BAD_FILE {
+        return flush(host, output, status);
+    }
+    status
+}
+
+/// Flushes standard output, and returns `status`, or that of a failure.
+fn flush<R: Eprint + AllocGlobal, W: Write + Drop>(
+    host: &Surroundings<'_, R>,
+    mut output: W,
+    status: u8,
+) -> u8
+    ensures { (result ≡ status) ⊎ (result ≡ 3) }
+{
+    match output.flush() {
+        Ok(()) => status,
+        Err(why) => explain_unwritten(host, NamedFile::Output, why),
+    }
+}
+
+/// Prints why the words of the command line can't be read, and returns the status. `place` is the number of the word that isn't UTF-8,
+/// if it is known: 1 is the first word after the program's name.
+pub fn explain_words(rt: &impl Eprint, error: &io::Error, place: Option<usize>) -> u8
+    ensures memory { error_kind error.now ≡ io_kinds.OutOfMemory → result ≡ 4 }
+    ensures mistake { error_kind error.now ≢ io_kinds.OutOfMemory → result ≡ 2 }
+    ensures status { (result ≡ 2) ⊎ (result ≡ 4) }
+{
+    if error.kind() == io::ErrorKind::OutOfMemory {
+        let _ = eprintln!(rt; "{NO_MEMORY_LINE}");
+        return NO_MEMORY;
+    }
+    let _ = match place {
+        Some(place) => eprintln!(rt; "error: word {place} of the command line is not UTF-8 text"),
+        None => eprintln!(rt; "error: a word of the command line is not UTF-8 text"),
+    };
+    BAD_COMMAND_LINE
+}
+
+/// The line for out of memory.
+const NO_MEMORY_LINE: &str = "unixvol: 12 NoMemory";
+
+/// Prints that memory ran out, and returns the status.
+pub fn explain_no_memory<R: Eprint>(host: &Surroundings<'_, R>) -> u8
+    ensures { result ≡ 4 }
+{
+    let _ = eprintln!(host.rt; "{NO_MEMORY_LINE}");
+    if host.explains {
+        let words = meanings::NO_MEMORY;
+        let _ = eprintln!(host.rt; "unixvol: {words}");
+    }
+    NO_MEMORY
+}

@@ -1,0 +1,259 @@
+//! Reads files to their ends, or up to the end of the volume or the archive in them.
+ghost use Rattle.std.specs.Prelude.{◌≡◌, ◌⊎◌, false, true, All, Err, IfErr, IfOk, IsErrOf, Ok, OnErr, length};
+ghost use Rattle.pdp_words.specs.Devices.{LosesFront};
+ghost use Rattle.host_files.specs.OpenedFiles.{IsOpened};
+ghost use Rattle.host_files.specs.ReadParts.{IsPast, IsReadUpTo};
+ghost use Rattle.unixvol.specs.Runs.{Gave, GaveBytes, GaveImage, IsStatusOfFileOrMemory, IsUnread};
+
+use crate::explain::{NamedFile, explain_no_memory, explain_unread, explain_unwritten, reason_of};
+use crate::host::Surroundings;
+use command_line::VolumeFile;
+use host_files::{
+    FileKind, FrontFault, ImageFiles, Noted, OpenFault, Stamp, UpTo, expect_image, noted_reader,
+    open_image, open_stamped, read_up_to,
+};
+use pdp_words::Source;
+use std::fs::{self, Files};
+use std::io::{self, Read};
+use std::rt::Clock;
+use vol_layout::Edition;
+
+/// The message for a file that has more blocks than any volume of its edition, according to its super-block too.
+const ENDLESS: &str = "it has more blocks than any volume, and its super-block says so";
+
+/// The message for an archive that has more bytes than it may.
+const LONG: &str = "its archive has more bytes than an image of this size could take";
+
+/// A file that was read.
+#[derive(Drop)]
+pub struct ReadFile<F> {
+    /// Its bytes.
+    pub bytes: Vec<u8>,
+    /// The file, still open.
+    pub file: F,
+}
+
+/// Reads a file to its end. If it can't be read, prints the fault and returns the status.
+pub fn read_file<R: Files + Eprint + AllocGlobal>(
+    host: &Surroundings<'_, R>,
+    path: &str,
+) -> Result<Vec<u8>, u8>
+    ensures given { IfOk result (λ bytes. GaveBytes R.File.remaining bytes.items) }
+    ensures fault { IfErr result (IsUnread R.File.remaining) }
+{
+    read_so_far(host, UpTo::End, path)
+}
+
+/// Reads the image of the volume in a file. If it can't be read, prints the fault and returns the status.
+pub fn read_volume<R: Files + Eprint + AllocGlobal>(
+    host: &Surroundings<'_, R>,
+    volume: VolumeFile<'_>,
+) -> Result<Vec<u8>, u8>
+    ensures given { IfOk result (λ image. Gave (UpTo.Volume volume.entry.edition) R.File.remaining image.items) }
+    ensures fault { IfErr result (IsUnread R.File.remaining) }
+{
+    read_so_far(host, UpTo::Volume(volume.edition), volume.image)
+}
+
+/// Reads the image for `check`: the whole of a regular file, whose volume may be of the other edition; otherwise the image of the
+/// volume. If it can't be read, prints the fault and returns the status.
+pub fn read_checked<R: ImageFiles + Eprint + AllocGlobal>(
+    host: &Surroundings<'_, R>,
+    volume: VolumeFile<'_>,
+) -> Result<Vec<u8>, u8>
+    ensures given { IfOk result (λ image. GaveImage volume.entry.edition R.File.remaining image.items) }
+    ensures fault { IfErr result (IsUnread R.File.remaining) }
+{
+    let named = NamedFile::File(volume.image);
+    match open_stamped(host.rt, volume.image) {
+        Ok((file, stamp)) if stamp.kind == FileKind::Regular => {
+            Ok(read_open(host, named, UpTo::End, file)?.bytes)
+        }
+        Ok((file, _)) => Ok(read_open(host, named, UpTo::Volume(volume.edition), file)?.bytes),
+        Err(why) => Err(explain_unread(host, named, why)),
+    }
+}
+
+/// Reads a file up to `up_to`. If it can't be read, prints the fault and returns the status.
+fn read_so_far<R: Files + Eprint + AllocGlobal>(
+    host: &Surroundings<'_, R>,
+    up_to: UpTo,
+    path: &str,
+) -> Result<Vec<u8>, u8>
+    ensures given { IfOk result (λ bytes. Gave up_to R.File.remaining bytes.items) }
+    ensures fault { IfErr result (IsUnread R.File.remaining) }
+{
+    let named = NamedFile::File(path);
+    match fs::open(host.rt, path) {
+        Ok(file) => Ok(read_open(host, named, up_to, file)?.bytes),
+        Err(why) => Err(explain_unread(host, named, why)),
+    }
+}
+
+/// Reads several files, in the order of their paths. If one can't be read, prints the fault and returns the status.
+pub fn read_files<R: Files + Eprint + AllocGlobal>(
+    host: &Surroundings<'_, R>,
+    paths: &[&str],
+) -> Result<Vec<Vec<u8>>, u8>
+    ensures given { IfOk result (λ files. All (λ file. GaveBytes R.File.remaining file.items) files.items) }
+    ensures count { IfOk result (λ files. length files.items ≡ length paths.now) }
+    ensures fault { IfErr result (IsUnread R.File.remaining) }
+{
+    let mut files = Vec::new(host.rt.alloc());
+    'files: for path in paths {
+        let bytes = read_file(host, path)?;
+        let Ok(()) = files.push(bytes) else {
+            return Err(explain_no_memory(host));
+        };
+    }
+    Ok(files)
+}
+
+/// Reads the image of the volume in a file, and returns it with the file's stamp. If it can't be read, prints the fault and returns
+/// the status.
+pub fn read_stamped<R: ImageFiles + Eprint + AllocGlobal>(
+    host: &Surroundings<'_, R>,
+    edition: Edition,
+    path: &str,
+) -> Result<(Vec<u8>, Stamp), u8>
+    ensures given { IfOk result (λ read. Gave (UpTo.Volume edition) R.File.remaining read.0.items) }
+    ensures fault { IfErr result (IsUnread R.File.remaining) }
+{
+    let named = NamedFile::File(path);
+    match open_stamped(host.rt, path) {
+        Ok((file, stamp)) => Ok((
+            read_open(host, named, UpTo::Volume(edition), file)?.bytes,
+            stamp,
+        )),
+        Err(why) => Err(explain_unread(host, named, why)),
+    }
+}
+
+/// The state of a command that changes an image, once it has begun.
+#[derive(Drop)]
+pub struct Begun<F, G> {
+    /// The bytes that it needs besides the image.
+    pub given: G,
+    /// The image; of a regular file, with the bytes after its volume.
+    pub image: Vec<u8>,
+    /// The stamp of the image's file before it was read.
+    pub stamp: Stamp,
+    /// The image's file, which is locked until it is closed.
+    pub locked: F,
+}
+
+/// Begins a command that changes the volume in a file: reads the other bytes that it needs, with `read_given`, which may wait, and
+/// only then locks the image and reads it. Before all that it checks that the image can be opened. If something can't be read, or the
+/// image may not be changed, prints the fault and returns the status.
+pub fn begin<
+    R: ImageFiles + Clock + Eprint + AllocGlobal,
+    G: Drop,
+    F: FnOnce() -> Result<G, u8> + Drop,
+>(
+    host: &Surroundings<'_, R>,
+    volume: VolumeFile<'_>,
+    read_given: F,
+) -> Result<Begun<R::File, G>, u8>
+    requires { F.pre read_given }
+    ensures image { IfOk result (λ begun. IsOpened volume.entry.edition R.File.remaining R.had begun.image.items begun.stamp) }
+    ensures given { IfOk result (λ begun. F.post read_given (Ok begun.given)) }
+    ensures fault { IfErr result (λ status. IsUnread R.File.remaining status ⊎ F.post read_given (Err status)) }
+{
+    if let Err(fault) = expect_image(host.rt, volume.image) {
+        return Err(explain_unopened(host, NamedFile::File(volume.image), fault));
+    }
+    let given = read_given()?;
+    let (read, stamp) = read_image(host, volume)?;
+    let ReadFile { bytes, file } = read;
+    Ok(Begun {
+        given,
+        image: bytes,
+        stamp,
+        locked: file,
+    })
+}
+
+/// Reads the image to change, and returns it with its stamp. If it can't be read, or may not be changed, prints the fault and returns
+/// the status.
+fn read_image<R: ImageFiles + Clock + Eprint + AllocGlobal>(
+    host: &Surroundings<'_, R>,
+    volume: VolumeFile<'_>,
+) -> Result<(ReadFile<R::File>, Stamp), u8>
+    ensures given { IfOk result (λ image. IsOpened volume.entry.edition R.File.remaining R.had image.0.bytes.items image.1) }
+    ensures fault { IfErr result (IsUnread R.File.remaining) }
+{
+    let named = NamedFile::File(volume.image);
+    match open_image(host.rt, volume.image, host.is_watched) {
+        Ok((file, stamp)) => {
+            let up_to = UpTo::kept(volume.edition, stamp.kind);
+            Ok((read_open(host, named, up_to, file)?, stamp))
+        }
+        Err(fault) => Err(explain_unopened(host, named, fault)),
+    }
+}
+
+/// Prints that the file of an image can't be read, or may not be changed, and returns the status.
+fn explain_unopened<R: Eprint + AllocGlobal>(
+    host: &Surroundings<'_, R>,
+    named: NamedFile<'_>,
+    fault: OpenFault,
+) -> u8
+    ensures { result ≡ 3 }
+{
+    match fault {
+        OpenFault::Unread(why) => explain_unread(host, named, why),
+        OpenFault::Stream(why) | OpenFault::Locked(why) => explain_unwritten(host, named, why),
+    }
+}
+
+/// Reads an open file up to `up_to`. If it can't be read, prints the fault and returns the status.
+pub fn read_open<R: Eprint + AllocGlobal, F: Read + Drop>(
+    host: &Surroundings<'_, R>,
+    named: NamedFile<'_>,
+    up_to: UpTo,
+    file: F,
+) -> Result<ReadFile<F>, u8>
+    ensures given { IfOk result (λ read. IsReadUpTo up_to (F.remaining file) (F.remaining read.file) read.bytes.items) }
+    ensures fault { IfErr result (IsUnread F.remaining) }
+{
+    let mut source = noted_reader(file);
+    let bytes = read_source(host, named, up_to, &mut source)?;
+    Ok(ReadFile {
+        bytes,
+        file: source.into_inner().into_inner(),
+    })
+}
+
+/// Reads a source up to `up_to`. If it can't be read, prints the fault and returns the status: that of a file only if the source
+/// failed or is longer than it may be, that of memory only if it didn't fail.
+fn read_source<R: Eprint + AllocGlobal, S: Source>(
+    host: &Surroundings<'_, R>,
+    named: NamedFile<'_>,
+    up_to: UpTo,
+    source: &mut Noted<S>,
+) -> Result<Vec<u8>, u8>
+    requires { ⟦<Noted<S> as Source>⟧.failed source.old ≡ false }
+    ensures given { IfOk result (λ bytes. IsReadUpTo up_to (⟦<Noted<S> as Source>⟧.remaining source.old) (⟦<Noted<S> as Source>⟧.remaining source.new) bytes.items) }
+    ensures front { OnErr result (LosesFront (⟦<Noted<S> as Source>⟧.remaining source.old) (⟦<Noted<S> as Source>⟧.remaining source.new)) }
+    ensures device { IsErrOf result 3 → (⟦<Noted<S> as Source>⟧.failed source.new ≡ true)
+        ⊎ IsPast up_to (⟦<Noted<S> as Source>⟧.remaining source.old) (⟦<Noted<S> as Source>⟧.remaining source.new) }
+    ensures memory { IsErrOf result 4 → ⟦<Noted<S> as Source>⟧.failed source.new ≡ false }
+    ensures fault { IfErr result IsStatusOfFileOrMemory }
+{
+    match read_up_to(host.rt.alloc(), up_to, source) {
+        Ok(image) => Ok(image.into_bytes()),
+        Err(FrontFault::Device) => Err(explain_unread(host, named, reason_of(source.error()))),
+        Err(FrontFault::Endless) => {
+            Err(explain_unread(host, named, io::Error::other(past(up_to))))
+        }
+        Err(FrontFault::NoMemory) => Err(explain_no_memory(host)),
+    }
+}
+
+/// Returns the message for a file that is longer than it may be.
+fn past(up_to: UpTo) -> &'static str {
+    match up_to {
+        UpTo::Archive(_) => LONG,
+        UpTo::End | UpTo::Volume(_) => ENDLESS,
+    }
+}

@@ -1,0 +1,194 @@
+//! Saves the result of a command in its file, and returns the exit status.
+ghost use Rattle.std.specs.Prelude.{◌≡◌, ◌⊎◌, IfErr, IfSome};
+ghost use Rattle.unixvol.specs.Runs.{IsStatusOfFileOrMemory, EndsPlayed, EndsSaved, MadeSaved};
+ghost use Rattle.host_files.specs.Save.{IsTaken, Saves};
+
+use crate::explain::{NamedFile, explain_no_memory, explain_unwritten};
+use crate::host::Surroundings;
+use crate::replaced::{held_at, tell_replaced};
+use command_changes::MadeVolume;
+use command_faults::Answer;
+use command_faults::status::BAD_FILE;
+use command_line::MadeFile;
+use host_files::{Content, FileKind, ImageFiles, OpenFault, Stamp, open_image, save_file};
+use std::io;
+use std::rt::Clock;
+
+/// The message for a file that holds the volume from which another file is made.
+const OLD_VOLUME: &str = "it holds the volume that was read, which is kept";
+
+/// Saves the result of a command in the file `image`, if there is one and the file still has the stamp `read`, and returns the exit
+/// status.
+pub fn save_answer<R: ImageFiles + Eprint + AllocGlobal>(
+    host: &Surroundings<'_, R>,
+    image: &str,
+    read: Stamp,
+    answer: &Answer,
+) -> u8
+    ensures { EndsSaved (λ bytes. IsTaken R.File.contents bytes × R.stood read) answer.now result }
+{
+    match &answer.image {
+        Some(bytes) => save(
+            host,
+            image,
+            Some(read),
+            Content::Bytes(bytes),
+            answer.status,
+        ),
+        None => answer.status,
+    }
+}
+
+/// Saves the volume on which scripts were played in the file `image`, as [`save_answer`] does. If standard output failed, the exit
+/// status is 3 even if saving fails too, and its line is the only one.
+pub fn save_played<R: ImageFiles + Eprint + AllocGlobal>(
+    host: &Surroundings<'_, R>,
+    image: &str,
+    read: Stamp,
+    answer: &Answer,
+) -> u8
+    ensures { EndsPlayed (λ bytes. IsTaken R.File.contents bytes × R.stood read) answer.now result }
+{
+    if answer.status != BAD_FILE {
+        return save_answer(host, image, read, answer);
+    }
+    if let Some(bytes) = &answer.image {
+        let _ = save_file(host.rt, image, Some(read), Content::Bytes(bytes));
+    }
+    BAD_FILE
+}
+
+/// The message for a file that exists and must not be replaced.
+const THERE: &str = "it is there already, and --new replaces no file";
+
+/// Saves the result of `mkfs` in a file, if there is one, and returns the exit status. A regular file that exists is locked meanwhile,
+/// if it can be opened.
+pub fn save_made<R: ImageFiles + Clock + Eprint + AllocGlobal>(
+    host: &Surroundings<'_, R>,
+    file: MadeFile<'_>,
+    made: &MadeVolume,
+) -> u8
+    ensures { MadeSaved (IsTaken R.File.contents) made.now result }
+{
+    let Some(volume) = &made.volume else {
+        return made.status;
+    };
+    if is_kept(host, file) {
+        return explain_there(host, file.path);
+    }
+    let _locked = match lock_replaced(host, file.path) {
+        Ok(locked) => locked,
+        Err(status) => return status,
+    };
+    let held = held_at(host, file.path);
+    let content = Content::Volume(volume);
+    let saved = save(host, file.path, None, content, made.status);
+    tell_replaced(host, file.path, saved, held);
+    saved
+}
+
+/// True if something exists at the path of a file that must be new.
+fn is_kept<R: ImageFiles>(host: &Surroundings<'_, R>, file: MadeFile<'_>) -> bool {
+    file.is_new && host.rt.is_there(file.path)
+}
+
+/// Prints that something exists at the path of a file that must be new, and returns the status.
+fn explain_there<R: Eprint + AllocGlobal>(host: &Surroundings<'_, R>, path: &str) -> u8
+    ensures { result ≡ 3 }
+{
+    explain_unwritten(host, NamedFile::File(path), io::Error::other(THERE))
+}
+
+/// Saves the result of `migrate` in a file, if there is one, as [`save_new`] does, and returns the exit status.
+pub fn save_migrated<R: ImageFiles + Clock + Eprint + AllocGlobal>(
+    host: &Surroundings<'_, R>,
+    file: MadeFile<'_>,
+    old: Stamp,
+    answer: &Answer,
+) -> u8
+    ensures { EndsSaved (IsTaken R.File.contents) answer.now result }
+{
+    match &answer.image {
+        Some(_) if is_kept(host, file) => explain_there(host, file.path),
+        Some(bytes) => save_over(host, file.path, old, bytes, answer.status),
+        None => answer.status,
+    }
+}
+
+/// Saves bytes in the file `path` as [`save_new`] does, and tells a user what was replaced.
+fn save_over<R: ImageFiles + Clock + Eprint + AllocGlobal>(
+    host: &Surroundings<'_, R>,
+    path: &str,
+    old: Stamp,
+    bytes: &[u8],
+    status: u8,
+) -> u8
+    ensures { ((result ≡ status) × IsTaken R.File.contents bytes.now) ⊎ IsStatusOfFileOrMemory result }
+{
+    let held = held_at(host, path);
+    let saved = save_new(host, path, old, bytes, status);
+    tell_replaced(host, path, saved, held);
+    saved
+}
+
+/// Saves bytes in the file `path`, and returns the exit status: `status` if they are saved. The file with the stamp `old`, from which
+/// they were made, isn't replaced, whatever its path. A regular file that exists is locked meanwhile, if it can be opened.
+pub fn save_new<R: ImageFiles + Clock + Eprint + AllocGlobal>(
+    host: &Surroundings<'_, R>,
+    path: &str,
+    old: Stamp,
+    bytes: &[u8],
+    status: u8,
+) -> u8
+    ensures { ((result ≡ status) × IsTaken R.File.contents bytes.now) ⊎ IsStatusOfFileOrMemory result }
+{
+    if stands_at(host.rt, path, old) {
+        return explain_unwritten(host, NamedFile::File(path), io::Error::other(OLD_VOLUME));
+    }
+    let _locked = match lock_replaced(host, path) {
+        Ok(locked) => locked,
+        Err(status) => return status,
+    };
+    save(host, path, None, Content::Bytes(bytes), status)
+}
+
+/// True if the file with a stamp is at `path`, or at the end of its symbolic links.
+fn stands_at<R: ImageFiles>(rt: &R, path: &str, stamp: Stamp) -> bool {
+    match rt.stamp_at(path) {
+        Ok(there) => there.is_of(stamp),
+        Err(_) => false,
+    }
+}
+
+/// Locks the regular file that will be replaced, if there is one that can be opened. If another program keeps it locked for half a
+/// minute, prints that it can't be written, and returns the status.
+fn lock_replaced<R: ImageFiles + Clock + Eprint + AllocGlobal>(
+    host: &Surroundings<'_, R>,
+    path: &str,
+) -> Result<Option<R::File>, u8>
+    ensures { IfErr result IsStatusOfFileOrMemory }
+{
+    match open_image(host.rt, path, host.is_watched) {
+        Ok((file, stamp)) if stamp.kind == FileKind::Regular => Ok(Some(file)),
+        Err(OpenFault::Locked(why)) => Err(explain_unwritten(host, NamedFile::File(path), why)),
+        _ => Ok(None),
+    }
+}
+
+/// Saves a content in the file `path`, if that still has the stamp `read`, if one is given, and returns the exit status: `status` if
+/// it is saved.
+fn save<R: ImageFiles + Eprint + AllocGlobal>(
+    host: &Surroundings<'_, R>,
+    path: &str,
+    read: Option<Stamp>,
+    content: Content<'_>,
+    status: u8,
+) -> u8
+    ensures { ((result ≡ status) × Saves R.File.contents content.entry × IfSome read R.stood) ⊎ IsStatusOfFileOrMemory result }
+{
+    match save_file(host.rt, path, read, content) {
+        Ok(()) => status,
+        Err(error) if error.kind() == io::ErrorKind::OutOfMemory => explain_no_memory(host),
+        Err(why) => explain_unwritten(host, NamedFile::File(path), why),
+    }
+}

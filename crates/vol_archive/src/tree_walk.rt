@@ -1,0 +1,310 @@
+//! The walk over everything below a directory.
+ghost use Rattle.std.specs.Prelude.{◌≡◌, ◌+◌, ◌++◌, ◌∷◌, [], ◌≤◌, reverse, List, IfOk, OnOk, length, slice_get, slice_index_or, nat_le, ℕ, if◌then◌else◌};
+ghost use Rattle.vol_layout.specs.Geometry.{Fits};
+ghost use Rattle.vol_dir.specs.Entries.{IsDirectory};
+ghost use Rattle.vol_layout.specs.declared.geometry.Geometry.{Geometry};
+ghost use Rattle.vol_archive.specs.declared.met_entries.MetEntry.{MetEntry};
+ghost use Rattle.vol_archive.specs.Walk.{first_met, role_of, node_role, file_role, link_role, has_room, has_path, entries_below, with_lost_directory, IsWalk, IsLostWalk, Walks};
+ghost use Rattle.vol_archive.specs.Marks.{AreFirsts};
+
+use crate::met_entries::{MetEntry, Reason, Role};
+use crate::names::{LOST_FOUND, entries_below, lost_entries, slashed};
+use crate::pending::Pending;
+use pdp_words::{Bytes, Image};
+use std::alloc::{AllocError, Global};
+use ustar::split;
+use vol_layout::i_list::kind;
+use vol_layout::{Geometry, Kind};
+
+/// The state of a walk.
+#[derive(Drop)]
+struct Walked {
+    /// All that was met, in its order.
+    founds: Vec<MetEntry>,
+    /// By i-number, the place of what was met first for it.
+    firsts: Vec<Option<usize>>,
+}
+
+/// Returns everything that is met below directory `start`: each of its entries except `.` and `..`, in ascending order of their
+/// names, and after a directory the entries below it. Entries that can't be members are met and returned too, but nothing below
+/// them.
+///
+/// Goes below each directory once, so it ends on every image. Costs sorting the names of each directory, and memory for all
+/// paths.
+pub fn walk(
+    alloc: Global,
+    image: &Image,
+    geometry: &Geometry,
+    start: u16,
+) -> Result<Vec<MetEntry>, AllocError>
+    requires fits { Fits geometry.now image.now }
+    requires directory { IsDirectory geometry.now image.now start }
+    ensures { IfOk result (λ founds. IsWalk geometry.now image.now start founds.items) }
+{
+    Ok(walk_tree(alloc, image, geometry, start)?.founds)
+}
+
+/// Returns everything that [`walk`] meets below directory `start`, then the i-nodes that no entry names, and what is below those that
+/// are directories. Their paths are `lost+found/#` and the i-number. Before the first comes a directory `lost+found` with the
+/// permissions, the owner and the times of `start`, unless an entry has that path.
+///
+/// Costs what [`walk`] does.
+pub fn walk_lost(
+    alloc: Global,
+    image: &Image,
+    geometry: &Geometry,
+    start: u16,
+    lost: &[u16],
+) -> Result<Vec<MetEntry>, AllocError>
+    requires fits { Fits geometry.now image.now }
+    requires directory { IsDirectory geometry.now image.now start }
+    ensures { IfOk result (λ founds. IsLostWalk geometry.now image.now start lost.now founds.items) }
+{
+    let walked = walk_tree(alloc, image, geometry, start)?;
+    let walked = push_lost_directory(alloc, start, lost, walked)?;
+    let mut pending = Vec::new(alloc);
+    push_all(lost_entries(alloc, lost)?, &mut pending)?;
+    Ok(walk_on(alloc, image, geometry, start, walked, pending)?.founds)
+}
+
+/// Walks everything below directory `start`.
+fn walk_tree(
+    alloc: Global,
+    image: &Image,
+    geometry: &Geometry,
+    start: u16,
+) -> Result<Walked, AllocError>
+    requires fits { Fits geometry.now image.now }
+    requires directory { IsDirectory geometry.now image.now start }
+    ensures firsts { IfOk result (λ walked. AreFirsts geometry.now walked.firsts.items walked.founds.items) }
+    ensures walk { IfOk result (λ walked. IsWalk geometry.now image.now start walked.founds.items) }
+{
+    let firsts = no_marks(alloc, geometry.last_inode as usize + 1)?;
+    let walked = Walked {
+        founds: Vec::new(alloc),
+        firsts,
+    };
+    let mut pending = Vec::new(alloc);
+    push_below(alloc, image, geometry, b"", start, &mut pending)?;
+    walk_on(alloc, image, geometry, start, walked, pending)
+}
+
+/// Continues a walk below directory `start` to its end. The next pending entry is the last in the list.
+fn walk_on(
+    alloc: Global,
+    image: &Image,
+    geometry: &Geometry,
+    start: u16,
+    walked: Walked,
+    pending: Vec<Pending>,
+) -> Result<Walked, AllocError>
+    requires fits { Fits geometry.now image.now }
+    requires firsts { AreFirsts geometry.now walked.firsts.items walked.founds.items }
+    ensures firsts { IfOk result (λ after. AreFirsts geometry.now after.firsts.items after.founds.items) }
+    ensures walk { IfOk result (λ after. Walks geometry.now image.now start walked.founds.items (reverse pending.items) after.founds.items) }
+{
+    let Walked {
+        mut founds,
+        mut firsts,
+    } = walked;
+    let mut pending = pending;
+    'entries: while let Some(entry) = pending.pop() {
+        let role = role_of(alloc, image, geometry, start, &firsts, &founds, &entry)?;
+        if let Role::Directory = role {
+            let path = entry.path.as_slice();
+            push_below(alloc, image, geometry, path, entry.inode, &mut pending)?;
+        }
+        mark_first(&mut firsts, entry.inode, role, founds.len());
+        founds.push(MetEntry {
+            path: entry.path,
+            inode: entry.inode,
+            role,
+        })?;
+    }
+    Ok(Walked { founds, firsts })
+}
+
+/// Appends the directory of lost i-nodes, if there are any and no entry has its path.
+fn push_lost_directory(
+    alloc: Global,
+    start: u16,
+    lost: &[u16],
+    walked: Walked,
+) -> Result<Walked, AllocError>
+    ensures firsts { (geometry : Geometry) → AreFirsts geometry walked.firsts.items walked.founds.items
+        → IfOk result (λ after. AreFirsts geometry after.firsts.items after.founds.items) }
+    ensures met { IfOk result (λ after. after.founds.items ≡ with_lost_directory start lost.now walked.founds.items) }
+{
+    let Walked {
+        mut founds,
+        mut firsts,
+    } = walked;
+    if !lost.is_empty() && !has_path(&founds, LOST_FOUND) {
+        mark_first(&mut firsts, start, Role::Directory, founds.len());
+        founds.push(MetEntry {
+            path: Bytes::from_vec(Vec::from_slice(alloc, LOST_FOUND)?),
+            inode: start,
+            role: Role::Directory,
+        })?;
+    }
+    Ok(Walked { founds, firsts })
+}
+
+/// True if something that was met has this path.
+fn has_path(founds: &[MetEntry], path: &[u8]) -> bool
+    ensures { result ≡ has_path path.now founds.now }
+{
+    founds.iter().any(|found| found.path.as_slice() == path)
+}
+
+/// Returns `count` marks, none of them set.
+fn no_marks(alloc: Global, count: usize) -> Result<Vec<Option<usize>>, AllocError>
+    ensures len { IfOk result (λ marks. length marks.items ≡ count) }
+    ensures none { IfOk result (λ marks. (i : ℕ) → slice_index_or marks.items i None ≡ None) }
+{
+    vec![in alloc; None; count]
+}
+
+/// Pushes the entries of directory `dir` at a path on the pending ones, the first of them last.
+fn push_below(
+    alloc: Global,
+    image: &Image,
+    geometry: &Geometry,
+    path: &[u8],
+    dir: u16,
+    pending: &mut Vec<Pending>,
+) -> Result<(), AllocError>
+    requires fits { Fits geometry.now image.now }
+    requires directory { IsDirectory geometry.now image.now dir }
+    ensures { OnOk result (reverse pending.new.items ≡ entries_below geometry.now image.now path.now dir ++ reverse pending.old.items) }
+{
+    push_all(entries_below(alloc, image, geometry, path, dir)?, pending)
+}
+
+/// Puts entries on top of those that are pending, the first of them last.
+fn push_all(entries: Vec<Pending>, pending: &mut Vec<Pending>) -> Result<(), AllocError>
+    ensures { OnOk result (reverse pending.new.items ≡ entries.items ++ reverse pending.old.items) }
+{
+    let mut entries = entries;
+    while let Some(entry) = entries.pop() {
+        pending.push(entry)?;
+    }
+    Ok(())
+}
+
+/// Marks the position where an i-number was first met, if it was first met at `place` with this role.
+fn mark_first(firsts: &mut Vec<Option<usize>>, inode: u16, role: Role, place: usize)
+    ensures { (geometry : Geometry) (founds : List MetEntry) (found : MetEntry) → AreFirsts geometry firsts.old.items founds → place ≡ length founds
+        → found.inode ≡ inode → found.role ≡ role → AreFirsts geometry firsts.new.items (founds ++ found ∷ []) }
+{
+    let i = inode as usize;
+    if i < firsts.len() && role.is_first() && firsts[i].is_none() {
+        firsts[i] = Some(place);
+    }
+}
+
+/// Returns the role of an entry that is met below directory `start`, after others.
+fn role_of(
+    alloc: Global,
+    image: &Image,
+    geometry: &Geometry,
+    start: u16,
+    firsts: &[Option<usize>],
+    founds: &[MetEntry],
+    entry: &Pending,
+) -> Result<Role, AllocError>
+    requires fits { Fits geometry.now image.now }
+    requires firsts { AreFirsts geometry.now firsts.now founds.now }
+    ensures role { IfOk result (λ role. role ≡ role_of geometry.now image.now start (first_met entry.now.inode founds.now) founds.now entry.now) }
+    ensures directory { IfOk result (λ role. role ≡ Role.Directory → IsDirectory geometry.now image.now entry.now.inode) }
+{
+    if !entry.is_plain {
+        return Ok(Role::Left(Reason::BadName));
+    }
+    let i = entry.inode;
+    if i == 0 || i > geometry.last_inode {
+        return Ok(Role::Left(Reason::NoNode));
+    }
+    let first = firsts[i as usize];
+    node_role(alloc, start, first, founds, entry, kind(image, geometry, i))
+}
+
+/// Returns the role of an entry for an i-node of some kind.
+fn node_role(
+    alloc: Global,
+    start: u16,
+    first: Option<usize>,
+    founds: &[MetEntry],
+    entry: &Pending,
+    kind: Kind,
+) -> Result<Role, AllocError>
+    ensures role { IfOk result (λ role. role ≡ node_role start first founds.now entry.now kind) }
+    ensures directory { IfOk result (λ role. role ≡ Role.Directory → kind ≡ Kind.Directory) }
+{
+    let path = entry.path.as_slice();
+    match kind {
+        Kind::Free | Kind::Odd => Ok(Role::Left(Reason::NoNode)),
+        Kind::Regular => Ok(file_role(Role::File, first, founds, path)),
+        Kind::Special => Ok(file_role(Role::Special, first, founds, path)),
+        Kind::Directory if entry.inode == start || first.is_some() => {
+            Ok(Role::Left(Reason::Again))
+        }
+        Kind::Directory => directory_role(alloc, path),
+    }
+}
+
+/// Returns the role of a directory at a path that wasn't met before. The path of its member ends in a slash.
+fn directory_role(alloc: Global, path: &[u8]) -> Result<Role, AllocError>
+    ensures { IfOk result (λ role. role ≡ (if has_room (path.now ++ 47 ∷ []) then Role.Directory else Role.Left Reason.LongPath)) }
+{
+    let slashed = slashed(alloc, path)?;
+    if has_room(&slashed) {
+        Ok(Role::Directory)
+    } else {
+        Ok(Role::Left(Reason::LongPath))
+    }
+}
+
+/// Returns the role of a file at a path; an earlier member, at position `first`, may have its i-number.
+fn file_role(role: Role, first: Option<usize>, founds: &[MetEntry], path: &[u8]) -> Role
+    ensures exact { result ≡ file_role role first founds.now path.now }
+    ensures file { result ≡ Role.Directory → role ≡ Role.Directory }
+{
+    if !has_room(path) {
+        return Role::Left(Reason::LongPath);
+    }
+    match first {
+        None => role,
+        Some(k) => link_role(k, founds),
+    }
+}
+
+/// Returns the role of another name for the member at position `k`.
+fn link_role(k: usize, founds: &[MetEntry]) -> Role
+    ensures exact { result ≡ link_role k (slice_get founds.now k) }
+    ensures link { result ≡ Role.Directory → ⊥ }
+{
+    match founds.get(k) {
+        Some(first) => named_link(k, first.path.as_slice()),
+        None => Role::Left(Reason::LongLink),
+    }
+}
+
+/// Returns the role of another name for the member at position `k`, whose path is given.
+fn named_link(k: usize, path: &[u8]) -> Role
+    ensures exact { result ≡ (if nat_le (length path.now) 100 then Role.Link k else Role.Left Reason.LongLink) }
+    ensures link { result ≡ Role.Directory → ⊥ }
+{
+    if path.len() <= ustar::names::NAME {
+        Role::Link(k)
+    } else {
+        Role::Left(Reason::LongLink)
+    }
+}
+
+/// True if a path fits a header.
+fn has_room(path: &[u8]) -> bool
+    ensures { result ≡ has_room path.now }
+{
+    split(path).is_some()
+}

@@ -1,0 +1,177 @@
+//! The number of blocks that a write takes.
+ghost use Rattle.std.specs.Prelude.{◌≡◌, ◌+◌, ◌-◌, ◌^◌, ◌≤◌, ◌==◌, ◌||◌, true, if◌then◌else◌};
+ghost use Rattle.vol_layout.specs.Geometry.{Fits};
+ghost use Rattle.vol_layout.specs.Names.{form_at};
+ghost use Rattle.vol_file.specs.Shape.{is_named, moved_down};
+ghost use Rattle.vol_file.specs.Need.{need};
+ghost use Rattle.vol_file.specs.MissingBlocks.{missing_at, missing_from, grows_at, grown_form, grown_names};
+
+use crate::follow::entry;
+use pdp_words::{BLOCK, Image};
+use vol_layout::i_list::{address, mode};
+use vol_layout::{BlockMap, Geometry};
+
+/// The number of blocks up to which a file of the sixth edition is small.
+const SMALL_BLOCKS: u32 = 8;
+
+/// Returns the number of free blocks that a write of `len` bytes at byte `offset` of i-node `i`, from 1 to the last,
+/// takes: the data blocks and indirect blocks that are missing. A small file of the sixth edition that becomes large takes
+/// one more, for its old addresses. Bytes past the blocks that a file can have take none, nor do bytes of an i-node that is
+/// no regular file or directory.
+///
+/// Costs one block-map lookup for each logical block.
+pub fn need(image: &Image, geometry: &Geometry, i: u16, offset: u32, len: u32) -> u32
+    requires fits { Fits geometry.now image.now }
+    requires first { 1 ≤ i }
+    requires last { i ≤ geometry.now.last_inode }
+    ensures { result ≡ need geometry.now image.now i offset len }
+{
+    if len == 0 {
+        return 0;
+    }
+    let form = BlockMap::of(geometry.edition, mode(image, geometry, i));
+    let first = offset / BLOCK as u32;
+    let last = ((offset as usize + (len - 1) as usize) / BLOCK) as u32;
+    let grows = grows_large(form, last);
+    let missing = missing_in_range(image, geometry, i, form, grows, first, last + 1);
+    missing + u32::from(grows)
+}
+
+/// True if a file of some form becomes large when `last` is the last block touched.
+pub(crate) fn grows_large(form: BlockMap, last: u32) -> bool
+    ensures { result ≡ grows_at form last }
+{
+    match form {
+        BlockMap::Small => last >= SMALL_BLOCKS,
+        _ => false,
+    }
+}
+
+/// Returns the number of places on the ways of the logical blocks `first..end` that name nothing. The file
+/// becomes large first if it `grows`.
+fn missing_in_range(
+    image: &Image,
+    geometry: &Geometry,
+    i: u16,
+    form: BlockMap,
+    grows: bool,
+    first: u32,
+    end: u32,
+) -> u32
+    requires fits { Fits geometry.now image.now }
+    requires first { 1 ≤ i }
+    requires last { i ≤ geometry.now.last_inode }
+    requires form { form ≡ form_at geometry.now image.now i }
+    requires small { grows ≡ true → form ≡ BlockMap.Small }
+    requires range { end ≤ 2 ^ 24 }
+    ensures exact { result ≡ missing_from (grown_form form grows)
+        (grown_names (is_named geometry.now image.now i) grows) first (end - first) }
+    ensures bound { result ≤ 2 ^ 26 }
+{
+    let limit = grown_form(form, grows).block_limit();
+    let mut missing = 0;
+    for b in first..end.min(limit) {
+        missing += missing_at(image, geometry, i, form, grows, b == first, b);
+    }
+    missing
+}
+
+/// Returns the form of a file, after it has become large if it `grows`.
+fn grown_form(form: BlockMap, grows: bool) -> BlockMap
+    ensures { result ≡ grown_form form grows }
+{
+    if grows { BlockMap::Large } else { form }
+}
+
+/// Returns the number of places on the way of logical block `b` that name nothing: of the `whole` way, or only of the
+/// part that is not on the way of an earlier block.
+fn missing_at(
+    image: &Image,
+    geometry: &Geometry,
+    i: u16,
+    form: BlockMap,
+    grows: bool,
+    whole: bool,
+    b: u32,
+) -> u32
+    requires fits { Fits geometry.now image.now }
+    requires first { 1 ≤ i }
+    requires last { i ≤ geometry.now.last_inode }
+    requires form { form ≡ form_at geometry.now image.now i }
+    requires small { grows ≡ true → form ≡ BlockMap.Small }
+    ensures exact { result ≡ missing_at (grown_form form grows)
+        (grown_names (is_named geometry.now image.now i) grows) whole b }
+    ensures bound { result ≤ 4 }
+{
+    if grows {
+        missing_once_large(image, geometry, i, whole, b)
+    } else {
+        missing_on_way(image, geometry, i, form, whole, b)
+    }
+}
+
+/// Returns the count of [`missing_at`] in a file that keeps its form.
+#[tactic(auto, using(crate::proofs::Indexes::way_address, crate::proofs::Indexes::way_entry, crate::proofs::Indexes::named_more, crate::proofs::MissingLaws::missing_to_more))]
+fn missing_on_way(
+    image: &Image,
+    geometry: &Geometry,
+    i: u16,
+    form: BlockMap,
+    whole: bool,
+    b: u32,
+) -> u32
+    requires fits { Fits geometry.now image.now }
+    requires first { 1 ≤ i }
+    requires last { i ≤ geometry.now.last_inode }
+    requires form { form ≡ form_at geometry.now image.now i }
+    ensures exact { result ≡ missing_at form (is_named geometry.now image.now i) whole b }
+    ensures bound { result ≤ 4 }
+{
+    let Some(way) = form.way(b) else { return 0 };
+    let mut block = address(image, geometry, i, way.address);
+    let mut missing = absent(block != 0);
+    for d in 0..way.depth {
+        let j = way.entries[d];
+        block = entry(image, geometry, block, j);
+        missing = absent_with(block != 0, whole, j, missing);
+    }
+    missing
+}
+
+/// Returns the count of [`missing_at`] in a small file that becomes large: its address 0 then names a block with the eight
+/// old addresses.
+fn missing_once_large(image: &Image, geometry: &Geometry, i: u16, whole: bool, b: u32) -> u32
+    requires fits { Fits geometry.now image.now }
+    requires first { 1 ≤ i }
+    requires last { i ≤ geometry.now.last_inode }
+    ensures exact { result ≡ missing_at BlockMap.Large (moved_down (is_named geometry.now image.now i)) whole b }
+    ensures bound { result ≤ 4 }
+{
+    let Some(way) = BlockMap::Large.way(b) else {
+        return 0
+    };
+    let mut missing = absent(way.address == 0);
+    for d in 0..way.depth {
+        let j = way.entries[d];
+        let moved = way.address == 0 && d == 0 && j < SMALL_BLOCKS;
+        let named = moved && address(image, geometry, i, j as usize) != 0;
+        missing = absent_with(named, whole, j, missing);
+    }
+    missing
+}
+
+/// Returns 1 if a place names nothing, else 0.
+fn absent(named: bool) -> u32
+    ensures { result ≡ (if named then 0 else 1) }
+{
+    u32::from(!named)
+}
+
+/// Returns 1 if entry `j` of an indirect block names nothing, plus the places missing `above` it, if these count: on a
+/// whole way, or if `j` is 0, so that no earlier block uses the same indirect block.
+fn absent_with(named: bool, whole: bool, j: u32, above: u32) -> u32
+    requires { above ≤ 3 }
+    ensures { result ≡ (if named then 0 else 1) + (if whole || j == 0 then above else 0) }
+{
+    absent(named) + if whole || j == 0 { above } else { 0 }
+}

@@ -1,0 +1,105 @@
+//! The call that ends an import.
+ghost use Rattle.std.specs.Prelude.{◌≡◌, IfOk, OnOk, reverse};
+ghost use Rattle.std.specs.List.{find};
+ghost use Rattle.std.specs.Option.{option_map};
+ghost use Rattle.vol_volume.specs.Answer.{answer};
+ghost use Rattle.vol_volume.specs.Volume.{reads_as};
+ghost use Rattle.vol_volume.specs.declared.queries.Query.TheVariants as questions;
+ghost use Rattle.vol_dir.specs.Access.{user};
+ghost use Rattle.vol_import.specs.Plan.{is_base, permissions_given, permissions_told, base_permissions, closed};
+
+use crate::archive_members::Member;
+use crate::draft::{first_step, is_directory_kind};
+use crate::import_plan::permissions_of;
+use crate::member_check::{MadeAs, made_as};
+use std::alloc::{AllocError, Global};
+use vol_dir::Cred;
+use vol_layout::Kind;
+use vol_volume::{Bytes, Call, Query, Reply, Volume};
+
+/// Returns the permissions that the last member for the directory of the import gives it, or `None` if there is no such member.
+pub(crate) fn permissions_given(members: &[Member]) -> Option<u16>
+    ensures { result ≡ permissions_given members.now }
+{
+    match last_base(members) {
+        Some(member) => Some(permissions_of(&member.header)),
+        None => None,
+    }
+}
+
+/// Returns the last member for the directory of the import.
+fn last_base(members: &[Member]) -> Option<&Member>
+    ensures { option_map (λ member. member.now) result ≡ find is_base (reverse members.now) }
+{
+    members.iter().rev().find(|member| is_base(member))
+}
+
+/// True if a member is the directory of the import itself.
+fn is_base(member: &Member) -> bool
+    ensures { result ≡ is_base member.now }
+{
+    let path = member.path.as_slice();
+    match made_as(member.header.flag, path) {
+        Ok(MadeAs::Directory) => first_step(path).is_none(),
+        Ok(MadeAs::File | MadeAs::Link) => false,
+        Err(_) => false,
+    }
+}
+
+/// Appends the call that ends an import, if there are calls: if the directory of the import exists or these calls make it, it
+/// is given the permissions that it has, at time `now`.
+pub(crate) fn close(
+    alloc: Global,
+    volume: &Volume,
+    base: &[u8],
+    now: u32,
+    given: Option<u16>,
+    calls: &mut Vec<Call>,
+) -> Result<(), AllocError>
+    ensures { OnOk result (calls.new.items ≡ closed now base.now (base_permissions (answer (reads_as volume.now.edition volume.now.image).tree (questions.Stat user base.now)) given) calls.old.items) }
+{
+    if calls.is_empty() {
+        return Ok(());
+    }
+    let Some(perm) = base_permissions(alloc, volume, base, given)? else {
+        return Ok(());
+    };
+    calls.push(Call::Chmod {
+        cred: Cred::ROOT,
+        now,
+        path: Bytes::from_slice(alloc, base)?,
+        perm,
+    })?;
+    Ok(())
+}
+
+/// Returns the permissions of the directory at a path, or, if there is none, those that it is given.
+fn base_permissions(
+    alloc: Global,
+    volume: &Volume,
+    base: &[u8],
+    given: Option<u16>,
+) -> Result<Option<u16>, AllocError>
+    ensures { IfOk result (λ permissions. permissions ≡ base_permissions (answer (reads_as volume.now.edition volume.now.image).tree (questions.Stat user base.now)) given) }
+{
+    let query = Query::Stat {
+        cred: Cred::ROOT,
+        path: Bytes::from_slice(alloc, base)?,
+    };
+    match volume.ask(alloc, &query) {
+        Ok(Reply::Stat(stat)) => Ok(permissions_told(stat.kind, stat.permissions, given)),
+        Ok(_) => Ok(given),
+        Err(_) => Ok(given),
+    }
+}
+
+/// Returns the permissions of a node that is a directory, else `given`.
+fn permissions_told(kind: Kind, permissions: u16, given: Option<u16>) -> Option<u16>
+    ensures { result ≡ permissions_told kind permissions given }
+{
+    if is_directory_kind(kind) {
+        Some(permissions)
+    } else {
+        given
+    }
+}

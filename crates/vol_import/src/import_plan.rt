@@ -1,0 +1,312 @@
+//! The calls that make the members of an archive.
+ghost use Rattle.std.specs.Prelude.{◌≡◌, [], IfOk, IfErr, OnOk, Ok};
+ghost use Rattle.vol_volume.specs.Volume.{reads_as};
+ghost use Rattle.vol_import.specs.Plan.{below, check, permissions_of, moment_of, owner_calls, write_calls, file_calls, directory_calls, given_calls, with_directory, way_of, steps_of, with_way, with_calls, with_made, drafted, onto, plan, Tells, no_memory};
+
+use crate::archive_members::Member;
+use crate::close::{close, permissions_given};
+use crate::draft::{Draft, is_there, joined, note_known, push_way, steps_of};
+use crate::member_check::{MadeAs, MemberFault, check};
+use std::alloc::{AllocError, Global};
+use ustar::ReadHeader;
+use vol_dir::Cred;
+use vol_volume::{Bytes, Call, Volume};
+
+/// The bound below which times fit a volume.
+const TIMES: u64 = 4_294_967_296;
+
+/// The reason why there are no calls that make the members of an archive.
+#[derive(Debug, Drop)]
+pub enum PlanFault {
+    /// No calls make the member at this path of the archive; with [`MemberFault::NoInode`], at this path of the volume.
+    Member(Bytes, MemberFault),
+    /// Memory ran out.
+    NoMemory,
+}
+
+impl From<AllocError> for PlanFault {
+    ghost use Rattle.vol_import.specs.Plan.{no_memory};
+
+    ghost from_gives = { λ _ fault. fault ≡ no_memory };
+
+    fn from(_: AllocError) -> PlanFault {
+        PlanFault::NoMemory
+    }
+}
+
+/// Returns the calls that make the members of an archive below the path `base` of a volume, as user 0, each member's in turn. A
+/// regular file is made, written if it has bytes, and given to its owner unless that is user 0 of group 0. A directory is made
+/// in the same way if it doesn't exist; one that earlier calls make is given its permissions and its owner. A link becomes
+/// another name. A call's time is that of its member's last change, or `now` if that doesn't fit 32 bits. Before a member, each
+/// missing directory on the way to it is made, at `now`, with permissions 0755, but not the one at `base`. The last call, if
+/// there are any, gives the directory at `base` the permissions that it has, at `now`, which becomes the time of the volume; it
+/// is left out if there is no directory and no member makes it.
+///
+/// If no calls make a member, the fault has its path in the archive and the reason. The fault is NoInode, with the path in the
+/// volume, if the directories of the members so far, and those on the way to it, are more than the volume has i-nodes. Calls
+/// would be refused for that too, but mostly at an earlier member.
+///
+/// The bytes of the members are moved into the calls. Takes memory for the calls, each with its whole path, of at most `base`
+/// and 4,097 bytes: up to three for a member, and one for each missing directory. Also takes memory for the paths of
+/// directories, of members and on the way to them: each is kept once, and there are at most as many as the volume has i-nodes,
+/// plus the names of one way.
+///
+/// Each member costs the square of the length of its way, since the path of each directory on it is copied and looked up, even
+/// if all are known: about 4 MB and 2,048 look-ups for a path of 4,096 bytes. A directory that isn't known also costs a walk,
+/// and so does each member that is a directory.
+pub fn plan(
+    alloc: Global,
+    volume: &Volume,
+    base: &[u8],
+    now: u32,
+    members: Vec<Member>,
+) -> Result<Vec<Call>, PlanFault>
+    ensures ok { IfOk result (λ calls. plan (reads_as volume.now.edition volume.now.image).tree base.now now members.items ≡ Ok calls.items) }
+    ensures fault { IfErr result (Tells (plan (reads_as volume.now.edition volume.now.image).tree base.now now members.items)) }
+{
+    let given = permissions_given(&members);
+    let mut draft = Draft::new(alloc);
+    let mut left = members;
+    left.reverse();
+    'members: while let Some(member) = left.pop() {
+        push_member(alloc, volume, base, now, member, &mut draft)?;
+    }
+    let mut calls = draft.into_calls();
+    close(alloc, volume, base, now, given, &mut calls)?;
+    Ok(calls)
+}
+
+/// Appends the calls that make a member.
+fn push_member(
+    alloc: Global,
+    volume: &Volume,
+    base: &[u8],
+    now: u32,
+    member: Member,
+    draft: &mut Draft,
+) -> Result<(), PlanFault>
+    ensures ok { OnOk result (onto (reads_as volume.now.edition volume.now.image).tree base.now now (drafted draft.old) member (check volume.now.edition member) ≡ Ok (drafted draft.new)) }
+    ensures fault { IfErr result (Tells (onto (reads_as volume.now.edition volume.now.image).tree base.now now (drafted draft.old) member (check volume.now.edition member))) }
+{
+    match check(volume.edition(), &member) {
+        Ok((made, owner)) => {
+            push_way_to(alloc, volume, base, now, member.path.as_slice(), draft)?;
+            if draft.is_crowded(volume) {
+                let path = below(alloc, base, member.path.as_slice())?;
+                return Err(PlanFault::Member(path, MemberFault::NoInode));
+            }
+            push_made(alloc, volume, base, now, member, made, owner, draft)?;
+            Ok(())
+        }
+        Err(cause) => Err(PlanFault::Member(member.path, cause)),
+    }
+}
+
+/// Appends the calls that make the missing directories on the way to a path.
+fn push_way_to(
+    alloc: Global,
+    volume: &Volume,
+    base: &[u8],
+    now: u32,
+    path: &[u8],
+    draft: &mut Draft,
+) -> Result<(), AllocError>
+    ensures { OnOk result (drafted draft.new ≡ with_way (reads_as volume.now.edition volume.now.image).tree base.now now [] (way_of (steps_of path.now)) (drafted draft.old)) }
+{
+    let steps = steps_of(alloc, path)?;
+    let way = &steps[..steps.len().saturating_sub(1)];
+    push_way(alloc, volume, base, now, way, draft)
+}
+
+/// Appends the calls that make a member as a node of some kind, for its owner.
+fn push_made(
+    alloc: Global,
+    volume: &Volume,
+    base: &[u8],
+    now: u32,
+    member: Member,
+    made: MadeAs,
+    owner: Cred,
+    draft: &mut Draft,
+) -> Result<(), AllocError>
+    ensures { OnOk result (drafted draft.new ≡ with_made made (reads_as volume.now.edition volume.now.image).tree base.now now member owner (drafted draft.old)) }
+{
+    let moment = moment_of(&member.header, now);
+    let perm = permissions_of(&member.header);
+    let path = below(alloc, base, member.path.as_slice())?;
+    match made {
+        MadeAs::File => push_file(alloc, moment, path, perm, owner, member.content, draft),
+        MadeAs::Directory => {
+            let steps = joined(alloc, &steps_of(alloc, member.path.as_slice())?)?;
+            push_directory(
+                alloc, volume, base, &steps, moment, path, perm, owner, draft,
+            )
+        }
+        MadeAs::Link => draft.push(Call::Link {
+            cred: Cred::ROOT,
+            now: moment,
+            source: below(alloc, base, member.link.as_slice())?,
+            target: path,
+        }),
+    }
+}
+
+/// Returns the path of a member below another path.
+pub fn below(alloc: Global, base: &[u8], path: &[u8]) -> Result<Bytes, AllocError>
+    ensures { IfOk result (λ whole. whole ≡ below base.now path.now) }
+{
+    let mut bytes = Vec::from_slice(alloc, base)?;
+    bytes.push(b'/')?;
+    bytes.extend_from_slice(path)?;
+    Ok(Bytes::from_vec(bytes))
+}
+
+/// Returns the permission bits of a member.
+pub(crate) fn permissions_of(header: &ReadHeader) -> u16
+    ensures { result ≡ permissions_of header.now }
+{
+    (header.permissions % 4096) as u16
+}
+
+/// Returns the time of a member's calls: that of its last change if it fits 32 bits, else `now`.
+fn moment_of(header: &ReadHeader, now: u32) -> u32
+    ensures { result ≡ moment_of header.now now }
+{
+    let modified = header.modified;
+    if modified < TIMES {
+        modified as u32
+    } else {
+        now
+    }
+}
+
+/// Appends the call that gives a file or a directory to its owner, unless that is user 0 of group 0.
+fn push_owner(moment: u32, path: Bytes, owner: Cred, draft: &mut Draft) -> Result<(), AllocError>
+    ensures { OnOk result (drafted draft.new ≡ with_calls (drafted draft.old) (owner_calls moment path owner)) }
+{
+    if owner.uid == 0 && owner.gid == 0 {
+        return Ok(());
+    }
+    draft.push(Call::Chown {
+        cred: Cred::ROOT,
+        now: moment,
+        path,
+        uid: owner.uid,
+        gid: owner.gid,
+    })
+}
+
+/// Appends the call that writes the bytes of a file, if it has any.
+fn push_write(
+    alloc: Global,
+    moment: u32,
+    path: &[u8],
+    content: Bytes,
+    draft: &mut Draft,
+) -> Result<(), AllocError>
+    ensures { OnOk result (drafted draft.new ≡ with_calls (drafted draft.old) (write_calls moment path.now content)) }
+{
+    if content.as_slice().is_empty() {
+        return Ok(());
+    }
+    draft.push(Call::Write {
+        cred: Cred::ROOT,
+        now: moment,
+        path: Bytes::from_slice(alloc, path)?,
+        offset: 0,
+        bytes: content,
+    })
+}
+
+/// Appends the calls that make a regular file.
+fn push_file(
+    alloc: Global,
+    moment: u32,
+    path: Bytes,
+    perm: u16,
+    owner: Cred,
+    content: Bytes,
+    draft: &mut Draft,
+) -> Result<(), AllocError>
+    ensures { OnOk result (drafted draft.new ≡ with_calls (drafted draft.old) (file_calls moment path perm owner content)) }
+{
+    draft.push(Call::Create {
+        cred: Cred::ROOT,
+        now: moment,
+        path: Bytes::from_slice(alloc, path.as_slice())?,
+        perm,
+    })?;
+    push_write(alloc, moment, path.as_slice(), content, draft)?;
+    push_owner(moment, path, owner, draft)
+}
+
+/// Appends the calls of a member that is a directory, at a path below another: none if it exists, those that give it its
+/// permissions and its owner if earlier calls make it, else those that make it.
+fn push_directory(
+    alloc: Global,
+    volume: &Volume,
+    base: &[u8],
+    steps: &[u8],
+    moment: u32,
+    path: Bytes,
+    perm: u16,
+    owner: Cred,
+    draft: &mut Draft,
+) -> Result<(), AllocError>
+    ensures { OnOk result (drafted draft.new ≡ with_directory (reads_as volume.now.edition volume.now.image).tree base.now steps.now moment path perm owner (drafted draft.old)) }
+{
+    let added = note_known(alloc, steps, &mut draft.known)?;
+    if is_there(alloc, volume, base, steps)? {
+        Ok(())
+    } else if added {
+        push_new_directory(alloc, moment, path, perm, owner, draft)
+    } else {
+        push_given(alloc, moment, path, perm, owner, draft)
+    }
+}
+
+/// Appends the calls that make a directory.
+fn push_new_directory(
+    alloc: Global,
+    moment: u32,
+    path: Bytes,
+    perm: u16,
+    owner: Cred,
+    draft: &mut Draft,
+) -> Result<(), AllocError>
+    ensures { OnOk result (drafted draft.new ≡ with_calls (drafted draft.old) (directory_calls moment path perm owner)) }
+{
+    draft.push(Call::Mkdir {
+        cred: Cred::ROOT,
+        now: moment,
+        path: Bytes::from_slice(alloc, path.as_slice())?,
+        perm,
+    })?;
+    push_owner(moment, path, owner, draft)
+}
+
+/// Appends the calls that give a directory other permissions and another owner.
+fn push_given(
+    alloc: Global,
+    moment: u32,
+    path: Bytes,
+    perm: u16,
+    owner: Cred,
+    draft: &mut Draft,
+) -> Result<(), AllocError>
+    ensures { OnOk result (drafted draft.new ≡ with_calls (drafted draft.old) (given_calls moment path perm owner)) }
+{
+    draft.push(Call::Chmod {
+        cred: Cred::ROOT,
+        now: moment,
+        path: Bytes::from_slice(alloc, path.as_slice())?,
+        perm,
+    })?;
+    draft.push(Call::Chown {
+        cred: Cred::ROOT,
+        now: moment,
+        path,
+        uid: owner.uid,
+        gid: owner.gid,
+    })
+}

@@ -1,0 +1,196 @@
+//! Making calls on a volume, all or nothing.
+ghost use Rattle.std.specs.Prelude.{◌≡◌, ◌⊎◌, ◌+◌, IfOk, IfErr, OnOk, Ok, length, nat_le};
+ghost use Rattle.vol_judge.specs.Sound.{IsSound};
+ghost use Rattle.vol_volume.specs.Volume.{mounted, reads_as};
+ghost use Rattle.vol_import.specs.MadeMembers.{HasArchive};
+ghost use Rattle.vol_import.specs.Make.{AreMade, AreStopped, IsUnmounted, TakesMemory, unread, unplanned, told, calls_to_make, IsStop, Tells, Imports, IsReason};
+ghost use Rattle.vol_import.specs.Members.{members};
+ghost use Rattle.vol_import.specs.Plan.{plan};
+
+use crate::archive_members::{Member, members};
+use crate::entries::block_at;
+use crate::faults::ArchiveFault;
+use crate::import_plan::{PlanFault, plan};
+use crate::member_check::MemberFault;
+use std::alloc::Global;
+use ustar::{HeaderFault, path_of};
+use vol_dir::Refusal;
+use vol_layout::Edition;
+use vol_volume::{Bytes, Call, MountFault, Volume};
+
+/// The reason why an archive isn't imported.
+#[derive(Debug, Drop)]
+pub enum ImportFault {
+    /// The image isn't sound: the first of the twelve rules that it breaks.
+    Unsound(u8),
+    /// The archive can't be read.
+    Archive(ArchiveFault),
+    /// No calls make the member at this path of the archive; with [`MemberFault::NoInode`], at this path of the volume.
+    Member(Bytes, MemberFault),
+    /// A call is refused, with its path in the volume.
+    Refused(Refusal, Call),
+    /// Memory ran out.
+    NoMemory,
+}
+
+impl From<MountFault> for ImportFault {
+    ghost use Rattle.vol_import.specs.Make.{unmounted};
+
+    ghost from_gives = { λ why fault. fault ≡ unmounted why };
+
+    fn from(fault: MountFault) -> ImportFault {
+        match fault {
+            MountFault::Unsound(rule) => ImportFault::Unsound(rule),
+            MountFault::NoMemory => ImportFault::NoMemory,
+        }
+    }
+}
+
+/// Makes the members of an archive below the path `base` of the volume in some bytes, and returns the new bytes. Makes all
+/// calls of [`plan`], in order and as user 0; or there is nothing to save, and the fault has the first reason: of the image,
+/// then of the archive, then of the members, then of the calls.
+///
+/// Takes memory to mount the image, for the paths of the members twice and for their bytes once, and what the calls take. Drops
+/// the archive once its members are read.
+pub fn import(
+    alloc: Global,
+    edition: Edition,
+    image: Vec<u8>,
+    archive: Vec<u8>,
+    base: &[u8],
+    now: u32,
+) -> Result<Vec<u8>, ImportFault>
+    ensures made { IfOk result (λ bytes. Imports edition image.items (calls_to_make (reads_as edition image.items).tree archive.items base.now now) bytes.items) }
+    ensures members { IfOk result (λ bytes. HasArchive (reads_as edition image.items).tree (reads_as edition bytes.items).tree base.now now (members archive.items)) }
+    ensures fault { IfErr result (IsReason edition image.items (calls_to_make (reads_as edition image.items).tree archive.items base.now now)) }
+{
+    let mut volume = mount(alloc, edition, image)?;
+    let calls = calls_to_make(alloc, &volume, archive, base, now)?;
+    make(alloc, &mut volume, calls)?;
+    Ok(volume.unmount())
+}
+
+/// Mounts the volume in some bytes. Fails if it isn't sound or memory runs out.
+///
+/// Takes memory and costs what [`Volume::mount`] does.
+#[tactic(auto, using(crate::proofs::ImportFaults::is_unmounted))]
+pub fn mount(alloc: Global, edition: Edition, image: Vec<u8>) -> Result<Volume, ImportFault>
+    ensures mounted { IfOk result (λ volume. volume ≡ mounted edition image.items) }
+    ensures sound { OnOk result (IsSound edition image.items) }
+    ensures fault { IfErr result (IsUnmounted edition image.items) }
+{
+    Volume::mount(alloc, edition, image).map_err(|(fault, _)| ImportFault::from(fault))
+}
+
+/// Returns the fault of an archive that can't be read. A member whose header has a field without a number is named by the path
+/// in it.
+fn unread(alloc: Global, archive: &[u8], fault: ArchiveFault) -> ImportFault
+    ensures { ((result ≡ ImportFault.NoMemory) × TakesMemory fault) ⊎ (result ≡ unread archive.now fault) }
+{
+    match fault {
+        ArchiveFault::NoMemory => ImportFault::NoMemory,
+        ArchiveFault::Header(at, HeaderFault::Number) if has_block(archive, at) => {
+            match path_of(alloc, block_at(archive, at)) {
+                Ok(path) => ImportFault::Member(Bytes::from_vec(path), MemberFault::Number),
+                Err(_) => ImportFault::NoMemory,
+            }
+        }
+        ArchiveFault::Truncated(_)
+        | ArchiveFault::LoneZeroBlock(_)
+        | ArchiveFault::Header(_, _)
+        | ArchiveFault::Records(_)
+        | ArchiveFault::Unsupported(_) => ImportFault::Archive(fault),
+    }
+}
+
+/// True if an archive has a whole block at a position.
+fn has_block(archive: &[u8], at: usize) -> bool
+    ensures { result ≡ nat_le (at + 512) (length archive.now) }
+{
+    archive.len() >= 512 && archive.len() - 512 >= at
+}
+
+/// Returns the fault of members for which there are no calls.
+pub fn unplanned(fault: PlanFault) -> ImportFault
+    ensures { result ≡ unplanned fault }
+{
+    match fault {
+        PlanFault::Member(path, cause) => ImportFault::Member(path, cause),
+        PlanFault::NoMemory => ImportFault::NoMemory,
+    }
+}
+
+/// Returns the calls that make the members of an archive below a path of a volume. Drops the archive once its members are read.
+fn calls_to_make(
+    alloc: Global,
+    volume: &Volume,
+    archive: Vec<u8>,
+    base: &[u8],
+    now: u32,
+) -> Result<Vec<Call>, ImportFault>
+    ensures ok { IfOk result (λ calls. calls_to_make (reads_as volume.now.edition volume.now.image).tree archive.items base.now now ≡ Ok calls.items) }
+    ensures fault { IfErr result (Tells (calls_to_make (reads_as volume.now.edition volume.now.image).tree archive.items base.now now)) }
+{
+    match members(alloc, &archive) {
+        Ok(found) => {
+            drop(archive);
+            calls_for(alloc, volume, base, now, found)
+        }
+        Err(fault) => Err(unread(alloc, &archive, fault)),
+    }
+}
+
+/// Returns the calls that make members below a path of a volume.
+fn calls_for(
+    alloc: Global,
+    volume: &Volume,
+    base: &[u8],
+    now: u32,
+    found: Vec<Member>,
+) -> Result<Vec<Call>, ImportFault>
+    ensures ok { IfOk result (λ calls. told (plan (reads_as volume.now.edition volume.now.image).tree base.now now found.items) ≡ Ok calls.items) }
+    ensures fault { IfErr result (Tells (told (plan (reads_as volume.now.edition volume.now.image).tree base.now now found.items))) }
+{
+    match plan(alloc, volume, base, now, found) {
+        Ok(calls) => Ok(calls),
+        Err(fault) => Err(unplanned(fault)),
+    }
+}
+
+/// Makes calls on a volume, up to the first that is refused, which becomes the fault of the import.
+pub fn make(alloc: Global, volume: &mut Volume, calls: Vec<Call>) -> Result<(), ImportFault>
+    ensures made { OnOk result (AreMade volume.old calls.items volume.new) }
+    ensures fault { IfErr result (IsStop volume.old calls.items volume.new) }
+{
+    match make_all(alloc, volume, calls) {
+        Ok(()) => Ok(()),
+        Err((refusal, call)) => Err(stopped(refusal, call)),
+    }
+}
+
+/// Returns the fault of a refused call.
+fn stopped(refusal: Refusal, call: Call) -> ImportFault
+    ensures { (result ≡ ImportFault.NoMemory) ⊎ (result ≡ ImportFault.Refused refusal call) }
+{
+    match refusal {
+        Refusal::NoMemory => ImportFault::NoMemory,
+        _ => ImportFault::Refused(refusal, call),
+    }
+}
+
+/// Makes calls on a volume, each in turn, up to the first that is refused. That call is handed back with its refusal, and the
+/// volume is as the calls before it left it.
+pub fn make_all(alloc: Global, volume: &mut Volume, calls: Vec<Call>) -> Result<(), (Refusal, Call)>
+    ensures made { OnOk result (AreMade volume.old calls.items volume.new) }
+    ensures refused { IfErr result (λ (refusal, call). AreStopped volume.old calls.items volume.new refusal call) }
+{
+    let mut left = calls;
+    left.reverse();
+    'calls: while let Some(call) = left.pop() {
+        match volume.call(alloc, call) {
+            Ok(_) => {}
+            Err(refused) => return Err(refused),
+        }
+    }
+    Ok(())
+}

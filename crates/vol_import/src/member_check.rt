@@ -1,0 +1,163 @@
+//! Checks that a member can be made.
+ghost use Rattle.std.specs.Prelude.{◌≡◌, ◌==◌};
+ghost use Rattle.std.specs.List.{list_any};
+ghost use Rattle.vol_import.specs.Plan.{is_long_path, names_of, is_long, is_dot_dot, check_path, ends_in_slash, made_as, check_link, owner_of, check};
+
+use crate::archive_members::Member;
+use thiserror::Error;
+use ustar::{MemberKind, ReadHeader, TypeFlag};
+use vol_dir::Cred;
+use vol_layout::Edition;
+use vol_layout::slot::NAME;
+
+/// The greatest number of bytes in the path of a member, and in the path that it links to.
+pub const MOST_PATH_BYTES: usize = 4096;
+
+/// The node that a member is made as.
+#[derive(Clone, Copy, Debug, PartialEq, Eq)]
+pub enum MadeAs {
+    /// A regular file.
+    File,
+    /// A directory.
+    Directory,
+    /// Another name of a file.
+    Link,
+}
+
+/// The reason why no calls make a member.
+#[derive(Clone, Copy, Debug, PartialEq, Eq, Error)]
+pub enum MemberFault {
+    /// It is a special file, a symbolic link, or of an unknown kind.
+    #[error("no call makes its kind")]
+    Kind,
+    /// Its path is longer than [`MOST_PATH_BYTES`].
+    #[error("its path is above 4096 bytes")]
+    LongPath,
+    /// A name in its path is longer than 14 bytes.
+    #[error("a name is above 14 bytes")]
+    LongName,
+    /// Its path has a name `..`.
+    #[error("its path leads up by ..")]
+    DotDot,
+    /// It is a link to a path longer than [`MOST_PATH_BYTES`].
+    #[error("it links to a path above 4096 bytes")]
+    LongLinkPath,
+    /// It is a link to a path with a name longer than 14 bytes.
+    #[error("it links to a name above 14 bytes")]
+    LongLink,
+    /// It is a link to a path with a name `..`.
+    #[error("it links to a path that leads up by ..")]
+    DotDotLink,
+    /// The number of its owner or of its group is above the edition's limit: 255 in the sixth, 32,767 in the seventh.
+    #[error("no user or group of the edition")]
+    Owner,
+    /// The directories of the members before it, and those on the way to it, are more than the volume has i-nodes. The fault
+    /// has the member's path in the volume, as that of a refused call does.
+    #[error("more directories than the volume has i-nodes")]
+    NoInode,
+    /// A field of its header has no number. The fault has the path in the header.
+    #[error("a field of its header is no number")]
+    Number,
+}
+
+/// Returns what a member is made as in a volume of an edition, and its owner, or the first fault: of its kind, its path, the
+/// path that it links to, its owner.
+#[tactic(auto, unfolding(crate::specs::Plan::check))]
+pub fn check(edition: Edition, member: &Member) -> Result<(MadeAs, Cred), MemberFault>
+    ensures { result ≡ check edition member.now }
+{
+    let path = member.path.as_slice();
+    let made = made_as(member.header.flag, path)?;
+    check_path(path)?;
+    check_link(made, member.link.as_slice())?;
+    let owner = owner_of(edition, &member.header)?;
+    Ok((made, owner))
+}
+
+/// Returns what a member is made as, by its type flag and its path.
+pub(crate) fn made_as(flag: TypeFlag, path: &[u8]) -> Result<MadeAs, MemberFault>
+    ensures { result ≡ made_as flag path.now }
+{
+    match flag {
+        TypeFlag::Member(MemberKind::File) if ends_in_slash(path) => Ok(MadeAs::Directory),
+        TypeFlag::Member(MemberKind::File) => Ok(MadeAs::File),
+        TypeFlag::Member(MemberKind::Directory) => Ok(MadeAs::Directory),
+        TypeFlag::Member(MemberKind::Link) => Ok(MadeAs::Link),
+        TypeFlag::Member(MemberKind::Character | MemberKind::Block) => Err(MemberFault::Kind),
+        TypeFlag::SymbolicLink | TypeFlag::Fifo => Err(MemberFault::Kind),
+        TypeFlag::LongName | TypeFlag::LongLink => Err(MemberFault::Kind),
+        TypeFlag::Extended | TypeFlag::Global => Err(MemberFault::Kind),
+        TypeFlag::VolumeLabel | TypeFlag::Other(_) => Err(MemberFault::Kind),
+    }
+}
+
+/// True if a path ends in a slash.
+fn ends_in_slash(path: &[u8]) -> bool
+    ensures { result ≡ ends_in_slash path.now }
+{
+    path.len() > 0 && path[path.len() - 1] == b'/'
+}
+
+/// Checks that a path can be made: it is at most [`MOST_PATH_BYTES`] long, no name in it is longer than 14 bytes, and none is
+/// `..`.
+fn check_path(path: &[u8]) -> Result<(), MemberFault>
+    ensures { result ≡ check_path path.now }
+{
+    if is_long_path(path) {
+        Err(MemberFault::LongPath)
+    } else if has_long_name(path) {
+        Err(MemberFault::LongName)
+    } else if has_dot_dot(path) {
+        Err(MemberFault::DotDot)
+    } else {
+        Ok(())
+    }
+}
+
+/// True if a path is longer than [`MOST_PATH_BYTES`].
+fn is_long_path(path: &[u8]) -> bool
+    ensures { result ≡ is_long_path path.now }
+{
+    path.len() > MOST_PATH_BYTES
+}
+
+/// True if a name in a path is longer than 14 bytes.
+fn has_long_name(path: &[u8]) -> bool
+    ensures { result ≡ list_any is_long (names_of path.now) }
+{
+    path.split(|c| *c == b'/').any(|name| name.len() > NAME)
+}
+
+/// True if a name in a path is `..`.
+fn has_dot_dot(path: &[u8]) -> bool
+    ensures { result ≡ list_any is_dot_dot (names_of path.now) }
+{
+    path.split(|c| *c == b'/')
+        .any(|name| name == b"..".as_slice())
+}
+
+/// Checks that the path that a member links to, if it is a link, can be walked.
+fn check_link(made: MadeAs, link: &[u8]) -> Result<(), MemberFault>
+    ensures { result ≡ check_link made link.now }
+{
+    match made {
+        MadeAs::Link if is_long_path(link) => Err(MemberFault::LongLinkPath),
+        MadeAs::Link if has_long_name(link) => Err(MemberFault::LongLink),
+        MadeAs::Link if has_dot_dot(link) => Err(MemberFault::DotDotLink),
+        MadeAs::Link | MadeAs::File | MadeAs::Directory => Ok(()),
+    }
+}
+
+/// Returns the owner and the group of a member, if they are numbers of the edition.
+fn owner_of(edition: Edition, header: &ReadHeader) -> Result<Cred, MemberFault>
+    ensures { result ≡ owner_of edition header.now }
+{
+    let limit = u64::from(edition.constants().id_limit);
+    if header.uid > limit || header.gid > limit {
+        return Err(MemberFault::Owner);
+    }
+    Ok(Cred {
+        uid: header.uid as u16,
+        gid: header.gid as u16,
+    })
+}

@@ -1,0 +1,211 @@
+-- Collecting the names of one directory.
+use Rattle.std.proofs.Common.{◌≡◌, ℕ, zero, suc, ◌+◌, ◌-◌, ◌/◌, ◌%◌, ◌<◌, ◌≤◌, min, ◌==◌, ◌⊎◌, inl, inr, true, false, cond, List, [], ◌∷◌, ◌++◌, Option, None, Some, length, take, replicate, refl, sym, ap, ◌∙◌, arith}
+use Rattle.std.specs.List.{position_or_len}
+use Rattle.std.specs.BTreeSet.{BTreeSet, Updates}
+use Rattle.std.specs.Cmp.Lexicographic.{slice_cmp}
+use Rattle.std.specs.Ordering.{nat_cmp, eq_by_cmp}
+use borrow.Author.Count.{below_more}
+use Rattle.std.proofs.lemmas.Bool.{cases_lt, cases_eq, cases_Bool}
+use Rattle.std.proofs.lemmas.Map.Views.{tells_apart}
+use Rattle.std.proofs.lemmas.Map.Lookups.{exact_bytes}
+use Rattle.vol_layout.specs.Edition.{constants}
+use Rattle.vol_layout.specs.Slot.{name_of, padded_name}
+use Rattle.vol_layout.specs.declared.edition.Edition.{Edition}
+use Rattle.vol_layout.specs.declared.edition.Edition.TheVariants.{V6, V7}
+use Rattle.vol_layout.specs.declared.geometry.Geometry.{Geometry}
+use Rattle.vol_layout.specs.declared.slot.Slot.{Slot}
+use Rattle.vol_file.specs.Rules.{size_of}
+use Rattle.vol_dir.specs.Entries.{entry_at, slot_count, IsDirectory, HasEntry, HasEntries}
+use Rattle.vol_dir.specs.Scan.{IsNextEntry}
+use Rattle.vol_judge.specs.DirectoryNames.{IsValidEntry, HasEntriesBelow, HasEntriesIn, is_in, HoldsNamesBelow}
+use Rattle.vol_dir.proofs.NextEntries.{entry_next, none_from}
+
+-- zero bytes are no name
+zeros : (k : ℕ) → name_of (replicate k 0) ≡ []
+zeros zero = refl
+zeros (suc k) = refl
+
+-- the first items of a list of one more
+take_next : (n m x : ℕ) (xs : List ℕ) → m ≡ suc n → take m (x ∷ xs) ≡ x ∷ take n xs
+take_next n m x xs e = rw e
+
+-- a byte that isn't zero belongs to the name
+name_of-more : (x : ℕ) (xs : List ℕ) → (x == 0) ≡ false → name_of (x ∷ xs) ≡ x ∷ name_of xs
+name_of-more x xs e =
+    let more : position_or_len (λ c. c == 0) (x ∷ xs) ≡ suc (position_or_len (λ c. c == 0) xs) = rw e (omega arith) in
+    take_next (position_or_len (λ c. c == 0) xs) (position_or_len (λ c. c == 0) (x ∷ xs)) x xs more
+
+-- a zero byte ends the name
+name_of-end : (x : ℕ) (xs : List ℕ) → (x == 0) ≡ true → name_of (x ∷ xs) ≡ []
+name_of-end x xs e = rw e
+
+-- a name stops at its first zero byte, however many follow
+stops : (k : ℕ) (xs : List ℕ) → name_of (name_of xs ++ replicate k 0) ≡ name_of xs
+stops k [] = zeros k
+stops k (x ∷ xs) =
+    let rest = stops k xs in
+    elim (cases_Bool (x == 0)) [
+      | inl e ↦ rw (name_of-end x xs e) (zeros k)
+      | inr e ↦ rw (name_of-more x xs e) (name_of-more x (name_of xs ++ replicate k 0) e ∙ ap (λ ys. x ∷ ys) rest)
+    ]
+
+-- a slot that has an entry isn't empty
+pub none_some : (slot : Option (List ℕ × ℕ)) (entry : List ℕ × ℕ) → slot ≡ Some entry → slot ≡ None → ⊥
+none_some slot entry some none = cc
+
+-- a slot has one entry
+pub same_entry : (slot : Option (List ℕ × ℕ)) (name other : List ℕ) (i j : ℕ) → slot ≡ Some (name, i) → slot ≡ Some (other, j) → (name ≡ other) × (i ≡ j)
+same_entry slot name other i j one two =
+    let both : Some (name, i) ≡ Some (other, j) = sym one ∙ two in
+    let pair : (name, i) ≡ (other, j) = cc in
+    (ap (λ (e : List ℕ × ℕ). e.0) pair, ap (λ (e : List ℕ × ℕ). e.1) pair)
+
+-- a stored name reads as the name
+pub name_of-padded : (xs : List ℕ) → name_of (padded_name (name_of xs)) ≡ name_of xs
+name_of-padded xs = stops (14 - length (name_of xs)) xs
+
+-- slots are counted in 32 bits
+pub count_low : (edition : Edition) (size : ℕ) → min size (constants edition).greatest / 16 < 67637569
+count_low V6 size = omega arith
+count_low V7 size = omega arith
+
+-- the number of the next slot is within its bound
+pub next_low : (geometry : Geometry) (image : List ℕ) (d : ℕ) {from s : ℕ} {slot : Slot} → IsNextEntry (entry_at geometry image d) from (slot_count geometry image d) s slot → s < 67637568
+next_low geometry image d next =
+    omega (arith, count_low geometry.edition (size_of geometry image d), next.within)
+
+-- an entry up to the one that a search finds is before the start of the search, or is that one
+entry_split : (geometry : Geometry) (image : List ℕ) (d : ℕ) {from s : ℕ} {slot : Slot} (t i : ℕ) (name : List ℕ) → IsNextEntry (entry_at geometry image d) from (slot_count geometry image d) s slot
+    → t < s + 1 → entry_at geometry image d t ≡ Some (name, i) → (t < from) ⊎ ((t ≡ s) × (name ≡ name_of slot.name) × (i ≡ slot.inode))
+entry_split geometry image d {from = from} {s = s} {slot = slot} t i name next low entry =
+    elim (cases_lt t from) [
+      | inl below ↦ inl below
+      | inr above ↦ elim (cases_eq t s) [
+        | inl same ↦
+            let here = rw same at entry in
+            let both = same_entry (entry_at geometry image d s) name (name_of slot.name) i slot.inode here (entry_next next) in
+            inr (same, both.0, both.1)
+        | inr apart ↦
+            let none : entry_at geometry image d t ≡ None = next.none t above (omega arith) in
+            absurd (none_some (entry_at geometry image d t) (name, i) entry none)
+      ]
+    ]
+
+-- a name below the next entry is in the set
+below_in : {geometry : Geometry} {image : List ℕ} {d from t i : ℕ} {names : BTreeSet (List ℕ)} (name other : List ℕ) → HoldsNamesBelow geometry image d from names
+    → t < from → entry_at geometry image d t ≡ Some (name, i) → name ≡ other → is_in names (padded_name other) ≡ false → ⊥
+below_in {names = names} name other held low entry same new =
+    let there : is_in names (padded_name name) ≡ true = held.all _ _ name low entry in
+    let there' = rw same at there in cc
+
+-- the next entry, of a name that isn't in the set, keeps rule 9
+pub below_next : {geometry : Geometry} {image : List ℕ} {d from s : ℕ} {slot : Slot} {names : BTreeSet (List ℕ)} → HasEntriesBelow geometry image d from
+    → HoldsNamesBelow geometry image d from names → IsNextEntry (entry_at geometry image d) from (slot_count geometry image d) s slot → IsValidEntry geometry image (name_of slot.name) slot.inode
+    → is_in names (padded_name (name_of slot.name)) ≡ false → HasEntriesBelow geometry image d (s + 1)
+below_next {geometry = geometry} {image = image} {d = d} {slot = slot} {names = names} below held next good new = record {
+  entries = λ t i name low entry.
+      elim (entry_split geometry image d t i name next low entry) [
+        | inl before ↦ below.entries t i name before entry
+        | inr here ↦ rw (here.1, here.2) good
+      ];
+  once = λ u t i j name low low' entry entry'.
+      elim (entry_split geometry image d u i name next low entry) [
+        | inl before ↦ elim (entry_split geometry image d t j name next low' entry') [
+          | inl before' ↦ below.once u t i j name before before' entry entry'
+          | inr here ↦ absurd (below_in name (name_of slot.name) held before entry here.1 new)
+        ]
+        | inr here ↦ elim (entry_split geometry image d t j name next low' entry') [
+          | inl before' ↦ absurd (below_in name (name_of slot.name) held before' entry' here.1 new)
+          | inr here' ↦ here.0 ∙ sym here'.0
+        ]
+      ];
+}
+
+-- once its name is in the set
+pub names_next : {geometry : Geometry} {image : List ℕ} {d from s : ℕ} {slot : Slot} {names after : BTreeSet (List ℕ)}
+    → HoldsNamesBelow geometry image d from names → IsNextEntry (entry_at geometry image d) from (slot_count geometry image d) s slot
+    → Updates (slice_cmp nat_cmp) names after (padded_name (name_of slot.name)) true → HoldsNamesBelow geometry image d (s + 1) after
+names_next {geometry = geometry} {image = image} {d = d} {from = from} {s = s} {slot = slot} {names = names} {after = after} held next updates =
+    let key = padded_name (name_of slot.name) in
+    record {
+      all = λ t i name low entry.
+          elim (entry_split geometry image d t i name next low entry) [
+            | inl before ↦
+                let there : is_in names (padded_name name) ≡ true = held.all t i name before entry in
+                let now : is_in after (padded_name name) ≡ cond (eq_by_cmp (slice_cmp nat_cmp) key (padded_name name)) true (is_in names (padded_name name)) = updates.0 (padded_name name) in
+                now ∙ rw there (elim (eq_by_cmp (slice_cmp nat_cmp) key (padded_name name)) as (λ t. cond t true true ≡ true) [ true ↦ refl | false ↦ refl ])
+            | inr here ↦ ap (λ n. is_in after (padded_name n)) here.1 ∙ updates.1
+          ];
+      only = λ name there.
+          let now : is_in after name ≡ cond (eq_by_cmp (slice_cmp nat_cmp) key name) true (is_in names name) = updates.0 name in
+          elim (cases_Bool (eq_by_cmp (slice_cmp nat_cmp) key name)) [
+            | inl same ↦
+                let is : key ≡ name = tells_apart exact_bytes key name same in
+                let read : name_of name ≡ name_of slot.name = ap name_of (sym is) ∙ name_of-padded slot.name in
+                record {
+                  slot = s;
+                  inode = slot.inode;
+                  below = omega arith;
+                  entry = entry_next next ∙ ap (λ n. Some (n, slot.inode)) (sym read);
+                }
+            | inr apart ↦
+                let before : is_in names name ≡ true = sym (now ∙ rw apart refl) ∙ there in
+                let had = held.only name before in
+                record { slot = had.slot; inode = had.inode; below = omega (arith, had.below, next.reached); entry = had.entry }
+          ];
+    }
+
+-- a name that is in the set occurs twice
+pub twice : {geometry : Geometry} {image : List ℕ} {d from s : ℕ} {slot : Slot} {names : BTreeSet (List ℕ)} → HoldsNamesBelow geometry image d from names
+    → IsNextEntry (entry_at geometry image d) from (slot_count geometry image d) s slot → is_in names (padded_name (name_of slot.name)) ≡ true → HasEntriesIn geometry image d → ⊥
+twice {slot = slot} held next there rule =
+    let had = held.only (padded_name (name_of slot.name)) there in
+    let entry = rw name_of-padded at had.entry in
+    let same : had.slot ≡ _ = rule.once had.slot _ had.inode slot.inode (name_of slot.name) entry (entry_next next) in
+    omega (arith, had.below, next.reached, same)
+
+-- if no slot is left, rule 9 holds of the directory
+pub all_below : {geometry : Geometry} {image : List ℕ} {d from : ℕ} → size_of geometry image d % 16 ≡ 0 → HasEntriesBelow geometry image d from
+    → ((t : ℕ) → from ≤ t → t < slot_count geometry image d → entry_at geometry image d t ≡ None) → HasEntriesIn geometry image d
+all_below {geometry = geometry} {image = image} {d = d} {from = from} whole below none =
+    let low : (t i : ℕ) (name : List ℕ) → entry_at geometry image d t ≡ Some (name, i) → t < from = λ t i name entry.
+    elim (cases_lt t from) [
+      | inl l ↦ l
+      | inr above ↦ absurd (none_some (entry_at geometry image d t) (name, i) entry (none_from geometry image d from none t above))
+    ] in
+    record {
+      whole = whole;
+      entries = λ t i name entry. below.entries t i name (low t i name entry) entry;
+      once = λ s t i j name entry entry'. below.once s t i j name (low s i name entry) (low t j name entry') entry entry';
+    }
+
+-- rule 9 holds of each directory below d
+pub each_more : {geometry : Geometry} {image : List ℕ} {d : ℕ} → ((e : ℕ) → e < d → IsDirectory geometry image e → HasEntriesIn geometry image e)
+    → (IsDirectory geometry image d → HasEntriesIn geometry image d) → (e : ℕ) → e < d + 1 → IsDirectory geometry image e → HasEntriesIn geometry image e
+each_more {geometry = geometry} {image = image} {d = d} below here = below_more (λ e. IsDirectory geometry image e → HasEntriesIn geometry image e) d below here
+
+-- and so it holds, if all directories are below d
+pub each_holds : {geometry : Geometry} {image : List ℕ} (d : ℕ) → ((e : ℕ) → e < d → IsDirectory geometry image e → HasEntriesIn geometry image e)
+    → geometry.last_inode < d → HasEntries geometry image
+each_holds d below last =
+    let each = λ (e : ℕ) (is : IsDirectory _ _ e). below e (omega (arith, is.last)) is in
+    record {
+      whole = λ e is. (each e is).whole;
+      named = λ e s i name has. let good = (each e has.directory).entries s i name has.entry in (good.some, good.no_slash);
+      allocated = λ e s i name has. let good = (each e has.directory).entries s i name has.entry in (good.first, good.last, good.allocated);
+      once = λ e s t i j name has has'. (each e has.directory).once s t i j name has.entry has'.entry;
+    }
+
+-- if it fails of a directory, it fails
+pub fails_in : {geometry : Geometry} {image : List ℕ} {d : ℕ} → IsDirectory geometry image d → (HasEntriesIn geometry image d → ⊥) → HasEntries geometry image → ⊥
+fails_in {geometry = geometry} {image = image} {d = d} is broken rule =
+    let here : HasEntriesIn geometry image d = record {
+      whole = rule.whole d is;
+      entries = λ t i name entry.
+          let has : HasEntry geometry image d t name i = record { directory = is; entry = entry } in
+          let names = rule.named d t i name has in
+          let number = rule.allocated d t i name has in
+          record { some = names.0; no_slash = names.1; first = number.0; last = number.1; allocated = number.2 };
+      once = λ s t i j name entry entry'.
+          rule.once d s t i j name (record { directory = is; entry = entry }) (record { directory = is; entry = entry' });
+    } in broken here

@@ -1,0 +1,57 @@
+-- Holes are carried as they are, and each block that there is is carried.
+use Rattle.std.proofs.Common.{◌≡◌, ◌∙◌, ap, subst, ◌+◌, arith}
+use Rattle.vol_layout.specs.Names.{form_at}
+use Rattle.vol_file.specs.Changes.{whole_blocks}
+use Rattle.vol_file.specs.Holes.{IsNextStored}
+use Rattle.vol_file.specs.Rules.{size_of}
+use Rattle.vol_file.specs.Runs.{LooksUp}
+use Rattle.vol_migrate.specs.Stages.{IsStage}
+use Rattle.vol_migrate.proofs.FileShapes.{names_hole}
+use Rattle.vol_migrate.proofs.StageLaws.{file_is_used, stage_holes, stage_next}
+use Rattle.vol_migrate.proofs.copy.copy_file.Goals as goal
+
+pub loop-b-init : goal.loop-b-init
+loop-b-init c =
+    let inode = c.of-numbers.ensures.inode in
+    let own = subst (λ j. LooksUp c.args.from.now c.args.old.now j c.next_block-b.new.self) inode c.next_block-b.ensures.own in
+    let next = subst (λ j. IsNextStored c.args.from.now c.args.old.now j (form_at c.args.from.now c.args.old.now j) 0 c.whole_blocks-end.result c.next_block-b.result)
+    inode c.next_block-b.ensures.next in
+    record {
+      numbers = own;
+      within = next.within;
+      some = λ low none. next.some low none;
+      carries = λ now stage.
+          stage_holes c.args.old.now c.args.from.now c.args.to.now now c.args.image.now c.args.i 0 c.next_block-b.result c.requires.may stage
+          (file_is_used c.args.old.now c.args.from.now c.args.i c.requires.file) next.reached
+          (λ b from to. names_hole c.args.from.now c.args.old.now c.args.i b c.requires.may.sixth c.requires.file (next.hole b from to));
+    }
+
+pub copy_block-requires-clause-stage : goal.copy_block-requires-clause-stage
+copy_block-requires-clause-stage c =
+    record { now = c.requires.stage.now; stage = c.loop-b.invariant.carries c.requires.stage.now c.requires.stage.stage }
+
+pub loop-b-preserved : goal.loop-b-preserved
+loop-b-preserved c =
+    let inode = c.loop-b.invariant.numbers.inode in
+    let own = subst (λ j. LooksUp c.args.from.now c.args.old.now j c.next_block-b-in-loop-b.new.self) inode c.next_block-b-in-loop-b.ensures.own in
+    let next = subst (λ j. IsNextStored c.args.from.now c.args.old.now j (form_at c.args.from.now c.args.old.now j) (c.loop-b.b + 1) c.whole_blocks-end.result
+    c.next_block-b-in-loop-b.result) inode c.next_block-b-in-loop-b.ensures.next in
+    record {
+      numbers = own;
+      within = next.within;
+      some = λ low none. next.some low none;
+      carries = λ now stage.
+          stage_holes c.args.old.now c.args.from.now c.args.to.now now c.copy_block.new.image c.args.i (c.loop-b.b + 1) c.next_block-b-in-loop-b.result
+          c.requires.may (c.copy_block.ensures now (c.loop-b.invariant.carries now stage))
+          (file_is_used c.args.old.now c.args.from.now c.args.i c.requires.file) next.reached
+          (λ b from to. names_hole c.args.from.now c.args.old.now c.args.i b c.requires.may.sixth c.requires.file (next.hole b from to));
+    }
+
+pub returns : goal.returns
+returns c = λ now stage.
+    let within = c.loop-b.invariant.within in
+    let at : c.loop-b.b ≡ c.whole_blocks-end.result = omega (arith, within, c.loop-b-test.false) in
+    let end : c.whole_blocks-end.result ≡ whole_blocks (size_of c.args.from.now c.args.old.now c.args.i) =
+    c.whole_blocks-end.ensures ∙ ap whole_blocks c.size.ensures in
+    stage_next c.args.old.now c.args.from.now c.args.to.now now c.loop-b.image c.args.i c.requires.file.first
+    (subst (IsStage c.args.from.now c.args.to.now c.args.old.now now c.loop-b.image c.args.i) (at ∙ end) (c.loop-b.invariant.carries now stage))

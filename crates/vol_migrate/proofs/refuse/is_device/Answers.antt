@@ -1,0 +1,19 @@
+-- Each kind says so.
+use Rattle.std.proofs.Common.{◌∙◌, sym, ap}
+use Rattle.vol_migrate.proofs.Refused.{device_here, is_special}
+use Rattle.vol_migrate.proofs.refuse.is_device.Goals as goal
+
+pub returns-in-Special : goal.returns-in-Special
+returns-in-Special c = ap is_special c.in-Special.ensures ∙ sym (device_here c.args.geometry.now c.args.image.now c.args.i c.requires.first c.requires.last)
+
+pub returns-in-Free : goal.returns-in-Free
+returns-in-Free c = ap is_special c.in-Free.ensures ∙ sym (device_here c.args.geometry.now c.args.image.now c.args.i c.requires.first c.requires.last)
+
+pub returns-in-Regular : goal.returns-in-Regular
+returns-in-Regular c = ap is_special c.in-Regular.ensures ∙ sym (device_here c.args.geometry.now c.args.image.now c.args.i c.requires.first c.requires.last)
+
+pub returns-in-Directory : goal.returns-in-Directory
+returns-in-Directory c = ap is_special c.in-Directory.ensures ∙ sym (device_here c.args.geometry.now c.args.image.now c.args.i c.requires.first c.requires.last)
+
+pub returns-in-Odd : goal.returns-in-Odd
+returns-in-Odd c = ap is_special c.in-Odd.ensures ∙ sym (device_here c.args.geometry.now c.args.image.now c.args.i c.requires.first c.requires.last)

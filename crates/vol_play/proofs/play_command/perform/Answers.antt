@@ -1,0 +1,32 @@
+use Rattle.std.proofs.Common.{◌∙◌, Bool, arith, ap, inr, subst}
+use Rattle.command_faults.specs.Streams.{says}
+use Rattle.vol_scripts.specs.Endings.{Finishes, PrintsPlay}
+use Rattle.vol_play.specs.Play.{any_cut}
+use Rattle.vol_play.proofs.ReadLaws.{read_many, read_views}
+use Rattle.vol_play.proofs.play_command.perform.Goals as goal
+
+pub play_image-requires-clause-first : goal.play_image-requires-clause-first
+play_image-requires-clause-first g c =
+    let many = read_many 1 0 c.args.scripts.now c.in-Ok.scripts.items c.in-Ok.ensures in omega (arith, many, c.requires.first)
+
+pub play_image-requires-clause-last : goal.play_image-requires-clause-last
+play_image-requires-clause-last g c =
+    let many = read_many 1 0 c.args.scripts.now c.in-Ok.scripts.items c.in-Ok.ensures in omega (arith, many, c.requires.last)
+
+pub play_image-requires-clause-views : goal.play_image-requires-clause-views
+play_image-requires-clause-views g c =
+    let few = read_views 1 0 c.args.scripts.now c.in-Ok.scripts.items (omega arith) c.in-Ok.ensures in omega arith
+
+pub returns-in-Ok-play_image : goal.returns-in-Ok-play_image
+returns-in-Ok-play_image g c errors hears =
+    let last = c.in-Ok-play_image.volume in
+    let played = c.in-Ok-play_image.played.items in
+    let ends =
+    subst
+    (λ (cuts : Bool).
+    Finishes last cuts played
+    (PrintsPlay last cuts played (g.O.Sink.contents c.args.output.now) (g.O.Sink.contents c.finish.new.output) (g.O.Sink.failed c.args.output.now) (g.O.Sink.failed c.finish.new.output))
+    (says errors) c.finish.result)
+    (c.any_cut-cuts.ensures ∙ ap any_cut c.deref.ensures.value) (c.finish.ensures errors hears)
+    in
+    inr (c.in-Ok.scripts.items, c.in-Ok.ensures, inr (last, played, c.in-Ok-play_image.ensures.played, ends))

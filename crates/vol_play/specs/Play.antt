@@ -1,0 +1,85 @@
+-- The result of a play.
+use Rattle.std.specs.Prelude.{◌≡◌, ◌⊎◌, ℕ, ◌+◌, ◌≤◌, Bool, true, false, List, [], max, All, Err, Ok, Vec}
+use Rattle.std.specs.Global.{Global}
+use Rattle.std.specs.Io.KnownBytes.{Keeps}
+use Rattle.std.specs.List.{list_any}
+use Rattle.count_table.specs.Sums.{total, below}
+use Rattle.vol_judge.specs.Sound.{IsSound}
+use Rattle.vol_volume.specs.Volume.{Mounted, IsConsistent, mounted}
+use Rattle.vol_receipts.specs.Agrees.{origin_of, Agrees}
+use Rattle.vol_shared.specs.Lists.{BeginsWith, greatest, greatest_of}
+use Rattle.vol_shared.specs.Stored.{Stored, stored_of, next_number, Continues}
+use Rattle.command_faults.specs.Faults.{IsCause, fault_line, fault_status}
+use Rattle.command_faults.specs.Streams.{Streams}
+use Rattle.vol_scripts.specs.Endings.{Finishes, PrintsPlay, receipts_in}
+use Rattle.vol_scripts.specs.Scripts.{ReadsScripts, scripts_in}
+use Rattle.vol_scripts.specs.Refuse.{AnswersFault, SavesNothing}
+use Rattle.vol_play.specs.Players.{InPairs}
+use Rattle.vol_play.specs.Steps.{CameOfScript, is_seen, places_made, cuts_made}
+use Rattle.vol_layout.specs.declared.edition.Edition.{Edition}
+use Rattle.command_faults.specs.declared.answer.Answer.{Answer}
+use Rattle.command_faults.specs.declared.fault.Fault.{Fault}
+use Rattle.vol_scripts.specs.declared.played.Played.{Played}
+use Rattle.vol_scripts.specs.declared.read.ScriptsFault.{ScriptsFault}
+use Rattle.vol_scripts.specs.declared.steps.Script.{Script}
+use Rattle.vol_scripts.specs.declared.steps.Script.TheVariants as kinds
+use Rattle.vol_scripts.specs.declared.steps.ScriptStep.{ScriptStep}
+use Rattle.vol_scripts.specs.declared.steps.ScriptStep.TheVariants as steps
+
+-- true if a step cuts the journal (this project)
+abbrev pub is_cut : ScriptStep → Bool
+is_cut (steps.Change call) = false
+is_cut (steps.Question query) = false
+is_cut steps.Cut = true
+
+-- true if a script cuts the journal (this project)
+abbrev pub script_cuts : Script → Bool
+script_cuts (kinds.Session steps) = list_any is_cut steps
+script_cuts (kinds.View queries) = false
+
+-- true if one of some scripts cuts the journal (this project)
+abbrev pub any_cut : List Script → Bool
+any_cut scripts = list_any script_cuts scripts
+
+-- scripts were played on a volume: each line of each script has a result, in order; the volume continues what it was by records with which all receipts of sessions agree, also those given before a cut; the bytes that no call changes stay; if no script cut the journal, it extends the one that was there; the journal's first number is the greatest that a cut returned, or that of the start; the accepted calls of all scripts have the numbers of the records made since, each once; and each receipt agrees with the journal, unless its number is below that of the journal's first record (this project)
+pub record ArePlayed (opened : Stored) (scripts : List Script) (last : Mounted) (played : List (Vec Played Global)) : Type 0 where
+  pub came : InPairs (λ script came. CameOfScript script (next_number opened) came.items) scripts played
+  pub goes_on : Continues opened (stored_of last) (λ agrees. All (λ came. is_seen came.items ≡ false → All agrees (receipts_in came.items)) played)
+  pub uncut : All (λ came. cuts_made came.items ≡ []) played → (origin_of last ≡ opened.origin) × BeginsWith last.journal opened.journal
+  pub first : last.first ≡ max opened.origin.first (greatest (λ came. greatest_of (cuts_made came.items)) played)
+  pub places : (weight : ℕ → ℕ) → total (λ came. total weight (places_made came.items)) played + below weight (next_number opened)
+      ≡ below weight (next_number (stored_of last))
+  pub agree : All (λ came. All (λ receipt. last.first ≤ receipt.at → Agrees (origin_of last) last.journal receipt) (receipts_in came.items)) played
+
+-- scripts were played on the sound volume in an image, and it has the state after its journal (this project)
+pub record IsPlayed (edition : Edition) (image : List ℕ) (scripts : List Script) (last : Mounted) (played : List (Vec Played Global)) : Type 0 where
+  pub sound : IsSound edition image
+  pub whole : ArePlayed (stored_of (mounted edition image)) scripts last played
+  pub consistent : IsConsistent last
+
+-- a reason to play no step: the first rule that the image breaks, or out of memory (this project)
+abbrev pub IsUnplayed : Edition → List ℕ → Fault → Type 0
+IsUnplayed edition image fault = IsCause edition image (λ refusal. ⊥) fault
+
+-- standard output is as it was (this project)
+abbrev pub IsSilent : Streams → Type 0
+IsSilent streams = Keeps streams.old streams.new × (streams.failed ≡ streams.had_failed)
+
+-- a line of a script can't be read, or memory ran out for the scripts (this project)
+abbrev pub StopsUnread : List (Vec ℕ Global) → Streams → Answer → Type 0
+StopsUnread scripts streams answer = IsSilent streams × ((fault : ScriptsFault) × ReadsScripts scripts (Err fault) × AnswersFault fault streams.said answer)
+
+-- no step is played, and the result has the status and the line of the reason (this project)
+abbrev pub StopsUnplayed : Edition → List ℕ → Streams → Answer → Type 0
+StopsUnplayed edition image streams answer =
+    IsSilent streams × ((fault : Fault) × IsUnplayed edition image fault × SavesNothing answer (fault_status fault) (streams.said (fault_line fault)))
+
+-- scripts are played, and the results of their steps are printed (this project)
+abbrev pub PlaysAll : Edition → List ℕ → List Script → Streams → Answer → Type 0
+PlaysAll edition image scripts streams answer = (last : Mounted) × (played : List (Vec Played Global)) × IsPlayed edition image scripts last played
+    × Finishes last (any_cut scripts) played (PrintsPlay last (any_cut scripts) played streams.old streams.new streams.had_failed streams.failed) streams.said answer
+
+-- the result of `play`: a line of a script can't be read; or all can, and no step is played; or all scripts are played (this project)
+abbrev pub PlaysVolume : Edition → List ℕ → List (Vec ℕ Global) → Streams → Answer → Type 0
+PlaysVolume edition image scripts streams answer = StopsUnread scripts streams answer
+    ⊎ ((read : List Script) × (scripts_in scripts ≡ Ok read) × (StopsUnplayed edition image streams answer ⊎ PlaysAll edition image read streams answer))

@@ -1,0 +1,132 @@
+//! The command `play`: from the bytes of an image and of scripts to the report, the status and the bytes to save.
+ghost use Rattle.std.specs.Prelude.{◌≡◌, ◌≤◌, IfOk, IfErr, count_by, length};
+ghost use Rattle.std.specs.List.{list_any};
+ghost use Rattle.command_faults.specs.Streams.{heard, ErrorStream, Hears, streams};
+ghost use Rattle.vol_play.specs.Players.{is_view};
+ghost use Rattle.vol_play.specs.Play.{PlaysVolume, IsPlayed, IsUnplayed, any_cut, script_cuts, is_cut};
+
+use crate::performance::play_on;
+use command_faults::answer::{report, tell};
+use command_faults::{Answer, Fault};
+use pdp_words::Sink;
+use std::alloc::Global;
+use std::sync::Wait;
+use std::thread::Threads;
+use vol_check::Gate;
+use vol_layout::Edition;
+use vol_scripts::{Played, Script, ScriptStep, finish, read_scripts, refuse};
+use vol_shared::{MOST_SESSIONS, MOST_VIEWS};
+use vol_volume::Volume;
+
+/// Plays scripts as [`perform`] does, and writes the line of a fault to `errors`.
+pub fn play<R: Threads + Wait + Sync, G: Gate, O: Sink, E: Sink>(
+    rt: &R,
+    alloc: Global,
+    edition: Edition,
+    image: Vec<u8>,
+    scripts: &[Vec<u8>],
+    gate: &G,
+    output: &mut O,
+    errors: &mut E,
+) -> Answer
+    requires first { 1 ≤ length scripts.now }
+    requires last { length scripts.now ≤ MOST_SESSIONS }
+    ensures { PlaysVolume edition image.items scripts.now (streams O.contents O.failed output.old output.new (heard E.contents E.failed errors.old errors.new)) result }
+{
+    let answer = perform(rt, alloc, edition, image, scripts, gate, output);
+    tell(&answer.fault, errors);
+    answer
+}
+
+/// Plays 1 to [`MOST_SESSIONS`] scripts on the volume in an image, each with one session, or one view if its first
+/// line says so, in one thread. A script whose thread can't be started is played by the calling thread. The gate is
+/// called before and after each script, with the script's number, counted from 0.
+///
+/// All scripts are read before the first call. If a line can't be read, the volume isn't sound or memory runs out
+/// before the first call, nothing is saved and that is the fault; the status is 2 for a line, 1 for an image that
+/// isn't sound, 4 for memory. Otherwise the scripts are played, and the play ends as [`finish`] says: a line for each
+/// step on `output`, and the bytes of the volume to save, whatever the status.
+///
+/// Takes memory for the scripts, for [`Volume::mount`], for each step and call, and for [`finish`].
+pub fn perform<R: Threads + Wait + Sync, G: Gate, O: Sink>(
+    rt: &R,
+    alloc: Global,
+    edition: Edition,
+    image: Vec<u8>,
+    scripts: &[Vec<u8>],
+    gate: &G,
+    output: &mut O,
+) -> Answer
+    requires first { 1 ≤ length scripts.now }
+    requires last { length scripts.now ≤ MOST_SESSIONS }
+    ensures { (errors : ErrorStream) → Hears errors result.fault
+        → PlaysVolume edition image.items scripts.now (streams O.contents O.failed output.old output.new errors) result }
+{
+    let scripts = match read_scripts(alloc, scripts) {
+        Ok(scripts) => scripts,
+        Err(fault) => return refuse(alloc, fault),
+    };
+    let cuts = any_cut(&scripts);
+    match play_image(rt, alloc, edition, image, scripts, gate) {
+        Ok((volume, played)) => finish(alloc, volume, cuts, played, output),
+        Err(fault) => report(Err(fault)),
+    }
+}
+
+/// Mounts the volume in an image and plays scripts on it.
+fn play_image<R: Threads + Wait + Sync, G: Gate>(
+    rt: &R,
+    alloc: Global,
+    edition: Edition,
+    image: Vec<u8>,
+    scripts: Vec<Script>,
+    gate: &G,
+) -> Result<(Volume, Vec<Vec<Played>>), Fault>
+    requires first { 1 ≤ length scripts.items }
+    requires last { length scripts.items ≤ MOST_SESSIONS }
+    requires views { count_by is_view scripts.items ≤ MOST_VIEWS }
+    ensures played { IfOk result (λ made. IsPlayed edition image.items scripts.items made.0 made.1.items) }
+    ensures fault { IfErr result (IsUnplayed edition image.items) }
+{
+    let volume = match Volume::mount(alloc, edition, image) {
+        Ok(volume) => volume,
+        Err((fault, _)) => return Err(Fault::from(fault)),
+    };
+    let (volume, played) = play_on(rt, alloc, volume, scripts, gate)?;
+    volume.check();
+    Ok((volume, played))
+}
+
+/// True if one of some scripts cuts the journal.
+fn any_cut(scripts: &[Script]) -> bool
+    ensures { result ≡ any_cut scripts.now }
+{
+    scripts.iter().any(|script| script_cuts(script))
+}
+
+/// True if a script cuts the journal.
+fn script_cuts(script: &Script) -> bool
+    ensures { result ≡ script_cuts script.now }
+{
+    match script {
+        Script::Session(steps) => steps_cut(steps.as_slice()),
+        Script::View(_) => false,
+    }
+}
+
+/// True if one of some steps cuts the journal.
+fn steps_cut(steps: &[ScriptStep]) -> bool
+    ensures { result ≡ list_any is_cut steps.now }
+{
+    steps.iter().any(|step| is_cut(step))
+}
+
+/// True if a step cuts the journal.
+fn is_cut(step: &ScriptStep) -> bool
+    ensures { result ≡ is_cut step.now }
+{
+    match step {
+        ScriptStep::Cut => true,
+        ScriptStep::Change(_) | ScriptStep::Question(_) => false,
+    }
+}

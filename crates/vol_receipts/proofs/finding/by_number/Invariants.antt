@@ -1,5 +1,0 @@
-use Rattle.vol_receipts.proofs.FoundReceipts.{AreNumbered}
-use Rattle.vol_receipts.proofs.finding.by_number.Given as goal
-
-abbrev pub invariant-loop-index : goal.invariant-loop-index
-invariant-loop-index l = AreNumbered l.receipts l.order.items l.index

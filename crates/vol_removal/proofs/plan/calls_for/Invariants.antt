@@ -1,0 +1,11 @@
+use Rattle.std.proofs.Common.{◌^◌, ◌-◌, length}
+use Rattle.vol_volume.specs.Volume.{reads_as}
+use Rattle.vol_removal.proofs.TakenPaths.{TakesOn}
+use Rattle.vol_removal.proofs.plan.calls_for.Given as goal
+
+-- if some calls remove the pending paths, they and then the calls so far, in reverse, remove the path
+abbrev pub invariant-paths : goal.invariant-paths
+invariant-paths l = TakesOn (reads_as l.volume.edition l.volume.image).tree l.now l.fn.path l.pending.items l.calls.items
+
+abbrev pub decreases-paths : goal.decreases-paths
+decreases-paths l = 2 ^ 64 - length l.calls.items

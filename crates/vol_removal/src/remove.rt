@@ -1,0 +1,59 @@
+//! Removing a path, all or nothing.
+ghost use Rattle.std.specs.Prelude.{◌≡◌, IfOk, IfErr, OnOk};
+ghost use Rattle.vol_judge.specs.Sound.{IsSound};
+ghost use Rattle.vol_volume.specs.Volume.{mounted};
+ghost use Rattle.vol_import.specs.Make.{AreMade};
+ghost use Rattle.vol_removal.specs.Remove.{Removes, IsReason, IsUnmounted, IsStop};
+
+use crate::faults::RemovalFault;
+use crate::plan::removal;
+use std::alloc::Global;
+use vol_dir::Refusal;
+use vol_import::make_all;
+use vol_layout::Edition;
+use vol_volume::{Call, Volume};
+
+/// Removes a path of the volume in some bytes, and for a directory everything below it, and returns the new bytes of the
+/// volume, in which the path leads nowhere. Makes all calls of [`removal`], in order and as user 0; or there is nothing to
+/// save, and the fault has the first reason: of the image, then of the path, then of the calls.
+///
+/// Takes memory to mount the image, and what [`removal`] and the calls take. Costs that and the calls: for each node removed,
+/// the walk of its path and a search of its directory.
+pub fn remove_all(
+    alloc: Global,
+    edition: Edition,
+    image: Vec<u8>,
+    path: &[u8],
+    now: u32,
+) -> Result<Vec<u8>, RemovalFault>
+    ensures removed { IfOk result (λ bytes. Removes edition image.items path.now now bytes.items) }
+    ensures fault { IfErr result (IsReason edition image.items path.now now) }
+{
+    let mut volume = mount(alloc, edition, image)?;
+    let calls = removal(alloc, &volume, path, now)?;
+    make(alloc, &mut volume, calls)?;
+    Ok(volume.unmount())
+}
+
+/// Mounts the volume in some bytes.
+#[tactic(auto, using(crate::proofs::Removals::is_unmounted))]
+fn mount(alloc: Global, edition: Edition, image: Vec<u8>) -> Result<Volume, RemovalFault>
+    ensures mounted { IfOk result (λ volume. volume ≡ mounted edition image.items) }
+    ensures sound { OnOk result (IsSound edition image.items) }
+    ensures fault { IfErr result (IsUnmounted edition image.items) }
+{
+    Volume::mount(alloc, edition, image).map_err(|(fault, _)| RemovalFault::from(fault))
+}
+
+/// Makes calls on a volume, up to the first that is refused, which becomes the fault.
+#[tactic(auto, unfolding(crate::specs::Remove::IsStop))]
+fn make(alloc: Global, volume: &mut Volume, calls: Vec<Call>) -> Result<(), RemovalFault>
+    ensures made { OnOk result (AreMade volume.old calls.items volume.new) }
+    ensures fault { IfErr result (IsStop volume.old calls.items volume.new) }
+{
+    match make_all(alloc, volume, calls) {
+        Ok(()) => Ok(()),
+        Err((Refusal::NoMemory, _)) => Err(RemovalFault::NoMemory),
+        Err((refusal, call)) => Err(RemovalFault::Refused(refusal, call)),
+    }
+}

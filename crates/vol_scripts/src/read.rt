@@ -1,0 +1,140 @@
+//! Reads scripts.
+ghost use Rattle.std.specs.Prelude.{◌≡◌, ◌≤◌, ◌∷◌, ◌++◌, [], OnOk, IfErr};
+ghost use Rattle.vol_scripts.specs.Scripts.{ReadsScript, ReadsScripts, asked_in, script_after, script_in, views_after};
+
+use crate::lines::{FromLine, LineFault};
+use crate::pieces::Pieces;
+use crate::steps::{Script, Sequence};
+use std::alloc::{AllocError, Global};
+use vol_views::MOST_VIEWS;
+
+/// Why a script couldn't be read.
+#[derive(Clone, Copy, Debug, PartialEq, Eq)]
+pub enum ScriptFault {
+    /// The number of the first line that can't be read, from 1.
+    Line(u64),
+    /// An allocation was refused.
+    NoMemory,
+}
+
+impl From<AllocError> for ScriptFault {
+    ghost use Rattle.vol_scripts.specs.declared.read.ScriptFault.TheVariants as faults;
+
+    ghost from_gives = { λ _ fault. fault ≡ faults.NoMemory };
+
+    fn from(_: AllocError) -> ScriptFault {
+        ScriptFault::NoMemory
+    }
+}
+
+/// The line that marks a script as one for a view.
+const VIEW_LINE: &[u8] = b"view\n";
+
+/// Reads a script: for a view if its first line is the word `view`, else for a session. Each line ends with a
+/// newline, and an empty script has no lines. A script for a view has only queries.
+///
+/// Takes memory for the steps, their paths and the bytes of their writes. Costs the length of the script.
+pub fn read_script(alloc: Global, script: &[u8]) -> Result<Script, ScriptFault>
+    ensures { ReadsScript (script_in script.now) result }
+{
+    match script.strip_prefix(VIEW_LINE) {
+        Some(queries) => Ok(Script::View(read_lines(alloc, queries, 2)?)),
+        None => Ok(Script::Session(read_lines(alloc, script, 1)?)),
+    }
+}
+
+/// Reads the steps of lines, the first of which has number `first`.
+fn read_lines<A: FromLine>(
+    alloc: Global,
+    text: &[u8],
+    first: u64,
+) -> Result<Sequence<A>, ScriptFault>
+    requires { first ≤ 2 }
+    ensures { ReadsScript (asked_in A.written first text.now) result }
+{
+    let mut asked = Vec::new(alloc);
+    let mut lines = Pieces::of(b'\n', text);
+    'lines: while let Some(line) = lines.take_next() {
+        let number = asked.len() as u64 + first;
+        if lines.is_empty() {
+            // The text after the last newline isn't a line, and must be empty.
+            return if line.is_empty() {
+                Ok(Sequence::from_vec(asked))
+            } else {
+                Err(ScriptFault::Line(number))
+            };
+        }
+        match A::from_line(alloc, line) {
+            Ok(item) => push_item(&mut asked, item)?,
+            Err(LineFault::Unreadable) => return Err(ScriptFault::Line(number)),
+            Err(LineFault::NoMemory) => return Err(ScriptFault::NoMemory),
+        }
+    }
+    Ok(Sequence::from_vec(asked))
+}
+
+/// Appends the step of a line.
+fn push_item<T: Drop>(items: &mut Vec<T>, item: T) -> Result<(), ScriptFault>
+    ensures pushed { OnOk result (items.new.items ≡ items.old.items ++ item ∷ []) }
+    ensures fault { IfErr result (λ fault. fault ≡ ScriptFault.NoMemory) }
+{
+    items.push(item).map_err(|_| ScriptFault::NoMemory)
+}
+
+/// Why several scripts couldn't be read.
+#[derive(Clone, Copy, Debug, PartialEq, Eq)]
+pub enum ScriptsFault {
+    /// The first line that can't be read, by script and line, both numbered from 1.
+    Line {
+        /// The script's number.
+        script: u64,
+        /// The line's number in it.
+        line: u64,
+    },
+    /// An allocation was refused.
+    NoMemory,
+}
+
+/// Reads several scripts as [`read_script`] does. At most [`MOST_VIEWS`] may be for views; the first line of
+/// any further one counts as unreadable. Takes the memory of [`read_script`], and a list of the scripts.
+pub fn read_scripts(alloc: Global, scripts: &[Vec<u8>]) -> Result<Vec<Script>, ScriptsFault>
+    ensures { ReadsScripts scripts.now result }
+{
+    let mut read = Vec::new(alloc);
+    let mut views = 0;
+    'scripts: for script in scripts {
+        match read_next(alloc, &mut views, script) {
+            Ok(script) => push_script(&mut read, script)?,
+            Err(ScriptFault::Line(line)) => {
+                let script = read.len() as u64 + 1;
+                return Err(ScriptsFault::Line { script, line });
+            }
+            Err(ScriptFault::NoMemory) => return Err(ScriptsFault::NoMemory),
+        }
+    }
+    Ok(read)
+}
+
+/// Reads a script when `views` scripts before it are for views.
+fn read_next(alloc: Global, views: &mut u64, script: &[u8]) -> Result<Script, ScriptFault>
+    requires { views.old ≤ MOST_VIEWS }
+    ensures read { ReadsScript (script_after views.old script.now) result }
+    ensures views { OnOk result (views.new ≡ views_after views.old script.now) }
+    ensures most { views.new ≤ MOST_VIEWS }
+{
+    if script.starts_with(VIEW_LINE) {
+        if *views == MOST_VIEWS as u64 {
+            return Err(ScriptFault::Line(1));
+        }
+        *views += 1;
+    }
+    read_script(alloc, script)
+}
+
+/// Appends a script.
+fn push_script(scripts: &mut Vec<Script>, script: Script) -> Result<(), ScriptsFault>
+    ensures pushed { OnOk result (scripts.new.items ≡ scripts.old.items ++ script ∷ []) }
+    ensures fault { IfErr result (λ fault. fault ≡ ScriptsFault.NoMemory) }
+{
+    scripts.push(script).map_err(|_| ScriptsFault::NoMemory)
+}

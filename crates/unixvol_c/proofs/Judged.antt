@@ -1,5 +1,5 @@
 -- The rule that a judge finds broken is one of twelve.
-use Rattle.std.proofs.Common.{◌≡◌, ℕ, ◌<◌, ◌≤◌, List, [], ◌∷◌, length, Bool, zero, suc, arith}
+use Rattle.std.proofs.Common.{ℕ, ◌<◌, ◌≤◌, List, [], ◌∷◌, length, Bool, zero, suc, arith}
 use Rattle.vol_judge.specs.Sound.{Rule, rules, nth_fact, IsLeastBroken}
 use Rattle.vol_layout.specs.Geometry.{geometry_of}
 use Rattle.vol_layout.specs.declared.edition.Edition.{Edition}

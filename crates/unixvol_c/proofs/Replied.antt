@@ -1,5 +1,5 @@
 -- A reply is of the kind of its query.
-use Rattle.std.proofs.Common.{◌≡◌, ℕ, ◌≤◌, List, Option, None, Some, Result, Ok, Err, length, take, drop, min, refl, sym, subst, arith}
+use Rattle.std.proofs.Common.{ℕ, ◌≤◌, List, Option, None, Some, Result, Ok, Err, length, drop, sym, subst, arith}
 use Rattle.std.proofs.lemmas.List.{length-take}
 use Rattle.vol_dir.specs.Tree.{Tree}
 use Rattle.vol_dir.specs.Walk.{walk}

@@ -1,5 +1,5 @@
 -- The exports' effects on the volume that a handle holds.
-use Rattle.std.specs.Prelude.{◌≡◌, ◌≢◌, ◌≤◌, length, ℕ, ℤ, pos, nat_eq, if◌then◌else◌, Option, None, Some, Result, Err}
+use Rattle.std.specs.Prelude.{◌≡◌, ◌≢◌, ◌↔◌, ◌≤◌, length, ℕ, ℤ, pos, nat_eq, if◌then◌else◌, Option, None, Some, Result, Err}
 use Rattle.vol_dir.specs.Refusals.{number_of}
 use Rattle.vol_dir.specs.declared.refusal.Refusal.{Refusal}
 use Rattle.vol_layout.specs.declared.edition.Edition.{Edition}
@@ -10,11 +10,13 @@ use Rattle.vol_volume.specs.Volume.{Mounted, reads_as, Accepts}
 use Rattle.vol_volume.specs.declared.calls.Call.{Call}
 use Rattle.vol_volume.specs.declared.calls.Call.TheVariants as calls
 use Rattle.vol_volume.specs.declared.calls.Done.{Done}
+use Rattle.vol_volume.specs.declared.calls.Done.TheVariants.{Made}
 use Rattle.vol_volume.specs.declared.queries.Query.{Query}
 use Rattle.vol_volume.specs.declared.queries.Query.TheVariants as queries
 use Rattle.vol_volume.specs.declared.queries.Reply.{Reply}
 use Rattle.vol_volume.specs.declared.queries.Reply.TheVariants as replies
 use Rattle.unixvol_c.specs.Opened.{Opened, trimmed}
+use Rattle.unixvol_c.specs.declared.TheConstants.{DONE, NO_MEMORY, CLOSED}
 
 -- the edition with a number, 6 or 7 (this project)
 abbrev pub edition_of : ℕ → Edition
@@ -23,6 +25,13 @@ edition_of n = if nat_eq n 6 then V6 else V7
 -- the number is no edition's (this project)
 abbrev pub IsNoEdition : ℕ → Type 0
 IsNoEdition n = (n ≢ 6) × (n ≢ 7)
+
+-- DONE if an export has done its work, CLOSED exactly if the handle is closed, else NO_MEMORY or a refusal's number, and nothing has changed (this project)
+pub record Returns (held : Option Opened) (done : Type 0) (is_refusal : ℤ → Type 0) (same : Type 0) (result : ℤ) : Type 0 where
+  pub succeeded : result ≡ DONE → done
+  pub refused : result ≢ DONE → result ≢ NO_MEMORY → result ≢ CLOSED → is_refusal result
+  pub closed : result ≡ CLOSED ↔ held ≡ None
+  pub unchanged : result ≢ DONE → same
 
 -- a query on the volume held has this outcome (this project)
 abbrev pub IsAnswered : Option Opened → Query → Result Reply Refusal → Type 0
@@ -70,3 +79,11 @@ pub record RefusesCall (held : Option Opened) (call : Call) (number : ℤ) : Typ
   pub refusal : Refusal
   pub numbered : number ≡ pos (number_of refusal)
   pub refused : IsRefused held call refusal
+
+-- an export makes a call on the volume held (this project)
+abbrev pub ReturnsCall : Option Opened → Option Opened → Call → ℤ → Type 0
+ReturnsCall old new call result = Returns old ((done : Done) × Makes old new call done) (RefusesCall old call) (new ≡ old) result
+
+-- an export makes a call that makes a node, and sets the caller's number to its i-number (this project)
+abbrev pub ReturnsNode : Option Opened → Option Opened → Call → ℕ → ℕ → ℤ → Type 0
+ReturnsNode old new call before after result = Returns old (Makes old new call (Made after)) (RefusesCall old call) ((new ≡ old) × (after ≡ before)) result

@@ -1,5 +1,5 @@
 -- Reports, archives and texts, as C gets them.
-use Rattle.std.specs.Prelude.{◌≡◌, ℕ, nat_eq, if◌then◌else◌, not, Bool, List, Option, None, Some, Result, Ok}
+use Rattle.std.specs.Prelude.{◌≡◌, ℕ, ℤ, pos, nat_eq, if◌then◌else◌, not, Bool, List, Option, None, Some, Ok, Err}
 use Rattle.std.specs.List.{count_by}
 use Rattle.vol_dir.specs.Refusals.{number_of}
 use Rattle.vol_layout.specs.declared.edition.Edition.{Edition}
@@ -66,6 +66,11 @@ abbrev pub start_number : StartFault → ℕ
 start_number (Unsound Short) = 201
 start_number (Unsound Bounds) = 202
 start_number (Refused refusal) = number_of refusal
+
+-- there is no start at a path, and this is the number of the reason (this project)
+abbrev pub IsNoStart : List ℕ → Opened → ℤ → Type 0
+IsNoStart path held number =
+    (fault : StartFault) × (start_of held.volume.edition held.volume.image path ≡ Err fault) × (number ≡ pos (start_number fault))
 
 -- a text has the findings for the twelve rules (this project)
 pub record Explains (edition : Edition) (image text : List ℕ) : Type 0 where

@@ -1,12 +1,12 @@
 //! Answers whose length isn't known in advance: they are kept in the handle, and copied out.
-ghost use Rattle.std.specs.Prelude.{◌≡◌, ◌≢◌, ◌↔◌, ◌⊎◌, ◌-◌, pos, None, Some, Ok, Err, IsSomeAnd, IfSome, IfOk, IsNone, length, min, take, drop};
+ghost use Rattle.std.specs.Prelude.{◌≡◌, ◌≢◌, ◌↔◌, ◌⊎◌, ◌-◌, pos, None, IsSomeAnd, IfSome, IfOk, length, min, take, drop};
 ghost use Rattle.vol_layout.specs.Geometry.{Fits};
 ghost use Rattle.vol_dir.specs.Entries.{IsDirectory};
 ghost use Rattle.vol_check.specs.Layouts.{HasSwept, IsFor, IsSeatIn};
 ghost use Rattle.vol_check.specs.SweepReports.{IsReport};
 ghost use Rattle.vol_check.specs.Steps.{Ran};
-ghost use Rattle.vol_archive.specs.Export.{start_of};
-ghost use Rattle.unixvol_c.specs.Texts.{BothHeld, IsArchive, IsReportText, KeepsArchive, KeepsReport, checker_of, start_number};
+ghost use Rattle.unixvol_c.specs.Calls.{Returns};
+ghost use Rattle.unixvol_c.specs.Texts.{BothHeld, IsArchive, IsNoStart, IsReportText, KeepsArchive, KeepsReport, checker_of, start_number};
 
 use crate::handle::Handle;
 use crate::open_volume::OpenVolume;
@@ -25,11 +25,9 @@ use vol_reports::Report;
 /// Takes the time and memory of the checker with one thread, and memory for the text.
 #[unsafe(no_mangle)]
 pub extern "C" fn unixvol_report(alloc: Global, handle: &mut Handle, letter: u8) -> i32
-    ensures kept { result ≡ DONE → BothHeld handle.old.sealed.held handle.new.sealed.held (KeepsReport letter) }
-    ensures closed { result ≡ CLOSED ↔ handle.old.sealed.held ≡ None }
+    ensures kept { let held = handle.old.sealed.held in
+        Returns held (BothHeld held handle.new.sealed.held (KeepsReport letter)) (λ number. number ≡ NO_REPORT) (handle.new.sealed.held ≡ held) result }
     ensures unnamed { IfSome handle.old.sealed.held (λ held. result ≡ NO_REPORT ↔ checker_of letter ≡ None) }
-    ensures others { (result ≡ DONE) ⊎ (result ≡ CLOSED) ⊎ (result ≡ NO_REPORT) ⊎ (result ≡ NO_MEMORY) }
-    ensures unchanged { result ≢ DONE → handle.new.sealed.held ≡ handle.old.sealed.held }
 {
     let Some(mut held) = handle.take(alloc) else {
         return CLOSED;
@@ -50,11 +48,8 @@ pub extern "C" fn unixvol_export(
     path: &[u8],
     left_out: &mut usize,
 ) -> i32
-    ensures kept { result ≡ DONE → BothHeld handle.old.sealed.held handle.new.sealed.held (KeepsArchive path.now left_out.new) }
-    ensures closed { result ≡ CLOSED ↔ handle.old.sealed.held ≡ None }
-    ensures refused { result ≢ DONE → result ≢ NO_MEMORY → result ≢ CLOSED → IsSomeAnd handle.old.sealed.held (λ held. (fault : StartFault)
-        × (start_of held.volume.edition held.volume.image path.now ≡ Err fault) × (result ≡ pos (start_number fault))) }
-    ensures unchanged { result ≢ DONE → (handle.new.sealed.held ≡ handle.old.sealed.held) × (left_out.new ≡ left_out.old) }
+    ensures { let held = handle.old.sealed.held in Returns held (BothHeld held handle.new.sealed.held (KeepsArchive path.now left_out.new))
+        (λ number. IsSomeAnd held (λ held. IsNoStart path.now held number)) ((handle.new.sealed.held ≡ held) × (left_out.new ≡ left_out.old)) result }
 {
     let Some(mut held) = handle.take(alloc) else {
         return CLOSED;
@@ -200,8 +195,7 @@ struct Archive {
 /// Keeps the archive of everything below a directory.
 fn keep_archive(alloc: Global, held: &mut OpenVolume, path: &[u8], left_out: &mut usize) -> i32
     ensures kept { result ≡ DONE → KeepsArchive path.now left_out.new held.old held.new }
-    ensures refused { result ≢ DONE → result ≢ NO_MEMORY → (fault : StartFault)
-        × (start_of held.old.volume.edition held.old.volume.image path.now ≡ Err fault) × (result ≡ pos (start_number fault)) }
+    ensures refused { result ≢ DONE → result ≢ NO_MEMORY → IsNoStart path.now held.old result }
     ensures few { result ≢ CLOSED }
     ensures unchanged { result ≢ DONE → (held.new ≡ held.old) × (left_out.new ≡ left_out.old) }
 {

@@ -1,8 +1,8 @@
 //! Calls that change a volume.
-ghost use Rattle.std.specs.Prelude.{◌≡◌, ◌≢◌, ◌↔◌, ◌+◌, ◌^◌, ◌≤◌, None, Some, IsSome, IfSome, IfOk, IfErr, OnErr, length};
+ghost use Rattle.std.specs.Prelude.{◌≡◌, ◌↔◌, ◌⊎◌, ◌+◌, ◌^◌, ◌≤◌, None, Some, IfSome, length};
 ghost use Rattle.vol_volume.specs.Volume.{after_cut};
 ghost use Rattle.vol_volume.specs.declared.calls.Call.TheVariants as called;
-ghost use Rattle.unixvol_c.specs.Calls.{Makes, MakesNode, RefusesCall};
+ghost use Rattle.unixvol_c.specs.Calls.{MakesNode, ReturnsCall, ReturnsNode};
 ghost use Rattle.unixvol_c.specs.Opened.{CanCut};
 
 use crate::handle::Handle;
@@ -25,17 +25,11 @@ pub extern "C" fn unixvol_create(
     perm: u16,
     inode: &mut u16,
 ) -> i32
-    ensures made { result ≡ DONE → Makes handle.old.sealed.held handle.new.sealed.held (called.Create (record { uid = uid; gid = gid }) now path.now perm) (Done.Made inode.new) }
-    ensures refused { result ≢ DONE → result ≢ NO_MEMORY → result ≢ CLOSED → RefusesCall handle.old.sealed.held
-        (called.Create (record { uid = uid; gid = gid }) now path.now perm) result }
-    ensures closed { result ≡ CLOSED ↔ handle.old.sealed.held ≡ None }
-    ensures unchanged { result ≢ DONE → (handle.new.sealed.held ≡ handle.old.sealed.held) × (inode.new ≡ inode.old) }
+    ensures { let call = called.Create (record { uid = uid; gid = gid }) now path.now perm in
+        ReturnsNode handle.old.sealed.held handle.new.sealed.held call inode.old inode.new result }
 {
-    if !handle.is_open() {
-        return CLOSED;
-    }
     let Ok(path) = Bytes::from_slice(alloc, path) else {
-        return NO_MEMORY;
+        return not_copied(handle);
     };
     let cred = Cred { uid, gid };
     let call = Call::Create {
@@ -59,17 +53,11 @@ pub extern "C" fn unixvol_mkdir(
     perm: u16,
     inode: &mut u16,
 ) -> i32
-    ensures made { result ≡ DONE → Makes handle.old.sealed.held handle.new.sealed.held (called.Mkdir (record { uid = uid; gid = gid }) now path.now perm) (Done.Made inode.new) }
-    ensures refused { result ≢ DONE → result ≢ NO_MEMORY → result ≢ CLOSED → RefusesCall handle.old.sealed.held
-        (called.Mkdir (record { uid = uid; gid = gid }) now path.now perm) result }
-    ensures closed { result ≡ CLOSED ↔ handle.old.sealed.held ≡ None }
-    ensures unchanged { result ≢ DONE → (handle.new.sealed.held ≡ handle.old.sealed.held) × (inode.new ≡ inode.old) }
+    ensures { let call = called.Mkdir (record { uid = uid; gid = gid }) now path.now perm in
+        ReturnsNode handle.old.sealed.held handle.new.sealed.held call inode.old inode.new result }
 {
-    if !handle.is_open() {
-        return CLOSED;
-    }
     let Ok(path) = Bytes::from_slice(alloc, path) else {
-        return NO_MEMORY;
+        return not_copied(handle);
     };
     let cred = Cred { uid, gid };
     let call = Call::Mkdir {
@@ -92,20 +80,13 @@ pub extern "C" fn unixvol_link(
     source: &[u8],
     target: &[u8],
 ) -> i32
-    ensures made { result ≡ DONE → (done : Done) × Makes handle.old.sealed.held handle.new.sealed.held (called.Link (record { uid = uid; gid = gid }) now source.now target.now) done }
-    ensures refused { result ≢ DONE → result ≢ NO_MEMORY → result ≢ CLOSED → RefusesCall handle.old.sealed.held
-        (called.Link (record { uid = uid; gid = gid }) now source.now target.now) result }
-    ensures closed { result ≡ CLOSED ↔ handle.old.sealed.held ≡ None }
-    ensures unchanged { result ≢ DONE → handle.new.sealed.held ≡ handle.old.sealed.held }
+    ensures { ReturnsCall handle.old.sealed.held handle.new.sealed.held (called.Link (record { uid = uid; gid = gid }) now source.now target.now) result }
 {
-    if !handle.is_open() {
-        return CLOSED;
-    }
     let Ok(source) = Bytes::from_slice(alloc, source) else {
-        return NO_MEMORY;
+        return not_copied(handle);
     };
     let Ok(target) = Bytes::from_slice(alloc, target) else {
-        return NO_MEMORY;
+        return not_copied(handle);
     };
     let cred = Cred { uid, gid };
     let call = Call::Link {
@@ -127,17 +108,10 @@ pub extern "C" fn unixvol_unlink(
     now: u32,
     path: &[u8],
 ) -> i32
-    ensures made { result ≡ DONE → (done : Done) × Makes handle.old.sealed.held handle.new.sealed.held (called.Unlink (record { uid = uid; gid = gid }) now path.now) done }
-    ensures refused { result ≢ DONE → result ≢ NO_MEMORY → result ≢ CLOSED → RefusesCall handle.old.sealed.held
-        (called.Unlink (record { uid = uid; gid = gid }) now path.now) result }
-    ensures closed { result ≡ CLOSED ↔ handle.old.sealed.held ≡ None }
-    ensures unchanged { result ≢ DONE → handle.new.sealed.held ≡ handle.old.sealed.held }
+    ensures { ReturnsCall handle.old.sealed.held handle.new.sealed.held (called.Unlink (record { uid = uid; gid = gid }) now path.now) result }
 {
-    if !handle.is_open() {
-        return CLOSED;
-    }
     let Ok(path) = Bytes::from_slice(alloc, path) else {
-        return NO_MEMORY;
+        return not_copied(handle);
     };
     let cred = Cred { uid, gid };
     let call = Call::Unlink { cred, now, path };
@@ -154,17 +128,10 @@ pub extern "C" fn unixvol_rmdir(
     now: u32,
     path: &[u8],
 ) -> i32
-    ensures made { result ≡ DONE → (done : Done) × Makes handle.old.sealed.held handle.new.sealed.held (called.Rmdir (record { uid = uid; gid = gid }) now path.now) done }
-    ensures refused { result ≢ DONE → result ≢ NO_MEMORY → result ≢ CLOSED → RefusesCall handle.old.sealed.held
-        (called.Rmdir (record { uid = uid; gid = gid }) now path.now) result }
-    ensures closed { result ≡ CLOSED ↔ handle.old.sealed.held ≡ None }
-    ensures unchanged { result ≢ DONE → handle.new.sealed.held ≡ handle.old.sealed.held }
+    ensures { ReturnsCall handle.old.sealed.held handle.new.sealed.held (called.Rmdir (record { uid = uid; gid = gid }) now path.now) result }
 {
-    if !handle.is_open() {
-        return CLOSED;
-    }
     let Ok(path) = Bytes::from_slice(alloc, path) else {
-        return NO_MEMORY;
+        return not_copied(handle);
     };
     let cred = Cred { uid, gid };
     let call = Call::Rmdir { cred, now, path };
@@ -183,20 +150,13 @@ pub extern "C" fn unixvol_write(
     offset: u32,
     bytes: &[u8],
 ) -> i32
-    ensures made { result ≡ DONE → (done : Done) × Makes handle.old.sealed.held handle.new.sealed.held (called.Write (record { uid = uid; gid = gid }) now path.now offset bytes.now) done }
-    ensures refused { result ≢ DONE → result ≢ NO_MEMORY → result ≢ CLOSED → RefusesCall handle.old.sealed.held
-        (called.Write (record { uid = uid; gid = gid }) now path.now offset bytes.now) result }
-    ensures closed { result ≡ CLOSED ↔ handle.old.sealed.held ≡ None }
-    ensures unchanged { result ≢ DONE → handle.new.sealed.held ≡ handle.old.sealed.held }
+    ensures { ReturnsCall handle.old.sealed.held handle.new.sealed.held (called.Write (record { uid = uid; gid = gid }) now path.now offset bytes.now) result }
 {
-    if !handle.is_open() {
-        return CLOSED;
-    }
     let Ok(path) = Bytes::from_slice(alloc, path) else {
-        return NO_MEMORY;
+        return not_copied(handle);
     };
     let Ok(bytes) = Bytes::from_slice(alloc, bytes) else {
-        return NO_MEMORY;
+        return not_copied(handle);
     };
     let cred = Cred { uid, gid };
     let call = Call::Write {
@@ -220,17 +180,10 @@ pub extern "C" fn unixvol_truncate(
     path: &[u8],
     length: u32,
 ) -> i32
-    ensures made { result ≡ DONE → (done : Done) × Makes handle.old.sealed.held handle.new.sealed.held (called.Truncate (record { uid = uid; gid = gid }) now path.now length) done }
-    ensures refused { result ≢ DONE → result ≢ NO_MEMORY → result ≢ CLOSED → RefusesCall handle.old.sealed.held
-        (called.Truncate (record { uid = uid; gid = gid }) now path.now length) result }
-    ensures closed { result ≡ CLOSED ↔ handle.old.sealed.held ≡ None }
-    ensures unchanged { result ≢ DONE → handle.new.sealed.held ≡ handle.old.sealed.held }
+    ensures { ReturnsCall handle.old.sealed.held handle.new.sealed.held (called.Truncate (record { uid = uid; gid = gid }) now path.now length) result }
 {
-    if !handle.is_open() {
-        return CLOSED;
-    }
     let Ok(path) = Bytes::from_slice(alloc, path) else {
-        return NO_MEMORY;
+        return not_copied(handle);
     };
     let cred = Cred { uid, gid };
     let call = Call::Truncate {
@@ -253,17 +206,10 @@ pub extern "C" fn unixvol_chmod(
     path: &[u8],
     perm: u16,
 ) -> i32
-    ensures made { result ≡ DONE → (done : Done) × Makes handle.old.sealed.held handle.new.sealed.held (called.Chmod (record { uid = uid; gid = gid }) now path.now perm) done }
-    ensures refused { result ≢ DONE → result ≢ NO_MEMORY → result ≢ CLOSED → RefusesCall handle.old.sealed.held
-        (called.Chmod (record { uid = uid; gid = gid }) now path.now perm) result }
-    ensures closed { result ≡ CLOSED ↔ handle.old.sealed.held ≡ None }
-    ensures unchanged { result ≢ DONE → handle.new.sealed.held ≡ handle.old.sealed.held }
+    ensures { ReturnsCall handle.old.sealed.held handle.new.sealed.held (called.Chmod (record { uid = uid; gid = gid }) now path.now perm) result }
 {
-    if !handle.is_open() {
-        return CLOSED;
-    }
     let Ok(path) = Bytes::from_slice(alloc, path) else {
-        return NO_MEMORY;
+        return not_copied(handle);
     };
     let cred = Cred { uid, gid };
     let call = Call::Chmod {
@@ -287,17 +233,10 @@ pub extern "C" fn unixvol_chown(
     owner: u16,
     group: u16,
 ) -> i32
-    ensures made { result ≡ DONE → (done : Done) × Makes handle.old.sealed.held handle.new.sealed.held (called.Chown (record { uid = uid; gid = gid }) now path.now owner group) done }
-    ensures refused { result ≢ DONE → result ≢ NO_MEMORY → result ≢ CLOSED → RefusesCall handle.old.sealed.held
-        (called.Chown (record { uid = uid; gid = gid }) now path.now owner group) result }
-    ensures closed { result ≡ CLOSED ↔ handle.old.sealed.held ≡ None }
-    ensures unchanged { result ≢ DONE → handle.new.sealed.held ≡ handle.old.sealed.held }
+    ensures { ReturnsCall handle.old.sealed.held handle.new.sealed.held (called.Chown (record { uid = uid; gid = gid }) now path.now owner group) result }
 {
-    if !handle.is_open() {
-        return CLOSED;
-    }
     let Ok(path) = Bytes::from_slice(alloc, path) else {
-        return NO_MEMORY;
+        return not_copied(handle);
     };
     let cred = Cred { uid, gid };
     let call = Call::Chown {
@@ -322,17 +261,10 @@ pub extern "C" fn unixvol_times(
     accessed: u32,
     modified: u32,
 ) -> i32
-    ensures made { result ≡ DONE → (done : Done) × Makes handle.old.sealed.held handle.new.sealed.held (called.Times (record { uid = uid; gid = gid }) now path.now accessed modified) done }
-    ensures refused { result ≢ DONE → result ≢ NO_MEMORY → result ≢ CLOSED → RefusesCall handle.old.sealed.held
-        (called.Times (record { uid = uid; gid = gid }) now path.now accessed modified) result }
-    ensures closed { result ≡ CLOSED ↔ handle.old.sealed.held ≡ None }
-    ensures unchanged { result ≢ DONE → handle.new.sealed.held ≡ handle.old.sealed.held }
+    ensures { ReturnsCall handle.old.sealed.held handle.new.sealed.held (called.Times (record { uid = uid; gid = gid }) now path.now accessed modified) result }
 {
-    if !handle.is_open() {
-        return CLOSED;
-    }
     let Ok(path) = Bytes::from_slice(alloc, path) else {
-        return NO_MEMORY;
+        return not_copied(handle);
     };
     let cred = Cred { uid, gid };
     let call = Call::Times {
@@ -363,54 +295,45 @@ pub extern "C" fn unixvol_cut(alloc: Global, handle: &mut Handle) -> i32
     if is_cut { DONE } else { TOO_MANY }
 }
 
-/// Makes a call that makes a node, on the volume of an open handle, and sets `inode` to the node's i-number.
+/// Makes a call that makes a node, on the volume of a handle, and sets `inode` to the node's i-number.
 fn make_node(alloc: Global, handle: &mut Handle, call: Call, inode: &mut u16) -> i32
-    requires open_handle { IsSome handle.old.sealed.held }
-    requires node { MakesNode call }
-    ensures made { result ≡ DONE → Makes handle.old.sealed.held handle.new.sealed.held call (Done.Made inode.new) }
-    ensures refused { result ≢ DONE → RefusesCall handle.old.sealed.held call result }
-    ensures few { result ≢ CLOSED }
-    ensures unchanged { result ≢ DONE → (handle.new.sealed.held ≡ handle.old.sealed.held) × (inode.new ≡ inode.old) }
+    requires { MakesNode call }
+    ensures { ReturnsNode handle.old.sealed.held handle.new.sealed.held call inode.old inode.new result }
 {
-    match call_held(alloc, handle, call) {
+    let Some(mut held) = handle.take(alloc) else {
+        return CLOSED;
+    };
+    let outcome = held.call(alloc, call);
+    handle.put(held);
+    match outcome {
         Ok(Done::Made(number)) => {
             *inode = number;
             DONE
         }
         Ok(_) => unreachable!(),
-        Err(number) => number,
+        Err(refusal) => refusal.number() as i32,
     }
 }
 
-/// Makes a call on the volume of an open handle.
+/// Makes a call on the volume of a handle.
 fn make(alloc: Global, handle: &mut Handle, call: Call) -> i32
-    requires { IsSome handle.old.sealed.held }
-    ensures made { result ≡ DONE → (done : Done) × Makes handle.old.sealed.held handle.new.sealed.held call done }
-    ensures refused { result ≢ DONE → RefusesCall handle.old.sealed.held call result }
-    ensures few { result ≢ CLOSED }
-    ensures unchanged { result ≢ DONE → handle.new.sealed.held ≡ handle.old.sealed.held }
-{
-    match call_held(alloc, handle, call) {
-        Ok(_) => DONE,
-        Err(number) => number,
-    }
-}
-
-/// Makes a call on the volume of an open handle; the error is the number of the refusal.
-fn call_held(alloc: Global, handle: &mut Handle, call: Call) -> Result<Done, i32>
-    requires { IsSome handle.old.sealed.held }
-    ensures made { IfOk result (λ done. Makes handle.old.sealed.held handle.new.sealed.held call done) }
-    ensures refused { IfErr result (λ number. RefusesCall handle.old.sealed.held call number) }
-    ensures few { IfErr result (λ number. (number ≢ DONE) × (number ≢ CLOSED)) }
-    ensures unchanged { OnErr result (handle.new.sealed.held ≡ handle.old.sealed.held) }
+    ensures { ReturnsCall handle.old.sealed.held handle.new.sealed.held call result }
 {
     let Some(mut held) = handle.take(alloc) else {
-        unreachable!();
+        return CLOSED;
     };
     let outcome = held.call(alloc, call);
     handle.put(held);
     match outcome {
-        Ok(done) => Ok(done),
-        Err(refusal) => Err(refusal.number() as i32),
+        Ok(_) => DONE,
+        Err(refusal) => refusal.number() as i32,
     }
+}
+
+/// Returns the number for bytes that were not copied, since memory ran out: a closed handle comes first.
+pub(crate) fn not_copied(handle: &Handle) -> i32
+    ensures closed { result ≡ CLOSED ↔ handle.now.sealed.held ≡ None }
+    ensures others { (result ≡ CLOSED) ⊎ (result ≡ NO_MEMORY) }
+{
+    if handle.is_open() { NO_MEMORY } else { CLOSED }
 }

@@ -1,13 +1,14 @@
 //! Queries on a volume.
-ghost use Rattle.std.specs.Prelude.{◌≡◌, ◌≢◌, ◌↔◌, ◌<◌, ◌≤◌, ◌++◌, map, min, take, drop, length, None, IsSome, IfSome, IfOk, IfErr, Ok};
+ghost use Rattle.std.specs.Prelude.{◌≡◌, ◌<◌, ◌≤◌, ◌++◌, map, min, take, drop, length, None, IsSome, IfSome, IfOk, IfErr, Ok};
 ghost use Rattle.vol_volume.specs.declared.queries.Query.TheVariants as asked;
 ghost use Rattle.vol_volume.specs.declared.queries.Reply.TheVariants as replies;
-ghost use Rattle.unixvol_c.specs.Calls.{IsAnswered, RefusesQuery, Replies};
+ghost use Rattle.unixvol_c.specs.Calls.{IsAnswered, RefusesQuery, Replies, Returns};
 ghost use Rattle.unixvol_c.specs.Structs.{IsAbout, TellsNames, TellsNode, entry_of};
 
+use crate::calls::not_copied;
 use crate::handle::Handle;
 use crate::structs::{ListedName, Node, VolumeSizes};
-use crate::{CLOSED, DONE, NO_MEMORY, NO_ROOM};
+use crate::{CLOSED, DONE, NO_ROOM};
 use std::alloc::Global;
 use vol_dir::Cred;
 use vol_volume::{Bytes, Query, Reply};
@@ -24,17 +25,12 @@ pub extern "C" fn unixvol_stat(
     path: &[u8],
     node: &mut Node,
 ) -> i32
-    ensures told { result ≡ DONE → TellsNode handle.old.sealed.held (asked.Stat (record { uid = uid; gid = gid }) path.now) node.new }
-    ensures refused { result ≢ DONE → result ≢ NO_MEMORY → result ≢ CLOSED → RefusesQuery handle.old.sealed.held (asked.Stat (record { uid = uid; gid = gid }) path.now) result }
-    ensures closed { result ≡ CLOSED ↔ handle.old.sealed.held ≡ None }
-    ensures unchanged { result ≢ DONE → node.new ≡ node.old }
+    ensures told { let held = handle.old.sealed.held in let query = asked.Stat (record { uid = uid; gid = gid }) path.now in
+        Returns held (TellsNode held query node.new) (RefusesQuery held query) (node.new ≡ node.old) result }
     ensures same { handle.new.sealed.held ≡ handle.old.sealed.held }
 {
-    if !handle.is_open() {
-        return CLOSED;
-    }
     let Ok(path) = Bytes::from_slice(alloc, path) else {
-        return NO_MEMORY;
+        return not_copied(handle);
     };
     let cred = Cred { uid, gid };
     match ask(alloc, handle, &Query::Stat { cred, path }) {
@@ -61,20 +57,15 @@ pub extern "C" fn unixvol_read(
     into: &mut [u8],
     count: &mut usize,
 ) -> i32
-    ensures read { result ≡ DONE → IsAnswered handle.old.sealed.held
-        (asked.Read (record { uid = uid; gid = gid }) path.now offset (min (length into.old) 4294967295)) (Ok (replies.Bytes (take count.new into.new))) }
+    ensures read { let held = handle.old.sealed.held in
+        let query = asked.Read (record { uid = uid; gid = gid }) path.now offset (min (length into.old) 4294967295) in
+        Returns held (IsAnswered held query (Ok (replies.Bytes (take count.new into.new)))) (RefusesQuery held query)
+        ((into.new ≡ into.old) × (count.new ≡ count.old)) result }
     ensures rest { result ≡ DONE → (count.new ≤ length into.old) × (drop count.new into.new ≡ drop count.new into.old) }
-    ensures refused { result ≢ DONE → result ≢ NO_MEMORY → result ≢ CLOSED → RefusesQuery handle.old.sealed.held
-        (asked.Read (record { uid = uid; gid = gid }) path.now offset (min (length into.old) 4294967295)) result }
-    ensures closed { result ≡ CLOSED ↔ handle.old.sealed.held ≡ None }
-    ensures unchanged { result ≢ DONE → (into.new ≡ into.old) × (count.new ≡ count.old) }
     ensures same { handle.new.sealed.held ≡ handle.old.sealed.held }
 {
-    if !handle.is_open() {
-        return CLOSED;
-    }
     let Ok(path) = Bytes::from_slice(alloc, path) else {
-        return NO_MEMORY;
+        return not_copied(handle);
     };
     let cred = Cred { uid, gid };
     let len = into.len().min(0xffff_ffff) as u32;
@@ -108,17 +99,13 @@ pub extern "C" fn unixvol_list(
     into: &mut [ListedName],
     count: &mut usize,
 ) -> i32
-    ensures told { result ≡ DONE → TellsNames handle.old.sealed.held (asked.List (record { uid = uid; gid = gid }) path.now) into.old into.new count.new }
-    ensures refused { result ≢ DONE → result ≢ NO_MEMORY → result ≢ CLOSED → RefusesQuery handle.old.sealed.held (asked.List (record { uid = uid; gid = gid }) path.now) result }
-    ensures closed { result ≡ CLOSED ↔ handle.old.sealed.held ≡ None }
-    ensures unchanged { result ≢ DONE → (into.new ≡ into.old) × (count.new ≡ count.old) }
+    ensures told { let held = handle.old.sealed.held in let query = asked.List (record { uid = uid; gid = gid }) path.now in
+        Returns held (TellsNames held query into.old into.new count.new) (RefusesQuery held query)
+        ((into.new ≡ into.old) × (count.new ≡ count.old)) result }
     ensures same { handle.new.sealed.held ≡ handle.old.sealed.held }
 {
-    if !handle.is_open() {
-        return CLOSED;
-    }
     let Ok(path) = Bytes::from_slice(alloc, path) else {
-        return NO_MEMORY;
+        return not_copied(handle);
     };
     let cred = Cred { uid, gid };
     match ask(alloc, handle, &Query::List { cred, path }) {
@@ -146,17 +133,16 @@ pub extern "C" fn unixvol_about(alloc: Global, handle: &mut Handle, about: &mut 
     DONE
 }
 
-/// Returns the reply to a query on the volume of an open handle; the error is the number of the refusal.
+/// Returns the reply to a query on the volume of a handle; the error is the number to return.
 fn ask(alloc: Global, handle: &mut Handle, query: &Query) -> Result<Reply, i32>
-    requires { IsSome handle.old.sealed.held }
     ensures answered { IfOk result (λ reply. IsAnswered handle.old.sealed.held query.now (Ok reply)) }
     ensures alike { IfOk result (λ reply. Replies query.now reply) }
-    ensures refused { IfErr result (λ number. RefusesQuery handle.old.sealed.held query.now number) }
-    ensures few { IfErr result (λ number. (number ≢ DONE) × (number ≢ CLOSED)) }
+    ensures open_handle { IfOk result (λ reply. IsSome handle.old.sealed.held) }
+    ensures refused { IfErr result (λ number. Returns handle.old.sealed.held ⊥ (RefusesQuery handle.old.sealed.held query.now) (Unit {0}) number) }
     ensures same { handle.new.sealed.held ≡ handle.old.sealed.held }
 {
     let Some(held) = handle.take(alloc) else {
-        unreachable!();
+        return Err(CLOSED);
     };
     let answer = held.volume().ask(alloc, query);
     handle.put(held);

@@ -20,7 +20,8 @@
  *           on with it after a lock, or once the first thread has ended. Nothing here waits.
  * Memory    From malloc, realloc and free, which must be of one allocator. If a block is refused, the function
  *           returns UNIXVOL_NO_MEMORY. An open handle takes two images, and the journal of its calls, which is cut as
- *           soon as it is counted as more bytes than the image: up to three and a half images in all.
+ *           soon as it counts more than an eighth of the image: two and a third images in all, besides the bytes of
+ *           the last call and the kept answer.
  * Stack     128 KB are enough for each function. Call none from a signal handler, nor in the child of a fork of a
  *           program with threads.
  *

@@ -12,7 +12,7 @@ A `Volume` is in memory, and is sound after each call; `save` writes its bytes t
 work like those of `pathlib`. A refusal raises an exception that is named for it and has its `number`; it is also
 Python's own, if Python has one with that meaning: `NoEntry` is a `FileNotFoundError`.
 
-Any number of volumes may be used by any number of threads. Each takes two to three and a half times the memory of its
+Any number of volumes may be used by any number of threads. Each takes up to two and a third times the memory of its
 image.
 """
 

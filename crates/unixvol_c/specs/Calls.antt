@@ -51,7 +51,7 @@ pub record RefusesQuery (held : Option Opened) (query : Query) (number : ℤ) : 
   pub numbered : number ≡ pos (number_of refusal)
   pub answered : IsAnswered held query (Err refusal)
 
--- the volume held before accepted a call, and is held after it, its journal cut if it has grown past the image; the kept answer stays (this project)
+-- the volume held before accepted a call, and is held after it, its journal cut if it has grown too large; the kept answer stays (this project)
 pub record IsMade (old new : Opened) (call : Call) (done : Done) : Type 0 where
   pub made : Mounted
   pub accepted : Accepts old.volume made call done

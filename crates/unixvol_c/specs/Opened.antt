@@ -1,5 +1,5 @@
 -- An open volume, as contracts see the contents of a handle.
-use Rattle.std.specs.Prelude.{◌≡◌, ℕ, ◌+◌, ◌^◌, ◌<◌, ◌≤◌, ◌&&◌, nat_lt, if◌then◌else◌, List, [], length, Option, None, Some}
+use Rattle.std.specs.Prelude.{◌≡◌, ℕ, ◌+◌, ◌*◌, ◌^◌, ◌<◌, ◌≤◌, ◌&&◌, nat_lt, if◌then◌else◌, List, [], length, Option, None, Some}
 use Rattle.std.specs.List.{sum_by}
 use Rattle.vol_volume.specs.Volume.{Mounted, after_cut}
 use Rattle.vol_volume.specs.declared.calls.Call.{Call}
@@ -36,16 +36,16 @@ journal_bytes records = sum_by (λ (entry : Record). call_bytes entry.call) reco
 abbrev pub CanCut : Mounted → Type 0
 CanCut volume = volume.first + length volume.journal < 2 ^ 64
 
--- a volume after its journal was cut if it counts more bytes than the image has (this project)
+-- a volume after its journal was cut if it counts more than an eighth of the image's bytes (this project)
 abbrev pub trimmed : Mounted → Mounted
 trimmed volume =
-    if nat_lt (length volume.image) (journal_bytes volume.journal) && nat_lt (volume.first + length volume.journal) (2 ^ 64)
+    if nat_lt (length volume.image) (8 * journal_bytes volume.journal) && nat_lt (volume.first + length volume.journal) (2 ^ 64)
     then after_cut volume else volume
 
--- the invariant of an open volume: its journal is counted, and counts no more bytes than the image has (this project)
+-- the invariant of an open volume: its journal is counted, and counts no more than an eighth of the image's bytes (this project)
 pub record IsCounted (volume : Mounted) (growth : ℕ) : Type 0 where
   pub counted : CanCut volume → growth ≡ journal_bytes volume.journal
-  pub few : CanCut volume → growth ≤ length volume.image
+  pub few : CanCut volume → 8 * growth ≤ length volume.image
 
 -- a journal counts `growth` bytes, or 2^64 and more (this project)
 abbrev pub HasGrowth : Mounted → Option ℕ → Type 0

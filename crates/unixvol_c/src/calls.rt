@@ -277,8 +277,8 @@ pub extern "C" fn unixvol_times(
     make(alloc, handle, call)
 }
 
-/// Cuts the journal: the present image becomes its start. Frees the bytes of the records, and keeps the room for as
-/// many. Each call does so by itself once the journal is counted as more bytes than the image has. Takes no memory.
+/// Cuts the journal: the present image becomes its start, and the records are freed. Each call does so by itself once
+/// the journal counts more than an eighth of the image's bytes. Takes no memory.
 #[unsafe(no_mangle)]
 pub extern "C" fn unixvol_cut(alloc: Global, handle: &mut Handle) -> i32
     ensures closed { handle.old.sealed.held ≡ None → (result ≡ CLOSED) × (handle.new.sealed.held ≡ None) }

@@ -13,8 +13,8 @@ use vol_volume::{Call, Done, Volume};
 /// The number of bytes that a record of the journal counts, besides those of its paths and those that it writes.
 const RECORD: usize = 128;
 
-/// An open volume, whose journal is cut as soon as it has grown past the image; and the last answer of unknown
-/// length.
+/// An open volume, whose journal is cut as soon as it counts more than an eighth of the image's bytes; and the last answer
+/// of unknown length.
 #[derive(Drop)]
 pub struct OpenVolume {
     volume: Volume,
@@ -53,7 +53,7 @@ impl OpenVolume {
         &self.volume
     }
 
-    /// Makes a call, as [`Volume::call`] does, and cuts the journal if it has grown past the image.
+    /// Makes a call, as [`Volume::call`] does, and cuts the journal if it has grown too large.
     #[tactic(auto, using(crate::proofs::JournalBytes::growth_after))]
     pub(crate) fn call(&mut self, alloc: Global, call: Call) -> Result<Done, Refusal>
         ensures accepted { IfOk result (λ done. IsMade self.old self.new call done) }
@@ -96,15 +96,15 @@ impl OpenVolume {
     }
 }
 
-/// Cuts the journal of a volume if it counts more bytes than the image has, and returns the number of bytes that it
-/// then counts. If the number of the next record would reach 2^64, nothing is cut.
+/// Cuts the journal of a volume if it counts more than an eighth of the image's bytes, and returns the number of bytes that
+/// it then counts. If the number of the next record would reach 2^64, nothing is cut.
 fn trim(volume: &mut Volume, growth: Option<usize>) -> usize
     requires { HasGrowth volume.old growth }
     ensures trimmed { volume.new ≡ trimmed volume.old }
     ensures counted { IsCounted volume.new result }
 {
     if let Some(growth) = growth
-        && growth <= volume.image().len()
+        && growth <= volume.image().len() / 8
     {
         return growth;
     }

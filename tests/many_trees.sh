@@ -66,9 +66,7 @@ def tree(file):
                 continue
             first[path] = path
             body = archive.extractfile(it).read() if it.isfile() else None
-            # A directory gets the times of the names that are made in it.
-            time = it.mtime if it.isfile() else None
-            found[path] = (it.type, it.mode, it.uid, it.gid, time, body)
+            found[path] = (it.type, it.mode, it.uid, it.gid, it.mtime, body)
     same = {path: sorted(other for other in first if first[other] == first[path]) for path in first}
     return {path: (found[first[path]], same[path]) for path in first}
 

@@ -35,8 +35,8 @@ for edition in 6 7; do
         "$program" export "$edition" disk.img | tar -xpf - -C out 2> error
         diff -r src out > differences
         has "the tree of a $format archive" '' "$(cat differences)"
-        has "permissions, time and links of a $format archive" '750 100000000 4711 100000000 2' \
-            "$(stat -c '%a' out/cmd) $(stat -c '%Y' out/cmd/a.c) $(stat -c '%a %Y' out/cmd/fourteen-bytes) $(stat -c %h out/man/again)"
+        has "permissions, times and links of a $format archive" '750 100000000 100000000 4711 100000000 2' \
+            "$(stat -c '%a %Y' out/cmd) $(stat -c '%Y' out/cmd/a.c) $(stat -c '%a %Y' out/cmd/fourteen-bytes) $(stat -c %h out/man/again)"
         has "the owner in a $format archive" 3/1 "$("$program" export "$edition" disk.img | tar --numeric-owner -tvf - none | awk '{ print $2 }')"
         "$program" icheck "$edition" disk.img 1 > report
         has "a volume into which a $format archive was imported" 0 $?

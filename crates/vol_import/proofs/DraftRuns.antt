@@ -5,7 +5,7 @@ use Rattle.std.specs.Option.{is_some, unwrap_or}
 use Rattle.std.specs.Ordering.{is_eq, match_ordering, nat_cmp}
 use Rattle.std.specs.declared.cmp.Ordering.{Ordering}
 use Rattle.std.specs.declared.cmp.Ordering.TheVariants.{Less, Equal, Greater}
-use Rattle.std.proofs.lemmas.Bool.{true≢false}
+use Rattle.std.proofs.lemmas.Bool.{cases_eq, true≢false}
 use Rattle.std.proofs.lemmas.List.{append-nil}
 use Rattle.std.proofs.lemmas.Map.Lookups.{exact_bytes}
 use Rattle.std.proofs.lemmas.Map.Text.{is_eq-slice_cmp}
@@ -24,8 +24,8 @@ use Rattle.vol_volume.specs.declared.queries.Query.TheVariants as queries
 use Rattle.vol_volume.specs.declared.queries.Reply.TheVariants as replies
 use Rattle.vol_import.specs.Plan.{Drafted, is_directory as says_directory, is_directory_kind, is_known, is_there, way_call, with_path, with_way, with_way_directory}
 use Rattle.vol_import.proofs.DotWalks.{DotsLead}
-use Rattle.vol_import.proofs.GrownTrees.{LeadsToDirectory, grown_directory}
-use Rattle.vol_import.proofs.MadeNames.{Grows, KeepsOwner, Stays, grows_same, grows_then, grown_path, owner_same, owner_then}
+use Rattle.vol_import.proofs.GrownTrees.{Gives, LeadsToDirectory, grown_directory}
+use Rattle.vol_import.proofs.MadeNames.{Grows, KeepsOwner, Stays, grows_same, grows_then, grown_path, owner_same, owner_then, owner_told}
 use Rattle.vol_import.proofs.MadePaths.{mkdir_gains}
 use Rattle.vol_import.proofs.MemberCalls.{IsRun, run_parts}
 
@@ -249,6 +249,10 @@ stands_made start base known path old new stands grows dots led free =
         let both : None ≡ Some was.0 = sym free ∙ (ap old.nodes (sym same) ∙ was.1.stands) in
         absurd (cc)
 
+-- no path gets an owner
+abbrev pub none_given : List ℕ → Bool
+none_given path = false
+
 -- nodes keep their owners, except new directories at known paths that may get one
 abbrev pub Spares : Tree → List ℕ → List (List ℕ) → (List ℕ → Bool) → Tree → Tree → Type 0
 Spares start base known given old new =
@@ -296,6 +300,28 @@ follows_then start base one two known mid last old between new first second = re
     by x (inr gave) more =
         inr (gave.0, second.knows gave.0 gave.1, gave.2, left (one gave.0) (two gave.0) gave.3, grown_path between new (base ++ gave.0) x second.grows gave.4)
 
+-- no calls
+pub follows_same : (start : Tree) (base : List ℕ) (given : List ℕ → Bool) (known : List (List ℕ)) (tree : Tree) → Stands start base known tree
+    → Follows start base given known known tree tree
+follows_same start base given known tree stands =
+    record { knows = λ path is. is; grows = grows_same tree; stands = stands; spares = λ x. inl (owner_same (tree.nodes x)) }
+
+-- a change of a directory that keeps its owner
+pub follows_kept : (start : Tree) (base path : List ℕ) (known : List (List ℕ)) (old new : Tree) (led : LeadsToDirectory old path)
+    → Stands start base known old → DotsLead new → Gives old new led.1.number (owner_told led.0) → Follows start base none_given known known old new
+follows_kept start base path known old new led stands dots gives = record {
+  knows = λ path is. is;
+  grows = gives.grows;
+  stands = stands_grown start base known old new stands gives.grows dots;
+  spares = λ x. inl (elim (cases_eq x led.1.number) [
+    | inl at ↦ λ node is.
+        let both : Some node ≡ Some led.0 = sym is ∙ (ap old.nodes at ∙ led.1.stands) in
+        let same : node ≡ led.0 = cc in
+        (gives.node, ap new.nodes at ∙ gives.stands, gives.owned ∙ sym (ap owner_told same))
+    | inr other ↦ gives.beside x other
+  ]);
+}
+
 -- more paths may get an owner
 pub follows_less : (start : Tree) (base : List ℕ) (one two : List ℕ → Bool) (known next : List (List ℕ)) (old new : Tree)
     → ((path : List ℕ) → one path ≡ true → two path ≡ true) → Follows start base one known next old new → Follows start base two known next old new
@@ -308,10 +334,6 @@ follows_less start base one two known next old new less follows = record {
     | inr gave ↦ inr (gave.0, gave.1, gave.2, less gave.0 gave.3, gave.4)
   ];
 }
-
--- no path gets an owner
-abbrev pub none_given : List ℕ → Bool
-none_given path = false
 
 -- calls that a draft gains, and a fact that holds after them
 pub record Adds (start : Tree) (base : List ℕ) (given : List ℕ → Bool) (old new : Drafted) (Left : List (List ℕ) → Tree → Type 0) : Type 0 where
@@ -404,10 +426,8 @@ way start base now path [] drafted = record {
   more = [];
   calls = sym (append-nil drafted.1);
   leaves = λ from to stands run.
-      subst (λ (s : State). Follows start base none_given drafted.0 drafted.0 from.tree s.tree × Unit {0}) (sym run) (
-        record { knows = λ path is. is; grows = grows_same from.tree; stands = stands; spares = λ x. inl (owner_same (from.tree.nodes x)) },
-        tt,
-      );
+      subst (λ (s : State). Follows start base none_given drafted.0 drafted.0 from.tree s.tree × Unit {0}) (sym run)
+      (follows_same start base none_given drafted.0 from.tree stands, tt);
 }
 way start base now path (step ∷ steps) drafted =
     let next = path ++ 47 ∷ step in

@@ -26,11 +26,11 @@ use Rattle.vol_import.specs.declared.archive_members.Member.{Member}
 use Rattle.vol_import.proofs.DotWalks.{DotsLead, with_dots, without_dots, zeros_below}
 use Rattle.vol_import.proofs.GrownTrees.{LeadsToDirectory, LeadBoth, grown_directory, grown_both, link_grows}
 use Rattle.vol_import.proofs.MadeCalls.{keeps}
-use Rattle.vol_import.proofs.MadeNames.{LeadsTo, grows_same, grown_path, told as node_told, owner_same, owner_told}
+use Rattle.vol_import.proofs.MadeNames.{LeadsTo, grown_path, told as node_told, owner_told}
 use Rattle.vol_import.proofs.MemberCalls.{run_dots, directory_made, file_made, given_gives}
 use Rattle.vol_import.proofs.TreeWalks.{named, searched}
 use Rattle.vol_file.proofs.PlaceLists.{bytes_same}
-use Rattle.vol_import.proofs.DraftRuns.{Adds, Follows, Nothing, adds_less, adds_none, adds_then, none_given, stands_grown, stands_known, stands_made, stands_there, there_leads, way, with_itself, with_known}
+use Rattle.vol_import.proofs.DraftRuns.{Adds, Follows, Nothing, adds_less, adds_none, adds_then, follows_same, none_given, stands_grown, stands_known, stands_made, stands_there, there_leads, way, with_itself, with_known}
 
 -- the facts about a member's file
 abbrev pub facts_of : ℕ → Member → Cred → Content × ℕ × ℕ × ℕ × ℕ × ℕ
@@ -174,7 +174,12 @@ checked edition member made is =
     not_long false true dots none e = absurd (cc)
     not_long false false dots none e = refl
 
--- a member that is a directory
+-- a member that is a directory is for its own steps
+pub for_itself : (member : Member) → made_as member.header.flag member.path ≡ Ok Directory → is_for (joined (steps_of member.path)) member ≡ true
+for_itself member kind =
+    ap (λ (r : Result MadeAs MemberFault). is_made_at r member.path (joined (steps_of member.path))) kind
+    ∙ bytes_same (joined (steps_of member.path)) (joined (steps_of member.path)) refl
+
 directory_member : (start : Tree) (base : List ℕ) (now : ℕ) (member : Member) (owner : Cred) (drafted : Drafted) → IsChecked member (Directory, owner)
     → Adds start base (λ path. is_for path member) drafted (with_made Directory start base now member owner drafted)
     (IsMade start base now member false (Directory, owner))
@@ -182,11 +187,6 @@ directory_member start base now member owner drafted checks =
     let steps = joined (steps_of member.path) in
     by (is_there start base steps) (is_known drafted.0 steps) refl refl
   where
-    given : is_for (joined (steps_of member.path)) member ≡ true
-    given =
-        ap (λ (r : Result MadeAs MemberFault). is_made_at r member.path (joined (steps_of member.path))) checks.kind
-        ∙ bytes_same (joined (steps_of member.path)) (joined (steps_of member.path)) refl
-
     by : (there known : Bool) → is_there start base (joined (steps_of member.path)) ≡ there → is_known drafted.0 (joined (steps_of member.path)) ≡ known
         → Adds start base (λ path. is_for path member) drafted (
           with_path drafted.0 (joined (steps_of member.path)),
@@ -236,7 +236,7 @@ directory_member start base now member owner drafted checks =
                   grows = grows;
                   stands = stands_known start base drafted.0 steps to.tree (stands_grown start base drafted.0 from.tree to.tree stands grows dots) k;
                   spares = λ x. elim (cases_eq x i) [
-                    | inl at ↦ inr (steps, with_itself drafted.0 steps, t, given, walked ∙ ap Ok (sym at))
+                    | inl at ↦ inr (steps, with_itself drafted.0 steps, t, for_itself member checks.kind, walked ∙ ap Ok (sym at))
                     | inr other ↦ inl (gives.0.beside x other)
                   ];
                 },
@@ -382,10 +382,8 @@ plan_added start base now [] drafted calls is =
         more = [];
         calls = sym same ∙ sym (append-nil drafted.1);
         leaves = λ from to stands run.
-            subst (λ (s : State). Follows start base (is_among []) drafted.0 drafted.0 from.tree s.tree × Unit {0}) (sym run) (
-              record { knows = λ path is. is; grows = grows_same from.tree; stands = stands; spares = λ x. inl (owner_same (from.tree.nodes x)) },
-              tt,
-            );
+            subst (λ (s : State). Follows start base (is_among []) drafted.0 drafted.0 from.tree s.tree × Unit {0}) (sym run)
+            (follows_same start base (is_among []) drafted.0 from.tree stands, tt);
       },
     )
 plan_added start base now (member ∷ rest) drafted calls is =

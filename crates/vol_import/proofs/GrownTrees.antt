@@ -10,14 +10,14 @@ use Rattle.vol_dir.specs.Tree.{Body, Node, Tree, State}
 use Rattle.vol_dir.specs.Walk.{root, has_zero, is_directory, walk, walk_parent}
 use Rattle.vol_dir.specs.declared.refusal.Refusal.{Refusal}
 use Rattle.vol_dir.specs.declared.refusal.Refusal.TheVariants as refusals
-use Rattle.vol_change.specs.Edits.{at_time, set_at, add_link, body_of, modified, with_owner, with_permission_bits, after_write}
-use Rattle.vol_change.specs.Effects.{after_chmod, after_chown, after_link}
+use Rattle.vol_change.specs.Edits.{at_time, change_node, set_at, add_link, body_of, modified, with_owner, with_permission_bits, with_times, after_write}
+use Rattle.vol_change.specs.Effects.{after_link}
 use Rattle.vol_change.specs.Nodes.{node_at, size_with_entry}
 use Rattle.vol_change.proofs.SideStates.{set_beside}
 use Rattle.vol_change.proofs.NodeEdits.{set_here}
 use Rattle.vol_volume.specs.Step.{step, changed_by, on_node, on_parent}
 use Rattle.vol_volume.specs.Verdict.{verdict, link_refusal, link_tests, of_node}
-use Rattle.vol_volume.specs.declared.calls.Call.TheVariants.{Chmod, Chown, Link, Write}
+use Rattle.vol_volume.specs.declared.calls.Call.TheVariants.{Chmod, Chown, Link, Times, Write}
 use Rattle.vol_volume.specs.declared.calls.Done.{Done}
 use Rattle.vol_volume.proofs.Accepted.{link_passed}
 use Rattle.vol_import.proofs.MadeNames.{LeadsTo, HasNamesOf, Keeps, keeps_none, keeps_then, nodes_set, KeepsOwner, KeepsOwners, owner_none, owner_same, owner_then, owner_told, owners_set, EntersName, Grows, Gains, linked, linked_keeps, linked_owner, searched_names, name_entered, grown_path, path_kept, path_made}
@@ -42,22 +42,37 @@ write_changes state now path bytes byte done i walked =
     subst (λ (r : Result ℕ Refusal). ChangesAt state.tree (at_time now (on_node state r (after_write state now 0 (byte ∷ bytes)))).tree i (filled now (byte ∷ bytes)))
     (sym walked) (record { rooted = refl; nodes = refl })
 
+-- a change of the node at the end of a walk
+walk_changes : (state : State) (now : ℕ) (walked : Result ℕ Refusal) (change : Node → Node) (i : ℕ) → walked ≡ Ok i
+    → ChangesAt state.tree (at_time now (on_node state walked (λ j. change_node j change state))).tree i change
+walk_changes state now walked change i is =
+    subst (λ (r : Result ℕ Refusal). ChangesAt state.tree (at_time now (on_node state r (λ j. change_node j change state))).tree i change)
+    (sym is) (record { rooted = refl; nodes = refl })
+
 pub chown_changes : (state : State) (now : ℕ) (path : List ℕ) (uid gid : ℕ) (done : Done) (i : ℕ) → walk state.tree user path ≡ Ok i
     → ChangesAt state.tree (step state (Chown user now path uid gid) done).tree i (with_owner now uid gid)
 unfolding changed_by
-chown_changes state now path uid gid done i walked =
-    subst (λ (r : Result ℕ Refusal). ChangesAt state.tree (at_time now (on_node state r (after_chown state now uid gid))).tree i (with_owner now uid gid))
-    (sym walked) (record { rooted = refl; nodes = refl })
+chown_changes state now path uid gid done i = walk_changes state now (walk state.tree user path) (with_owner now uid gid) i
 
 pub chmod_changes : (state : State) (now : ℕ) (path : List ℕ) (perm : ℕ) (done : Done) (i : ℕ) → walk state.tree user path ≡ Ok i
     → ChangesAt state.tree (step state (Chmod user now path perm) done).tree i (with_permission_bits now perm)
 unfolding changed_by
-chmod_changes state now path perm done i walked =
-    subst (λ (r : Result ℕ Refusal). ChangesAt state.tree (at_time now (on_node state r (after_chmod state now perm))).tree i (with_permission_bits now perm))
-    (sym walked) (record { rooted = refl; nodes = refl })
+chmod_changes state now path perm done i = walk_changes state now (walk state.tree user path) (with_permission_bits now perm) i
+
+pub times_changes : (state : State) (now : ℕ) (path : List ℕ) (accessed modified : ℕ) (done : Done) (i : ℕ) → walk state.tree user path ≡ Ok i
+    → ChangesAt state.tree (step state (Times user now path accessed modified) done).tree i (with_times now accessed modified)
+unfolding changed_by
+times_changes state now path accessed modified done i = walk_changes state now (walk state.tree user path) (with_times now accessed modified) i
+
+-- the node itself
+pub node_changed : (old new : Tree) (i : ℕ) (change : Node → Node) (node : Node) → ChangesAt old new i change → old.nodes i ≡ Some node
+    → new.nodes i ≡ Some (change node)
+node_changed old new i change node changes stands =
+    ap (λ (ns : ℕ → Option Node). ns i) changes.nodes
+    ∙ (set_here old.nodes i (option_map change (old.nodes i)) ∙ ap (option_map change) stands)
 
 -- the other nodes stay
-node_beside : (old new : Tree) (i : ℕ) (change : Node → Node) → ChangesAt old new i change → (x : ℕ) → x ≢ i → new.nodes x ≡ old.nodes x
+pub node_beside : (old new : Tree) (i : ℕ) (change : Node → Node) → ChangesAt old new i change → (x : ℕ) → x ≢ i → new.nodes x ≡ old.nodes x
 node_beside old new i change changes x other =
     ap (λ (ns : ℕ → Option Node). ns x) changes.nodes ∙ set_beside old.nodes i (option_map change (old.nodes i)) x other
 
@@ -78,7 +93,7 @@ leads_changed old new path node change leads changes names =
                 (subst (HasNamesOf (Some node)) (sym (ap (set_at old.nodes i after) here ∙ (set_here old.nodes i after ∙ same))) names)
             | inr other ↦ subst (HasNamesOf (old.nodes x)) (sym (set_beside old.nodes i after x other)) (λ name j is. is)
           ])) leads.walked;
-      stands = ap (λ (ns : ℕ → Option Node). ns i) changes.nodes ∙ (set_here old.nodes i after ∙ same);
+      stands = node_changed old new i change node changes leads.stands;
     }
 
 -- a new node is changed
@@ -150,9 +165,7 @@ directory_given old new path change owner led changes names kind owned =
       grows = directory_changed old new path change led changes names kind;
       beside = λ x other. subst (KeepsOwner (old.nodes x)) (sym (node_beside old new i change changes x other)) (owner_same (old.nodes x));
       node = change led.0;
-      stands =
-          ap (λ (ns : ℕ → Option Node). ns i) changes.nodes
-          ∙ (set_here old.nodes i (option_map change (old.nodes i)) ∙ ap (option_map change) led.1.stands);
+      stands = node_changed old new i change led.0 changes led.1.stands;
       owned = owned;
     }
 

@@ -1,5 +1,6 @@
 mod ApartSteps
 pub mod ArchiveFronts
+mod DirectoryTimes
 mod DotWalks
 mod DraftRuns
 mod DraftedMembers

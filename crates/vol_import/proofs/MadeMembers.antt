@@ -3,7 +3,7 @@ use Rattle.std.proofs.Common.{◌≡◌, ◌∙◌, sym, ap, subst, refl, ℕ, �
 use Rattle.std.specs.Prelude.{Result, reverse}
 use Rattle.std.specs.List.{find, list_any}
 use Rattle.std.specs.Option.{option_map, option_or}
-use Rattle.std.proofs.lemmas.Bool.{or_parts, cases_eq, true≢false}
+use Rattle.std.proofs.lemmas.Bool.{or_parts}
 use Rattle.std.proofs.lemmas.List.{append-nil, reverse-append}
 use Rattle.std.proofs.lemmas.List.Folds.{list_any-append, find-append}
 use Rattle.vol_layout.specs.Geometry.{geometry_of}
@@ -28,23 +28,24 @@ use Rattle.vol_volume.proofs.Journals.{reads_made}
 use Rattle.vol_import.specs.MadeMembers.{HasMember, HasMembers, HasArchive, KeepsNodes, is_among, is_for, is_made_at}
 use Rattle.vol_import.specs.Make.{AreMade, Imports, ImportsCalls, calls_to_make, planned, told}
 use Rattle.vol_import.specs.Members.{members}
-use Rattle.vol_import.specs.Plan.{and_next, base_permissions, below, check, closed, closing_calls, is_base, is_directory as says_directory, is_directory_at, is_directory_kind, is_long, is_there, joined, made_as, names_of, permissions_given, permissions_of, permissions_told, plan, plan_onto, steps_of}
+use Rattle.vol_import.specs.Plan.{and_next, base_permissions, below, check, closed, closing_calls, is_base, is_directory as says_directory, is_directory_at, is_directory_kind, is_there, joined, made_as, moment_of, permissions_given, permissions_of, permissions_told, plan, plan_onto, steps_of, times}
 use Rattle.vol_import.specs.declared.member_check.MadeAs.{MadeAs}
 use Rattle.vol_import.specs.declared.member_check.MadeAs.TheVariants.{File, Directory, Link}
 use Rattle.vol_import.specs.declared.member_check.MemberFault.{MemberFault}
 use Rattle.vol_import.specs.declared.faults.ArchiveFault.{ArchiveFault}
 use Rattle.vol_import.specs.declared.import_plan.PlanFault.{PlanFault}
 use Rattle.vol_import.specs.declared.archive_members.Member.{Member}
-use Rattle.vol_import.proofs.DotWalks.{DotsLead, dots_ready, dots_sound, zeros_below}
-use Rattle.vol_import.proofs.GrownTrees.{LeadsToDirectory, grown_directory}
+use Rattle.vol_import.proofs.DotWalks.{DotsLead, dots_ready, dots_sound}
+use Rattle.vol_import.proofs.GrownTrees.{Gives, LeadsToDirectory, grown_directory}
 use Rattle.vol_import.proofs.MadeCalls.{keeps}
-use Rattle.vol_import.proofs.MadeNames.{Grows, grows_same, KeepsOwners, owner_none, owner_same, owner_told}
+use Rattle.vol_import.proofs.MadeNames.{Grows, grows_same, KeepsOwners, owner_none}
 use Rattle.vol_import.proofs.MadePaths.{Holds, holds_file, stat_answered, walk_answered}
 use Rattle.vol_import.proofs.MemberCalls.{IsRun, run_parts, chmod_gives}
 use Rattle.std.specs.Str.{bytes_eq}
-use Rattle.vol_import.proofs.DraftRuns.{Follows, Stands, follows_then, none_given, one_number, stands_grown, there_leads}
+use Rattle.vol_import.proofs.DraftRuns.{Follows, Stands, follows_kept, follows_same, follows_then, none_given, one_number, there_leads}
 use Rattle.vol_volume.specs.declared.queries.Stat.{Stat}
-use Rattle.vol_import.proofs.DraftedMembers.{AreMadeAs, IsMade, IsMadeAs, IsChecked, dotted, made_as_kept, plan_added}
+use Rattle.vol_import.proofs.DraftedMembers.{AreMadeAs, IsMade, IsMadeAs, IsChecked, plan_added}
+use Rattle.vol_import.proofs.DirectoryTimes.{HasTime, HaveTimes, are_kept, none_below, time_at, times_given}
 use Rattle.vol_import.proofs.KeptNodes.{AreSmall, directory_kind, nodes_left, small_bits}
 
 -- a member found in reverse order is in the list
@@ -224,39 +225,14 @@ closing_follows start base now all known mid to small follows are =
   where
     by : (perm : Option ℕ) → base_permissions (answer start (queries.Stat user base)) (permissions_given all) ≡ perm
         → IsRun mid (closing_calls now base perm) to → Follows start base none_given known known mid.tree to.tree
-    by None e run = subst (λ (s : State). Follows start base none_given known known mid.tree s.tree) (sym run) (record {
-      knows = λ path is. is;
-      grows = grows_same mid.tree;
-      stands = follows.stands;
-      spares = λ x. inl (owner_same (mid.tree.nodes x));
-    })
+    by None e run =
+        subst (λ (s : State). Follows start base none_given known known mid.tree s.tree) (sym run) (follows_same start base none_given known mid.tree follows.stands)
     by (Some perm) e run =
         let led = closing_led start base now all known mid.tree perm small follows are e in
-        let gives = chmod_gives mid now perm base run.0 led.0 in
-        subst (λ (s : State). Follows start base none_given known known mid.tree s.tree) (sym run.3) (record {
-          knows = λ path is. is;
-          grows = gives.grows;
-          stands = stands_grown start base known mid.tree _ follows.stands gives.grows run.2;
-          spares = λ x. inl (elim (cases_eq x led.0.1.number) [
-            | inl at ↦ λ node is.
-                let both : Some node ≡ Some led.0.0 = sym is ∙ (ap mid.tree.nodes at ∙ led.0.1.stands) in
-                let same : node ≡ led.0.0 = cc in (
-                  gives.node,
-                  ap (step mid (calls.Chmod user now base perm) run.0).tree.nodes at ∙ gives.stands,
-                  gives.owned ∙ (ap (λ p. (p, led.0.0.uid, led.0.0.gid)) (sym led.1) ∙ sym (ap owner_told same)),
-                )
-            | inr other ↦ gives.beside x other
-          ]);
-        })
-
-are_kept : (start : Tree) (base : List ℕ) (now : ℕ) (all : List Member) (known next : List (List ℕ)) (old new : Tree)
-    → Follows start base none_given known next old new → AreMadeAs start base now all known old → AreMadeAs start base now all next new
-are_kept start base now [] known next old new follows are = tt
-are_kept start base now (member ∷ rest) known next old new follows are =
-    let again = is_among rest (joined (steps_of member.path)) in (
-      made_as_kept start base now member (check start.geometry.edition member) none_given again again known next old new follows (λ last. (last, refl)) are.0,
-      are_kept start base now rest known next old new follows are.1,
-    )
+        let next = step mid (calls.Chmod user now base perm) run.0 in
+        subst (λ (s : State). Follows start base none_given known known mid.tree s.tree) (sym run.3)
+        (follows_kept start base base known mid.tree next.tree led.0 follows.stands run.2
+        (subst (λ p. Gives mid.tree next.tree led.0.1.number (p, led.0.0.uid, led.0.0.gid)) (sym led.1) (chmod_gives mid now perm base run.0 led.0)))
 
 -- the tree after the calls of a plan
 record IsPlanned (start : Tree) (base : List ℕ) (now : ℕ) (all : List Member) (tree : Tree) : Type 0 where
@@ -264,6 +240,7 @@ record IsPlanned (start : Tree) (base : List ℕ) (now : ℕ) (all : List Member
   pub owners : KeepsOwners start tree
   pub known : List (List ℕ)
   pub members : AreMadeAs start base now all known tree
+  pub times : HaveTimes start base now all tree
 
 -- so the calls of a plan make all members
 plan_made : (from to : State) (base : List ℕ) (now : ℕ) (all : List Member) (calls : List Call) → plan from.tree base now all ≡ Ok calls
@@ -280,52 +257,52 @@ plan_made from to base now all calls is small dots run = by (plan_onto from.tree
         let left = adds.1.leaves from mid start (subst (λ cs. IsRun from cs mid) adds.1.calls first) in
         (adds.0, left.0, left.1)
 
-    ended_by : (more : List Call) → plan_onto from.tree base now ([], []) all ≡ Ok more
-        → closed now base (base_permissions (answer from.tree (queries.Stat user base)) (permissions_given all)) more ≡ calls
-        → IsPlanned from.tree base now all to.tree
-    ended_by [] e same =
-        let made = added [] e to (subst (λ cs. IsRun from cs to) (sym same) run) in
-        record { grows = made.1.grows; owners = start_kept from.tree base (is_among all) [] made.0 to.tree made.1; known = made.0; members = made.2 }
-    ended_by (call ∷ more) e same =
-        let closing = closing_calls now base (base_permissions (answer from.tree (queries.Stat user base)) (permissions_given all)) in
-        let parts = run_parts from to (call ∷ more) closing (subst (λ cs. IsRun from cs to) (sym same) run) in
+    permissions : Option ℕ
+    permissions = base_permissions (answer from.tree (queries.Stat user base)) (permissions_given all)
+
+    -- the calls before those that give times
+    Ends : State → Type 0
+    Ends mid = (given : List ℕ → Bool) × (known : List (List ℕ)) × Follows from.tree base given [] known from.tree mid.tree
+        × AreMadeAs from.tree base now all known mid.tree
+
+    ended_by : (more : List Call) → plan_onto from.tree base now ([], []) all ≡ Ok more → (mid : State)
+        → IsRun from (closed now base permissions more) mid → Ends mid
+    ended_by [] e mid run = let made = added [] e mid run in (is_among all, made.0, made.1, made.2)
+    ended_by (call ∷ more) e mid run =
+        let parts = run_parts from mid (call ∷ more) (closing_calls now base permissions) run in
         let made = added (call ∷ more) e parts.0 parts.1 in
-        let last = closing_follows from.tree base now all made.0 parts.0 to small made.1 made.2 parts.2 in
-        let whole = follows_then from.tree base (is_among all) none_given [] made.0 made.0 from.tree parts.0.tree to.tree made.1 last in
-        record {
-          grows = whole.grows;
-          owners = start_kept from.tree base (λ path. is_among all path || none_given path) [] made.0 to.tree whole;
-          known = made.0;
-          members = are_kept from.tree base now all made.0 made.0 parts.0.tree to.tree last made.2;
-        }
+        let last = closing_follows from.tree base now all made.0 parts.0 mid small made.1 made.2 parts.2 in (
+          λ path. is_among all path || none_given path,
+          made.0,
+          follows_then from.tree base (is_among all) none_given [] made.0 made.0 from.tree parts.0.tree mid.tree made.1 last,
+          are_kept from.tree base now all made.0 made.0 parts.0.tree mid.tree last made.2,
+        )
 
     by : (planned : Result (List Call) PlanFault) → plan_onto from.tree base now ([], []) all ≡ planned
-        → and_next planned (λ more. Ok (closed now base (base_permissions (answer from.tree (queries.Stat user base)) (permissions_given all)) more)) ≡ Ok calls
+        → and_next planned (λ more. Ok (closed now base permissions more ++ times from.tree base now all)) ≡ Ok calls
         → IsPlanned from.tree base now all to.tree
     by (Err fault) e is = absurd (cc)
-    by (Ok more) e is = ended_by more e (cc)
-
--- if a Stat of a path finds no directory, its steps lead to none
-none_below : (tree : Tree) (base path : List ℕ) → DotsLead tree → list_any is_long (names_of path) ≡ false
-    → says_directory (answer tree (queries.Stat user (below base path))) ≡ false → is_there tree base (joined (steps_of path)) ≡ false
-none_below tree base path dots short none = by (is_there tree base (joined (steps_of path))) refl
-  where
-    by : (there : Bool) → is_there tree base (joined (steps_of path)) ≡ there → there ≡ false
-    by false e = refl
-    by true e =
-        let led = there_leads tree (base ++ joined (steps_of path)) e in
-        let here = dotted tree base path dots led.0 in
-        let plain = ap (λ b. b || false) (sym (zeros_below base path short) ∙ led.1) in
-        let told : says_directory (answer tree (queries.Stat user (below base path))) ≡ true =
-        ap says_directory (stat_answered tree (below base path) here.0 plain here.1) ∙ ap is_directory_kind (directory_kind here.0.content here.2) in
-        absurd (true≢false (sym told ∙ none))
+    by (Ok more) e is =
+        let same : closed now base permissions more ++ times from.tree base now all ≡ calls = cc in
+        let parts = run_parts from to (closed now base permissions more) (times from.tree base now all) (subst (λ cs. IsRun from cs to) (sym same) run) in
+        let front = ended_by more e parts.0 parts.1 in
+        let known = front.1 in
+        let last = times_given from.tree base now all known parts.0 to dots front.2.stands front.3 parts.2 in
+        let whole = follows_then from.tree base front.0 none_given [] known known from.tree parts.0.tree to.tree front.2 last.0.follows in
+        record {
+          grows = whole.grows;
+          owners = start_kept from.tree base (λ path. front.0 path || none_given path) [] known to.tree whole;
+          known = known;
+          members = are_kept from.tree base now all known known parts.0.tree to.tree last.0.follows front.3;
+          times = last.1;
+        }
 
 -- a query returns the facts about the node made for a member
 member_had : (start tree : Tree) (base : List ℕ) (now : ℕ) (member : Member) (later : List Member) (known : List (List ℕ)) (made : MadeAs × Cred)
     → DotsLead start → IsChecked member made
     → IsMade start base now member (is_among later (joined (steps_of member.path))) made known tree
-    → HasMember start tree base now member later (Ok made.0)
-member_had start tree base now member later known (File, owner) dots checks is =
+    → HasTime start base now member (is_among later (joined (steps_of member.path))) tree → HasMember start tree base now member later (Ok made.0)
+member_had start tree base now member later known (File, owner) dots checks is timed =
     let path = below base member.path in
     let held : Holds tree path member.content = record {
       node = is.0;
@@ -336,12 +313,14 @@ member_had start tree base now member later known (File, owner) dots checks is =
     let low : permissions_of member.header % 4096 ≡ permissions_of member.header = omega arith in
     record {
       file = holds_file tree path member.content is.3 held;
-      permissions = ap (λ (f : Content × ℕ × ℕ × ℕ × ℕ × ℕ). f.1) is.2 ∙ low;
-      uid = ap (λ (f : Content × ℕ × ℕ × ℕ × ℕ × ℕ). f.2) is.2 ∙ checks.uid;
-      gid = ap (λ (f : Content × ℕ × ℕ × ℕ × ℕ × ℕ). f.3) is.2 ∙ checks.gid;
-      modified = ap (λ (f : Content × ℕ × ℕ × ℕ × ℕ × ℕ). f.5) is.2;
+      given = record {
+        permissions = ap (λ (f : Content × ℕ × ℕ × ℕ × ℕ × ℕ). f.1) is.2 ∙ low;
+        uid = ap (λ (f : Content × ℕ × ℕ × ℕ × ℕ × ℕ). f.2) is.2 ∙ checks.uid;
+        gid = ap (λ (f : Content × ℕ × ℕ × ℕ × ℕ × ℕ). f.3) is.2 ∙ checks.gid;
+        modified = ap (λ (f : Content × ℕ × ℕ × ℕ × ℕ × ℕ). f.5) is.2;
+      };
     }
-member_had start tree base now member later known (Link, owner) dots checks is =
+member_had start tree base now member later known (Link, owner) dots checks is timed =
     let source = below base member.link in
     let target = below base member.path in
     let plain = or_parts (has_zero source) (list_any has_zero (target ∷ [])) is.1 in
@@ -350,7 +329,7 @@ member_had start tree base now member later known (Link, owner) dots checks is =
       at_source = walk_answered tree source is.0.0 (ap (λ b. b || false) plain.0) is.0.1;
       at_target = walk_answered tree target is.0.0 plain.1 is.0.2;
     }
-member_had start tree base now member later known (Directory, owner) dots checks is =
+member_had start tree base now member later known (Directory, owner) dots checks is timed =
     let path = below base member.path in
     let low : permissions_of member.header % 4096 ≡ permissions_of member.header = omega arith in
     record {
@@ -361,24 +340,29 @@ member_had start tree base now member later known (Directory, owner) dots checks
       };
       given = λ absent last.
           let owner = is.given (none_below start base member.path dots checks.short absent) last in
+          let time = timed checks.kind absent last in
+          let here = one_number (walk tree user (base ++ joined (steps_of member.path))) time.0 is.led.1.number time.1 is.walked in
+          let both : Some is.led.0.modified ≡ Some (moment_of member.header now) =
+          sym (ap (time_at tree) here ∙ ap (option_map (λ (node : Node). node.modified)) is.led.1.stands) ∙ time.2 in
           record {
             permissions = ap (λ (o : ℕ × ℕ × ℕ). o.0) owner ∙ low;
             uid = ap (λ (o : ℕ × ℕ × ℕ). o.1) owner ∙ checks.uid;
             gid = ap (λ (o : ℕ × ℕ × ℕ). o.2) owner ∙ checks.gid;
+            modified = cc;
           };
     }
 
 members_had : (start tree : Tree) (base : List ℕ) (now : ℕ) (all : List Member) (known : List (List ℕ)) → DotsLead start
-    → AreMadeAs start base now all known tree → HasMembers start tree base now all
+    → AreMadeAs start base now all known tree → HaveTimes start base now all tree → HasMembers start tree base now all
 unfolding HasMembers
-members_had start tree base now [] known dots are = tt
-members_had start tree base now (member ∷ rest) known dots are =
-    (by (check start.geometry.edition member) are.0, members_had start tree base now rest known dots are.1)
+members_had start tree base now [] known dots are timed = tt
+members_had start tree base now (member ∷ rest) known dots are timed =
+    (by (check start.geometry.edition member) are.0, members_had start tree base now rest known dots are.1 timed.1)
   where
     by : (made : Result (MadeAs × Cred) MemberFault) → IsMadeAs start base now member (is_among rest (joined (steps_of member.path))) made known tree
         → HasMember start tree base now member rest (made_as member.header.flag member.path)
     by (Ok made) is =
-        subst (HasMember start tree base now member rest) (sym is.0.kind) (member_had start tree base now member rest known made dots is.0 is.1)
+        subst (HasMember start tree base now member rest) (sym is.0.kind) (member_had start tree base now member rest known made dots is.0 is.1 timed.0)
     by (Err fault) is = absurd is
 
 -- calls that a volume accepts lead to its state
@@ -416,7 +400,7 @@ archive_had edition image archive base bytes now = by (members archive)
         let dots = dots_sound edition image imports.mounts in
         let whole = subst (IsRun (reads_as edition image) calls) last run in
         let left = plan_made (reads_as edition image) (reads_as edition bytes) base now all calls is (small_bits (geometry_of edition image) image) dots whole in (
-          members_had (reads_as edition image).tree (reads_as edition bytes).tree base now all left.known dots left.members,
+          members_had (reads_as edition image).tree (reads_as edition bytes).tree base now all left.known dots left.members left.times,
           nodes_left edition image bytes calls volume imports.mounts imports.made whole left.grows left.owners,
         )
 

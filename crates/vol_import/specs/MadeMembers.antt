@@ -24,13 +24,17 @@ pub record HasFile (tree : Tree) (path bytes : List ℕ) : Type 0 where
   pub size : stat.size ≡ length bytes
   pub read : (offset len : ℕ) → answer tree (queries.Read user path offset len) ≡ Ok (replies.Bytes (read_bytes bytes offset len))
 
+-- a Stat returns the permissions, owner and group of a member, and the time of its last change (POSIX, ustar interchange format)
+pub record IsGiven (stat : Stat) (now : ℕ) (member : Member) : Type 0 where
+  pub permissions : stat.permissions ≡ permissions_of member.header
+  pub uid : stat.uid ≡ member.header.uid
+  pub gid : stat.gid ≡ member.header.gid
+  pub modified : stat.modified ≡ moment_of member.header now
+
 -- a path leads to a file as its member describes it: its bytes, permissions, owner and group, and the time of its last change (POSIX, ustar interchange format)
 pub record HasMemberFile (tree : Tree) (path : List ℕ) (now : ℕ) (member : Member) : Type 0 where
   pub file : HasFile tree path member.content
-  pub permissions : file.stat.permissions ≡ permissions_of member.header
-  pub uid : file.stat.uid ≡ member.header.uid
-  pub gid : file.stat.gid ≡ member.header.gid
-  pub modified : file.stat.modified ≡ moment_of member.header now
+  pub given : IsGiven file.stat now member
 
 -- two paths lead to one file: a Stat of each returns the same, with the same i-number (link)
 pub record HasLink (tree : Tree) (source target : List ℕ) : Type 0 where
@@ -44,16 +48,10 @@ pub record HasDirectory (tree : Tree) (path : List ℕ) : Type 0 where
   pub found : answer tree (queries.Stat user path) ≡ Ok (replies.Stat stat)
   pub kind : stat.kind ≡ kinds.Directory
 
--- a Stat returns the permissions, owner and group of a member (POSIX, ustar interchange format)
-pub record IsGiven (stat : Stat) (member : Member) : Type 0 where
-  pub permissions : stat.permissions ≡ permissions_of member.header
-  pub uid : stat.uid ≡ member.header.uid
-  pub gid : stat.gid ≡ member.header.gid
-
--- a path leads to a directory; if there was none before and no later member is for it, it has the permissions, owner and group of its member (POSIX, ustar interchange format)
-pub record HasMemberDirectory (old tree : Tree) (path : List ℕ) (member : Member) (again : Bool) : Type 0 where
+-- a path leads to a directory; if there was none before and no later member is for it, it has the permissions, owner, group and time of its member (POSIX, ustar interchange format)
+pub record HasMemberDirectory (old tree : Tree) (path : List ℕ) (now : ℕ) (member : Member) (again : Bool) : Type 0 where
   pub directory : HasDirectory tree path
-  pub given : is_directory (answer old (queries.Stat user path)) ≡ false → again ≡ false → IsGiven directory.stat member
+  pub given : is_directory (answer old (queries.Stat user path)) ≡ false → again ≡ false → IsGiven directory.stat now member
 
 -- true if a member that is made so, at this path, is the directory with these steps (this project)
 abbrev pub is_made_at : Result MadeAs MemberFault → List ℕ → List ℕ → Bool
@@ -75,7 +73,7 @@ abbrev pub HasMember : Tree → Tree → List ℕ → ℕ → Member → List Me
 HasMember old tree base now member later (Ok File) = HasMemberFile tree (below base member.path) now member
 HasMember old tree base now member later (Ok Link) = HasLink tree (below base member.link) (below base member.path)
 HasMember old tree base now member later (Ok Directory) =
-    HasMemberDirectory old tree (below base member.path) member (is_among later (joined (steps_of member.path)))
+    HasMemberDirectory old tree (below base member.path) now member (is_among later (joined (steps_of member.path)))
 HasMember old tree base now member later (Err fault) = ⊥
 
 -- a tree has each of some members (POSIX, ustar interchange format)

@@ -284,22 +284,36 @@ base_permissions (Ok (replies.Bytes bytes)) given = given
 base_permissions (Ok (replies.Names names)) given = given
 base_permissions (Err refusal) given = given
 
--- the call that ends an import: it gives the directory of the import the permissions that it has, and so sets the volume's time; none if it has none (this project)
+-- the call after those that make members: it gives the directory of the import the permissions that it has, and so sets the volume's time; none if it has none (this project)
 abbrev pub closing_calls : ℕ → List ℕ → Option ℕ → List Call
 closing_calls now base (Some permissions) = calls.Chmod user now base permissions ∷ []
 closing_calls now base None = []
 
--- calls, followed by the one that ends an import if there are any (this project)
+-- calls that make members, followed by that one if there are any (this project)
 abbrev pub closed : ℕ → List ℕ → Option ℕ → List Call → List Call
 closed now base permissions [] = []
 closed now base permissions (call ∷ more) = call ∷ more ++ closing_calls now base permissions
 
--- the calls that make members, or why there are none, with the call that ends the import (this project)
+-- the call that gives a directory the time of the member that makes it; none for other members, nor if a directory was at the path before (this project)
+abbrev pub time_calls : Tree → List ℕ → ℕ → Member → Result MadeAs MemberFault → List Call
+time_calls tree base now member (Ok Directory) =
+    if is_directory (answer tree (queries.Stat user (below base member.path))) then []
+    else calls.Times user now (below base member.path) (moment_of member.header now) (moment_of member.header now) ∷ []
+time_calls tree base now member (Ok File) = []
+time_calls tree base now member (Ok Link) = []
+time_calls tree base now member (Err fault) = []
+
+-- the calls that give directories the times of members, each in turn (this project)
+abbrev pub times : Tree → List ℕ → ℕ → List Member → List Call
+times tree base now all = flat_map (λ (member : Member). time_calls tree base now member (made_as member.header.flag member.path)) all
+
+-- the calls that make members, or why there are none, with those that end the import (this project)
 abbrev pub ended : Tree → List ℕ → ℕ → List Member → Result (List Call) PlanFault → Result (List Call) PlanFault
 ended tree base now all made =
-    and_next made (λ more. Ok (closed now base (base_permissions (answer tree (queries.Stat user base)) (permissions_given all)) more))
+    and_next made (λ more.
+    Ok (closed now base (base_permissions (answer tree (queries.Stat user base)) (permissions_given all)) more ++ times tree base now all))
 
--- the calls that make the members of an archive below a path, each in turn after the missing directories on the way to it, and the one that ends the import; or the first member that can't be made, with the reason (this project)
+-- the calls that make the members of an archive below a path, each in turn after the missing directories on the way to it, and those that end the import; or the first member that can't be made, with the reason (this project)
 abbrev pub plan : Tree → List ℕ → ℕ → List Member → Result (List Call) PlanFault
 plan tree base now all = ended tree base now all (plan_onto tree base now ([], []) all)
 

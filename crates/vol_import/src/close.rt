@@ -1,16 +1,16 @@
-//! The call that ends an import.
-ghost use Rattle.std.specs.Prelude.{◌≡◌, IfOk, OnOk, reverse};
+//! The calls that end an import.
+ghost use Rattle.std.specs.Prelude.{◌≡◌, ◌++◌, IfOk, OnOk, reverse};
 ghost use Rattle.std.specs.List.{find};
 ghost use Rattle.std.specs.Option.{option_map};
 ghost use Rattle.vol_volume.specs.Answer.{answer};
 ghost use Rattle.vol_volume.specs.Volume.{reads_as};
 ghost use Rattle.vol_volume.specs.declared.queries.Query.TheVariants as questions;
 ghost use Rattle.vol_dir.specs.Access.{user};
-ghost use Rattle.vol_import.specs.Plan.{is_base, permissions_given, permissions_told, base_permissions, closed};
+ghost use Rattle.vol_import.specs.Plan.{is_base, permissions_given, permissions_told, base_permissions, closed, made_as, time_calls, times};
 
 use crate::archive_members::Member;
-use crate::draft::{first_step, is_directory_kind};
-use crate::import_plan::permissions_of;
+use crate::draft::{first_step, is_directory, is_directory_kind};
+use crate::import_plan::{below, moment_of, permissions_of};
 use crate::member_check::{MadeAs, made_as};
 use std::alloc::{AllocError, Global};
 use vol_dir::Cred;
@@ -46,8 +46,8 @@ fn is_base(member: &Member) -> bool
     }
 }
 
-/// Appends the call that ends an import, if there are calls: if the directory of the import exists or these calls make it, it
-/// is given the permissions that it has, at time `now`.
+/// Appends to the calls that make members, if there are any, the one after them: if the directory of the import exists or these
+/// calls make it, it is given the permissions that it has, at time `now`.
 pub(crate) fn close(
     alloc: Global,
     volume: &Volume,
@@ -101,5 +101,54 @@ fn permissions_told(kind: Kind, permissions: u16, given: Option<u16>) -> Option<
         Some(permissions)
     } else {
         given
+    }
+}
+
+/// Returns the calls that give directories the times of the members that make them, each in turn. A directory that exists stays.
+pub(crate) fn directory_times(
+    alloc: Global,
+    volume: &Volume,
+    base: &[u8],
+    now: u32,
+    members: &[Member],
+) -> Result<Vec<Call>, AllocError>
+    ensures { IfOk result (λ calls. calls.items ≡ times (reads_as volume.now.edition volume.now.image).tree base.now now members.now) }
+{
+    let mut calls = Vec::new(alloc);
+    for member in members {
+        push_time(alloc, volume, base, now, member, &mut calls)?;
+    }
+    Ok(calls)
+}
+
+/// Appends the call that gives a directory the time of its member, if the member is one and it doesn't exist.
+fn push_time(
+    alloc: Global,
+    volume: &Volume,
+    base: &[u8],
+    now: u32,
+    member: &Member,
+    calls: &mut Vec<Call>,
+) -> Result<(), AllocError>
+    ensures { OnOk result (calls.new.items ≡ calls.old.items ++ time_calls (reads_as volume.now.edition volume.now.image).tree base.now now member.now (made_as member.now.header.flag member.now.path)) }
+{
+    let path = member.path.as_slice();
+    match made_as(member.header.flag, path) {
+        Ok(MadeAs::Directory) => {
+            let path = below(alloc, base, path)?;
+            if !is_directory(alloc, volume, Bytes::from_slice(alloc, path.as_slice())?) {
+                let moment = moment_of(&member.header, now);
+                calls.push(Call::Times {
+                    cred: Cred::ROOT,
+                    now,
+                    path,
+                    atime: moment,
+                    mtime: moment,
+                })?;
+            }
+            Ok(())
+        }
+        Ok(MadeAs::File | MadeAs::Link) => Ok(()),
+        Err(_) => Ok(()),
     }
 }

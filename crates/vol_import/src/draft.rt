@@ -115,7 +115,7 @@ pub(crate) fn is_there(
 }
 
 /// True if a path leads to a directory.
-fn is_directory(alloc: Global, volume: &Volume, path: Bytes) -> bool
+pub(crate) fn is_directory(alloc: Global, volume: &Volume, path: Bytes) -> bool
     ensures { result ≡ is_directory (answer (reads_as volume.now.edition volume.now.image).tree (questions.Stat user path)) }
 {
     match volume.ask(

@@ -4,7 +4,7 @@ ghost use Rattle.vol_volume.specs.Volume.{reads_as};
 ghost use Rattle.vol_import.specs.Plan.{below, check, permissions_of, moment_of, owner_calls, write_calls, file_calls, directory_calls, given_calls, with_directory, way_of, steps_of, with_way, with_calls, with_made, drafted, onto, plan, Tells, no_memory};
 
 use crate::archive_members::Member;
-use crate::close::{close, permissions_given};
+use crate::close::{close, directory_times, permissions_given};
 use crate::draft::{Draft, is_there, joined, note_known, push_way, steps_of};
 use crate::member_check::{MadeAs, MemberFault, check};
 use std::alloc::{AllocError, Global};
@@ -38,9 +38,10 @@ impl From<AllocError> for PlanFault {
 /// regular file is made, written if it has bytes, and given to its owner unless that is user 0 of group 0. A directory is made
 /// in the same way if it doesn't exist; one that earlier calls make is given its permissions and its owner. A link becomes
 /// another name. A call's time is that of its member's last change, or `now` if that doesn't fit 32 bits. Before a member, each
-/// missing directory on the way to it is made, at `now`, with permissions 0755, but not the one at `base`. The last call, if
-/// there are any, gives the directory at `base` the permissions that it has, at `now`, which becomes the time of the volume; it
-/// is left out if there is no directory and no member makes it.
+/// missing directory on the way to it is made, at `now`, with permissions 0755, but not the one at `base`. The call after these,
+/// if there are any, gives the directory at `base` the permissions that it has, at `now`, which becomes the time of the volume;
+/// it is left out if there is no directory and no member makes it. The last calls, at `now` too, give each directory that a
+/// member makes the time of that member.
 ///
 /// If no calls make a member, the fault has its path in the archive and the reason. The fault is NoInode, with the path in the
 /// volume, if the directories of the members so far, and those on the way to it, are more than the volume has i-nodes. Calls
@@ -53,7 +54,7 @@ impl From<AllocError> for PlanFault {
 ///
 /// Each member costs the square of the length of its way, since the path of each directory on it is copied and looked up, even
 /// if all are known: about 4 MB and 2,048 look-ups for a path of 4,096 bytes. A directory that isn't known also costs a walk,
-/// and so does each member that is a directory.
+/// and each member that is a directory costs two.
 pub fn plan(
     alloc: Global,
     volume: &Volume,
@@ -65,6 +66,7 @@ pub fn plan(
     ensures fault { IfErr result (Tells (plan (reads_as volume.now.edition volume.now.image).tree base.now now members.items)) }
 {
     let given = permissions_given(&members);
+    let mut times = directory_times(alloc, volume, base, now, &members)?;
     let mut draft = Draft::new(alloc);
     let mut left = members;
     left.reverse();
@@ -73,6 +75,7 @@ pub fn plan(
     }
     let mut calls = draft.into_calls();
     close(alloc, volume, base, now, given, &mut calls)?;
+    calls.append(&mut times)?;
     Ok(calls)
 }
 
@@ -169,7 +172,7 @@ pub(crate) fn permissions_of(header: &ReadHeader) -> u16
 }
 
 /// Returns the time of a member's calls: that of its last change if it fits 32 bits, else `now`.
-fn moment_of(header: &ReadHeader, now: u32) -> u32
+pub(crate) fn moment_of(header: &ReadHeader, now: u32) -> u32
     ensures { result ≡ moment_of header.now now }
 {
     let modified = header.modified;

@@ -20,7 +20,7 @@ use Rattle.vol_volume.specs.Verdict.{verdict, link_refusal, link_tests, of_node}
 use Rattle.vol_volume.specs.declared.calls.Call.TheVariants.{Chmod, Chown, Link, Times, Write}
 use Rattle.vol_volume.specs.declared.calls.Done.{Done}
 use Rattle.vol_volume.proofs.Accepted.{link_passed}
-use Rattle.vol_import.proofs.MadeNames.{LeadsTo, HasNamesOf, Keeps, keeps_none, keeps_then, nodes_set, KeepsOwner, KeepsOwners, owner_none, owner_same, owner_then, owner_told, owners_set, EntersName, Grows, Gains, linked, linked_keeps, linked_owner, searched_names, name_entered, grown_path, path_kept, path_made}
+use Rattle.vol_import.proofs.MadeNames.{LeadsTo, HasNamesOf, Keeps, HasNoOthers, EntersAt, enters_between, keeps_none, keeps_then, linked_others, nodes_set, others_same, set_keeps, KeepsOwner, KeepsOwners, owner_none, owner_same, owner_then, owner_told, owners_set, EntersName, Grows, Gains, linked, linked_keeps, linked_owner, searched_names, name_entered, grown_path, path_kept, path_made}
 use Rattle.vol_import.proofs.MadePaths.{node_found, not_first}
 use Rattle.vol_import.proofs.TreeWalks.{passes_paths, parent_found, reaches, searched}
 
@@ -181,6 +181,7 @@ pub link_grows : (state : State) (now : ℕ) (source target : List ℕ) (done : 
     → Grows state.tree (step state (Link user now source target) done).tree × LeadBoth (step state (Link user now source target) done).tree source target
     × (list_any has_zero (source ∷ target ∷ []) ≡ false)
     × KeepsOwners state.tree (step state (Link user now source target) done).tree
+    × EntersAt state.tree (step state (Link user now source target) done).tree target
 unfolding verdict changed_by
 link_grows state now source target done accepted =
     let old = state.tree in
@@ -209,18 +210,21 @@ link_grows state now source target done accepted =
       kept = λ x. keeps_then (old.nodes x) (mid x) (new.nodes x) (links x) (enters.kept x);
       owners = λ x. owner_then (old.nodes x) (mid x) (new.nodes x) (counts x) (enters.owners x);
       named = enters.named;
+      others = enters_between old.nodes mid new.nodes new.nodes d name i
+          (set_keeps HasNoOthers others_same old.nodes i (linked now (old.nodes i)) (linked_others now (old.nodes i))) enters (λ x. others_same (new.nodes x));
     } in
     let grows : Grows old new = record { rooted = refl; kept = whole.kept } in
     let both : LeadBoth new source target =
     (i, grown_path old new source i grows led.1, path_made old new target d i name refl reached whole) in
-    let Left : Tree → Type 0 = λ tree. Grows old tree × LeadBoth tree source target × KeepsOwners old tree in
+    let at : EntersAt old new target = record { directory = d; name = name; number = i; rooted = refl; reached = reached; enters = whole } in
+    let Left : Tree → Type 0 = λ tree. Grows old tree × LeadBoth tree source target × KeepsOwners old tree × EntersAt old tree target in
     let made : Left (at_time now (on_parent state (walk_parent old user target) (after_link state now i))).tree =
     subst (λ (p : Option (Result (ℕ × List ℕ) Refusal)). Left (at_time now (on_parent state p (after_link state now i))).tree) (sym parent.2)
-    (grows, both, whole.owners) in
+    (grows, both, whole.owners, at) in
     let all = subst (λ (r : Result ℕ Refusal).
     Left (at_time now (on_node state r (λ j. on_parent state (walk_parent old user target) (after_link state now j)))).tree)
     (sym led.1) made in
-    (all.0, all.1, first.no_zero, all.2)
+    (all.0, all.1, first.no_zero, all.2, all.3)
   where
     same_names : (node : Option Node) → searched (linked now node) ≡ searched node
     same_names None = refl

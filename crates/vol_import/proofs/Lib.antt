@@ -1,3 +1,4 @@
+mod AddedNames
 mod ApartSteps
 pub mod ArchiveFronts
 mod DirectoryTimes

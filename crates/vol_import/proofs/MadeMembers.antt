@@ -1,7 +1,7 @@
 -- The result of the calls of a plan: the members of the archive.
 use Rattle.std.proofs.Common.{◌≡◌, ◌∙◌, sym, ap, subst, refl, ℕ, ◌%◌, ◌||◌, Bool, true, false, cond, List, [], ◌∷◌, ◌++◌, Option, None, Some, Ok, Err, arith, ap₂, inl, inr}
 use Rattle.std.specs.Prelude.{Result, reverse}
-use Rattle.std.specs.List.{find, list_any}
+use Rattle.std.specs.List.{find, flat_map, list_any}
 use Rattle.std.specs.Option.{option_map, option_or}
 use Rattle.std.proofs.lemmas.Bool.{or_parts}
 use Rattle.std.proofs.lemmas.List.{append-nil, reverse-append}
@@ -25,7 +25,7 @@ use Rattle.vol_volume.specs.declared.queries.Query.TheVariants as queries
 use Rattle.vol_volume.specs.declared.queries.Reply.{Reply}
 use Rattle.vol_volume.specs.declared.queries.Reply.TheVariants as replies
 use Rattle.vol_volume.proofs.Journals.{reads_made}
-use Rattle.vol_import.specs.MadeMembers.{HasMember, HasMembers, HasArchive, KeepsNodes, is_among, is_for, is_made_at}
+use Rattle.vol_import.specs.MadeMembers.{AddsNames, EndsIn, HasMember, HasMembers, HasArchive, KeepsNodes, is_among, is_for, is_made_at, made_paths}
 use Rattle.vol_import.specs.Make.{AreMade, Imports, ImportsCalls, calls_to_make, planned, told}
 use Rattle.vol_import.specs.Members.{members}
 use Rattle.vol_import.specs.Plan.{and_next, base_permissions, below, check, closed, closing_calls, is_base, is_directory as says_directory, is_directory_at, is_directory_kind, is_there, joined, made_as, moment_of, permissions_given, permissions_of, permissions_told, plan, plan_onto, steps_of, times}
@@ -35,6 +35,8 @@ use Rattle.vol_import.specs.declared.member_check.MemberFault.{MemberFault}
 use Rattle.vol_import.specs.declared.faults.ArchiveFault.{ArchiveFault}
 use Rattle.vol_import.specs.declared.import_plan.PlanFault.{PlanFault}
 use Rattle.vol_import.specs.declared.archive_members.Member.{Member}
+use Rattle.vol_archive.proofs.Each.{has_any}
+use Rattle.vol_import.proofs.AddedNames.{plan_after}
 use Rattle.vol_import.proofs.DotWalks.{DotsLead, dots_ready, dots_sound}
 use Rattle.vol_import.proofs.GrownTrees.{Gives, LeadsToDirectory, grown_directory}
 use Rattle.vol_import.proofs.MadeCalls.{keeps}
@@ -389,9 +391,13 @@ pub archive_had : (edition : Edition) (image archive base bytes : List ℕ) (now
 unfolding Imports calls_to_make HasArchive
 archive_had edition image archive base bytes now = by (members archive)
   where
-    made : (all : List Member) (calls : List Call) → plan (reads_as edition image).tree base now all ≡ Ok calls → ImportsCalls edition image calls bytes
-        → HasMembers (reads_as edition image).tree (reads_as edition bytes).tree base now all
+    Has : List Member → Type 0
+    Has all = HasMembers (reads_as edition image).tree (reads_as edition bytes).tree base now all
         × KeepsNodes (reads_as edition image).tree (reads_as edition bytes).tree
+        × AddsNames (reads_as edition image).tree (reads_as edition bytes).tree (flat_map (made_paths base) all)
+
+    made : (all : List Member) (calls : List Call) → plan (reads_as edition image).tree base now all ≡ Ok calls → ImportsCalls edition image calls bytes
+        → Has all
     made all calls is imports =
         let volume = imports.volume in
         let run = run_made (mounted edition image) volume calls imports.made in
@@ -399,15 +405,18 @@ archive_had edition image archive base bytes now = by (members archive)
         ap (λ e. reads_as e volume.image) (keeps (mounted edition image) volume calls imports.made).edition ∙ ap (reads_as edition) imports.left in
         let dots = dots_sound edition image imports.mounts in
         let whole = subst (IsRun (reads_as edition image) calls) last run in
-        let left = plan_made (reads_as edition image) (reads_as edition bytes) base now all calls is (small_bits (geometry_of edition image) image) dots whole in (
+        let left = plan_made (reads_as edition image) (reads_as edition bytes) base now all calls is (small_bits (geometry_of edition image) image) dots whole in
+        let names = plan_after (reads_as edition image) (reads_as edition bytes) base now all calls is whole in (
           members_had (reads_as edition image).tree (reads_as edition bytes).tree base now all left.known dots left.members left.times,
           nodes_left edition image bytes calls volume imports.mounts imports.made whole left.grows left.owners,
+          λ d name i led plain. elim (names.adds d name i led plain) [
+            | inl old ↦ inl old
+            | inr ends ↦ inr (has_any (EndsIn (reads_as edition bytes).tree d name) (flat_map (made_paths base) all) ends)
+          ],
         )
 
     by_plan : (all : List Member) (planned : Result (List Call) PlanFault) → plan (reads_as edition image).tree base now all ≡ planned
-        → Imports edition image (told planned) bytes
-        → HasMembers (reads_as edition image).tree (reads_as edition bytes).tree base now all
-        × KeepsNodes (reads_as edition image).tree (reads_as edition bytes).tree
+        → Imports edition image (told planned) bytes → Has all
     by_plan all (Ok calls) is imports = made all calls is imports
     by_plan all (Err fault) is imports = absurd imports
 

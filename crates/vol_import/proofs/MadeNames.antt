@@ -1,5 +1,5 @@
 -- Names that are made in a tree: old names are still found, and the walk to a new name leads to its node.
-use Rattle.std.proofs.Common.{◌≡◌, ◌≢◌, ◌∙◌, sym, ap, subst, refl, ℕ, ◌+◌, true, false, cond, List, [], ◌∷◌, Option, None, Some, Ok, Err, inl, inr}
+use Rattle.std.proofs.Common.{◌≡◌, ◌≢◌, ◌∙◌, ◌⊎◌, sym, ap, subst, refl, ℕ, ◌+◌, Bool, true, false, cond, List, [], ◌∷◌, Option, None, Some, Ok, Err, inl, inr}
 use Rattle.std.specs.Prelude.{Result}
 use Rattle.std.specs.Cmp.Lexicographic.{slice_cmp}
 use Rattle.std.specs.FinMap.Entries.{find-put}
@@ -11,7 +11,7 @@ use Rattle.std.proofs.lemmas.Cmp.{nat_list_cmp_total}
 use Rattle.std.proofs.lemmas.Map.Text.{is_eq-slice_cmp}
 use Rattle.vol_file.proofs.PlaceLists.{bytes_same, same_bytes}
 use Rattle.vol_dir.specs.Access.{user}
-use Rattle.vol_dir.specs.Names.{Names, get, insert}
+use Rattle.vol_dir.specs.Names.{Names, get, insert, is_dots}
 use Rattle.vol_dir.specs.Tree.{Content, Body, Directory, Device, Node, Tree}
 use Rattle.vol_dir.specs.Walk.{root, components, map_of, is_directory, and_then, find_in, walk_from, walk}
 use Rattle.vol_dir.proofs.PathJoins.{walk_from-append}
@@ -115,7 +115,7 @@ keeps_none old new none = (
 )
 
 -- replacing a node by one with the same property
-set_keeps : (P : Option Node → Option Node → Type 0) → ((node : Option Node) → P node node) → (nodes : ℕ → Option Node) (i : ℕ) (node : Option Node)
+pub set_keeps : (P : Option Node → Option Node → Type 0) → ((node : Option Node) → P node node) → (nodes : ℕ → Option Node) (i : ℕ) (node : Option Node)
     → P (nodes i) node → (x : ℕ) → P (nodes x) (set_at nodes i node x)
 set_keeps P same nodes i node has x = elim (cases_eq x i) [
   | inl here ↦
@@ -191,7 +191,7 @@ entered_owner now size i name node =
     owner_kept (λ x. record (modified now x) { content = change_names (λ names. insert names name i) x.content; size = size }) (λ x. refl) node
 
 -- the result of a map with one more name
-get_insert : (names : Names) (name word : List ℕ) (i : ℕ) → get (insert names name i) word ≡ cond (bytes_eq word name) (Some i) (get names word)
+pub get_insert : (names : Names) (name word : List ℕ) (i : ℕ) → get (insert names name i) word ≡ cond (bytes_eq word name) (Some i) (get names word)
 get_insert names name word i =
     find-put (slice_cmp nat_cmp) nat_list_cmp_total word name i names ∙ ap (λ b. cond b (Some i) (get names word)) (is_eq-slice_cmp word name)
 
@@ -260,11 +260,42 @@ entered_found now size i name (Some node) names held = by node.content held
         (get_insert ns name name i ∙ ap (λ b. cond b (Some i) (get ns name)) (bytes_same name name refl))
     by (Device type addresses) held = cc
 
+-- a node has no other names than another one, except `.` and `..`
+abbrev pub HasNoOthers : Option Node → Option Node → Type 0
+HasNoOthers old new = (word : List ℕ) (j : ℕ) → found new word ≡ Ok j → is_dots word ≡ false → found old word ≡ Ok j
+
+pub others_same : (node : Option Node) → HasNoOthers node node
+others_same node word j is plain = is
+
+pub linked_others : (now : ℕ) (node : Option Node) → HasNoOthers node (linked now node)
+linked_others now None word j is plain = is
+linked_others now (Some node) word j is plain = is
+
+-- a new name is the only other one
+entered_others : (now size i : ℕ) (name : List ℕ) (node : Option Node) (word : List ℕ) (j : ℕ) → found (entered now size name i node) word ≡ Ok j
+    → (found node word ≡ Ok j) ⊎ (word ≡ name)
+entered_others now size i name None word j is = inl is
+entered_others now size i name (Some node) word j is = by node.content is
+  where
+    split : (names : Names) (same : Bool) → bytes_eq word name ≡ same → ok_or (cond same (Some i) (get names word)) refusals.NoEntry ≡ Ok j
+        → (ok_or (get names word) refusals.NoEntry ≡ Ok j) ⊎ (word ≡ name)
+    split names true e is = inr (same_bytes word name e)
+    split names false e is = inl is
+
+    by : (content : Content) → found_in (named (map_of (change_names (λ ns. insert ns name i) content))) word ≡ Ok j
+        → (found_in (named (map_of content)) word ≡ Ok j) ⊎ (word ≡ name)
+    by (Body bytes) is = absurd (cc)
+    by (Directory names) is =
+        split names (bytes_eq word name) refl (sym (ap (λ (o : Option ℕ). ok_or o refusals.NoEntry) (get_insert names name word i)) ∙ is)
+    by (Device type addresses) is = absurd (cc)
+
 -- an entry for i in directory d, of a name that d hasn't
 pub record EntersName (old new : ℕ → Option Node) (d : ℕ) (name : List ℕ) (i : ℕ) : Type 0 where
   pub kept : (x : ℕ) → Keeps (old x) (new x)
   pub owners : (x : ℕ) → KeepsOwner (old x) (new x)
   pub named : found (new d) name ≡ Ok i
+  pub others : (x : ℕ) (word : List ℕ) (j : ℕ) → found (new x) word ≡ Ok j → is_dots word ≡ false
+      → (found (old x) word ≡ Ok j) ⊎ ((x ≡ d) × (word ≡ name))
 
 pub name_entered : (nodes : ℕ → Option Node) (now size d i : ℕ) (name : List ℕ) (names : Names) → searched (nodes d) ≡ Ok names → get names name ≡ None
     → EntersName nodes (set_at nodes d (entered now size name i (nodes d))) d name i
@@ -272,7 +303,24 @@ name_entered nodes now size d i name names held fresh = record {
   kept = nodes_set nodes d (entered now size name i (nodes d)) (entered_keeps now size i name (nodes d) names held fresh);
   owners = owners_set nodes d (entered now size name i (nodes d)) (entered_owner now size i name (nodes d));
   named = ap (λ n. found n name) (set_here nodes d (entered now size name i (nodes d))) ∙ entered_found now size i name (nodes d) names held;
+  others = λ x word j is plain. elim (cases_eq x d) [
+    | inl at ↦ elim (entered_others now size i name (nodes d) word j
+        (sym (ap (λ n. found n word) (ap (set_at nodes d (entered now size name i (nodes d))) at ∙ set_here nodes d (entered now size name i (nodes d)))) ∙ is)) [
+          | inl old ↦ inl (ap (λ y. found (nodes y) word) at ∙ old)
+          | inr new ↦ inr (at, new)
+        ]
+    | inr other ↦ inl (sym (ap (λ n. found n word) (set_beside nodes d (entered now size name i (nodes d)) x other)) ∙ is)
+  ];
 }
+
+-- other changes before and after that
+pub enters_between : (old put mid new : ℕ → Option Node) (d : ℕ) (name : List ℕ) (i : ℕ) → ((x : ℕ) → HasNoOthers (old x) (put x)) → EntersName put mid d name i
+    → ((x : ℕ) → HasNoOthers (mid x) (new x)) → (x : ℕ) (word : List ℕ) (j : ℕ) → found (new x) word ≡ Ok j → is_dots word ≡ false
+    → (found (old x) word ≡ Ok j) ⊎ ((x ≡ d) × (word ≡ name))
+enters_between old put mid new d name i first enters last x word j is plain = elim (enters.others x word j (last x word j is plain) plain) [
+  | inl was ↦ inl (first x word j was plain)
+  | inr made ↦ inr made
+]
 
 -- node i is made, with a number that had none, and has a name in directory d
 pub record MakesName (old new : ℕ → Option Node) (d : ℕ) (name : List ℕ) (i : ℕ) (node : Node) : Type 0 where
@@ -283,9 +331,9 @@ pub record MakesName (old new : ℕ → Option Node) (d : ℕ) (name : List ℕ)
 
 -- a node in place of none, and then an entry for it
 pub name_made : (nodes : ℕ → Option Node) (now size d i : ℕ) (name : List ℕ) (node : Node) (names : Names) → nodes i ≡ None → searched (nodes d) ≡ Ok names
-    → get names name ≡ None
+    → get names name ≡ None → HasNoOthers None (Some node)
     → MakesName nodes (set_at (set_at nodes i (Some node)) d (entered now size name i (set_at nodes i (Some node) d))) d name i node
-name_made nodes now size d i name node names free held fresh =
+name_made nodes now size d i name node names free held fresh bare =
     let put = set_at nodes i (Some node) in
     let apart : i ≢ d = λ same.
     let none : Err refusals.NotDirectory ≡ Ok names = sym (ap searched (ap nodes (sym same) ∙ free)) ∙ held in
@@ -299,6 +347,8 @@ name_made nodes now size d i name node names free held fresh =
         kept = λ x. keeps_then (nodes x) (put x) _ (nodes_set nodes i (Some node) (keeps_none (nodes i) (Some node) free) x) (enters.kept x);
         owners = λ x. owner_then (nodes x) (put x) _ (owners_set nodes i (Some node) (owner_none (nodes i) (Some node) free) x) (enters.owners x);
         named = enters.named;
+        others = enters_between nodes put _ _ d name i
+            (set_keeps HasNoOthers others_same nodes i (Some node) (subst (λ n. HasNoOthers n (Some node)) (sym free) bare)) enters (λ x. others_same _);
       };
       stands = set_beside put d (entered now size name i (put d)) i apart ∙ set_here nodes i (Some node);
     }
@@ -315,6 +365,8 @@ name_linked old mid now d i name node makes =
         kept = λ x. keeps_then (old x) (mid x) _ (makes.enters.kept x) (nodes_set mid d (linked now (mid d)) links x);
         owners = λ x. owner_then (old x) (mid x) _ (makes.enters.owners x) (owners_set mid d (linked now (mid d)) (linked_owner now (mid d)) x);
         named = ap (λ n. found n name) (set_here mid d (linked now (mid d))) ∙ links.0 name i makes.enters.named;
+        others = enters_between old old mid _ d name i (λ x. others_same (old x)) makes.enters
+            (set_keeps HasNoOthers others_same mid d (linked now (mid d)) (linked_others now (mid d)));
       };
       stands = set_beside mid d (linked now (mid d)) i makes.apart ∙ makes.stands;
     }
@@ -353,6 +405,19 @@ path_made old new path d i name same reached enters =
     (walk_kept old new (λ x. (enters.kept x).0) reached.front (root old) d reached.walks)
     ∙ ap (λ (r : Result ℕ Refusal). and_then r (λ j. Ok j)) enters.named)))
 
+-- a name is entered, with which a path ends
+pub record EntersAt (old new : Tree) (path : List ℕ) : Type 0 where
+  pub directory : ℕ
+  pub name : List ℕ
+  pub number : ℕ
+  pub rooted : root new ≡ root old
+  pub reached : Reaches old path directory name
+  pub enters : EntersName old.nodes new.nodes directory name number
+
+-- and its node is made
+abbrev pub MakesAt : Tree → Tree → List ℕ → Node → Type 0
+MakesAt old new path node = (at : EntersAt old new path) × MakesName old.nodes new.nodes at.directory at.name at.number node
+
 -- a tree grows by a path to a node where there was none
 pub record Gains (old new : Tree) (path : List ℕ) (node : Node) : Type 0 where
   pub leads : LeadsTo new path node
@@ -360,11 +425,17 @@ pub record Gains (old new : Tree) (path : List ℕ) (node : Node) : Type 0 where
   pub grows : Grows old new
   pub owners : KeepsOwners old new
 
-pub gains_made : (old new : Tree) (path : List ℕ) (d i : ℕ) (name : List ℕ) (node : Node) → root new ≡ root old → Reaches old path d name
-    → MakesName old.nodes new.nodes d name i node → Gains old new path node
-gains_made old new path d i name node same reached makes = record {
-  leads = record { number = i; walked = path_made old new path d i name same reached makes.enters; stands = makes.stands };
-  free = makes.free;
-  grows = record { rooted = same; kept = makes.enters.kept };
-  owners = makes.enters.owners;
-}
+pub gains_made : (old new : Tree) (path : List ℕ) (node : Node) → MakesAt old new path node → Gains old new path node
+gains_made old new path node made =
+    let at = made.0 in
+    let makes = made.1 in
+    record {
+      leads = record {
+        number = at.number;
+        walked = path_made old new path at.directory at.number at.name at.rooted at.reached makes.enters;
+        stands = makes.stands;
+      };
+      free = makes.free;
+      grows = record { rooted = at.rooted; kept = makes.enters.kept };
+      owners = makes.enters.owners;
+    }

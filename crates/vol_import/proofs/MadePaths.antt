@@ -1,8 +1,9 @@
 -- The node at the path of an accepted call: a new one, or a file with other bytes; and the answers about it.
 use Rattle.std.proofs.Common.{◌≡◌, ◌≢◌, ◌∙◌, sym, ap, subst, refl, ℕ, ◌+◌, max, Bool, true, false, cond, not, nat_lt, nat_le, ◌&&◌, List, [], ◌∷◌, ◌++◌, length, Option, None, Some, Result, Ok, Err, arith}
 use Rattle.std.specs.List.{list_any}
-use Rattle.std.specs.Option.{is_none, is_some, option_map, unwrap_or}
-use Rattle.std.proofs.lemmas.Bool.{and_parts}
+use Rattle.std.specs.Option.{is_none, is_some, ok_or, option_map, unwrap_or}
+use Rattle.std.specs.Str.{bytes_eq}
+use Rattle.std.proofs.lemmas.Bool.{and_parts, or_parts}
 use Rattle.std.proofs.lemmas.List.{append-nil, drop_all}
 use Rattle.vol_layout.specs.Ids.{is_bad_id}
 use Rattle.vol_layout.specs.declared.edition.Edition.{Edition}
@@ -32,7 +33,7 @@ use Rattle.vol_volume.specs.declared.queries.Reply.TheVariants as replies
 use Rattle.vol_volume.proofs.Accepted.{create_passed, mkdir_passed}
 use Rattle.vol_import.proofs.TreeWalks.{Reaches, passes_first, reaches, parent_found}
 use Rattle.vol_import.specs.MadeMembers.{HasFile}
-use Rattle.vol_import.proofs.MadeNames.{LeadsTo, MakesName, Gains, entered, searched_names, path_kept, leads_still, name_made, name_linked, gains_made}
+use Rattle.vol_import.proofs.MadeNames.{LeadsTo, MakesAt, MakesName, Gains, HasNoOthers, entered, get_insert, searched_names, path_kept, leads_still, name_made, name_linked, gains_made}
 
 -- a number that can be taken has no node
 free_none : (tree : Tree) (i : ℕ) → is_free_number tree i ≡ true → tree.nodes i ≡ None
@@ -44,13 +45,30 @@ free_none t i free =
     by None e = refl
     by (Some node) e = absurd (cc)
 
+-- a new directory has no names but `.` and `..`
+bare_directory : (edition : Edition) (now perm i d : ℕ) → HasNoOthers None (Some (new_node edition user now perm (new_directory i d) 2 32))
+bare_directory edition now perm i d word j is plain =
+    let parts = or_parts (bytes_eq word dot) (bytes_eq word dot_dot) plain in
+    let none : get (insert (insert [] dot i) dot_dot d) word ≡ None =
+    get_insert (insert [] dot i) dot_dot word d
+    ∙ (ap (λ b. cond b (Some d) (get (insert [] dot i) word)) parts.1
+    ∙ (get_insert [] dot word i ∙ ap (λ b. cond b (Some i) (get [] word)) parts.0)) in
+    let both : Err refusals.NoEntry ≡ Ok j = sym (ap (λ (o : Option ℕ). ok_or o refusals.NoEntry) none) ∙ is in
+    absurd (cc)
+
 -- the entry that a call makes for a new node in the directory that its path leads to
 makes_name : (state : State) (path : List ℕ) (now size d i : ℕ) (name : List ℕ) (node : Node) → Reaches state.tree path d name → TakesName state d name
-    → is_free_number state.tree i ≡ true
+    → is_free_number state.tree i ≡ true → HasNoOthers None (Some node)
     → MakesName state.tree.nodes (set_at (set_at state.tree.nodes i (Some node)) d (entered now size name i (set_at state.tree.nodes i (Some node) d))) d name i node
-makes_name state path now size d i name node reached takes free =
+makes_name state path now size d i name node reached takes free bare =
     name_made state.tree.nodes now size d i name node reached.names (free_none state.tree i free) reached.searched
-    (ap (λ names. get names name) (sym (searched_names (state.tree.nodes d) reached.names reached.searched)) ∙ takes.fresh)
+    (ap (λ names. get names name) (sym (searched_names (state.tree.nodes d) reached.names reached.searched)) ∙ takes.fresh) bare
+
+-- so its path ends with a new name
+made_at : (old new : Tree) (path : List ℕ) (d i : ℕ) (name : List ℕ) (node : Node) → root new ≡ root old → Reaches old path d name
+    → MakesName old.nodes new.nodes d name i node → MakesAt old new path node
+made_at old new path d i name node same reached makes =
+    (record { directory = d; name = name; number = i; rooted = same; reached = reached; enters = makes.enters }, makes)
 
 -- a path leads to a regular file of these bytes
 pub record Holds (tree : Tree) (path bytes : List ℕ) : Type 0 where
@@ -60,23 +78,28 @@ pub record Holds (tree : Tree) (path bytes : List ℕ) : Type 0 where
   pub size : node.size ≡ length bytes
 
 -- an accepted Create makes an empty file at its path
-pub create_gains : (state : State) (now perm : ℕ) (path : List ℕ) (done : Done) → verdict state (Create user now path perm) ≡ None
+pub create_makes : (state : State) (now perm : ℕ) (path : List ℕ) (done : Done) → verdict state (Create user now path perm) ≡ None
     → MayAnswer state (Create user now path perm) done
-    → Gains state.tree (step state (Create user now path perm) done).tree path (new_node state.tree.geometry.edition user now perm (Body []) 1 0)
+    → MakesAt state.tree (step state (Create user now path perm) done).tree path (new_node state.tree.geometry.edition user now perm (Body []) 1 0)
 unfolding verdict changed_by
-create_gains state now perm path (Made i) accepted free =
+create_makes state now perm path (Made i) accepted free =
     let node = new_node state.tree.geometry.edition user now perm (Body []) 1 0 in
     let first = passes_first state.tree path (of_parent (walk_parent state.tree user path) refusals.Exists (create_tests state user)) accepted in
     let parent = parent_found (walk_parent state.tree user path) refusals.Exists (create_tests state user) first.others_pass in
     let may = create_passed state user path parent.0 parent.1 accepted parent.2 in
     let size = size_with_entry (put_shape i no_shape (put_node i (Some node) state)) parent.0 in
     let reached = reaches state.tree path parent.0 parent.1 parent.2 in
-    subst (λ (p : Option (Result (ℕ × List ℕ) Refusal)). Gains state.tree (at_time now (on_parent state p (after_create state user now perm i))).tree path node)
+    subst (λ (p : Option (Result (ℕ × List ℕ) Refusal)). MakesAt state.tree (at_time now (on_parent state p (after_create state user now perm i))).tree path node)
     (sym parent.2)
-    (gains_made state.tree (at_time now (after_create state user now perm i parent.0 parent.1)).tree path parent.0 i parent.1 node refl reached
-    (makes_name state path now size parent.0 i parent.1 node reached may.0.takes free))
-create_gains state now perm path (Wrote n) accepted free = absurd free
-create_gains state now perm path Plain accepted free = absurd free
+    (made_at state.tree (at_time now (after_create state user now perm i parent.0 parent.1)).tree path parent.0 i parent.1 node refl reached
+    (makes_name state path now size parent.0 i parent.1 node reached may.0.takes free (λ word j is plain. is)))
+create_makes state now perm path (Wrote n) accepted free = absurd free
+create_makes state now perm path Plain accepted free = absurd free
+
+pub create_gains : (state : State) (now perm : ℕ) (path : List ℕ) (done : Done) → verdict state (Create user now path perm) ≡ None
+    → MayAnswer state (Create user now path perm) done
+    → Gains state.tree (step state (Create user now path perm) done).tree path (new_node state.tree.geometry.edition user now perm (Body []) 1 0)
+create_gains state now perm path done accepted free = gains_made state.tree _ path _ (create_makes state now perm path done accepted free)
 
 pub create_holds : (state : State) (now perm : ℕ) (path : List ℕ) (done : Done) → verdict state (Create user now path perm) ≡ None
     → MayAnswer state (Create user now path perm) done → Holds (step state (Create user now path perm) done).tree path []
@@ -88,12 +111,12 @@ create_holds state now perm path done accepted free = record {
 }
 
 -- an accepted Mkdir makes a directory there
-pub mkdir_gains : (state : State) (now perm : ℕ) (path : List ℕ) (done : Done) → verdict state (Mkdir user now path perm) ≡ None
+pub mkdir_makes : (state : State) (now perm : ℕ) (path : List ℕ) (done : Done) → verdict state (Mkdir user now path perm) ≡ None
     → MayAnswer state (Mkdir user now path perm) done
-    → (names : Names) × Gains state.tree (step state (Mkdir user now path perm) done).tree path
+    → (names : Names) × MakesAt state.tree (step state (Mkdir user now path perm) done).tree path
     (new_node state.tree.geometry.edition user now perm (Directory names) 2 32)
 unfolding verdict changed_by
-mkdir_gains state now perm path (Made i) accepted free =
+mkdir_makes state now perm path (Made i) accepted free =
     let first = passes_first state.tree path (of_parent (walk_parent state.tree user path) refusals.Exists (mkdir_tests state user)) accepted in
     let parent = parent_found (walk_parent state.tree user path) refusals.Exists (mkdir_tests state user) first.others_pass in
     let may = mkdir_passed state user path parent.0 parent.1 accepted parent.2 in
@@ -102,14 +125,23 @@ mkdir_gains state now perm path (Made i) accepted free =
     let size = size_with_entry (put_shape i (new_directory_shape state.tree.geometry.edition) (put_node i (Some node) state)) parent.0 in
     let reached = reaches state.tree path parent.0 parent.1 parent.2 in (
       insert (insert [] dot i) dot_dot parent.0,
-      subst (λ (p : Option (Result (ℕ × List ℕ) Refusal)). Gains state.tree (at_time now (on_parent state p (after_mkdir state user now perm i))).tree path node)
+      subst (λ (p : Option (Result (ℕ × List ℕ) Refusal)). MakesAt state.tree (at_time now (on_parent state p (after_mkdir state user now perm i))).tree path node)
           (sym parent.2)
-          (gains_made state.tree (at_time now (after_mkdir state user now perm i parent.0 parent.1)).tree path parent.0 i parent.1 node refl reached
+          (made_at state.tree (at_time now (after_mkdir state user now perm i parent.0 parent.1)).tree path parent.0 i parent.1 node refl reached
           (name_linked state.tree.nodes (set_at put parent.0 (entered now size parent.1 i (put parent.0))) now parent.0 i parent.1 node
-          (makes_name state path now size parent.0 i parent.1 node reached may.0.takes free))),
+          (makes_name state path now size parent.0 i parent.1 node reached may.0.takes free
+          (bare_directory state.tree.geometry.edition now perm i parent.0)))),
     )
-mkdir_gains state now perm path (Wrote n) accepted free = absurd free
-mkdir_gains state now perm path Plain accepted free = absurd free
+mkdir_makes state now perm path (Wrote n) accepted free = absurd free
+mkdir_makes state now perm path Plain accepted free = absurd free
+
+pub mkdir_gains : (state : State) (now perm : ℕ) (path : List ℕ) (done : Done) → verdict state (Mkdir user now path perm) ≡ None
+    → MayAnswer state (Mkdir user now path perm) done
+    → (names : Names) × Gains state.tree (step state (Mkdir user now path perm) done).tree path
+    (new_node state.tree.geometry.edition user now perm (Directory names) 2 32)
+mkdir_gains state now perm path done accepted free =
+    let made = mkdir_makes state now perm path done accepted free in
+    (made.0, gains_made state.tree _ path _ made.1)
 
 -- if no check of a node fails, there is one
 pub node_found : (walked : Result ℕ Refusal) (others : ℕ → Option Refusal) → of_node walked others ≡ None → (i : ℕ) × (walked ≡ Ok i) × (others i ≡ None)

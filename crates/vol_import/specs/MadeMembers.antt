@@ -1,15 +1,17 @@
 -- The members of an archive after an import.
-use Rattle.std.specs.Prelude.{◌≡◌, ◌≢◌, ℕ, Bool, false, List, [], ◌∷◌, Result, Ok, Err, length}
-use Rattle.std.specs.List.{list_any}
+use Rattle.std.specs.Prelude.{◌≡◌, ◌≢◌, ◌⊎◌, ℕ, Bool, false, List, [], ◌∷◌, ◌++◌, Any, Result, Ok, Err, length}
+use Rattle.std.specs.List.{flat_map, list_any}
 use Rattle.std.specs.Str.{bytes_eq}
 use Rattle.vol_dir.specs.Access.{user}
+use Rattle.vol_dir.specs.Names.{is_dots}
 use Rattle.vol_dir.specs.Tree.{Tree}
+use Rattle.vol_dir.specs.Walk.{components, find_in, root, walk_from}
 use Rattle.vol_layout.specs.declared.mode.Kind.TheVariants as kinds
 use Rattle.vol_volume.specs.Answer.{answer, read_bytes}
 use Rattle.vol_volume.specs.declared.queries.Query.TheVariants as queries
 use Rattle.vol_volume.specs.declared.queries.Reply.TheVariants as replies
 use Rattle.vol_volume.specs.declared.queries.Stat.{Stat}
-use Rattle.vol_import.specs.Plan.{below, is_directory, joined, made_as, moment_of, permissions_of, steps_of}
+use Rattle.vol_import.specs.Plan.{below, is_directory, joined, made_as, moment_of, permissions_of, steps_of, way_of}
 use Rattle.vol_import.specs.declared.member_check.MadeAs.{MadeAs}
 use Rattle.vol_import.specs.declared.member_check.MadeAs.TheVariants.{File, Directory, Link}
 use Rattle.vol_import.specs.declared.member_check.MemberFault.{MemberFault}
@@ -100,7 +102,27 @@ pub record KeepsNode (old tree : Tree) (path : List ℕ) (told : Stat) : Type 0 
 abbrev pub KeepsNodes : Tree → Tree → Type 0
 KeepsNodes old tree = (path : List ℕ) (told : Stat) → answer old (queries.Stat user path) ≡ Ok (replies.Stat told) → KeepsNode old tree path told
 
--- a tree has all members of an archive, which can be read, and keeps the nodes of another one (POSIX, ustar interchange format)
+-- a path ends with a name, after others that lead to directory d (Lions on namei)
+pub record EndsIn (tree : Tree) (d : ℕ) (name path : List ℕ) : Type 0 where
+  pub front : List (List ℕ)
+  pub parts : components path ≡ front ++ name ∷ []
+  pub leads : walk_from tree user (root tree) front ≡ Ok d
+
+-- each name in a directory of a tree is in one of another, for the same i-number, or is `.` or `..`, or one of some paths ends with it in this directory (Lions on namei)
+abbrev pub AddsNames : Tree → Tree → List (List ℕ) → Type 0
+AddsNames old new paths = (d : ℕ) (name : List ℕ) (i : ℕ) → find_in new user d name ≡ Ok i → is_dots name ≡ false
+    → (find_in old user d name ≡ Ok i) ⊎ Any (EndsIn new d name) paths
+
+-- the paths of the directories on a way, given by its steps from a path below another on (this project)
+abbrev pub way_paths : List ℕ → List ℕ → List (List ℕ) → List (List ℕ)
+way_paths base path [] = []
+way_paths base path (step ∷ steps) = (base ++ (path ++ 47 ∷ step)) ∷ way_paths base (path ++ 47 ∷ step) steps
+
+-- the paths that a member has made below another: those of the directories on the way to it, and its own (this project)
+abbrev pub made_paths : List ℕ → Member → List (List ℕ)
+made_paths base member = way_paths base [] (way_of (steps_of member.path)) ++ below base member.path ∷ []
+
+-- a tree has all members of an archive, which can be read, keeps the nodes of another one, and has no names but its and those of the members' paths (POSIX, ustar interchange format)
 unfoldable pub HasArchive : Tree → Tree → List ℕ → ℕ → Result (List Member) ArchiveFault → Type 0
-HasArchive old tree base now (Ok all) = HasMembers old tree base now all × KeepsNodes old tree
+HasArchive old tree base now (Ok all) = HasMembers old tree base now all × KeepsNodes old tree × AddsNames old tree (flat_map (made_paths base) all)
 HasArchive old tree base now (Err fault) = ⊥

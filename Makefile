@@ -51,13 +51,13 @@ library-test: library
 	tests/library.sh bindings/out/second
 
 bench: build
-	cd crates/bench_library && $(RT) run -- calls 0 0 create + checks 6 icheck 1 1 + views view 0 1 400 5 < stdin
-	bench/run.sh ./unixvol crates/bench_library/out/bench_library
+	cd crates/library_runs && $(RT) run -- calls 0 0 create + checks 6 icheck 1 1 + views view 0 1 400 5 < stdin
+	bench/run.sh ./unixvol crates/library_runs/out/library_runs
 
-# The runs of the libraries use the program `refused_memory`, which the gate runs once with nothing refused.
+# The gate runs the program `library_runs` once with nothing refused.
 faults: build
-	cd crates/refused_memory && $(RT) run -- volume
-	tests/refused.sh crates/refused_memory/out/refused_memory
+	cd crates/library_runs && $(RT) run -- refused volume < stdin
+	tests/refused.sh crates/library_runs/out/library_runs
 	tests/faults.sh ./unixvol
 
 # They are kept outside the crates, since the gate tries all wrong bodies in must-fail.

@@ -1,6 +1,6 @@
 #!/usr/bin/env bash
 # Times the program against bench/plain, which does the same jobs in plain Rust, and compares their results byte by byte.
-# Usage: bench/run.sh PROGRAM LIBRARY, where LIBRARY is the built crates/bench_library.
+# Usage: bench/run.sh PROGRAM LIBRARY, where LIBRARY is the built crates/library_runs.
 # It needs rustc, some 900 MB of disk, and an otherwise idle machine.
 # Times are the best of five alternating runs of the whole command; memory is the greatest resident size of a run.
 # The last column, if a row has it, is that memory divided by two copies of the image and one of the file that is put; for the shared volume, the number of

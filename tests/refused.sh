@@ -1,14 +1,14 @@
 #!/usr/bin/env bash
-# Does each run of the program `refused_memory` with each of its allocations refused in turn: the first, the second, .., until no allocation is
+# Does each run `refused` of the program `library_runs` with each of its allocations refused in turn: the first, the second, .., until no allocation is
 # refused. The program checks the state after a refusal, and prints the number of broken promises; each run must print that there were none, and end
 # with status 0. Some runs are also done with all allocations refused from the first on, from the second on, ..: then a repeated step finds no memory
 # either, and the run may end there, which it counts as one broken promise, or at its words, with status 1. A run that takes 20 seconds is ended, and
 # fails; so does a program without refusals, such as one with an allocator of its own.
-# Usage: tests/refused.sh REFUSED_MEMORY [RUN..]. It needs rustc, which builds tests/refusing.rs. It prints a line for each run that fails and one for
+# Usage: tests/refused.sh LIBRARY_RUNS [RUN..]. It needs rustc, which builds tests/refusing.rs. It prints a line for each run that fails and one for
 # each kind of run, and ends with 'N passed, N failed'.
 set -uo pipefail
 export LC_ALL=C
-usage='usage: tests/refused.sh REFUSED_MEMORY [RUN..]'
+usage='usage: tests/refused.sh LIBRARY_RUNS [RUN..]'
 program=$(realpath "${1:?$usage}")
 shift
 [ "$#" -gt 0 ] || set -- volume sessions views
@@ -41,7 +41,7 @@ refuse() {
     local number=0 status
     while true; do
         number=$((number + 1))
-        timeout 20 env "$1=$number" LD_PRELOAD="$folder/refusing.so" "$program" "$2" > output 2> error 9> met
+        timeout 20 env "$1=$number" LD_PRELOAD="$folder/refusing.so" "$program" refused "$2" > output 2> error 9> met
         status=$?
         if is_right "$1" "$status"; then
             passed=$((passed + 1))

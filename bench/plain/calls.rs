@@ -1,4 +1,4 @@
-//! Many calls on one new volume, as `bench_library calls` makes them, with a journal of them.
+//! Many calls on one new volume, as `library_runs calls` makes them, with a journal of them.
 
 use crate::volume::{Edition, Volume};
 use crate::Outcome;

@@ -18,7 +18,7 @@
 //! plain archive DIRECTORIES FILES BYTES          an archive of directories with FILES files of BYTES bytes each
 //! plain sample 6|7 IMAGE FSIZE IBLOCKS BYTES     a new volume with a file of BYTES bytes, the i-node after the root's
 //! plain fill 6|7 IMAGE FSIZE IBLOCKS FILES       a new volume with FILES files of various sizes, half of them in /many
-//! plain calls DIRECTORIES NAMES create|write [image]     calls as `bench_library calls` makes them
+//! plain calls DIRECTORIES NAMES create|write [image]     calls as `library_runs calls` makes them
 //! plain sparse 6|7 IMAGE FSIZE IBLOCKS COUNT     a new volume with COUNT directories of the greatest size, mostly holes
 //! plain hostile 6|7 IMAGE FSIZE IBLOCKS PATTERN  a volume, usually unsound, on which a checker may work for a long time (`hostile.rs`)
 

@@ -1,5 +1,0 @@
-use Rattle.std.proofs.Common.{◌≡◌, Some}
-use Rattle.bench_library.proofs.queries.ask_view.Given as goal
-
-abbrev pub invariant-loop : goal.invariant-loop
-invariant-loop l = l.fn.shared.of.book ≡ Some l.view.book

@@ -51,13 +51,13 @@ small_bits geometry image x node = by (is_number geometry x) (content_of geometr
         subst (λ (n : Node). n.permissions % 4096 ≡ n.permissions) same (twice (inode_of geometry.edition image x).mode.bits)
 
 -- a path whose Stat is answered leads to a node
-record IsTold (tree : Tree) (path : List ℕ) (told : Stat) : Type 0 where
+pub record IsTold (tree : Tree) (path : List ℕ) (told : Stat) : Type 0 where
   pub number : ℕ
   pub walked : walk tree user path ≡ Ok number
   pub plain : list_any has_zero (path ∷ []) ≡ false
   pub is : told ≡ stat_of number (node_at tree number)
 
-stat_told : (tree : Tree) (path : List ℕ) (told : Stat) → answer tree (queries.Stat user path) ≡ Ok (replies.Stat told) → IsTold tree path told
+pub stat_told : (tree : Tree) (path : List ℕ) (told : Stat) → answer tree (queries.Stat user path) ≡ Ok (replies.Stat told) → IsTold tree path told
 unfolding query_refusal reply_of
 stat_told tree path told = by (is_bad_id tree.geometry.edition 0 0) (list_any has_zero (path ∷ [])) (walk tree user path) refl refl
   where

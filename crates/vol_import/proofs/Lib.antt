@@ -18,6 +18,7 @@ pub mod MemberRuns
 mod NodeNumbers
 pub mod PlanRuns
 pub mod RecordRuns
+mod SameTrees
 mod SplitPaths
 pub mod Steps
 pub mod TreeWalks

@@ -54,11 +54,11 @@ abbrev longer : List ℕ → Option (List (List ℕ) × List ℕ) → List (List
 longer name parts = option_map_or (λ (some : List (List ℕ) × List ℕ). (name ∷ some.0, some.1)) parts ([], name)
 
 -- names, cut before the last
-split_none : (names : List (List ℕ)) → split_last names ≡ None → names ≡ []
+pub split_none : (names : List (List ℕ)) → split_last names ≡ None → names ≡ []
 split_none [] e = refl
 split_none (name ∷ names) e = cc
 
-split_is : (names front : List (List ℕ)) (last : List ℕ) → split_last names ≡ Some (front, last) → names ≡ front ++ last ∷ []
+pub split_is : (names front : List (List ℕ)) (last : List ℕ) → split_last names ≡ Some (front, last) → names ≡ front ++ last ∷ []
 split_is [] front last e = cc
 split_is (name ∷ names) front last e = by (split_last names) (λ none. split_none names none) (λ some is. split_is names some.0 some.1 is) e
   where

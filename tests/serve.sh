@@ -3,11 +3,11 @@
 # are those that the other commands print, for both editions and for images that aren't sound, and each request that wants a reply gets one.
 # tests/mount.sh mounts volumes. Usage: tests/serve.sh PROGRAM. It prints a line for each row that fails, and ends with 'N passed, N failed'.
 kernel=$(realpath "$(dirname "$0")/serves/kernel.py")
+changes=$(realpath "$(dirname "$0")/serves/changes.py")
 . "$(dirname "$0")/rows.sh"
 linux="$samples/linux_made.v7"
 
 # The words, and images that aren't served.
-misread "error: the option '--read-only' is missing: nothing can be changed through a mounted volume yet" serve 7 "$linux"
 misread 'error: the following required arguments were not provided' serve --read-only 7
 misread "error: invalid value '8' for '<EDITION>'" serve --read-only 8 "$linux"
 helps serve --help
@@ -22,11 +22,25 @@ wants 'serve of a short image, explained' 1 none line
 # Input that ends at once.
 prints none serve --read-only 7 "$linux"
 
+# With changes an image must be sound, and is locked; without one it stays as it is.
+refuses 1 'unixvol: unsound, rule 2' serve 6 "$linux"
+refuses 1 'unixvol: unsound, rule 1' serve 7 short.img
+refuses 3 'unixvol: cannot read none.img' serve --mine 7 none.img
+mkfifo pipe
+refuses 3 'unixvol: cannot write pipe' serve 7 pipe
+cp "$linux" served
+prints none serve 7 served
+prints none serve --mine 7 served
+saves 'a server without a change' served "$linux"
+
 # node_at I: the offset of i-node I in an image of the edition
 node_at() { echo $((1024 + (edition == 6 ? 32 : 64) * ($1 - 1))); }
 
 # number PATH: the i-number at a path of the volume
 number() { "$program" ls -d "$edition" volume "$1" | awk 'NR == 1 { print $1 }'; }
+
+# changes KIND WORD..: a server with changes, by serves/changes.py
+changes() { has "changes: $*" '' "$(timeout 60 python3 "$changes" "$1" "$program" "$edition" "${@:2}" 2>&1)"; }
 
 # breaks RULE IMAGE: this is the first rule that the image breaks; a server says so, and ends with its input
 breaks() {
@@ -40,8 +54,8 @@ serves() {
     has "$1" "$2 files; $3" "$(timeout 60 python3 "$kernel" tree "$program" "$4" "$5" 2>&1)"
 }
 
-# answers SEED EDITION IMAGE: random requests get replies
-answers() { has "random requests $1 to $3" '' "$(timeout 60 python3 "$kernel" random "$program" "$2" "$3" "$1" 1500 2>&1)"; }
+# answers SEED EDITION IMAGE [OPTION]: random requests get replies
+answers() { has "random requests $1 to $3" '' "$(timeout 60 python3 "$kernel" random "$program" "$2" "$3" "$1" 1500 "${@:4}" 2>&1)"; }
 
 if ! command -v python3 > /dev/null; then
     echo 'skipped: the pretended kernel, since there is no python3'
@@ -97,6 +111,19 @@ for edition in 6 7; do
     serves "a directory that has the root in edition $edition" 80 "$(runs serve --read-only "$edition" circle.img; cat error)" "$edition" circle.img
     changed volume free.img $((at - 2)) 2C01
     serves "an entry without a file in edition $edition" 80 "$(runs serve --read-only "$edition" free.img; cat error)" "$edition" free.img
+
+    # Changes. Random ones leave a sound image.
+    for kind in session mine full replaced; do
+        "$program" mkfs "$edition" empty 6000 40 0 0 1000
+        changes $kind empty
+    done
+    for seed in 5 6; do
+        cp volume changed.img
+        answers "$edition$seed" "$edition" changed.img --mine
+        "$program" check "$edition" changed.img > output
+        has "a sound image after random requests $edition$seed" 0 $?
+        has "random requests $edition$seed change the image" 1 "$(cmp -s volume changed.img; echo $?)"
+    done
     answers 3 "$edition" circle.img
     answers 4 "$edition" free.img
 done

@@ -1,7 +1,8 @@
 #!/usr/bin/env python3
 """Plays the Linux kernel for `unixvol serve`, without /dev/fuse and without rights: a socket keeps each request and each reply whole.
 Usage: kernel.py tree PROGRAM EDITION IMAGE          all that is served is compared with what the program prints of the image
-       kernel.py random PROGRAM EDITION IMAGE SEED COUNT    random requests, many of them cut off, are each answered once
+       kernel.py random PROGRAM EDITION IMAGE SEED COUNT [OPTION..]    random requests, many of them cut off, are each answered once; the
+                                                     server gets the options, else --read-only
        kernel.py request                             writes the first request of a mount
 It prints a line for each thing that is wrong. Numbers and structs are those of Linux's include/uapi/linux/fuse.h."""
 import json, random, socket, struct, subprocess, sys
@@ -16,6 +17,8 @@ CHANGES = {
     "UNLINK": (UNLINK, b"new\0"), "RMDIR": (RMDIR, b"new\0"), "RENAME": (RENAME, bytes(8) + b"old\0new\0"), "LINK": (LINK, bytes(8) + b"new\0"),
     "WRITE": (WRITE, bytes(40)), "CREATE": (CREATE, bytes(16) + b"new\0"), "RENAME2": (RENAME2, bytes(16) + b"old\0new\0"),
 }
+# What some of them have before their names, in bytes.
+HEADS = {MKNOD: 16, MKDIR: 8, UNLINK: 0, RMDIR: 0, RENAME: 8, LINK: 8, CREATE: 16, RENAME2: 16}
 ROOT = 1
 ENOENT, ENOSYS, ENAMETOOLONG, EROFS = 2, 38, 36, 30
 
@@ -46,15 +49,14 @@ class Attributes:
 
 
 class Kernel:
-    def __init__(self, program, edition, image):
+    def __init__(self, program, edition, image, options=("--read-only",)):
         self.ours, theirs = socket.socketpair(socket.AF_UNIX, socket.SOCK_SEQPACKET)
         for end in self.ours, theirs:
             end.setsockopt(socket.SOL_SOCKET, socket.SO_SNDBUF, 1 << 20)
         self.ours.settimeout(20)
-        self.server = subprocess.Popen([program, "serve", "--read-only", edition, image], stdin=theirs, stdout=theirs,
-                                       stderr=subprocess.PIPE)
+        self.server = subprocess.Popen([program, "serve", *options, edition, image], stdin=theirs, stdout=theirs, stderr=subprocess.PIPE)
         theirs.close()
-        self.unique = 0
+        self.options, self.unique = options, 0
 
     def send(self, opcode, node, body=b"", length=None):
         self.unique += 2
@@ -246,10 +248,10 @@ def compare_tree(program, edition, image):
     print(f"{count} files; {said.strip()}")
 
 
-def random_requests(program, edition, image, seed, count):
+def random_requests(program, edition, image, seed, count, options):
     """Each request that wants a reply gets one, whatever it is; one that can't be answered, or wants no reply, gets none."""
     chance = random.Random(seed)
-    kernel = Kernel(program, edition, image)
+    kernel = Kernel(program, edition, image, options or ["--read-only"])
     kernel.begin()
     nodes = [ROOT, ROOT, ROOT, 0, 2, 94, 1 << 16, 1 << 32, (1 << 64) - 1]
     names = [b"etc", b"usr", b"d", b"a", b".", b"..", b"", b"fourteen-bytes", b"fifteen-bytes..", b"a/b", b"\xff", 300 * b"n"]
@@ -260,11 +262,23 @@ def random_requests(program, edition, image, seed, count):
 
     for _ in range(count):
         opcode = chance.choice(common) if chance.random() < 0.8 else chance.choice((chance.randrange(60), chance.randrange(1 << 32)))
+        if "--read-only" not in kernel.options and chance.random() < 0.6:
+            opcode = chance.choice(list(CHANGES.values()))[0]
         body = b"".join(struct.pack("<I", number()) for _ in range(chance.randrange(20)))
         if opcode == LOOKUP:
             body = chance.choice(names) + b"\0"
         elif opcode in (READ, READDIR):
             body = struct.pack("<QQIIQII", number(), number() << chance.choice((0, 0, 0, 31)), number(), 0, 0, 0, 0)
+        elif opcode == WRITE:
+            size = chance.choice((0, 1, 511, 512, 70000))
+            body = struct.pack("<QQIIQII", 0, number() << chance.choice((0, 0, 31)), size, 0, 0, 0, 0) + bytes(size)
+        elif opcode == SETATTR:
+            body = struct.pack("<22I", *(number() for _ in range(22)))
+        elif opcode in HEADS:
+            to = struct.pack("<QQ", chance.choice(nodes), number() % 3)
+            mode = struct.pack("<IIQ", chance.choice((0o100644, 0o040755, number())), number(), 0)
+            head = to if opcode in (LINK, RENAME, RENAME2) else mode
+            body = head[:HEADS[opcode]] + b"".join(chance.choice(names) + b"\0" for _ in range(2 if opcode in (RENAME, RENAME2) else 1))
         length = None
         odd = chance.random()
         if odd < 0.1:
@@ -283,7 +297,7 @@ def random_requests(program, edition, image, seed, count):
         check(f"the error of {opcode} is a number of an error", True, 0 <= error < 512)
         if error:
             check(f"a reply of {opcode} with an error", b"", reply)
-        elif opcode == LOOKUP and length in (None, 40 + len(body)):
+        elif opcode in (LOOKUP, MKNOD, MKDIR, LINK) and length in (None, 40 + len(body)):
             check("the bytes of an entry", 128, len(reply))
             nodes.append(int.from_bytes(reply[:8], "little"))
         elif opcode in (READ, READDIR):
@@ -299,9 +313,10 @@ def main():
     elif sys.argv[1] == "tree":
         compare_tree(*sys.argv[2:5])
     else:
-        random_requests(*sys.argv[2:5], int(sys.argv[5]), int(sys.argv[6]))
+        random_requests(*sys.argv[2:5], int(sys.argv[5]), int(sys.argv[6]), sys.argv[7:])
     print("\n".join(wrong[:10]), end="\n" if wrong else "")
     sys.exit(1 if wrong else 0)
 
 
-main()
+if __name__ == "__main__":
+    main()

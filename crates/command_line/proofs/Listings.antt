@@ -151,7 +151,7 @@ asks_listing clock given edition image path (invocations.Cat volume ino) test e_
 asks_listing clock given edition image path (invocations.Mkfs i volume) test e_is i_is p_is none is = absurd (true≢false (sym test))
 asks_listing clock given edition image path (invocations.Migrate old new migration) test e_is i_is p_is none is = absurd (true≢false (sym test))
 asks_listing clock given edition image path (invocations.Get volume p) test e_is i_is p_is none is = absurd (true≢false (sym test))
-asks_listing clock given edition image path (invocations.Serve volume) test e_is i_is p_is none is = absurd (true≢false (sym test))
+asks_listing clock given edition image path (invocations.Serve volume serving) test e_is i_is p_is none is = absurd (true≢false (sym test))
 asks_listing clock given edition image path (invocations.Change volume (changes.Put p file now)) test e_is i_is p_is none is = absurd (true≢false (sym test))
 asks_listing clock given edition image path (invocations.Change volume (changes.Import p now)) test e_is i_is p_is none is = absurd (true≢false (sym test))
 asks_listing clock given edition image path (invocations.Change volume (changes.Rm p now)) test e_is i_is p_is none is = absurd (true≢false (sym test))
@@ -217,7 +217,7 @@ listing_asks clock (Some met) edition image path (invocations.Cat volume ino) is
 listing_asks clock (Some met) edition image path (invocations.Mkfs i volume) is listed = absurd listed
 listing_asks clock (Some met) edition image path (invocations.Migrate old new migration) is listed = absurd listed
 listing_asks clock (Some met) edition image path (invocations.Get volume p) is listed = absurd listed
-listing_asks clock (Some met) edition image path (invocations.Serve volume) is listed = absurd listed
+listing_asks clock (Some met) edition image path (invocations.Serve volume serving) is listed = absurd listed
 listing_asks clock (Some met) edition image path (invocations.Look v (looks.Export p)) is listed = absurd listed
 listing_asks clock (Some met) edition image path (invocations.Look v (looks.Inode number form)) is listed = absurd listed
 listing_asks clock (Some met) edition image path (invocations.Look v (looks.Super form)) is listed = absurd listed

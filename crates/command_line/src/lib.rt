@@ -21,7 +21,7 @@ mod reword;
 
 use builder::Builder;
 use clap_words::ClapWords;
-pub use command_words::{Copying, Invocation, MadeFile, VolumeFile, Work};
+pub use command_words::{Copying, Invocation, MadeFile, Serving, VolumeFile, Work};
 pub use explain::asks_to_explain;
 pub use reword::reworded;
 
@@ -133,6 +133,5 @@ fn wrong_text(alloc: Global, word: WrongWord<'_>) -> Result<String, AllocError> 
         Said::Nothing => format!(in alloc; "no value for '<{name}>': {wanted}"),
         Said::Word(text) => format!(in alloc; "invalid value '{text}' for '<{name}>': {wanted}"),
         Said::Words(count) => format!(in alloc; "invalid value '{count}' for '<{name}>': {wanted}"),
-        Said::NoOption => format!(in alloc; "the option '--{name}' is missing: {wanted}"),
     }
 }

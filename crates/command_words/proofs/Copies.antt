@@ -57,7 +57,7 @@ puts clock given (invocations.Look volume (looks.List path listing)) put is = ab
 puts clock given (invocations.Cat volume ino) put is = absurd (true≢false (sym put))
 puts clock given (invocations.Mkfs i volume) put is = absurd (true≢false (sym put))
 puts clock given (invocations.Migrate old new migration) put is = absurd (true≢false (sym put))
-puts clock given (invocations.Serve volume) put is = absurd (true≢false (sym put))
+puts clock given (invocations.Serve volume serving) put is = absurd (true≢false (sym put))
 
 -- the invocations of `get`
 gets : (clock : Option ℕ) (given : Words) (invocation : Invocation) → is_get (verb_of invocation) ≡ true → IsGiven clock given invocation → IsGot given
@@ -91,7 +91,7 @@ gets clock given (invocations.Look volume (looks.List path listing)) got is = ab
 gets clock given (invocations.Cat volume ino) got is = absurd (true≢false (sym got))
 gets clock given (invocations.Mkfs i volume) got is = absurd (true≢false (sym got))
 gets clock given (invocations.Migrate old new migration) got is = absurd (true≢false (sym got))
-gets clock given (invocations.Serve volume) got is = absurd (true≢false (sym got))
+gets clock given (invocations.Serve volume serving) got is = absurd (true≢false (sym got))
 
 -- if neither one file nor several are put, there is no invocation
 no_put : (clock : Option ℕ) (given : Words) → (IsPut clock given → ⊥) → AsksForNothing clock verbs.Put given

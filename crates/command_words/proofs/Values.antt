@@ -86,7 +86,7 @@ values_given clock given (invocations.Work volume (works.Check checkers.Entries 
 values_given clock given (invocations.Work volume (works.Check checkers.Names workers)) is = (edition_value volume.edition _ is.0.0, (tt, (is.1.0, tt)))
 values_given clock given (invocations.Work volume (works.Play scripts)) is =
     (edition_value volume.edition _ is.0.0, (tt, (scripts_value scripts.items _ is.1.0 is.1.1 is.1.2, tt)))
-values_given clock given (invocations.Serve volume) is = (edition_value volume.edition _ is.0.0, (tt, (is.1, tt)))
+values_given clock given (invocations.Serve volume serving) is = (edition_value volume.edition _ is.0.0, (tt, (tt, (tt, tt))))
 
 -- words that are all valid have none that isn't
 none_wrong : (clock : Option ℕ) (given : Words) (row : List Argument) → AreValues clock given row → IsOneWrong clock given row → ⊥

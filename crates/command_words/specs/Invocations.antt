@@ -19,6 +19,8 @@ use Rattle.command_words.specs.declared.invocation.Copying.TheVariants as copies
 use Rattle.command_words.specs.declared.invocation.Invocation.{Invocation}
 use Rattle.command_words.specs.declared.invocation.Invocation.TheVariants as invocations
 use Rattle.command_words.specs.declared.invocation.MadeFile.{MadeFile}
+use Rattle.command_words.specs.declared.invocation.Serving.{Serving}
+use Rattle.command_words.specs.declared.invocation.Serving.TheVariants as servings
 use Rattle.command_words.specs.declared.invocation.VolumeFile.{VolumeFile}
 use Rattle.command_words.specs.declared.invocation.Work.{Work}
 use Rattle.command_words.specs.declared.invocation.Work.TheVariants as works
@@ -103,7 +105,6 @@ IsValue clock kinds.Threads words = IsThreads (first_word words)
 IsValue clock kinds.Moment words = (now : ℕ) × IsMomentGiven clock words now
 IsValue clock kinds.Scripts words = (1 ≤ length words) × (length words ≤ 64)
 IsValue clock kinds.Flag words = Unit {0}
-IsValue clock kinds.Wanted words = is_set words ≡ true
 
 -- the words given for each of these arguments are valid for it (this project)
 abbrev pub AreValues : Option ℕ → Words → List Argument → Type 0
@@ -166,7 +167,7 @@ verb_of (invocations.Change volume change) = change_verb change
 verb_of (invocations.Look volume look) = look_verb look
 verb_of (invocations.Copy volume copying) = copying_verb copying
 verb_of (invocations.Work volume work) = work_verb work
-verb_of (invocations.Serve volume) = verbs.Serve
+verb_of (invocations.Serve volume serving) = verbs.Serve
 
 -- the words name this volume (this project)
 abbrev pub IsVolumeGiven : Words → VolumeFile → Type 0
@@ -315,6 +316,12 @@ IsWorkGiven given (works.Check checker workers) = IsThreadsGiven (the_word given
 IsWorkGiven given (works.Play scripts) =
     (map (λ script. script.now) scripts.items ≡ given (codes "SCRIPT")) × (1 ≤ length scripts.items) × (length scripts.items ≤ 64)
 
+-- the words choose this way of serving: read-only if that option is given (this project)
+abbrev pub IsServingGiven : Words → Serving → Type 0
+IsServingGiven given servings.ReadOnly = is_set (given (codes "read-only")) ≡ true
+IsServingGiven given (servings.Changes is_mine) =
+    (is_set (given (codes "read-only")) ≡ false) × (is_mine ≡ is_set (given (codes "mine")))
+
 -- the words describe this invocation (this project)
 abbrev pub IsGiven : Option ℕ → Words → Invocation → Type 0
 IsGiven clock given (invocations.Cat volume ino) = IsVolumeGiven given volume × IsNumberGiven 65535 (the_word given (codes "INO")) ino
@@ -326,7 +333,7 @@ IsGiven clock given (invocations.Change volume change) = IsVolumeGiven given vol
 IsGiven clock given (invocations.Look volume look) = IsVolumeGiven given volume × IsLookGiven given look
 IsGiven clock given (invocations.Copy volume copying) = IsVolumeGiven given volume × IsCopyGiven clock given copying
 IsGiven clock given (invocations.Work volume work) = IsVolumeGiven given volume × IsWorkGiven given work
-IsGiven clock given (invocations.Serve volume) = IsVolumeGiven given volume × (is_set (given (codes "read-only")) ≡ true)
+IsGiven clock given (invocations.Serve volume serving) = IsVolumeGiven given volume × IsServingGiven given serving
 
 -- the command and the words for its arguments are this invocation (this project)
 abbrev pub AsksFor : Option ℕ → Verb → Words → Invocation → Type 0

@@ -135,7 +135,7 @@ arguments_of verbs.Salvage = on_volume []
 arguments_of verbs.Play = on_volume ((codes "SCRIPT", kinds.Scripts, needs.Several) ∷ [])
 arguments_of verbs.Migrate =
     word (codes "OLD") ∷ word (codes "NEW") ∷ long_number (codes "FSIZE") ∷ number (codes "IBLOCKS") ∷ moment ∷ option (codes "new") ∷ []
-arguments_of verbs.Serve = on_volume ((codes "read-only", kinds.Wanted, needs.Flag None) ∷ [])
+arguments_of verbs.Serve = on_volume (option (codes "read-only") ∷ option (codes "mine") ∷ [])
 
 -- all commands, in the order in which the help lists them (this project)
 abbrev pub all_verbs : List Verb

@@ -33,8 +33,6 @@ pub enum Said<'a> {
     Word(&'a str),
     /// This number of words.
     Words(usize),
-    /// An option is missing.
-    NoOption,
 }
 
 impl<'a> From<AllocError> for WordFault<'a> {

@@ -42,25 +42,6 @@ pub(crate) fn flag_in<'a, G: Given<'a>>(given: &G, name: &str) -> bool
     text_in(given, name) == SET
 }
 
-/// Succeeds if an option was given.
-pub(crate) fn option_in<'a, G: Given<'a>>(
-    given: &G,
-    name: &'a str,
-    wanted: &'a str,
-) -> Result<(), WordFault<'a>>
-    ensures read { IfOk result (λ _. is_set (G.words given.now name.now) ≡ true) }
-    ensures refused { IfErr result (TellsOf (IsValue None kinds.Wanted (G.words given.now name.now) → ⊥)) }
-{
-    if flag_in(given, name) {
-        return Ok(());
-    }
-    Err(WordFault::Wrong(WrongWord {
-        name,
-        said: Said::NoOption,
-        wanted,
-    }))
-}
-
 /// The word of an option that was given.
 const SET: &str = "true";
 

@@ -57,6 +57,15 @@ pub enum Copying<'a> {
     },
 }
 
+/// A way of serving a volume.
+#[derive(Clone, Copy, Debug, PartialEq, Eq)]
+pub enum Serving {
+    /// Read-only.
+    ReadOnly,
+    /// With changes; if `is_mine`, all nodes are shown as the caller's.
+    Changes { is_mine: bool },
+}
+
 /// A command with its arguments.
 #[derive(Debug, PartialEq, Eq, Drop)]
 pub enum Invocation<'a> {
@@ -101,8 +110,9 @@ pub enum Invocation<'a> {
         volume: VolumeFile<'a>,
         work: Work<'a>,
     },
-    /// Serve the volume in a file read-only to Linux's FUSE.
+    /// Serve the volume in a file to Linux's FUSE.
     Serve {
         volume: VolumeFile<'a>,
+        serving: Serving,
     },
 }

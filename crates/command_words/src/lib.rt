@@ -16,7 +16,7 @@ pub mod verbs;
 
 pub use fault::{Said, WordFault, WrongWord};
 pub use given::Given;
-pub use invocation::{Copying, Invocation, MadeFile, Moment, VolumeFile, Work};
+pub use invocation::{Copying, Invocation, MadeFile, Moment, Serving, VolumeFile, Work};
 pub use parameters::{Need, Parameter, ValueName, WordKind};
 pub use read_words::read;
 pub use verbs::{VERBS, Verb};

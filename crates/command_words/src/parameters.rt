@@ -26,8 +26,6 @@ pub enum WordKind {
     Scripts,
     /// No word of its own: an option that may be given.
     Flag,
-    /// No word of its own: an option that must be given.
-    Wanted,
 }
 
 /// The number of words that an argument takes.
@@ -378,9 +376,16 @@ const SVG: Parameter = Parameter {
 
 const READ_ONLY: Parameter = Parameter {
     name: "read-only",
-    kind: WordKind::Wanted,
+    kind: WordKind::Flag,
     need: Need::Flag(None),
     help: texts::READ_ONLY,
+};
+
+const MINE: Parameter = Parameter {
+    name: "mine",
+    kind: WordKind::Flag,
+    need: Need::Flag(None),
+    help: texts::MINE,
 };
 
 const SCRIPT: Parameter = Parameter {
@@ -462,7 +467,7 @@ pub static PLAY_WORDS: [Parameter; 3] = [EDITION, IMAGE, SCRIPT];
 pub static MIGRATE_WORDS: [Parameter; 6] = [OLD, NEW, BLOCKS, LIST_BLOCKS, MIGRATED, UNREPLACED];
 
 /// The words of `serve`.
-pub static SERVE_WORDS: [Parameter; 3] = [EDITION, IMAGE, READ_ONLY];
+pub static SERVE_WORDS: [Parameter; 4] = [EDITION, IMAGE, READ_ONLY, MINE];
 
 /// The words of `import`.
 pub static IMPORT_WORDS: [Parameter; 4] = [EDITION, IMAGE, IMPORTED, CALL_NOW];

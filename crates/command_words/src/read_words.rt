@@ -1,6 +1,6 @@
 //! Reads the words after a command.
 ghost use Rattle.std.specs.Prelude.{◌≡◌, ℕ, None, Option, IfOk, IfErr, codes};
-ghost use Rattle.command_words.specs.Invocations.{AreLinesGiven, AsksFor, AsksForNothing, IsDepthGiven, IsFormGiven, IsMadeGiven, IsOneWrong, IsPictureGiven, IsValue, IsVolumeGiven, TellsOf, checker_verb};
+ghost use Rattle.command_words.specs.Invocations.{AreLinesGiven, AsksFor, AsksForNothing, IsDepthGiven, IsFormGiven, IsMadeGiven, IsOneWrong, IsPictureGiven, IsServingGiven, IsValue, IsVolumeGiven, TellsOf, checker_verb};
 ghost use Rattle.command_words.specs.Verbs.{arguments_of, of_checker};
 ghost use Rattle.command_words.specs.declared.parameters.WordKind.TheVariants as kinds;
 ghost use Rattle.command_words.specs.declared.verbs.Verb.TheVariants as verbs;
@@ -8,10 +8,10 @@ ghost use Rattle.command_words.specs.declared.verbs.Verb.TheVariants as verbs;
 use crate::disks::list_default;
 use crate::fault::WordFault;
 use crate::given::{
-    Given, blocks_in, edition_in, flag_in, long_in, moment_in, option_in, permissions_in,
-    scripts_in, text_in, threads_in, word_in, word_or,
+    Given, blocks_in, edition_in, flag_in, long_in, moment_in, permissions_in, scripts_in, text_in,
+    threads_in, word_in, word_or,
 };
-use crate::invocation::{Copying, Invocation, MadeFile, VolumeFile, Work};
+use crate::invocation::{Copying, Invocation, MadeFile, Serving, VolumeFile, Work};
 use crate::several::{PutFiles, file_in, files_in, no_more, not_empty, paths_in};
 use crate::texts;
 use crate::verbs::Verb;
@@ -521,8 +521,23 @@ fn read_serve<'a, G: Given<'a>>(given: &G) -> Result<Invocation<'a>, WordFault<'
     ensures refused { IfErr result (TellsOf (IsOneWrong None (G.words given.now) (arguments_of verbs.Serve))) }
 {
     let volume = volume_in(given)?;
-    option_in(given, "read-only", texts::WANTS_READ_ONLY)?;
-    Ok(Invocation::Serve { volume })
+    Ok(Invocation::Serve {
+        volume,
+        serving: serving_in(given),
+    })
+}
+
+/// Returns how a volume is served.
+fn serving_in<'a, G: Given<'a>>(given: &G) -> Serving
+    ensures { IsServingGiven (G.words given.now) result }
+{
+    if flag_in(given, "read-only") {
+        Serving::ReadOnly
+    } else {
+        Serving::Changes {
+            is_mine: flag_in(given, "mine"),
+        }
+    }
 }
 
 /// Reads the edition and the file of the volume.

@@ -647,32 +647,38 @@ Status:
   3  `unixvol: cannot read OLD`, `unixvol: cannot write NEW`; with --new also where something has this path already
   4  `unixvol: 12 NoMemory`";
 
-pub const SERVE_ABOUT: &str =
-    "Serves a volume to Linux's FUSE, as `unixvol-mount` mounts it, of an image that isn't sound too.";
+pub const SERVE_ABOUT: &str = "Serves a volume to Linux's FUSE, as `unixvol-mount` mounts it.";
 
 pub const SERVE_MORE: &str = "\
 Example:
-  unixvol-mount --read-only 7 disk.img /mnt
-  unixvol serve --read-only 7 disk.img <&3 >&3
+  unixvol-mount 7 disk.img /mnt
+  unixvol serve 7 disk.img <&3 >&3
 
 Most users want `unixvol-mount`, which opens /dev/fuse, mounts it and starts this command (see its manual page). Requests
 of FUSE come from standard input, each by one read, and the replies go to standard output, each by one write, until the
 input ends or the volume is unmounted. So standard input is /dev/fuse, or a file or socket with requests.
 
-The image is read once, before the first request. It isn't changed: --read-only is needed, since nothing can be changed
-through a mounted volume yet. Of the volume's soundness only the image's size and its super-block's sizes are asked. Where
-it isn't sound, a line on standard error says the least rule that it breaks, and all is served to which entries lead.
+The image must be sound. It is locked until the command ends. What is changed is kept in memory, and saved at fsync of a
+file or directory, and at the end: a new file takes the image's place, as other commands save it. A save that fails has
+a line on standard error, and fsync an error. If the command is killed, what came after the last save is lost.
+
+With --read-only the image is read once, before the first request, and not locked or changed. It need not be sound: only
+its size and its super-block's sizes are checked. A line on standard error then names the least rule that it breaks, and
+all is served to which entries lead. --mine has no effect then.
 
 Status:
-  0  the input ended, or the volume was unmounted
-  1  `unixvol: unsound, rule 1`, `unixvol: unsound, rule 2`: the image is too short, or the sizes don't fit one another
+  0  the input ended, or the volume was unmounted, and all is saved
+  1  `unixvol: unsound, rule N`: the image breaks this rule, and none before it; with --read-only only rules 1 and 2
   2  the command line can't be read
-  3  `unixvol: cannot read IMAGE`, `unixvol: cannot read -` or `unixvol: cannot write -`: a stream failed
+  3  `unixvol: cannot read IMAGE`, `unixvol: cannot write IMAGE`, `unixvol: cannot read -` or `unixvol: cannot write -`:
+     a file or a stream failed
   4  `unixvol: 12 NoMemory`";
 
-pub const READ_ONLY: &str = "Serve the volume to be read, and not to be changed";
+pub const READ_ONLY: &str =
+    "Serve the volume to be read, and not to be changed; it need not be sound";
 
-pub const WANTS_READ_ONLY: &str = "nothing can be changed through a mounted volume yet";
+pub const MINE: &str =
+    "Show all files as the caller's; new ones belong to user 0 of the volume, and chown is refused";
 
 pub const OLD: &str = "The file that holds the old volume's bytes";
 

@@ -7,3 +7,4 @@ pub mod Done
 pub mod Looked
 pub mod MadeVolumes
 pub mod Played
+pub mod Saved

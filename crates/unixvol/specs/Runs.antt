@@ -250,7 +250,7 @@ IsPlainCommand (invocations.Look volume look) = ⊥
 IsPlainCommand (invocations.Change volume change) = ⊥
 IsPlainCommand (invocations.Copy volume copying) = ⊥
 IsPlainCommand (invocations.Work volume work) = ⊥
-IsPlainCommand (invocations.Serve volume) = ⊥
+IsPlainCommand (invocations.Serve volume serving) = ⊥
 IsPlainCommand _ = Unit {0}
 
 -- a plain command runs: its output, what files give and take, and the status; other commands run elsewhere (this project)
@@ -263,7 +263,7 @@ Runs streams files status (invocations.Look volume look) = ⊥
 Runs streams files status (invocations.Change volume change) = ⊥
 Runs streams files status (invocations.Copy volume copying) = ⊥
 Runs streams files status (invocations.Work volume work) = ⊥
-Runs streams files status (invocations.Serve volume) = ⊥
+Runs streams files status (invocations.Serve volume serving) = ⊥
 
 -- the result of an error of the command line: the status by its kind, which is 3 only if standard output failed, and no line of a command (this project)
 pub record Tells (streams : Streams) (kind : ErrorKind) (status : ℕ) : Type 0 where

@@ -8,6 +8,7 @@ mod explain;
 mod host;
 mod looks;
 mod meanings;
+mod mounted;
 mod read;
 mod replaced;
 mod save;
@@ -68,8 +69,8 @@ fn main(rt: HostRuntime) -> ExitCode {
         Ok(Invocation::Copy { volume, copying }) => {
             copy::run_to_end(&host, output, rt.stderr(), volume, copying)
         }
-        Ok(Invocation::Serve { volume }) => {
-            serve::run_to_end(&host, rt.stdin(), output, rt.stderr(), volume)
+        Ok(Invocation::Serve { volume, serving }) => {
+            serve::run_to_end(&host, rt.stdin(), output, rt.stderr(), volume, serving)
         }
         read => commands::run_to_end(&host, output, rt.stderr(), read),
     }

@@ -188,7 +188,21 @@ fn save<R: ImageFiles + Eprint + AllocGlobal>(
 {
     match save_file(host.rt, path, read, content) {
         Ok(()) => status,
-        Err(error) if error.kind() == io::ErrorKind::OutOfMemory => explain_no_memory(host),
-        Err(why) => explain_unwritten(host, NamedFile::File(path), why),
+        Err(why) => explain_unsaved(host, path, why),
+    }
+}
+
+/// Prints that a file isn't saved, and returns the status.
+pub fn explain_unsaved<R: Eprint + AllocGlobal>(
+    host: &Surroundings<'_, R>,
+    path: &str,
+    why: io::Error,
+) -> u8
+    ensures { IsStatusOfFileOrMemory result }
+{
+    if why.kind() == io::ErrorKind::OutOfMemory {
+        explain_no_memory(host)
+    } else {
+        explain_unwritten(host, NamedFile::File(path), why)
     }
 }

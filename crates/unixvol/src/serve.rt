@@ -5,21 +5,23 @@ ghost use Rattle.command_faults.specs.Streams.{heard, says};
 ghost use Rattle.command_faults.specs.declared.fault.Fault.TheVariants as faults;
 ghost use Rattle.vol_layout.specs.Geometry.{Fits};
 ghost use Rattle.unixvol.specs.Runs.{host_files};
-ghost use Rattle.unixvol.specs.Serve.{EndsServe, Measures, RunsServe, ServesToEnd, messages};
+ghost use Rattle.unixvol.specs.Serve.{EndsServe, Measures, RunsReadOnly, RunsServe, ServesToEnd, messages};
 
 use crate::explain::{
     NamedFile, explain_no_memory, explain_unread, explain_unwritten, reason_of, tell_fault,
 };
 use crate::host::Surroundings;
+use crate::mounted;
 use crate::read::read_volume;
 use crate::subject::Subject;
 use command_faults::Fault;
 use command_faults::status::{DONE, NO_MEMORY, REFUSED};
-use command_line::VolumeFile;
+use command_line::{Serving, VolumeFile};
 use host_files::ImageFiles;
 use pdp_words::{Image, IntoWrite, Sink};
 use std::io::{self, Read, Write};
 use std::process::ExitCode;
+use std::rt::Clock;
 use vol_dir::Refusal;
 use vol_judge::judge;
 use vol_layout::Geometry;
@@ -33,30 +35,65 @@ const UNMOUNTED: i32 = 19;
 /// the volume is unmounted. A fault, or the first rule that the image breaks, is one line on standard error, to which `errors` writes
 /// too.
 pub fn run_to_end<
-    R: ImageFiles + Eprint + AllocGlobal,
+    R: ImageFiles + Clock + Eprint + AllocGlobal,
     I: Read + Drop,
     O: Write + Drop,
     E: Write + Drop,
->(host: &Surroundings<'_, R>, input: I, output: O, errors: E, volume: VolumeFile<'_>) -> ExitCode
-    ensures { ServesToEnd (host_files R.File.remaining R.File.contents R.had R.stood) (E.contents errors) volume.entry.edition (exit_status result) }
+>(
+    host: &Surroundings<'_, R>,
+    input: I,
+    output: O,
+    errors: E,
+    volume: VolumeFile<'_>,
+    serving: Serving,
+) -> ExitCode
+    ensures { ServesToEnd (host_files R.File.remaining R.File.contents R.had R.stood) (E.contents errors) volume.entry.edition serving (exit_status result) }
 {
     let mut errors = IntoWrite::new(errors);
     let mut requests = RequestReader::new(input);
     let mut replies = ReplyWriter::new(output);
-    let outcome = run(host, &mut requests, &mut replies, &mut errors, volume);
+    let outcome = run(
+        host,
+        &mut requests,
+        &mut replies,
+        &mut errors,
+        volume,
+        serving,
+    );
     let (input, output) = (requests.into_fault(), replies.into_fault());
     ExitCode::from(status_of(host, outcome, input, output))
 }
 
-/// Serves the volume in a file. The inner result is that of serving; the outer error is the status if nothing was served.
-fn run<R: ImageFiles + Eprint + AllocGlobal, Q: Requests, P: Replies, E: Sink>(
+/// Serves the volume in a file. The inner result is that of serving; the outer error is the status if nothing was served, or if what was
+/// changed isn't saved.
+fn run<R: ImageFiles + Clock + Eprint + AllocGlobal, Q: Requests, P: Replies, E: Sink>(
+    host: &Surroundings<'_, R>,
+    requests: &mut Q,
+    replies: &mut P,
+    errors: &mut E,
+    volume: VolumeFile<'_>,
+    serving: Serving,
+) -> Result<Result<(), ServeFault>, u8>
+    ensures { RunsServe (host_files R.File.remaining R.File.contents R.had R.stood) volume.entry.edition serving
+        (says (heard E.contents E.failed errors.old errors.new)) (messages Q.taken P.sent requests.old requests.new replies.old replies.new) result }
+{
+    match serving {
+        Serving::ReadOnly => run_read_only(host, requests, replies, errors, volume),
+        Serving::Changes { is_mine } => {
+            mounted::run(host, requests, replies, errors, volume, is_mine)
+        }
+    }
+}
+
+/// Serves the volume in a file read-only, as [`run`] does.
+fn run_read_only<R: ImageFiles + Eprint + AllocGlobal, Q: Requests, P: Replies, E: Sink>(
     host: &Surroundings<'_, R>,
     requests: &mut Q,
     replies: &mut P,
     errors: &mut E,
     volume: VolumeFile<'_>,
 ) -> Result<Result<(), ServeFault>, u8>
-    ensures { RunsServe (host_files R.File.remaining R.File.contents R.had R.stood) volume.entry.edition
+    ensures { RunsReadOnly (host_files R.File.remaining R.File.contents R.had R.stood) volume.entry.edition
         (says (heard E.contents E.failed errors.old errors.new)) (messages Q.taken P.sent requests.old requests.new replies.old replies.new) result }
 {
     let image = Image::from_bytes(read_volume(host, volume)?);

@@ -18,7 +18,7 @@ returns g c =
       untold,
       outcome,
       subst
-          (λ errors. RunsServe files c.args.volume.edition (Gets untold errors told) (record { had_taken = unknown; taken = unknown; had_sent = unknown; sent = unknown }) outcome)
+          (λ errors. RunsServe files c.args.volume.edition c.args.serving (Gets untold errors told) (record { had_taken = unknown; taken = unknown; had_sent = unknown; sent = unknown }) outcome)
           c.new-errors.ensures.bytes c.run-outcome.ensures,
       subst (EndsServe outcome) (sym c.from.ensures) c.status_of.ensures,
     )

@@ -1,7 +1,7 @@
 -- A server whose file can't be read takes, sends and prints nothing.
 use Rattle.std.proofs.Common.{◌≡◌, Result, Ok, Err, IsErrAnd, inl, refl, sym, subst}
 use Rattle.command_faults.proofs.Lines.{gets_nothing}
-use Rattle.unixvol.proofs.serve.run.Goals as goal
+use Rattle.unixvol.proofs.serve.run_read_only.Goals as goal
 
 -- a fact of an error is one of the outcome that hands it on
 hands_on : {A B : Type 0} (result : Result A B) (error : B) (P : B → Type 0) → IsErrAnd result (λ e. e ≡ error) → P error → IsErrAnd result P
@@ -11,7 +11,6 @@ hands_on (Err e) error P is holds = subst P (sym is) holds
 pub returns-in_err-read_volume : goal.returns-in_err-read_volume
 returns-in_err-read_volume g c = inl (
   hands_on _ _ _ c.from_residual.ensures.1 c.in_err-read_volume.ensures.fault,
-  refl,
-  refl,
+  (refl, refl),
   gets_nothing (g.E.Sink.failed c.args.errors.now) (g.E.Sink.contents c.args.errors.now),
 )

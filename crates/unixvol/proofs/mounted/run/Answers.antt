@@ -1,0 +1,36 @@
+-- The run of a mounted server, whose saves a file took.
+use Rattle.std.proofs.Common.{◌≡◌, Ok, inl, inr, refl, rules}
+use Rattle.command_faults.proofs.Lines.{gets_nothing}
+use Rattle.host_files.specs.Save.{IsTaken}
+use Rattle.unixvol.specs.Runs.{IsUnread}
+use Rattle.unixvol.proofs.Saved.{saved_by}
+use Rattle.unixvol.proofs.mounted.run.Goals as goal
+
+pub returns-in-Err : goal.returns-in-Err
+returns-in-Err g c =
+    let unread : IsUnread g.R.File.Read.remaining c.in-Err.status = elim c.in-Err.ensures.fault [ inl unread ↦ unread | inr called ↦ search rules ] in
+    inl (unread, (refl, refl), gets_nothing (g.E.Sink.failed c.args.errors.now) (g.E.Sink.contents c.args.errors.now))
+
+pub returns : goal.returns
+returns g c =
+    let served = c.serve-served in
+    let saved = saved_by (IsTaken g.R.File.Write.contents) _ (λ member. member.taken) c.new-2.result.items served.new.host.saved.items c.new-2.ensures.items c.in-Ok-new.server served.new.server
+    c.in_ok-mounted.mounted c.in-Ok-new.ensures.volume _ _ _ _ served.result served.ensures.turns served.ensures.stored in
+    inr (
+      c.in-Ok.begun.image.items,
+      c.in-Ok.begun.stamp,
+      Ok c.in_ok-mounted.mounted,
+      c.in-Ok.ensures.image,
+      c.in_ok-mounted.ensures,
+      inr (
+        c.in-Ok-new.server,
+        served.new.server,
+        saved.0,
+        served.result,
+        c.in-Ok-new.ensures.volume,
+        saved.1,
+        saved.2,
+        saved.3,
+        c.result_of.ensures,
+      ),
+    )

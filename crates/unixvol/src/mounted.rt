@@ -1,0 +1,171 @@
+//! `serve` without `--read-only`: a volume that is mounted, served with changes, and saved in its file.
+ghost use Rattle.std.specs.Prelude.{IfErr, Some, map};
+ghost use Rattle.command_faults.specs.Streams.{heard, says};
+ghost use Rattle.host_files.specs.Save.{IsTaken};
+ghost use Rattle.unixvol.specs.Runs.{IsUnread, host_files};
+ghost use Rattle.unixvol.specs.Serve.{EndsMounted, MountsImage, RunsMounted, messages};
+
+use crate::explain::{NamedFile, explain_unread, tell_fault};
+use crate::host::Surroundings;
+use crate::moment;
+use crate::read::{Begun, begin};
+use crate::save::explain_unsaved;
+use crate::subject::Subject;
+use command_faults::mount::mount;
+use command_faults::status::{BAD_FILE, NO_MEMORY};
+use command_line::VolumeFile;
+use host_files::{Content, HeldFile, ImageFiles, save_held};
+use pdp_words::{Image, Sink};
+use std::fs;
+use std::marker::PhantomData;
+use std::os::unix::fs::MetadataExt;
+use std::rt::Clock;
+use std::snapshot::Snapshot;
+use vol_mounted::{MountedFault, MountedServer, Owner, serve};
+use vol_serve::{Replies, Requests, ServeFault};
+use vol_volume::Volume;
+
+/// A folder that belongs to the user and the group of the program.
+const OWN_FOLDER: &str = "/proc/self";
+
+/// An image that a file took, for clauses alone: it has no bytes.
+#[derive(Drop)]
+struct SavedImage<R: ImageFiles> {
+    marker: PhantomData<R>,
+    image: Snapshot<Image>,
+    ghost taken: { ∥ IsTaken R.File.contents image.value ∥₁ },
+}
+
+/// The file in which a volume that is served is saved.
+#[derive(Drop)]
+struct ImageSaver<'a, R: ImageFiles> {
+    /// The system.
+    host: &'a Surroundings<'a, R>,
+    /// Its path.
+    path: &'a str,
+    /// The file, locked.
+    held: HeldFile<R::File>,
+    /// True if the last save that failed did so since memory ran out.
+    ran_out: bool,
+    /// The images saved so far, the first one first.
+    saved: Vec<SavedImage<R>>,
+}
+
+/// Mounts the volume in a file, which stays locked, and serves it with changes until the requests end. It is saved in its file when the
+/// kernel asks for it, and at the end. The inner result is that of serving; the outer error is the status if nothing was served, or if
+/// the volume couldn't be saved at the end. A line has been printed for it.
+pub fn run<R: ImageFiles + Clock + Eprint + AllocGlobal, Q: Requests, P: Replies, E: Sink>(
+    host: &Surroundings<'_, R>,
+    requests: &mut Q,
+    replies: &mut P,
+    errors: &mut E,
+    volume: VolumeFile<'_>,
+    is_mine: bool,
+) -> Result<Result<(), ServeFault>, u8>
+    ensures { RunsMounted (host_files R.File.remaining R.File.contents R.had R.stood) volume.entry.edition
+        (says (heard E.contents E.failed errors.old errors.new)) (messages Q.taken P.sent requests.old requests.new replies.old replies.new) result }
+{
+    let told = ||
+        ensures { IfErr result (IsUnread R.File.remaining) }
+    { owner(host, is_mine) };
+    let begun = match begin(host, volume, told) {
+        Ok(begun) => begun,
+        Err(status) => return Err(status),
+    };
+    let Begun {
+        given,
+        image,
+        stamp,
+        locked,
+    } = begun;
+    let mounted = mount_or_tell(host, errors, volume, image)?;
+    let Ok(mut server) = MountedServer::new(host.rt.alloc(), mounted, given) else {
+        return Ok(Err(ServeFault::NoMemory));
+    };
+    let mut saver = ImageSaver {
+        host,
+        path: volume.image,
+        held: HeldFile {
+            file: locked,
+            stamp,
+        },
+        ran_out: false,
+        saved: Vec::new(host.rt.alloc()),
+    };
+    let served = serve(host.rt.alloc(), &mut server, requests, replies, &mut saver);
+    result_of(served, saver.ran_out)
+}
+
+/// Returns the user and the group of the program, if all nodes are shown as theirs. If the system doesn't tell them, prints the fault
+/// and returns the status.
+fn owner<R: ImageFiles + Eprint + AllocGlobal>(
+    host: &Surroundings<'_, R>,
+    is_mine: bool,
+) -> Result<Option<Owner>, u8>
+    ensures { IfErr result (IsUnread R.File.remaining) }
+{
+    if !is_mine {
+        return Ok(None);
+    }
+    match fs::metadata(host.rt, OWN_FOLDER) {
+        Ok(metadata) => Ok(Some(Owner {
+            uid: metadata.uid(),
+            gid: metadata.gid(),
+        })),
+        Err(why) => Err(explain_unread(host, NamedFile::File(OWN_FOLDER), why)),
+    }
+}
+
+/// Mounts the volume in an image. If that fails, prints the fault and returns the status.
+fn mount_or_tell<R: ImageFiles + Eprint + AllocGlobal, E: Sink>(
+    host: &Surroundings<'_, R>,
+    errors: &mut E,
+    volume: VolumeFile<'_>,
+    image: Vec<u8>,
+) -> Result<Volume, u8>
+    ensures { MountsImage volume.entry.edition image.items (says (heard E.contents E.failed errors.old errors.new)) result }
+{
+    match mount(host.rt.alloc(), volume.edition, image) {
+        Ok(mounted) => Ok(mounted),
+        Err(fault) => {
+            let status = fault.status();
+            let subject = Some(Subject::of_serve(volume));
+            tell_fault(host, errors, &Some(fault), None, subject);
+            Err(status)
+        }
+    }
+}
+
+/// Returns the result of a run by that of its server. `ran_out` is true if the image couldn't be saved since memory ran out.
+fn result_of(served: Result<(), MountedFault>, ran_out: bool) -> Result<Result<(), ServeFault>, u8>
+    ensures { EndsMounted served result }
+{
+    match served {
+        Ok(()) => Ok(Ok(())),
+        Err(MountedFault::Serve(fault)) => Ok(Err(fault)),
+        Err(MountedFault::Unsaved) if ran_out => Err(NO_MEMORY),
+        Err(MountedFault::Unsaved) => Err(BAD_FILE),
+    }
+}
+
+impl<R: ImageFiles + Clock + Eprint + AllocGlobal> vol_mounted::Host for ImageSaver<'_, R> {
+    ghost saved = { λ saver. Some (map (λ saved. saved.image.value) saver.saved.items) };
+
+    fn seconds(&self) -> u32 {
+        // A clock that can't be read is at the beginning.
+        moment(self.host.rt).unwrap_or(0)
+    }
+
+    fn save(&mut self, image: &Image) -> bool {
+        let content = Content::Bytes(image.as_bytes());
+        if let Err(why) = save_held(self.host.rt, self.path, &mut self.held, content) {
+            self.ran_out = explain_unsaved(self.host, self.path, why) == NO_MEMORY;
+            return false;
+        }
+        let saved = SavedImage {
+            marker: PhantomData,
+            image: Snapshot::of(image),
+        };
+        self.saved.push(saved).is_ok()
+    }
+}

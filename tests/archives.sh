@@ -7,7 +7,7 @@ archives=$(realpath "$(dirname "$0")/archives")
 
 # imports EDITION IMAGE ARCHIVE [PATH]: the program imports the archive at time 2000, below the root or PATH, and prints nothing
 imports() {
-    "$program" import "$1" "$2" "${4-}" 2000 < "$archives/$3.tar" > output 2> error
+    "$program" import "$1" "$2" "${4-/}" 2000 < "$archives/$3.tar" > output 2> error
     echo $? > status
     wants "import of $3.tar into edition $1" 0 none none
 }
@@ -15,7 +15,7 @@ imports() {
 # unimported LINE EDITION ARCHIVE [PATH]: the program refuses to import the archive in this file into `disk.img`, for the reason in LINE
 unimported() {
     printf '%s\n' "$1" > line
-    "$program" import "$2" disk.img "${4-}" 2000 < "$3" > output 2> error
+    "$program" import "$2" disk.img "${4-/}" 2000 < "$3" > output 2> error
     echo $? > status
     wants "import of ${3##*/} into edition $2" 1 none line
 }
@@ -25,7 +25,7 @@ ends() {
     cat "$1" end.tar > ended.tar
     for name in "$1" ended.tar; do
         cp blank.v7 "$name.img"
-        "$program" import 7 "$name.img" '' 2000 < "$name" > output 2> error
+        "$program" import 7 "$name.img" / 2000 < "$name" > output 2> error
         echo $? > status
         wants "import of $1, in $name" 0 none none
     done
@@ -140,6 +140,9 @@ for edition in 6 7; do
     played "$edition" ring.img '1000 3 5 mkdir /d 755' '1000 3 5 create /d/ring_itself 644' '1000 3 5 create /d/ring_root 644' \
         '1000 3 5 create /d/the_last 644' '1000 3 5 create /d/free 644' '1000 3 5 create /kept 644'
     free=$(number "$edition" ring.img /d/free)
+    lost=$(for name in ring_itself ring_root the_last; do
+        echo "unixvol: i-node $(number "$edition" ring.img "/d/$name"): a file of 0 bytes, which nothing names"
+    done | sort -V)
     entry_for ring.img ring_itself "$("$program" ls "$edition" ring.img / | awk '$2 == "d" { print $1 }')"
     entry_for ring.img ring_root $((edition - 5))
     entry_for ring.img the_last 60000
@@ -148,6 +151,7 @@ for edition in 6 7; do
 unixvol: d/ring_itself: a directory that was met before
 unixvol: d/ring_root: a directory that was met before
 unixvol: d/the_last: no i-node
+'"$lost"'
 unixvol: unsound, rule 9' "$edition" ring.img
     has 'the members beside a ring' 'drwxr-xr-x d/ -rw-r--r-- kept' "$(tar -tvf output | awk '{ print $1, $6 }' | paste -s -d ' ' -)"
 done
@@ -272,7 +276,7 @@ LIST
     lists 'a directory that stays' stays "$edition" disk.img
     played "$edition" disk.img '1000 0 0 create /src 644'
     cp disk.img before.img
-    unimported 'unixvol: 17 Exists: /src' "$edition" "$archives/ways.tar"
+    unimported 'unixvol: 17 Exists: //src' "$edition" "$archives/ways.tar"
     saves 'an image with a file in the place of a directory' disk.img before.img
 
     # Members that can't be made, archives that can't be read, and refusals of the calls.
@@ -299,7 +303,7 @@ ROWS
     saves 'an image into which nothing was imported' disk.img "blank.v$edition"
     imports "$edition" disk.img ok
     cp disk.img before.img
-    unimported 'unixvol: 17 Exists: /ok' "$edition" "$archives/ok.tar"
+    unimported 'unixvol: 17 Exists: //ok' "$edition" "$archives/ok.tar"
     saves 'an image with a file of the same path' disk.img before.img
     # Headers without magic, as V7's tar writes them.
     for name in old spaced; do
@@ -372,7 +376,7 @@ for edition in 6 7; do
     python3 make.py longest.tar path ok
     python3 make.py linked.tar link /first
     for name in longest linked; do
-        "$program" import "$edition" disk.img '' 2000 < "$name.tar" > output 2> error
+        "$program" import "$edition" disk.img / 2000 < "$name.tar" > output 2> error
         echo $? > status
         wants "import of a path of 4096 bytes, $name.tar, into edition $edition" 0 none none
     done
@@ -383,15 +387,15 @@ for edition in 6 7; do
     python3 make.py linked.tar link ././first
     unimported 'unixvol: second: a link to a path above 4096 bytes' "$edition" linked.tar
     python3 make.py way.tar way ab
-    unimported "unixvol: 103 NoInode: /${dots//./a}a/a/ab" "$edition" way.tar
+    unimported "unixvol: 103 NoInode: //${dots//./a}a/a/ab" "$edition" way.tar
     python3 make.py ways.tar ways 1000
-    unimported "unixvol: 103 NoInode: /d$inodes/f" "$edition" ways.tar
+    unimported "unixvol: 103 NoInode: //d$inodes/f" "$edition" ways.tar
     python3 make.py directories.tar directories 1000
-    unimported "unixvol: 103 NoInode: /d$((inodes + 1))/" "$edition" directories.tar
+    unimported "unixvol: 103 NoInode: //d$((inodes + 1))/" "$edition" directories.tar
     # With fewer, the calls report what is missing: i-nodes, or links of the root, of which the sixth edition has 127 at most.
     python3 make.py directories.tar directories "$inodes"
-    refusal='103 NoInode: /d62/'
-    [ "$edition" = 6 ] && refusal='31 TooManyLinks: /d125/'
+    refusal='103 NoInode: //d62/'
+    [ "$edition" = 6 ] && refusal='31 TooManyLinks: //d125/'
     unimported "unixvol: $refusal" "$edition" directories.tar
     saves 'an image without a member whose path is too long' disk.img "blank.v$edition"
 done
@@ -425,7 +429,7 @@ LIST
         archive=depth
         [ "$name" = again ] && archive=again
         [ "$name" = there ] || cp "blank.v$edition" "$name.img"
-        "$program" import "$edition" "$name.img" '' 2000 < "$archive.tar" > output 2> error
+        "$program" import "$edition" "$name.img" / 2000 < "$archive.tar" > output 2> error
         echo $? > status
         wants "import of $archive.tar into $name.img of edition $edition" 0 none none
         case $name in
@@ -507,7 +511,7 @@ saves 'an image into which no front of an archive was imported' disk.img blank.v
 # Endless input: bytes that aren't an archive are refused, bytes after an archive are left, and a header with too great a size is refused.
 # endless LABEL STATUS LINE IMAGE WORD..: the output of the command is imported into IMAGE, with this status and line within a minute
 endless() {
-    "${@:5}" 2> /dev/null | timeout 60 "$program" import 7 "$4" '' 2000 > output 2> error
+    "${@:5}" 2> /dev/null | timeout 60 "$program" import 7 "$4" / 2000 > output 2> error
     echo "${PIPESTATUS[1]}" > status
     printf '%s' "$3" > line
     wants "$1" "$2" none line
@@ -533,7 +537,7 @@ saves 'an image into which an archive was imported with zeros behind it that do 
 cp blank.v7 disk.img
 endless 'an import of zeros without end' 0 '' disk.img cat /dev/zero
 saves 'an image into which zeros were imported' disk.img blank.v7
-(set -o pipefail; cat "$archives/plain.tar" <(head -c 1000000 /dev/zero) | "$program" import 7 disk.img '' 2000)
+(set -o pipefail; cat "$archives/plain.tar" <(head -c 1000000 /dev/zero) | "$program" import 7 disk.img / 2000)
 has 'a pipe that an archive came from with a long last record' 0 $?
 
 # Trees whose export, imported and exported again, is the same: an empty one, directories, files.
@@ -547,7 +551,7 @@ for edition in 6 7; do
     for tree in empty directories files; do
         "$program" export "$edition" "$tree.img" > first.tar
         cp "blank.v$edition" disk.img
-        "$program" import "$edition" disk.img '' 2000 < first.tar > output 2> error
+        "$program" import "$edition" disk.img / 2000 < first.tar > output 2> error
         echo $? > status
         wants "import of $tree in edition $edition" 0 none none
         prints first.tar export "$edition" disk.img ''

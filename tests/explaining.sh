@@ -33,7 +33,7 @@ explains 1 'unixvol: 2 NoEntry' 'unixvol: none: no file or directory has this na
 explains 1 'unixvol: 2 NoEntry' "unixvol: /none/a: a directory on the way to it isn't there" put 6 "$image" /none/a hello
 explains 1 'unixvol: 2 NoEntry' "unixvol: /none/a: a directory on the way to it isn't there" mkdir 6 "$image" /none/a
 explains 1 'unixvol: 2 NoEntry' 'unixvol: i-node 99: there is no i-node of this number, or it is free' cat 6 "$image" 99
-explains 1 'unixvol: 2 NoEntry' 'unixvol: i-node 9999: there is no i-node of this number' inode 6 "$image" 9999
+explains 1 'unixvol: 2 NoEntry' 'unixvol: i-node 9999: there is no i-node of this number, or the path leads to none' inode 6 "$image" 9999
 explains 1 'unixvol: 2 NoEntry' "unixvol: /x to /y: the first path leads to nothing, or the directory for the second name isn't there" mv 6 "$image" /x /y
 explains 1 'unixvol: 2 NoEntry' "unixvol: /x to /y: the first path leads to nothing, or the directory for the second name isn't there" ln 6 "$image" /x /y
 explains 1 'unixvol: 2 NoEntry' 'unixvol: /x: no file or directory has this name; or, with -r, it ends in .., or leads through what is to be removed' rm -r 6 "$image" /x
@@ -184,6 +184,15 @@ has 'a member with a long name' '1 unixvol: fifteen-bytes-n: a name above 14 byt
 head -c 100 long.tar > cut.tar
 "$program" import 6 "$image" --explain < cut.tar > output 2> error
 has 'an archive that is cut' '1 unixvol: archive, byte 0: cut off' "$? $(paste -s -d ' ' error)"
+for row in 'a gzip file: `gzip -dc` prints the archive in it|gzip -c' 'a bzip2 file: `bzip2 -dc` prints the archive in it|bzip2 -c' \
+    'an xz file: `xz -dc` prints the archive in it|xz -c' 'a zip file, and no archive of tar|cat zipped'; do
+    tool=${row#*|}
+    [ -n "$(command -v "${tool%% *}")" ] || continue
+    { printf 'PK\3\4'; head -c 1020 /dev/zero; } > zipped
+    { head -c 100000 /dev/urandom; } | $tool > packed
+    "$program" import 6 "$image" --explain < packed > output 2> error
+    has "what is said of an archive in ${row%%[:,]*}" "1 2 unixvol: standard input: it is ${row%|*}" "$? $(wc -l < error) $(tail -n 1 error)"
+done
 : > d
 tar --format=ustar -cf file.tar d
 "$program" import 6 "$image" --explain < file.tar > output 2> error
@@ -227,6 +236,11 @@ has 'a file with --explain' 0 $?
 
 # The command line's own errors, with the number of a word that isn't text.
 misread "error: invalid value '8'" --explain ls 8 "$image"
+misread "error: invalid value '8' for '<EDITION>': 6 for the Sixth, 7 for the Seventh" ls 8 "$image"
+for words in 'chmod|755' 'chown|1 2' 'touch|' 'import|'; do
+    misread "error: invalid value '' for '" "${words%|*}" 6 "$image" '' ${words#*|}
+    has "what ${words%|*} says of an empty path" 1 "$(grep -c ': it is empty; the root is /$' error)"
+done
 misread "error: invalid value '8' for '<EDITION>': 6 for the Sixth, 7 for the Seventh" ls 8 "$image"
 has 'the usage where an edition is wrong' 'Usage: unixvol ls [OPTIONS] <EDITION> <IMAGE> [PATH]' "$(grep '^Usage' error)"
 misread "error: unexpected argument '--svg' found" super --svg 6 "$image"

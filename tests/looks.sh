@@ -76,6 +76,41 @@ for edition in 6 7; do
     refuses 1 'unixvol: 20 NotDirectory' export "$edition" disk.img /none/x
 done
 
+# An i-node that nothing names: the root's entry for usr, its third, is made empty.
+cp "$linux" lost.img
+put lost.img $((512 * $("$program" inode 7 "$linux" 2 | awk '$1 == "addr" { print $2 }') + 32)) 0000
+lines='unixvol: i-node 96: a directory with 6 entries, which nothing names
+unixvol: unsound, rule 10'
+exports 1 lost.tar 7 lost.img
+has 'the lines of an i-node that nothing names' "$lines" "$(cat error)"
+has 'an archive without it' 'etc/ etc/empty etc/motd etc/passwd' "$(tar -tf lost.tar | paste -s -d ' ' -)"
+exports 5 short.tar --status 7 lost.img
+cmp -s short.tar lost.tar
+has 'an archive that is told to be short by the status' 0 $?
+exports 1 found.tar --lost --status 7 lost.img
+has 'the lines of an i-node that is exported without a name' "$lines" "$(cat error)"
+tar -tf found.tar | sed 's,^lost+found/#96,usr,; /^lost+found\/$/d' | LC_ALL=C sort > names
+tar -tf linux.tar | LC_ALL=C sort | cmp -s - names
+has 'the names in an archive with it' 0 $?
+has 'the bytes of a file below it' "$(tar -xOf linux.tar usr/numbers | md5sum)" "$(tar -xOf found.tar 'lost+found/#96/numbers' | md5sum)"
+exports 0 again.tar --lost --status 7 "$linux"
+cmp -s again.tar linux.tar
+has 'an archive of all where nothing is lost' 0 $?
+# A file and a special file that nothing names.
+for edition in 6 7; do
+    "$program" mkfs "$edition" two.img 400 10 0 0 1000
+    "$program" put "$edition" two.img /f hello 1001
+    "$program" touch "$edition" two.img /g 1002
+    block=$("$program" inode "$edition" two.img / | awk '$1 == "addr" { print $2 }')
+    file=$("$program" inode "$edition" two.img /f | awk '{ print $2; exit }')
+    special=$("$program" inode "$edition" two.img /g | awk '{ print $2; exit }')
+    put two.img $((512 * block + 32)) "$(printf '00%.0s' {1..32})"
+    if [ "$edition" = 6 ]; then put two.img $((1024 + 32 * (special - 1))) 'A4A1'; else put two.img $((1024 + 64 * (special - 1))) 'A421'; fi
+    exports 5 two.tar "$edition" two.img --status
+    has 'the lines of a file and a special file that nothing names' "$(printf '%s\n' "unixvol: i-node $special: a special file, which nothing names" \
+        "unixvol: i-node $file: a file of 5 bytes, which nothing names" | sort)" "$(grep i-node error | sort)"
+done
+
 # Standard output.
 refuses 3 'unixvol: cannot read missing' export 7 missing
 "$program" export 7 "$linux" > /dev/full 2> error
@@ -83,6 +118,14 @@ has 'export to a full device' '3 unixvol: cannot write -' "$? $(cat error)"
 head -c 600 "$linux" > short
 for command in export super map; do refuses 1 'unixvol: unsound, rule 1' "$command" 7 short; done
 refuses 1 'unixvol: unsound, rule 1' inode 7 short 2
+refuses 1 'unixvol: unsound, rule 1' inode 7 short /
+refuses 6 'unixvol: unsound, rule 1' export --status 7 short
+for row in '0 --' '0 --status' '1 --'  '6 --status'; do
+    "$program" check ${row#* } 7 "$([ "${row% *}" = 0 ] && echo "$linux" || echo short)" > output
+    has "the status of check ${row#* }" "${row% *}" $?
+done
+"$program" check --status 7 lost.img > output
+has 'the status of check --status of a volume that is not sound' 1 $?
 
 # An i-node, as od reads it.
 field() { od -An -tu2 -j $((1024 + 64 * 91 + $1)) -N 2 "$linux" | tr -d ' '; }
@@ -93,6 +136,7 @@ nlink $(field 2)
 uid $(field 4)
 gid $(field 6)
 size $(field 10)" "$(head -n 6 output)"
+cp output by_number
 has 'the times of an i-node' "mtime $(($(field 56) * 65536 + $(field 58)))" "$(grep '^mtime' output)"
 block=$(sed -n 's/^addr \([0-9]*\) .*/\1/p' output)
 has 'the block of an i-node' "block $block: logical 0" "$(tail -n 1 output)"
@@ -104,6 +148,11 @@ runs inode 7 "$linux" --json 92
 has 'an i-node as JSON' "92 file $(field 10) $block" "$(python3 -c 'import json, sys; it = json.load(sys.stdin); print(it["i-node"], it["kind"], it["size"], it["addr"][0])' < output)"
 refuses 1 'unixvol: 2 NoEntry' inode 7 "$linux" 97
 refuses 1 'unixvol: 2 NoEntry' inode 7 "$linux" 0
+runs inode 7 "$linux" /etc/motd
+cmp -s output by_number
+has 'an i-node by its path' 0 $?
+refuses 1 'unixvol: 2 NoEntry' inode 7 "$linux" /x
+refuses 1 'unixvol: 20 NotDirectory' inode 7 "$linux" /etc/motd/x
 
 # The super-block, as od reads it.
 word() { od -An -tu2 -j "$1" -N 2 "$linux" | tr -d ' '; }
@@ -150,6 +199,7 @@ print(root.tag[1:].split("}")[0], sum(it.tag.endswith("path") for it in root))' 
 misread "error: unexpected argument '--json'" map --json 7 "$linux"
 misread "error: unexpected argument '--svg'" super --svg 7 "$linux"
 misread "error: invalid value '65536' for '<INO>'" inode 7 "$linux" 65536
+misread "error: invalid value 'etc' for '<INO>'" inode 7 "$linux" etc
 misread 'error: the following required arguments' inode 7 "$linux"
 
 # Volumes of 20 blocks, two of them the i-list, all made at one time: a new one; with a directory; with a file of one letter, and with one of three

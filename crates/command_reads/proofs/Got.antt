@@ -1,5 +1,5 @@
 -- The result of reading several files, by its outcome.
-use Rattle.std.proofs.Common.{◌≡◌, ◌⊎◌, ◌<◌, ◌+◌, ◌++◌, ℕ, List, [], ◌∷◌, length, map, take, drop, get_or, None, Some, Ok, Err, IfErr, Option, Result, IsSome, true, true≢false, inl, inr, refl, sym, ap, subst, ◌∙◌, arith}
+use Rattle.std.proofs.Common.{◌≡◌, ◌⊎◌, ◌<◌, ◌+◌, ◌++◌, ℕ, List, ◌∷◌, length, map, take, drop, get_or, None, Some, Ok, Err, IfErr, Option, Result, IsSome, true≢false, inl, inr, refl, sym, ap, subst, ◌∙◌, arith}
 use Rattle.std.specs.Borrow.{Bor}
 use Rattle.std.specs.Global.{Vec}
 use Rattle.std.proofs.lemmas.List.{drop_more, map-append, take-append-drop}

@@ -14,9 +14,9 @@ use Rattle.vol_listing.specs.declared.options.Screen.{Screen}
 
 -- the part that the command names is shown (this project)
 abbrev pub Looks : Edition → List ℕ → Screen → Streams → ℕ → Look → Type 0
-Looks edition image screen streams status (looks.Export path) = Exports edition image path.now screen streams status
-Looks edition image screen streams status (looks.Inode number form) = ShowsInode edition image number form streams status
+Looks edition image screen streams status (looks.Export path options) = Exports edition image path.now options screen streams status
+Looks edition image screen streams status (looks.Inode node form) = ShowsInode edition image node form streams status
 Looks edition image screen streams status (looks.Super form) = ShowsSuper edition image form streams status
 Looks edition image screen streams status (looks.Map picture) = DrawsMap edition image screen picture streams status
-Looks edition image screen streams status looks.Check = Checks edition image streams status
+Looks edition image screen streams status (looks.Check graded) = Checks edition image graded streams status
 Looks edition image screen streams status (looks.List path listing) = Lists edition image path.now listing screen streams status

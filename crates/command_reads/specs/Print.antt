@@ -7,12 +7,16 @@ use Rattle.command_faults.specs.Streams.{Streams}
 use Rattle.command_faults.specs.declared.fault.Fault.{Fault}
 use Rattle.command_faults.specs.declared.fault.Fault.TheVariants as faults
 
--- nothing is printed, and a fault is reported, with its status (this project)
-pub record IsTold (streams : Streams) (fault : Fault) (code : ℕ) : Type 0 where
-  pub status : code ≡ fault_status fault
+-- nothing is printed, and a fault is reported, with a status (this project)
+pub record IsToldWith (wanted : ℕ) (streams : Streams) (fault : Fault) (code : ℕ) : Type 0 where
+  pub status : code ≡ wanted
   pub kept : Keeps streams.old streams.new
   pub working : streams.failed ≡ streams.had_failed
   pub said : streams.said (fault_line fault)
+
+-- nothing is printed, and a fault is reported, with its status (this project)
+abbrev pub IsTold : Streams → Fault → ℕ → Type 0
+IsTold streams fault code = IsToldWith (fault_status fault) streams fault code
 
 -- standard output failed, which is reported, and it has a prefix of some bytes (this project)
 pub record IsBrokenOff (streams : Streams) (bytes : List ℕ) (code : ℕ) : Type 0 where

@@ -1,17 +1,25 @@
 -- The remarks on an export.
-use Rattle.std.specs.Prelude.{◌≡◌, ℕ, true, List, [], ◌++◌, codes, decimal, Option, None, Some}
+use Rattle.std.specs.Prelude.{◌≡◌, ℕ, ◌==◌, ◌&&◌, ◌||◌, Bool, true, false, not, nat_lt, List, [], ◌++◌, length, codes, decimal, Option, None, Some}
 use Rattle.std.specs.List.{flat_map}
 use Rattle.escaped_text.specs.Escape.{escaped}
 use Rattle.vol_layout.specs.declared.edition.Edition.{Edition}
 use Rattle.vol_layout.specs.declared.geometry.Geometry.{Geometry}
 use Rattle.vol_judge.specs.Sound.{IsJudged}
+use Rattle.vol_inspect.specs.Lost.{AreLost}
 use Rattle.vol_inspect.specs.SharedBlocks.{shared_blocks}
+use Rattle.vol_layout.specs.Inode.{inode_place, size_at}
+use Rattle.vol_layout.specs.declared.mode.Kind.{Kind}
+use Rattle.vol_layout.specs.declared.mode.Kind.TheVariants as kinds
+use Rattle.vol_file.specs.Rules.{kind_at}
+use Rattle.vol_dir.specs.Entries.{slots}
+use Rattle.vol_dir.specs.Names.{names_of}
 use Rattle.vol_archive.specs.declared.met_entries.MetEntry.{MetEntry}
 use Rattle.vol_archive.specs.declared.met_entries.Role.{Role}
 use Rattle.vol_archive.specs.declared.met_entries.Role.TheVariants as roles
 use Rattle.vol_archive.specs.declared.met_entries.Reason.{Reason}
 use Rattle.vol_archive.specs.declared.met_entries.Reason.TheVariants as reasons
 use Rattle.command_faults.specs.Faults.{line_of_rule}
+use Rattle.command_reads.specs.declared.looks.ExportOptions.{ExportOptions}
 
 -- the reason for leaving out an entry, in plain words (this project)
 abbrev pub reason_text : Reason → List ℕ
@@ -33,6 +41,32 @@ role_line path (roles.Link k) = []
 unfoldable pub left_lines : List MetEntry → List ℕ
 left_lines founds = flat_map (λ (found : MetEntry). role_line found.path found.role) founds
 
+-- the line of an i-node of some kind that no entry names (this project)
+abbrev pub lost_kind_line : Geometry → List ℕ → ℕ → Kind → List ℕ
+lost_kind_line g image i kinds.Directory = codes "unixvol: i-node " ++ (decimal i
+    ++ (codes ": a directory with " ++ (decimal (length (names_of (slots g image i))) ++ codes " entries, which nothing names\n")))
+lost_kind_line g image i kinds.Regular = codes "unixvol: i-node " ++ (decimal i
+    ++ (codes ": a file of " ++ (decimal (size_at g.edition image (inode_place g.edition i)) ++ codes " bytes, which nothing names\n")))
+lost_kind_line g image i _ = codes "unixvol: i-node " ++ (decimal i ++ codes ": a special file, which nothing names\n")
+
+-- the line of an i-node that no entry names (this project)
+unfoldable pub lost_line : Geometry → List ℕ → ℕ → List ℕ
+lost_line g image i = lost_kind_line g image i (kind_at g image i)
+
+-- the lines of such i-nodes (this project)
+unfoldable pub lost_lines : Geometry → List ℕ → List ℕ → List ℕ
+lost_lines g image lost = flat_map (lost_line g image) lost
+
+-- true if i-nodes that no entry names are searched for, in an image with this first broken rule: if rules 1 to 7 hold but another doesn't, or an option asks for it (this project)
+abbrev pub is_searched : ExportOptions → Option ℕ → Bool
+is_searched options None = false
+is_searched options (Some rule) = options.lost || (options.graded || nat_lt 7 rule)
+
+-- the i-nodes that no entry names, if they are searched for (this project)
+abbrev pub AreLostIf : Bool → Geometry → List ℕ → List ℕ → Type 0
+AreLostIf false g image lost = lost ≡ []
+AreLostIf true g image lost = AreLost g image lost
+
 -- the line of a block that two places of files name (this project)
 unfoldable pub shared_line : ℕ → List ℕ
 shared_line b = codes "unixvol: block " ++ (decimal b ++ codes ": two places of files name it\n")
@@ -46,7 +80,12 @@ abbrev pub rule_lines : Geometry → List ℕ → Option ℕ → List ℕ
 rule_lines g image None = []
 rule_lines g image (Some rule) = shared_lines (shared_blocks g image) ++ line_of_rule rule
 
--- all remarks on an export: none if all entries are in the archive and the image is sound (this project)
-abbrev pub TellsAll : Edition → List ℕ → Geometry → List MetEntry → List ℕ → Type 0
-TellsAll edition image g founds lines =
-    (least : Option ℕ) × IsJudged true edition image least × (lines ≡ left_lines founds ++ rule_lines g image least)
+-- true if something isn't exported, by the lines of entries that are left out: there is one, or, if they aren't exported too, an i-node that no entry names (this project)
+abbrev pub is_short : List ℕ → ExportOptions → List ℕ → Bool
+is_short left options lost = not (length left == 0) || (not options.lost && not (length lost == 0))
+
+-- all remarks on an export, and whether something isn't exported: none if all entries are in the archive and the image is sound (this project)
+abbrev pub TellsAll : Edition → List ℕ → Geometry → List MetEntry → ExportOptions → List ℕ → Bool → Type 0
+TellsAll edition image g founds options lines short =
+    (least : Option ℕ) × (lost : List ℕ) × IsJudged true edition image least × AreLostIf (is_searched options least) g image lost
+    × (short ≡ is_short (left_lines founds) options lost) × (lines ≡ left_lines founds ++ lost_lines g image lost ++ rule_lines g image least)

@@ -1,45 +1,56 @@
 //! The command that writes everything below a directory as an archive.
-ghost use Rattle.std.specs.Prelude.{◌≡◌, ◌==◌, if◌then◌else◌, length};
+ghost use Rattle.std.specs.Prelude.{◌≡◌, ◌==◌, IfOk, if◌then◌else◌, length};
 ghost use Rattle.vol_layout.specs.Geometry.{Fits};
 ghost use Rattle.vol_dir.specs.Entries.{IsDirectory};
 ghost use Rattle.command_faults.specs.Faults.{line_after};
 ghost use Rattle.command_faults.specs.Streams.{ErrorStream, Hears, streams};
-ghost use Rattle.command_reads.specs.Export.{Exports, ExportsTo, ExportsBelow, WritesBelow, unstarted, unwritten};
+ghost use Rattle.command_reads.specs.Export.{AreFound, Exports, ExportsTo, ExportsBelow, WritesBelow, told_status, unstarted, unstarted_status, unwritten};
 
 use crate::faults::unmeasured;
+use crate::looks::ExportOptions;
 use crate::remarks::{Remarks, tell_all};
+use crate::statuses::{NO_VOLUME, SHORT};
 use command_faults::status::{DONE, REFUSED};
 use command_faults::{Ending, Fault};
 use pdp_words::{Image, Sink};
-use std::alloc::Global;
-use vol_archive::{ExportStart, StartFault, WriteFault, put_archive, start_of, walk};
+use std::alloc::{AllocError, Global};
+use vol_archive::{
+    ExportStart, MetEntry, StartFault, WriteFault, put_archive, start_of, walk, walk_lost,
+};
 use vol_dir::Refusal;
-use vol_layout::Edition;
+use vol_inspect::lost_inodes;
+use vol_layout::{Edition, Geometry};
 use vol_listing::Screen;
 
-/// Writes an archive of everything below the directory at a path. The image must keep rules 1 and 2, and may be any bytes
-/// otherwise. The status is 0 for a sound image whose entries are all in the archive; 1 if the image isn't sound, an entry
-/// is left out or the path leads to no directory; 3 if `output` failed, 4 if memory ran out. The fault has a line for each
-/// entry that is left out, with unprintable bytes escaped, and for what is wrong with the image. An archive is never written
-/// to a terminal.
+/// Writes an archive of everything below the directory at a path; as an option also of the i-nodes that no entry names, and
+/// what is below them, under `lost+found`. The image must keep rules 1 and 2, and may be any bytes otherwise. The status is
+/// 0 for a sound image whose entries are all in the archive; 1 if the image isn't sound, an entry is left out or the path
+/// leads to no directory, but graded 5 if an entry or an i-node isn't exported, and 6 if the image breaks rule 1 or 2; 3 if
+/// `output` failed, 4 if memory ran out. The fault has a line for each entry that is left out, with unprintable bytes
+/// escaped, for each i-node that no entry names, and for what is wrong with the image. An archive is never written to a
+/// terminal.
 ///
-/// Costs the walk, [`vol_judge::judge`], and the bytes that are written. All memory except that of one header at a time is
-/// taken before the first byte is written.
+/// Costs the walk, [`vol_judge::judge`], for an unsound image [`lost_inodes`], and the bytes that are written. All memory
+/// except that of one header at a time is taken before the first byte is written.
 pub(crate) fn export<O: Sink>(
     alloc: Global,
     edition: Edition,
     image: Vec<u8>,
     path: &str,
+    options: ExportOptions,
     screen: Screen,
     output: &mut O,
 ) -> Ending
     ensures { (errors : ErrorStream) → Hears errors result.fault
-        → Exports edition image.items path.now screen (streams O.contents O.failed output.old output.new errors) result.status }
+        → Exports edition image.items path.now options screen (streams O.contents O.failed output.old output.new errors) result.status }
 {
     let image = Image::from_bytes(image);
     match start_of(edition, &image, path.as_bytes()) {
-        Ok(start) => export_to(alloc, edition, &image, &start, screen, output),
-        Err(fault) => Ending::from(unstarted(fault)),
+        Ok(start) => export_to(alloc, edition, &image, &start, options, screen, output),
+        Err(fault) => Ending {
+            status: unstarted_status(options.graded, fault),
+            fault: Some(unstarted(fault)),
+        },
     }
 }
 
@@ -50,17 +61,18 @@ fn export_to<O: Sink>(
     edition: Edition,
     image: &Image,
     start: &ExportStart,
+    options: ExportOptions,
     screen: Screen,
     output: &mut O,
 ) -> Ending
     requires fits { Fits start.now.geometry image.now }
     requires directory { IsDirectory start.now.geometry image.now start.now.inode }
     ensures { (errors : ErrorStream) → Hears errors result.fault
-        → ExportsTo edition image.now start.now (streams O.contents O.failed output.old output.new errors) result.status screen }
+        → ExportsTo edition image.now start.now options (streams O.contents O.failed output.old output.new errors) result.status screen }
 {
     match screen {
         Screen::Terminal { .. } => Ending::from(Fault::Output),
-        Screen::Stream => export_below(alloc, edition, image, start, output),
+        Screen::Stream => export_below(alloc, edition, image, start, options, output),
     }
 }
 
@@ -70,15 +82,16 @@ fn export_below<O: Sink>(
     edition: Edition,
     image: &Image,
     start: &ExportStart,
+    options: ExportOptions,
     output: &mut O,
 ) -> Ending
     requires fits { Fits start.now.geometry image.now }
     requires directory { IsDirectory start.now.geometry image.now start.now.inode }
     ensures { (errors : ErrorStream) → Hears errors result.fault
-        → ExportsBelow edition image.now start.now (streams O.contents O.failed output.old output.new errors) result.status }
+        → ExportsBelow edition image.now start.now options (streams O.contents O.failed output.old output.new errors) result.status }
 {
-    match write_below(alloc, edition, image, start, output) {
-        Ok(remarks) => ending_with(remarks),
+    match write_below(alloc, edition, image, start, options, output) {
+        Ok(remarks) => ending_with(options.graded, remarks),
         Err(fault) => Ending::from(fault),
     }
 }
@@ -89,27 +102,51 @@ fn write_below<O: Sink>(
     edition: Edition,
     image: &Image,
     start: &ExportStart,
+    options: ExportOptions,
     output: &mut O,
 ) -> Result<Remarks, Fault>
     requires fits { Fits start.now.geometry image.now }
     requires directory { IsDirectory start.now.geometry image.now start.now.inode }
-    ensures { WritesBelow edition image.now start.now (O.contents output.old) (O.contents output.new)
+    ensures { WritesBelow edition image.now start.now options (O.contents output.old) (O.contents output.new)
         (O.failed output.old) (O.failed output.new) result }
 {
-    let founds = walk(alloc, image, &start.geometry, start.inode)?;
-    let remarks = tell_all(alloc, edition, image, &start.geometry, &founds)?;
+    let founds = find(alloc, image, &start.geometry, start.inode, options.lost)?;
+    let remarks = tell_all(alloc, edition, image, &start.geometry, &founds, options)?;
     match put_archive(alloc, image, &start.geometry, &founds, output) {
         Ok(()) => Ok(remarks),
         Err(fault) => Err(unwritten(fault)),
     }
 }
 
+/// Returns everything below a directory, and with `lost` also the i-nodes that no entry names and what is below them.
+fn find(
+    alloc: Global,
+    image: &Image,
+    geometry: &Geometry,
+    start: u16,
+    lost: bool,
+) -> Result<Vec<MetEntry>, AllocError>
+    requires fits { Fits geometry.now image.now }
+    requires directory { IsDirectory geometry.now image.now start }
+    ensures { IfOk result (λ founds. AreFound lost geometry.now image.now start founds.items) }
+{
+    if !lost {
+        return walk(alloc, image, geometry, start);
+    }
+    let inodes = lost_inodes(alloc, image, geometry)?;
+    walk_lost(alloc, image, geometry, start, &inodes)
+}
+
 /// Returns the result of an export with some remarks or none.
-fn ending_with(remarks: Remarks) -> Ending
-    ensures status { result.status ≡ (if length remarks.lines.items == 0 then 0 else 1) }
+fn ending_with(graded: bool, remarks: Remarks) -> Ending
+    ensures status { result.status ≡ (if length remarks.lines.items == 0 then 0 else told_status graded remarks.is_short) }
     ensures line { line_after result.fault ≡ remarks.lines.items }
 {
-    let Remarks { rule, lines } = remarks;
+    let Remarks {
+        rule,
+        lines,
+        is_short,
+    } = remarks;
     if lines.is_empty() {
         return Ending {
             status: DONE,
@@ -117,8 +154,25 @@ fn ending_with(remarks: Remarks) -> Ending
         };
     }
     Ending {
-        status: REFUSED,
+        status: told_status(graded, is_short),
         fault: Some(Fault::Worded { rule, lines }),
+    }
+}
+
+/// Returns the status of an export with remarks; `is_short` is true if something isn't exported.
+fn told_status(graded: bool, is_short: bool) -> u8
+    ensures { result ≡ told_status graded is_short }
+{
+    if graded && is_short { SHORT } else { REFUSED }
+}
+
+/// Returns the status of an export that can't start for this reason.
+fn unstarted_status(graded: bool, fault: StartFault) -> u8
+    ensures { result ≡ unstarted_status graded fault }
+{
+    match fault {
+        StartFault::Unsound(_) if graded => NO_VOLUME,
+        _ => unstarted(fault).status(),
     }
 }
 

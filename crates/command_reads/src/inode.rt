@@ -2,23 +2,24 @@
 ghost use Rattle.std.specs.Prelude.{◌≡◌, IfErr, IfOk, OnOk, string_bytes};
 ghost use Rattle.serde_json.specs.View.{members_view, view};
 ghost use Rattle.command_faults.specs.Streams.{streams, ErrorStream, Hears};
-ghost use Rattle.command_reads.specs.Inode.{inode_data, inode_json, inode_in, with_mode, with_owner, with_times, with_places, IsInodeText, IsInodeFault, ShowsInode};
+ghost use Rattle.command_reads.specs.Inode.{inode_data, inode_json, inode_in, with_mode, with_owner, with_times, with_places, IsInodeText, IsInodeFault, ShowsInode, ShowsNumber, number_at, number_of};
 ghost use Rattle.command_reads.specs.Json.{count_or_null};
 
-use crate::faults::uninspected;
+use crate::faults::{uninspected, unmeasured};
 use crate::json::list;
-use crate::looks::OutputForm;
+use crate::looks::{NodeName, OutputForm};
 use crate::print::finish;
 use command_faults::{Ending, Fault};
 use pdp_words::{Image, Sink};
 use serde_json::{Map, Value, put};
 use std::alloc::{AllocError, Global};
+use vol_dir::{Cred, walk};
 use vol_inspect::{InodeReport, inspect_inode, kind_name};
-use vol_layout::Edition;
+use vol_layout::{Edition, Geometry};
 use vol_listing::json::{line, put_count};
 
 /// Shows an i-node of an image. The image must keep rules 1 and 2, and may be any bytes otherwise. The status is 0; 1 if the
-/// image breaks one of these rules or has no i-node of this number; 3 if `output` failed, 4 if memory ran out. Nothing is
+/// image breaks one of these rules, has no i-node of this number, or the path leads to none; 3 if `output` failed, 4 if memory ran out. Nothing is
 /// printed before all is known.
 ///
 /// Takes the memory of [`inspect_inode`], and for the text.
@@ -26,15 +27,57 @@ pub(crate) fn show_inode<O: Sink>(
     alloc: Global,
     edition: Edition,
     image: Vec<u8>,
+    node: NodeName<'_>,
+    form: OutputForm,
+    output: &mut O,
+) -> Ending
+    ensures { (errors : ErrorStream) → Hears errors result.fault
+        → ShowsInode edition image.items node.entry form (streams O.contents O.failed output.old output.new errors) result.status }
+{
+    let image = Image::from_bytes(image);
+    match number_of(edition, &image, node) {
+        Ok(number) => show_number(alloc, edition, &image, number, form, output),
+        Err(fault) => Ending::from(fault),
+    }
+}
+
+/// Returns the number of an i-node. A path is walked as user 0.
+fn number_of(edition: Edition, image: &Image, node: NodeName<'_>) -> Result<u16, Fault>
+    ensures { result ≡ number_of edition image.now node.entry }
+{
+    match node {
+        NodeName::Number(number) => Ok(number),
+        NodeName::Path(path) => number_at(edition, image, path.as_bytes()),
+    }
+}
+
+/// Returns the number of the i-node to which a path leads.
+fn number_at(edition: Edition, image: &Image, path: &[u8]) -> Result<u16, Fault>
+    ensures { result ≡ number_at edition image.now path.now }
+{
+    let geometry = match Geometry::read(edition, image) {
+        Ok(geometry) => geometry,
+        Err(fault) => return Err(unmeasured(fault)),
+    };
+    match walk(image, &geometry, Cred::ROOT, path) {
+        Ok(number) => Ok(number),
+        Err(refusal) => Err(Fault::Refused(refusal)),
+    }
+}
+
+/// Shows the i-node with a number.
+fn show_number<O: Sink>(
+    alloc: Global,
+    edition: Edition,
+    image: &Image,
     number: u16,
     form: OutputForm,
     output: &mut O,
 ) -> Ending
     ensures { (errors : ErrorStream) → Hears errors result.fault
-        → ShowsInode edition image.items number form (streams O.contents O.failed output.old output.new errors) result.status }
+        → ShowsNumber edition image.now number form (streams O.contents O.failed output.old output.new errors) result.status }
 {
-    let image = Image::from_bytes(image);
-    let text = inode_text(alloc, edition, &image, number, form);
+    let text = inode_text(alloc, edition, image, number, form);
     finish(text, output)
 }
 

@@ -16,9 +16,10 @@ mod map;
 mod print;
 mod remarks;
 pub mod show;
+mod statuses;
 mod super_block;
 
 pub use cat::CatFault;
 pub use get::{FileRead, FilesRead, get_all};
-pub use looks::{Look, OutputForm, Picture};
+pub use looks::{ExportOptions, Look, NodeName, OutputForm, Picture};
 pub use show::look;

@@ -6,17 +6,50 @@ use vol_listing::ListOptions;
 #[derive(Clone, Copy, Debug, PartialEq, Eq)]
 pub enum Look<'a> {
     /// Everything below a directory, as an archive.
-    Export { path: &'a str },
+    Export {
+        path: &'a str,
+        options: ExportOptions,
+    },
     /// An i-node.
-    Inode { number: u16, form: OutputForm },
+    Inode {
+        node: NodeName<'a>,
+        form: OutputForm,
+    },
     /// The super-block.
-    Super { form: OutputForm },
+    Super {
+        form: OutputForm,
+    },
     /// The use of each block.
-    Map { picture: Picture },
-    /// The rules of soundness that hold.
-    Check,
+    Map {
+        picture: Picture,
+    },
+    /// The rules of soundness that hold. With `graded` the status also says that the image has no volume of the edition.
+    Check {
+        graded: bool,
+    },
     /// The names in a directory, or a file.
-    List { path: &'a str, listing: ListOptions },
+    List {
+        path: &'a str,
+        listing: ListOptions,
+    },
+}
+
+/// The options of an export.
+#[derive(Clone, Copy, Debug, PartialEq, Eq)]
+pub struct ExportOptions {
+    /// True if the i-nodes that no entry names are exported too.
+    pub lost: bool,
+    /// True if the status says whether something isn't exported, and that the image has no volume of the edition.
+    pub graded: bool,
+}
+
+/// An i-node by its name.
+#[derive(Clone, Copy, Debug, PartialEq, Eq)]
+pub enum NodeName<'a> {
+    /// Its number.
+    Number(u16),
+    /// A path that leads to it.
+    Path(&'a str),
 }
 
 /// The form of a report.

@@ -34,7 +34,7 @@ pub fn look<O: Sink, E: Sink>(
 }
 
 /// Shows part of an image, which may be any bytes, on `output`. The status is 0; 1 if the image isn't sound enough for the
-/// command, or the named part doesn't exist; 3 if `output` failed, 4 if memory ran out. Costs what the command costs, and
+/// command, or the named part doesn't exist; 5 or 6 only if the status is graded; 3 if `output` failed, 4 if memory ran out. Costs what the command costs, and
 /// takes no right to wait.
 pub fn perform<O: Sink>(
     alloc: Global,
@@ -48,11 +48,13 @@ pub fn perform<O: Sink>(
         → Looks edition image.items screen (streams O.contents O.failed output.old output.new errors) result.status look.entry }
 {
     match look {
-        Look::Export { path } => export(alloc, edition, image, path, screen, output),
-        Look::Inode { number, form } => show_inode(alloc, edition, image, number, form, output),
+        Look::Export { path, options } => {
+            export(alloc, edition, image, path, options, screen, output)
+        }
+        Look::Inode { node, form } => show_inode(alloc, edition, image, node, form, output),
         Look::Super { form } => show_super(alloc, edition, image, form, output),
         Look::Map { picture } => draw_map(alloc, edition, image, picture, screen, output),
-        Look::Check => check(alloc, edition, image, output),
+        Look::Check { graded } => check(alloc, edition, image, graded, output),
         Look::List { path, listing } => list(alloc, edition, image, path, listing, screen, output),
     }
 }

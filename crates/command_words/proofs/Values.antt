@@ -5,9 +5,11 @@ use Rattle.std.proofs.lemmas.List.{length-map}
 use Rattle.vol_layout.specs.declared.edition.Edition.{Edition}
 use Rattle.vol_layout.specs.declared.edition.Edition.TheVariants.{V6, V7}
 use Rattle.command_reads.specs.declared.looks.Look.TheVariants as looks
+use Rattle.command_reads.specs.declared.looks.NodeName.{NodeName}
+use Rattle.command_reads.specs.declared.looks.NodeName.TheVariants as nodes
 use Rattle.vol_check.specs.declared.checker.Checker.TheVariants as checkers
 use Rattle.command_changes.specs.declared.changes.Change.TheVariants as changes
-use Rattle.command_words.specs.Invocations.{AreValues, AsksForNothing, IsEditionNamed, IsGiven, IsOneWrong, IsWordIfAny, IsWordOr, NameAsksFor, TellsOf, Words, verb_of}
+use Rattle.command_words.specs.Invocations.{AreValues, AsksForNothing, IsEditionNamed, IsGiven, IsNodeGiven, IsNodeWord, IsOneWrong, IsWordIfAny, IsWordOr, NameAsksFor, TellsOf, Words, verb_of}
 use Rattle.command_words.specs.Verbs.{Argument, IsNoCommand, arguments_of, verb_name}
 use Rattle.command_words.specs.declared.fault.WordFault.{WordFault}
 use Rattle.command_words.specs.declared.fault.WordFault.TheVariants as faults
@@ -37,6 +39,11 @@ word_value : (other number : ℕ) (words : List (List ℕ)) → IsWordOr other w
 word_value other number [] is = tt
 word_value other number (word ∷ more) is = is.0
 
+-- a word that names an i-node is one
+node_value : (node : NodeName) (word : List ℕ) → IsNodeGiven word node → IsNodeWord word
+node_value (nodes.Number number) word is = inr is.0.0
+node_value (nodes.Path path) word is = inl is.1
+
 -- the words of an invocation are valid for its command's arguments
 pub values_given : (clock : Option ℕ) (given : Words) (invocation : Invocation) → IsGiven clock given invocation
     → AreValues clock given (arguments_of (verb_of invocation))
@@ -63,18 +70,18 @@ values_given clock given (invocations.Change volume (changes.Mkdir path now)) is
 values_given clock given (invocations.Change volume (changes.Ln from to now)) is =
     (edition_value volume.edition _ is.0.0, (tt, (tt, (tt, ((now, is.1.2), tt)))))
 values_given clock given (invocations.Change volume (changes.Chmod path perm now)) is =
-    (edition_value volume.edition _ is.0.0, (tt, (tt, (is.1.1.0, ((now, is.1.2), tt)))))
+    (edition_value volume.edition _ is.0.0, (tt, (is.1.0.1, (is.1.1.0, ((now, is.1.2), tt)))))
 values_given clock given (invocations.Change volume (changes.Chown path uid gid now)) is =
-    (edition_value volume.edition _ is.0.0, (tt, (tt, (is.1.1.0, (is.1.2.0, ((now, is.1.3), tt))))))
-values_given clock given (invocations.Change volume (changes.Touch path now)) is = (edition_value volume.edition _ is.0.0, (tt, (tt, ((now, is.1.1), tt))))
+    (edition_value volume.edition _ is.0.0, (tt, (is.1.0.1, (is.1.1.0, (is.1.2.0, ((now, is.1.3), tt))))))
+values_given clock given (invocations.Change volume (changes.Touch path now)) is = (edition_value volume.edition _ is.0.0, (tt, (is.1.0.1, ((now, is.1.1), tt))))
 values_given clock given (invocations.Change volume changes.Salvage) is = (edition_value volume.edition _ is.0.0, (tt, tt))
-values_given clock given (invocations.Look volume (looks.Export path)) is = (edition_value volume.edition _ is.0.0, (tt, (tt, tt)))
-values_given clock given (invocations.Look volume (looks.Inode number form)) is = (edition_value volume.edition _ is.0.0, (tt, (is.1.0.0, (tt, tt))))
+values_given clock given (invocations.Look volume (looks.Export path options)) is = (edition_value volume.edition _ is.0.0, (tt, (tt, (tt, (tt, tt)))))
+values_given clock given (invocations.Look volume (looks.Inode node form)) is = (edition_value volume.edition _ is.0.0, (tt, (node_value node _ is.1.0, (tt, tt))))
 values_given clock given (invocations.Look volume (looks.Super form)) is = (edition_value volume.edition _ is.0.0, (tt, (tt, tt)))
 values_given clock given (invocations.Look volume (looks.Map picture)) is = (edition_value volume.edition _ is.0.0, (tt, (tt, tt)))
-values_given clock given (invocations.Look volume looks.Check) is = (edition_value volume.edition _ is.0.0, (tt, tt))
+values_given clock given (invocations.Look volume (looks.Check graded)) is = (edition_value volume.edition _ is.0.0, (tt, (tt, tt)))
 values_given clock given (invocations.Look volume (looks.List path listing)) is = (edition_value volume.edition _ is.0.0, (tt, (tt, (tt, (tt, (tt, (tt, tt)))))))
-values_given clock given (invocations.Change volume (changes.Import path now)) is = (edition_value volume.edition _ is.0.0, (tt, (tt, ((now, is.1.1), tt))))
+values_given clock given (invocations.Change volume (changes.Import path now)) is = (edition_value volume.edition _ is.0.0, (tt, (is.1.0.1, ((now, is.1.1), tt))))
 values_given clock given (invocations.Change volume (changes.MkdirAll path now)) is = (edition_value volume.edition _ is.0.0, (tt, (tt, ((now, is.1.1), (tt, tt)))))
 values_given clock given (invocations.Change volume (changes.RmAll path now)) is = (edition_value volume.edition _ is.0.0, (tt, (tt, ((now, is.1.1), (tt, tt)))))
 values_given clock given (invocations.Change volume (changes.Mv from to now)) is =

@@ -1,5 +1,5 @@
 -- The invocations that the words after a command are read as.
-use Rattle.std.specs.Prelude.{◌≡◌, ◌≢◌, ◌⊎◌, ◌∷◌, ◌≤◌, ◌-◌, ◌&&◌, ℕ, List, [], length, map, take, get_or, slice_get, flat_map, Option, Some, None, option_map, Bool, false, true, not, codes}
+use Rattle.std.specs.Prelude.{◌≡◌, ◌≢◌, ◌⊎◌, ◌∷◌, ◌≤◌, ◌-◌, ◌&&◌, ◌==◌, ℕ, List, [], length, map, take, get_or, slice_get, slice_index, flat_map, Option, Some, None, option_map, Bool, false, true, not, codes}
 use Rattle.std.specs.List.{list_any}
 use Rattle.std.specs.Path.{path_file_name}
 use Rattle.std.specs.Str.{bytes_eq}
@@ -34,6 +34,8 @@ use Rattle.vol_listing.specs.declared.options.Lines.{Lines}
 use Rattle.vol_listing.specs.declared.options.Lines.TheVariants as lines
 use Rattle.command_reads.specs.declared.looks.Look.{Look}
 use Rattle.command_reads.specs.declared.looks.Look.TheVariants as looks
+use Rattle.command_reads.specs.declared.looks.NodeName.{NodeName}
+use Rattle.command_reads.specs.declared.looks.NodeName.TheVariants as nodes
 use Rattle.command_reads.specs.declared.looks.Picture.{Picture}
 use Rattle.command_reads.specs.declared.looks.Picture.TheVariants as pictures
 use Rattle.vol_check.specs.declared.checker.Checker.{Checker}
@@ -92,11 +94,34 @@ abbrev pub IsWordIfAny : List (List ℕ) → Type 0
 IsWordIfAny [] = Unit {0}
 IsWordIfAny (word ∷ more) = IsNumberUpTo 65535 word
 
+-- the word for a path isn't the empty one; it may be left out (this project)
+abbrev pub IsPathWord : List (List ℕ) → Type 0
+IsPathWord words = slice_get words 0 ≢ Some []
+
+-- this path is given; if it is left out, it is the root's, the empty one (this project)
+abbrev pub IsPathGiven : List (List ℕ) → List ℕ → Type 0
+IsPathGiven words path = (path ≡ first_word words) × IsPathWord words
+
+-- true if a word begins with a slash (this project)
+abbrev pub is_path : List ℕ → Bool
+is_path word = not (length word == 0) && (slice_index word 0 == 47)
+
+-- the word names an i-node: it begins with a slash, or is a 16-bit number (this project)
+abbrev pub IsNodeWord : List ℕ → Type 0
+IsNodeWord word = (is_path word ≡ true) ⊎ IsNumberUpTo 65535 word
+
+-- the word names this i-node: by a path if it begins with a slash, else by its number (this project)
+abbrev pub IsNodeGiven : List ℕ → NodeName → Type 0
+IsNodeGiven word (nodes.Number number) = IsNumberGiven 65535 word number × (is_path word ≡ false)
+IsNodeGiven word (nodes.Path path) = (path.now ≡ word) × (is_path word ≡ true)
+
 -- the words are valid for an argument of this kind (this project)
 abbrev pub IsValue : Option ℕ → WordKind → List (List ℕ) → Type 0
 IsValue clock kinds.Edition words = (first_word words ≡ codes "6") ⊎ (first_word words ≡ codes "7")
 IsValue clock kinds.Text words = Unit {0}
+IsValue clock kinds.Path words = IsPathWord words
 IsValue clock kinds.Word words = IsNumberUpTo 65535 (first_word words)
+IsValue clock kinds.Node words = IsNodeWord (first_word words)
 IsValue clock kinds.WordOr words = IsWordIfAny words
 IsValue clock kinds.Blocks words = (blocks : ℕ) × AreBlocksOf (first_word words) blocks
 IsValue clock kinds.Long words = IsNumberUpTo 4294967295 (first_word words)
@@ -145,11 +170,11 @@ change_verb changes.Salvage = verbs.Salvage
 
 -- the command that shows part of an image (this project)
 abbrev pub look_verb : Look → Verb
-look_verb (looks.Export path) = verbs.Export
-look_verb (looks.Inode number form) = verbs.Inode
+look_verb (looks.Export path options) = verbs.Export
+look_verb (looks.Inode node form) = verbs.Inode
 look_verb (looks.Super form) = verbs.Super
 look_verb (looks.Map picture) = verbs.Map
-look_verb looks.Check = verbs.Check
+look_verb (looks.Check graded) = verbs.Check
 look_verb (looks.List path listing) = verbs.Ls
 
 -- the command that copies files (this project)
@@ -194,15 +219,15 @@ IsMigrationGiven clock given migration = IsNumberGiven 4294967295 (the_word give
     × IsMomentGiven clock (given (codes "NOW")) migration.now
 
 -- the words name this one file of a volume, and no other (this project)
-abbrev pub IsPathGiven : Words → List ℕ → Type 0
-IsPathGiven given path = (path ≡ the_word given (codes "PATH")) × IsLeftOut given (codes "MORE") × IsLeftOut given (codes "output")
+abbrev pub IsOnePathGiven : Words → List ℕ → Type 0
+IsOnePathGiven given path = (path ≡ the_word given (codes "PATH")) × IsLeftOut given (codes "MORE") × IsLeftOut given (codes "output")
 
 -- the words describe this change (this project)
 abbrev pub IsChangeGiven : Option ℕ → Words → Change → Type 0
 IsChangeGiven clock given (changes.Put path file now) = (path.now ≡ the_word given (codes "PATH")) × IsFirstWord given (codes "FILE") file.now
     × IsMomentGiven clock (given (codes "NOW")) now × IsLeftOut given (codes "MORE") × IsLeftOut given (codes "target-directory")
 IsChangeGiven clock given (changes.Import path now) =
-    (path.now ≡ the_word given (codes "PATH")) × IsMomentGiven clock (given (codes "NOW")) now
+    IsPathGiven (given (codes "PATH")) path.now × IsMomentGiven clock (given (codes "NOW")) now
 IsChangeGiven clock given (changes.Rm path now) =
     (path.now ≡ the_word given (codes "PATH")) × IsMomentGiven clock (given (codes "NOW")) now × (is_set (given (codes "recursive")) ≡ false)
 IsChangeGiven clock given (changes.RmAll path now) =
@@ -217,13 +242,13 @@ IsChangeGiven clock given (changes.Ln from to now) = (from.now ≡ the_word give
     × (to.now ≡ the_word given (codes "TO")) × IsMomentGiven clock (given (codes "NOW")) now
 IsChangeGiven clock given (changes.Mv from to now) = (from.now ≡ the_word given (codes "FROM"))
     × (to.now ≡ the_word given (codes "TO")) × IsMomentGiven clock (given (codes "NOW")) now
-IsChangeGiven clock given (changes.Chmod path perm now) = (path.now ≡ the_word given (codes "PATH"))
+IsChangeGiven clock given (changes.Chmod path perm now) = IsPathGiven (given (codes "PATH")) path.now
     × IsOctalGiven 4095 (the_word given (codes "PERM")) perm × IsMomentGiven clock (given (codes "NOW")) now
-IsChangeGiven clock given (changes.Chown path uid gid now) = (path.now ≡ the_word given (codes "PATH"))
+IsChangeGiven clock given (changes.Chown path uid gid now) = IsPathGiven (given (codes "PATH")) path.now
     × IsNumberGiven 65535 (the_word given (codes "UID")) uid × IsNumberGiven 65535 (the_word given (codes "GID")) gid
     × IsMomentGiven clock (given (codes "NOW")) now
 IsChangeGiven clock given (changes.Touch path now) =
-    (path.now ≡ the_word given (codes "PATH")) × IsMomentGiven clock (given (codes "NOW")) now
+    IsPathGiven (given (codes "PATH")) path.now × IsMomentGiven clock (given (codes "NOW")) now
 IsChangeGiven clock given changes.Salvage = Unit {0}
 
 -- the words choose this form of a report: JSON if its option is given (this project)
@@ -250,11 +275,12 @@ IsDepthGiven given depths.Below = (is_set (given (codes "directory")) ≡ false)
 
 -- the words describe this part of an image (this project)
 abbrev pub IsLookGiven : Words → Look → Type 0
-IsLookGiven given (looks.Export path) = path.now ≡ the_word given (codes "PATH")
-IsLookGiven given (looks.Inode number form) = IsNumberGiven 65535 (the_word given (codes "INO")) number × IsFormGiven given form
+IsLookGiven given (looks.Export path options) = (path.now ≡ the_word given (codes "PATH")) × (options.lost ≡ is_set (given (codes "lost")))
+    × (options.graded ≡ is_set (given (codes "status")))
+IsLookGiven given (looks.Inode node form) = IsNodeGiven (the_word given (codes "INO")) node × IsFormGiven given form
 IsLookGiven given (looks.Super form) = IsFormGiven given form
 IsLookGiven given (looks.Map picture) = IsPictureGiven given picture
-IsLookGiven given looks.Check = Unit {0}
+IsLookGiven given (looks.Check graded) = graded ≡ is_set (given (codes "status"))
 IsLookGiven given (looks.List path listing) = (path.now ≡ the_word given (codes "PATH")) × AreLinesGiven given listing.lines
     × IsDepthGiven given listing.depth
 
@@ -328,7 +354,7 @@ IsGiven clock given (invocations.Cat volume ino) = IsVolumeGiven given volume ×
 IsGiven clock given (invocations.Mkfs image volume) = IsMadeGiven given (codes "IMAGE") image × IsNewVolumeGiven clock given volume
 IsGiven clock given (invocations.Migrate old new migration) = (old.now ≡ the_word given (codes "OLD"))
     × IsMadeGiven given (codes "NEW") new × IsMigrationGiven clock given migration
-IsGiven clock given (invocations.Get volume path) = IsVolumeGiven given volume × IsPathGiven given path.now
+IsGiven clock given (invocations.Get volume path) = IsVolumeGiven given volume × IsOnePathGiven given path.now
 IsGiven clock given (invocations.Change volume change) = IsVolumeGiven given volume × IsChangeGiven clock given change
 IsGiven clock given (invocations.Look volume look) = IsVolumeGiven given volume × IsLookGiven given look
 IsGiven clock given (invocations.Copy volume copying) = IsVolumeGiven given volume × IsCopyGiven clock given copying

@@ -46,6 +46,10 @@ moment = (codes "NOW", kinds.Moment, needs.Maybe)
 abbrev pub maybe_path : Argument
 maybe_path = (codes "PATH", kinds.Text, needs.Maybe)
 
+-- the argument `PATH` of what a command changes (this project)
+abbrev pub path : Need → Argument
+path need = (codes "PATH", kinds.Path, need)
+
 -- an argument for any word, which may be left out (this project)
 abbrev pub maybe_word : List ℕ → Argument
 maybe_word name = (name, kinds.Text, needs.Maybe)
@@ -109,11 +113,11 @@ arguments_of verbs.Cat = on_volume (number (codes "INO") ∷ [])
 arguments_of verbs.Ls = on_volume (maybe_path ∷ lettered (codes "long") 108 ∷ lettered (codes "recursive") 82
     ∷ lettered (codes "directory") 100 ∷ option (codes "json") ∷ [])
 arguments_of verbs.Get = on_volume (word (codes "PATH") ∷ more_words ∷ valued (codes "output") 111 values.Folder ∷ [])
-arguments_of verbs.Export = on_volume (maybe_path ∷ [])
-arguments_of verbs.Inode = on_volume (number (codes "INO") ∷ option (codes "json") ∷ [])
+arguments_of verbs.Export = on_volume (maybe_path ∷ option (codes "lost") ∷ option (codes "status") ∷ [])
+arguments_of verbs.Inode = on_volume ((codes "INO", kinds.Node, needs.Once) ∷ option (codes "json") ∷ [])
 arguments_of verbs.Super = on_volume (option (codes "json") ∷ [])
 arguments_of verbs.Map = on_volume (option (codes "svg") ∷ [])
-arguments_of verbs.Check = on_volume []
+arguments_of verbs.Check = on_volume (option (codes "status") ∷ [])
 arguments_of verbs.Icheck = of_checker
 arguments_of verbs.Dcheck = of_checker
 arguments_of verbs.Ncheck = of_checker
@@ -122,15 +126,15 @@ arguments_of verbs.Mkfs =
     ∷ option (codes "new") ∷ [])
 arguments_of verbs.Put = on_volume (word (codes "PATH") ∷ maybe_word (codes "FILE") ∷ maybe_word (codes "NOW") ∷ more_words
     ∷ valued (codes "target-directory") 116 values.Directory ∷ [])
-arguments_of verbs.Import = on_volume (maybe_path ∷ moment ∷ [])
+arguments_of verbs.Import = on_volume (path needs.Maybe ∷ moment ∷ [])
 arguments_of verbs.Rm = on_volume (word (codes "PATH") ∷ moment ∷ lettered (codes "recursive") 114 ∷ [])
 arguments_of verbs.Rmdir = on_volume (word (codes "PATH") ∷ moment ∷ [])
 arguments_of verbs.Mkdir = on_volume (word (codes "PATH") ∷ moment ∷ lettered (codes "parents") 112 ∷ [])
 arguments_of verbs.Ln = on_volume (word (codes "FROM") ∷ word (codes "TO") ∷ moment ∷ [])
 arguments_of verbs.Mv = on_volume (word (codes "FROM") ∷ word (codes "TO") ∷ moment ∷ [])
-arguments_of verbs.Chmod = on_volume (word (codes "PATH") ∷ (codes "PERM", kinds.Permissions, needs.Once) ∷ moment ∷ [])
-arguments_of verbs.Chown = on_volume (word (codes "PATH") ∷ number (codes "UID") ∷ number (codes "GID") ∷ moment ∷ [])
-arguments_of verbs.Touch = on_volume (word (codes "PATH") ∷ moment ∷ [])
+arguments_of verbs.Chmod = on_volume (path needs.Once ∷ (codes "PERM", kinds.Permissions, needs.Once) ∷ moment ∷ [])
+arguments_of verbs.Chown = on_volume (path needs.Once ∷ number (codes "UID") ∷ number (codes "GID") ∷ moment ∷ [])
+arguments_of verbs.Touch = on_volume (path needs.Once ∷ moment ∷ [])
 arguments_of verbs.Salvage = on_volume []
 arguments_of verbs.Play = on_volume ((codes "SCRIPT", kinds.Scripts, needs.Several) ∷ [])
 arguments_of verbs.Migrate =

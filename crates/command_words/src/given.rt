@@ -3,7 +3,7 @@ ghost use Rattle.std.specs.Prelude.{◌≡◌, ◌≤◌, true, ℕ, List, None,
 ghost use Rattle.command_words.specs.Decimal.{IsNumberUpTo, IsNumberGiven, IsThreads, IsThreadsGiven};
 ghost use Rattle.command_words.specs.Octal.{IsOctalUpTo, IsOctalGiven};
 ghost use Rattle.command_words.specs.Disks.{AreBlocksOf};
-ghost use Rattle.command_words.specs.Invocations.{IsEditionNamed, IsMomentGiven, IsValue, IsWordOr, IsWrong, TellsOf, is_set, the_word};
+ghost use Rattle.command_words.specs.Invocations.{IsEditionNamed, IsMomentGiven, IsNodeGiven, IsNodeWord, IsPathGiven, IsPathWord, IsValue, IsWordOr, IsWrong, TellsOf, is_path, is_set, the_word};
 ghost use Rattle.command_words.specs.declared.parameters.WordKind.TheVariants as kinds;
 
 use crate::decimal::{long_of, threads_of, word_of};
@@ -12,6 +12,7 @@ use crate::fault::{Said, WordFault, WrongWord};
 use crate::moment::moment_of;
 use crate::octal::permissions_of;
 use crate::texts;
+use command_reads::NodeName;
 use std::alloc::{AllocError, Global};
 use vol_layout::Edition;
 
@@ -65,6 +66,40 @@ pub(crate) fn word_in<'a, G: Given<'a>>(given: &G, name: &'a str) -> Result<u16,
 {
     let text = text_in(given, name);
     word_of(text).ok_or(wrong(name, text, texts::WORD))
+}
+
+/// Reads the path of what a command changes, or returns the root's if it was left out.
+pub(crate) fn path_in<'a, G: Given<'a>>(given: &G) -> Result<&'a str, WordFault<'a>>
+    ensures read { IfOk result (λ path. IsPathGiven (G.words given.now (codes "PATH")) path.now) }
+    ensures refused { IfErr result (TellsOf (IsPathWord (G.words given.now (codes "PATH")) → ⊥)) }
+{
+    match given.first("PATH") {
+        Some("") => Err(wrong("PATH", "", texts::EMPTY_PATH)),
+        Some(path) => Ok(path),
+        None => Ok(""),
+    }
+}
+
+/// Reads the i-node: a path if its word begins with a slash, else a number.
+pub(crate) fn node_in<'a, G: Given<'a>>(given: &G) -> Result<NodeName<'a>, WordFault<'a>>
+    ensures read { IfOk result (IsNodeGiven (the_word (G.words given.now) (codes "INO"))) }
+    ensures refused { IfErr result (TellsOf (IsNodeWord (the_word (G.words given.now) (codes "INO")) → ⊥)) }
+{
+    let text = text_in(given, "INO");
+    if is_path(text) {
+        return Ok(NodeName::Path(text));
+    }
+    match word_of(text) {
+        Some(number) => Ok(NodeName::Number(number)),
+        None => Err(wrong("INO", text, texts::NO_NODE)),
+    }
+}
+
+/// True if a word begins with a slash.
+fn is_path(word: &str) -> bool
+    ensures { result ≡ is_path word.now }
+{
+    !word.is_empty() && word.as_bytes()[0] == b'/'
 }
 
 /// Reads the 32-bit number given for an argument.

@@ -8,8 +8,12 @@ pub enum WordKind {
     Edition,
     /// Any word.
     Text,
+    /// A path, which isn't the empty word.
+    Path,
     /// A 16-bit number.
     Word,
+    /// An i-node: a path that begins with a slash, else a 16-bit number.
+    Node,
     /// A 16-bit number, if there is a word.
     WordOr,
     /// A 32-bit number, or the name of a disk with that many blocks.
@@ -106,6 +110,13 @@ const INO: Parameter = Parameter {
     kind: WordKind::Word,
     need: Need::Once,
     help: texts::INO,
+};
+
+const NODE: Parameter = Parameter {
+    name: "INO",
+    kind: WordKind::Node,
+    need: Need::Once,
+    help: texts::NODE,
 };
 
 const WORKERS: Parameter = Parameter {
@@ -215,14 +226,14 @@ const NAMED: Parameter = Parameter {
 
 const OWNED: Parameter = Parameter {
     name: "PATH",
-    kind: WordKind::Text,
+    kind: WordKind::Path,
     need: Need::Once,
     help: texts::OWNED,
 };
 
 const TOUCHED: Parameter = Parameter {
     name: "PATH",
-    kind: WordKind::Text,
+    kind: WordKind::Path,
     need: Need::Once,
     help: texts::touch::PATH,
 };
@@ -301,7 +312,28 @@ const BELOW: Parameter = Parameter {
     name: "PATH",
     kind: WordKind::Text,
     need: Need::Maybe,
-    help: texts::BELOW,
+    help: texts::export::BELOW,
+};
+
+const LOST: Parameter = Parameter {
+    name: "lost",
+    kind: WordKind::Flag,
+    need: Need::Flag(None),
+    help: texts::export::LOST,
+};
+
+const EXPORT_GRADED: Parameter = Parameter {
+    name: "status",
+    kind: WordKind::Flag,
+    need: Need::Flag(None),
+    help: texts::export::GRADED,
+};
+
+const CHECK_GRADED: Parameter = Parameter {
+    name: "status",
+    kind: WordKind::Flag,
+    need: Need::Flag(None),
+    help: texts::CHECK_GRADED,
 };
 
 const LISTED: Parameter = Parameter {
@@ -313,7 +345,7 @@ const LISTED: Parameter = Parameter {
 
 const IMPORTED: Parameter = Parameter {
     name: "PATH",
-    kind: WordKind::Text,
+    kind: WordKind::Path,
     need: Need::Maybe,
     help: texts::IMPORTED,
 };
@@ -457,7 +489,10 @@ pub static CHOWN_WORDS: [Parameter; 6] = [EDITION, IMAGE, OWNED, NEW_UID, NEW_GI
 /// The words of `touch`.
 pub static TOUCH_WORDS: [Parameter; 4] = [EDITION, IMAGE, TOUCHED, CALL_NOW];
 
-/// The words of `salvage` and `check`.
+/// The words of `check`.
+pub static CHECK_WORDS: [Parameter; 3] = [EDITION, IMAGE, CHECK_GRADED];
+
+/// The words of `salvage`.
 pub static VOLUME_WORDS: [Parameter; 2] = [EDITION, IMAGE];
 
 /// The words of `play`.
@@ -473,10 +508,10 @@ pub static SERVE_WORDS: [Parameter; 4] = [EDITION, IMAGE, READ_ONLY, MINE];
 pub static IMPORT_WORDS: [Parameter; 4] = [EDITION, IMAGE, IMPORTED, CALL_NOW];
 
 /// The words of `export`.
-pub static EXPORT_WORDS: [Parameter; 3] = [EDITION, IMAGE, BELOW];
+pub static EXPORT_WORDS: [Parameter; 5] = [EDITION, IMAGE, BELOW, LOST, EXPORT_GRADED];
 
 /// The words of `inode`.
-pub static INODE_WORDS: [Parameter; 4] = [EDITION, IMAGE, INO, JSON];
+pub static INODE_WORDS: [Parameter; 4] = [EDITION, IMAGE, NODE, JSON];
 
 /// The words of `super`.
 pub static SUPER_WORDS: [Parameter; 3] = [EDITION, IMAGE, JSON];

@@ -8,15 +8,15 @@ ghost use Rattle.command_words.specs.declared.verbs.Verb.TheVariants as verbs;
 use crate::disks::list_default;
 use crate::fault::WordFault;
 use crate::given::{
-    Given, blocks_in, edition_in, flag_in, long_in, moment_in, permissions_in, scripts_in, text_in,
-    threads_in, word_in, word_or,
+    Given, blocks_in, edition_in, flag_in, long_in, moment_in, node_in, path_in, permissions_in,
+    scripts_in, text_in, threads_in, word_in, word_or,
 };
 use crate::invocation::{Copying, Invocation, MadeFile, Serving, VolumeFile, Work};
 use crate::several::{PutFiles, file_in, files_in, no_more, not_empty, paths_in};
 use crate::texts;
 use crate::verbs::Verb;
 use command_changes::{Change, Migration};
-use command_reads::{Look, OutputForm, Picture};
+use command_reads::{ExportOptions, Look, OutputForm, Picture};
 use std::alloc::Global;
 use vol_check::Checker;
 use vol_listing::{Depth, Lines, ListOptions};
@@ -146,9 +146,13 @@ fn read_export<'a, G: Given<'a>>(given: &G) -> Result<Invocation<'a>, WordFault<
 {
     let volume = volume_in(given)?;
     let path = text_in(given, "PATH");
+    let options = ExportOptions {
+        lost: flag_in(given, "lost"),
+        graded: flag_in(given, "status"),
+    };
     Ok(Invocation::Look {
         volume,
-        look: Look::Export { path },
+        look: Look::Export { path, options },
     })
 }
 
@@ -158,11 +162,11 @@ fn read_inode<'a, G: Given<'a>>(given: &G) -> Result<Invocation<'a>, WordFault<'
     ensures refused { IfErr result (TellsOf (IsOneWrong None (G.words given.now) (arguments_of verbs.Inode))) }
 {
     let volume = volume_in(given)?;
-    let number = word_in(given, "INO")?;
+    let node = node_in(given)?;
     let form = form_in(given);
     Ok(Invocation::Look {
         volume,
-        look: Look::Inode { number, form },
+        look: Look::Inode { node, form },
     })
 }
 
@@ -198,9 +202,10 @@ fn read_check<'a, G: Given<'a>>(given: &G) -> Result<Invocation<'a>, WordFault<'
     ensures refused { IfErr result (TellsOf (IsOneWrong None (G.words given.now) (arguments_of verbs.Check))) }
 {
     let volume = volume_in(given)?;
+    let graded = flag_in(given, "status");
     Ok(Invocation::Look {
         volume,
-        look: Look::Check,
+        look: Look::Check { graded },
     })
 }
 
@@ -321,7 +326,7 @@ fn read_import<'a, G: Given<'a>>(
     ensures refused { IfErr result (TellsOf (IsOneWrong clock (G.words given.now) (arguments_of verbs.Import))) }
 {
     let volume = volume_in(given)?;
-    let path = text_in(given, "PATH");
+    let path = path_in(given)?;
     let now = moment_in(given, clock)?;
     Ok(Invocation::Change {
         volume,
@@ -428,7 +433,7 @@ fn read_chmod<'a, G: Given<'a>>(
     ensures refused { IfErr result (TellsOf (IsOneWrong clock (G.words given.now) (arguments_of verbs.Chmod))) }
 {
     let volume = volume_in(given)?;
-    let path = text_in(given, "PATH");
+    let path = path_in(given)?;
     let perm = permissions_in(given, "PERM")?;
     let now = moment_in(given, clock)?;
     Ok(Invocation::Change {
@@ -446,7 +451,7 @@ fn read_chown<'a, G: Given<'a>>(
     ensures refused { IfErr result (TellsOf (IsOneWrong clock (G.words given.now) (arguments_of verbs.Chown))) }
 {
     let volume = volume_in(given)?;
-    let path = text_in(given, "PATH");
+    let path = path_in(given)?;
     let uid = word_in(given, "UID")?;
     let gid = word_in(given, "GID")?;
     let now = moment_in(given, clock)?;
@@ -470,7 +475,7 @@ fn read_touch<'a, G: Given<'a>>(
     ensures refused { IfErr result (TellsOf (IsOneWrong clock (G.words given.now) (arguments_of verbs.Touch))) }
 {
     let volume = volume_in(given)?;
-    let path = text_in(given, "PATH");
+    let path = path_in(given)?;
     let now = moment_in(given, clock)?;
     Ok(Invocation::Change {
         volume,

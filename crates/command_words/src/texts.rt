@@ -1,5 +1,6 @@
 //! The texts of the help.
 
+pub mod export;
 pub mod touch;
 
 pub const ABOUT: &str = "Works on disk images of Sixth and Seventh Edition Unix.";
@@ -45,12 +46,19 @@ pub const IMAGE: &str = "The file that holds the volume's bytes";
 
 pub const INO: &str = "The file's i-number, in decimal digits, at most 65535";
 
+pub const NODE: &str = "The file's i-number, or a path that begins with a slash";
+
+pub const NO_NODE: &str =
+    "not a number from 0 to 65535 in decimal digits, nor a path that begins with a slash";
+
 pub const WORD: &str = "not a number from 0 to 65535 in decimal digits";
 
 pub const LONG: &str = "not a number from 0 to 4294967295 in decimal digits";
 
 pub const MOMENT: &str =
     "not a number from 0 to 4294967295 in decimal digits, nor a date as 2026-11-23T12:00:00Z";
+
+pub const EMPTY_PATH: &str = "it is empty; the root is /";
 
 pub const ONE_PATH: &str = "takes one PATH, and then the moment";
 
@@ -196,39 +204,12 @@ pub const WANTS_OUTPUT: &str = "several files are written into a folder, by -o F
 
 pub const EMPTY_FOLDER: &str = "it is empty, and no folder; the one where the program runs is .";
 
-pub const EXPORT_ABOUT: &str =
-    "Writes all that is below a directory as a tar archive, of an image that isn't sound too.";
-
-pub const EXPORT_MORE: &str = "\
-Example:
-  unixvol export 7 disk.img /usr > usr.tar
-
-It writes a ustar archive of POSIX to standard output: files, directories and special files, with their permissions,
-owners and times of modification. The names of a file after its first one are links. Members stand in the order of
-their names, by paths from PATH on, and none stands twice.
-
-Of the volume's soundness only the image's size and its super-block's sizes are asked; all is exported to which
-entries lead from PATH. What is left out, and what is wrong with the volume, is told line by line on standard error,
-and the status is 1: an entry, with the reason; a block that two files name; and the least rule that the volume breaks.
-Files to which no entry leads have no line, nor have further entries of one name in a directory.
-
-Status:
-  0  all was exported, and the volume is sound
-  1  all to which entries lead was exported, but for what is told; or nothing was:
-     `unixvol: unsound, rule 1`, `unixvol: unsound, rule 2`: the image is too short, or the sizes don't fit one another
-     `unixvol: 2 NoEntry`: there is no such name
-     `unixvol: 20 NotDirectory`: PATH, or what it leads through, is no directory
-  2  the command line can't be read
-  3  `unixvol: cannot read IMAGE`, or `unixvol: cannot write -`: standard output failed, or is a terminal
-  4  `unixvol: 12 NoMemory`";
-
-pub const BELOW: &str = "The directory's path in the volume; left out, the root";
-
 pub const INODE_ABOUT: &str = "Shows an i-node: its fields, and what its blocks hold.";
 
 pub const INODE_MORE: &str = "\
 Example:
   unixvol inode 7 disk.img 2
+  unixvol inode 7 disk.img /etc/passwd
 
 It prints each field by its name in the manual, with the mode and its permissions in octal digits, and then a line for
 each range of blocks: the logical blocks that they hold, or, of an indirect block, from which logical block on it leads
@@ -238,7 +219,8 @@ image's size and its super-block's sizes are asked.
 Status:
   0  the i-node was shown
   1  `unixvol: unsound, rule 1`, `unixvol: unsound, rule 2`: the image is too short, or the sizes don't fit one another
-     `unixvol: 2 NoEntry`: there is no i-node of this number
+     `unixvol: 2 NoEntry`: there is no i-node of this number, or the path leads to none
+     `unixvol: 20 NotDirectory`: what the path leads through is no directory
   2  the command line can't be read
   3  `unixvol: cannot read IMAGE`, or `unixvol: cannot write -`: standard output failed
   4  `unixvol: 12 NoMemory`";
@@ -290,6 +272,7 @@ pub const CHECK_ABOUT: &str = "Tells which of the twelve rules of soundness a vo
 pub const CHECK_MORE: &str = "\
 Example:
   unixvol check 7 disk.img
+  unixvol check --status 7 disk.img
 
 It prints a line for each rule, with what it asks and whether it holds; of one that doesn't, what breaks it first, with
 the i-number, the block, or the directory and its slot; or that it isn't asked, since a rule that it needs doesn't hold.
@@ -298,9 +281,12 @@ Where rule 1 or 2 fails and the image could be one of the other edition, a last 
 Status:
   0  all rules hold: the volume is sound
   1  some rule doesn't
+  6  with --status: rule 1 or 2 doesn't, so the image has no volume of this edition
   2  the command line can't be read
   3  `unixvol: cannot read IMAGE`, or `unixvol: cannot write -`: standard output failed
   4  `unixvol: 12 NoMemory`";
+
+pub const CHECK_GRADED: &str = "Say by status 6 that the image has no volume of this edition";
 
 pub const PUT_ABOUT: &str = "Puts a file into a volume, or several into a directory of it.";
 

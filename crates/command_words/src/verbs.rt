@@ -3,10 +3,10 @@ ghost use Rattle.std.specs.Prelude.{◌≡◌, ◌∷◌, [], None, IfSome, map}
 ghost use Rattle.command_words.specs.Verbs.{IsNoCommand, argument_of, arguments_of, verb_name};
 
 use crate::parameters::{
-    CAT_WORDS, CHECKER_WORDS, CHMOD_WORDS, CHOWN_WORDS, EXPORT_WORDS, GET_WORDS, IMPORT_WORDS,
-    INODE_WORDS, LS_WORDS, MAP_WORDS, MIGRATE_WORDS, MKDIR_WORDS, MKFS_WORDS, NAMES_WORDS,
-    PLAY_WORDS, PUT_WORDS, Parameter, RM_WORDS, RMDIR_WORDS, SERVE_WORDS, SUPER_WORDS, TOUCH_WORDS,
-    VOLUME_WORDS,
+    CAT_WORDS, CHECK_WORDS, CHECKER_WORDS, CHMOD_WORDS, CHOWN_WORDS, EXPORT_WORDS, GET_WORDS,
+    IMPORT_WORDS, INODE_WORDS, LS_WORDS, MAP_WORDS, MIGRATE_WORDS, MKDIR_WORDS, MKFS_WORDS,
+    NAMES_WORDS, PLAY_WORDS, PUT_WORDS, Parameter, RM_WORDS, RMDIR_WORDS, SERVE_WORDS, SUPER_WORDS,
+    TOUCH_WORDS, VOLUME_WORDS,
 };
 use crate::texts;
 
@@ -126,7 +126,8 @@ impl Verb {
             Verb::Inode => &INODE_WORDS,
             Verb::Super => &SUPER_WORDS,
             Verb::Map => &MAP_WORDS,
-            Verb::Check | Verb::Salvage => &VOLUME_WORDS,
+            Verb::Check => &CHECK_WORDS,
+            Verb::Salvage => &VOLUME_WORDS,
             Verb::Icheck | Verb::Dcheck | Verb::Ncheck => &CHECKER_WORDS,
             Verb::Mkfs => &MKFS_WORDS,
             Verb::Put => &PUT_WORDS,
@@ -168,7 +169,7 @@ impl Verb {
             Verb::Cat => texts::CAT_ABOUT,
             Verb::Ls => texts::LS_ABOUT,
             Verb::Get => texts::GET_ABOUT,
-            Verb::Export => texts::EXPORT_ABOUT,
+            Verb::Export => texts::export::ABOUT,
             Verb::Inode => texts::INODE_ABOUT,
             Verb::Super => texts::SUPER_ABOUT,
             Verb::Map => texts::MAP_ABOUT,
@@ -200,7 +201,7 @@ impl Verb {
             Verb::Cat => texts::CAT_MORE,
             Verb::Ls => texts::LS_MORE,
             Verb::Get => texts::GET_MORE,
-            Verb::Export => texts::EXPORT_MORE,
+            Verb::Export => texts::export::MORE,
             Verb::Inode => texts::INODE_MORE,
             Verb::Super => texts::SUPER_MORE,
             Verb::Map => texts::MAP_MORE,

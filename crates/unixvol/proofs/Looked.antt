@@ -4,94 +4,156 @@ use Rattle.std.proofs.lemmas.Bool.{ne_eqb}
 use Rattle.vol_archive.specs.Export.{start_of}
 use Rattle.vol_archive.specs.declared.export_tree.ExportStart.{ExportStart}
 use Rattle.vol_archive.specs.declared.export_tree.StartFault.{StartFault}
+use Rattle.vol_archive.specs.declared.export_tree.StartFault.TheVariants as starts
 use Rattle.command_faults.proofs.Concluded.{fault_few}
 use Rattle.command_faults.specs.Faults.{no_memory}
 use Rattle.command_faults.specs.Streams.{Streams}
 use Rattle.command_faults.specs.declared.fault.Fault.{Fault}
+use Rattle.command_faults.specs.declared.fault.Fault.TheVariants as faults
+use Rattle.std.specs.Result.{is_ok}
+use Rattle.vol_layout.specs.Geometry.{geometry_read}
 use Rattle.vol_layout.specs.declared.edition.Edition.{Edition}
 use Rattle.command_reads.specs.Check.{Checks, verdict_status}
-use Rattle.command_reads.specs.Export.{ExportsBelow, ExportsFrom, ExportsTo, whole, broken, short, unbegun}
+use Rattle.command_reads.specs.Export.{ExportsBelow, ExportsFrom, ExportsTo, told_status, unstarted_status, whole, broken, short, unbegun}
+use Rattle.command_reads.specs.declared.looks.ExportOptions.{ExportOptions}
+use Rattle.command_reads.specs.Inode.{ShowsFound, number_of}
 use Rattle.command_reads.specs.Look.{Looks}
+use Rattle.command_reads.specs.declared.looks.OutputForm.{OutputForm}
 use Rattle.command_reads.specs.Print.{IsBrokenOff, IsTold, PrintsOne, PrintsWith}
 use Rattle.command_reads.specs.declared.looks.Look.{Look}
 use Rattle.command_reads.specs.declared.looks.Look.TheVariants as looks
 use Rattle.vol_listing.specs.declared.options.Screen.{Screen}
 use Rattle.vol_listing.specs.declared.options.Screen.TheVariants as screens
-use Rattle.unixvol.specs.Runs.{IsEnd, IsUnread, RunsLook, host_files}
+use Rattle.unixvol.specs.Runs.{IsEndWithin, IsUnread, RunsLook, highest_status, host_files}
 use Rattle.host_files.specs.declared.image_file.Stamp.{Stamp}
 
 -- the end of a run with a fault
-ends_badly : (streams : Streams) (status : ℕ) → 1 ≤ status → status ≤ 4 → IsEnd streams status
-ends_badly streams status least most = record { within = most; whole = λ e. absurd (omega (arith, least, e)) }
+ends_badly : (most : ℕ) (streams : Streams) (status : ℕ) → 1 ≤ status → status ≤ most → IsEndWithin most streams status
+ends_badly most streams status least within = record { within = within; whole = λ e. absurd (omega (arith, least, e)) }
 
-ends_told : (streams : Streams) (fault : Fault) (status : ℕ) → IsTold streams fault status → IsEnd streams status
-ends_told streams fault status told =
-    let few = fault_few fault in
-    ends_badly streams status (subst (λ n. 1 ≤ n) (sym told.status) few.0) (subst (λ n. n ≤ 4) (sym told.status) few.1)
+ends_told : (most : ℕ) (streams : Streams) (fault : Fault) (status : ℕ) → 4 ≤ most → IsTold streams fault status → IsEndWithin most streams status
+ends_told most streams fault status few told =
+    let one : 1 ≤ status = subst (λ n. 1 ≤ n) (sym told.status) (fault_few fault).0 in
+    let four : status ≤ 4 = subst (λ n. n ≤ 4) (sym told.status) (fault_few fault).1 in
+    ends_badly most streams status one (omega (arith, four, few))
 
-ends_broken : (streams : Streams) (bytes : List ℕ) (status : ℕ) → IsBrokenOff streams bytes status → IsEnd streams status
-ends_broken streams bytes status is = ends_badly streams status (omega (arith, is.status)) (omega (arith, is.status))
+ends_broken : (most : ℕ) (streams : Streams) (bytes : List ℕ) (status : ℕ) → 4 ≤ most → IsBrokenOff streams bytes status → IsEndWithin most streams status
+ends_broken most streams bytes status few is = ends_badly most streams status (omega (arith, is.status)) (omega (arith, is.status, few))
 
-ends_prints : (wanted : ℕ) (streams : Streams) (text : List ℕ) (status : ℕ) → wanted ≤ 4 → PrintsWith wanted streams text status → IsEnd streams status
-ends_prints wanted streams text status few (inl printed) =
-    record { within = subst (λ n. n ≤ 4) (sym printed.status) few; whole = λ e. (printed.working, printed.said) }
-ends_prints wanted streams text status few (inr is) = ends_broken streams text status is
+ends_prints : (most wanted : ℕ) (streams : Streams) (text : List ℕ) (status : ℕ) → 4 ≤ most → wanted ≤ most → PrintsWith wanted streams text status
+    → IsEndWithin most streams status
+ends_prints most wanted streams text status few within (inl printed) =
+    record { within = subst (λ n. n ≤ most) (sym printed.status) within; whole = λ e. (printed.working, printed.said) }
+ends_prints most wanted streams text status few within (inr is) = ends_broken most streams text status few is
 
-ends_one : (IsText : List ℕ → Type 0) (IsFault : Fault → Type 0) (streams : Streams) (status : ℕ) → PrintsOne IsText IsFault streams status → IsEnd streams status
-ends_one IsText IsFault streams status (inl (text, is, prints)) = ends_prints 0 streams text status (omega arith) prints
-ends_one IsText IsFault streams status (inr (fault, is, told)) = ends_told streams fault status told
+ends_one : (IsText : List ℕ → Type 0) (IsFault : Fault → Type 0) (streams : Streams) (status : ℕ) → PrintsOne IsText IsFault streams status → IsEndWithin 4 streams status
+ends_one IsText IsFault streams status (inl (text, is, prints)) = ends_prints 4 0 streams text status (omega arith) (omega arith) prints
+ends_one IsText IsFault streams status (inr (fault, is, told)) = ends_told 4 streams fault status (omega arith) told
+
+-- the highest status is at least 4
+most_few : (graded : Bool) → 4 ≤ (if graded then 6 else 4)
+most_few true = omega arith
+most_few false = omega arith
+
+-- the statuses of what is told lie between
+told_few : (graded short : Bool) → (1 ≤ told_status graded short) × (told_status graded short ≤ (if graded then 6 else 4))
+told_few true true = (omega arith, omega arith)
+told_few true false = (omega arith, omega arith)
+told_few false true = (omega arith, omega arith)
+told_few false false = (omega arith, omega arith)
 
 -- an archive that was written whole ends with 0 only if there are no remarks
-ends_lines : (streams : Streams) (status : ℕ) (lines : List ℕ) → streams.failed ≡ streams.had_failed → streams.said lines
-    → status ≡ (if length lines == 0 then 0 else 1) → IsEnd streams status
-ends_lines streams status [] working said is = record { within = omega (arith, is); whole = λ e. (working, said) }
-ends_lines streams status (line ∷ lines) working said is =
+ends_lines : (most told : ℕ) (streams : Streams) (status : ℕ) (lines : List ℕ) → 1 ≤ told → told ≤ most → streams.failed ≡ streams.had_failed → streams.said lines
+    → status ≡ (if length lines == 0 then 0 else told) → IsEndWithin most streams status
+ends_lines most told streams status [] least within working said is = record { within = omega (arith, is); whole = λ e. (working, said) }
+ends_lines most told streams status (line ∷ lines) least within working said is =
     let some : (length (line ∷ lines) == 0) ≡ false = ne_eqb _ _ (λ none. absurd (omega (arith, none))) in
-    let one : status ≡ 1 = is ∙ ap (λ (b : Bool). if b then 0 else 1) some in
-    ends_badly streams status (omega (arith, one)) (omega (arith, one))
+    let one : status ≡ told = is ∙ ap (λ (b : Bool). if b then 0 else told) some in
+    ends_badly most streams status (omega (arith, one, least)) (omega (arith, one, within))
 
-ends_below : (edition : Edition) (image : List ℕ) (start : ExportStart) (streams : Streams) (status : ℕ) → ExportsBelow edition image start streams status
-    → IsEnd streams status
-ends_below edition image start streams status (whole founds walk is) = ends_lines streams status is.lines is.working is.said is.status
-ends_below edition image start streams status (broken founds walk is) = ends_broken streams _ status is
-ends_below edition image start streams status (short founds walk is) = ends_badly streams status (omega (arith, is.status)) (omega (arith, is.status))
-ends_below edition image start streams status (unbegun told) = ends_told streams no_memory status told
+-- the highest status of an export
+abbrev most_of : ExportOptions → ℕ
+most_of options = if options.graded then 6 else 4
 
-ends_to : (edition : Edition) (image : List ℕ) (start : ExportStart) (streams : Streams) (status : ℕ) (screen : Screen)
-    → ExportsTo edition image start streams status screen → IsEnd streams status
-ends_to edition image start streams status screens.Stream exports = ends_below edition image start streams status exports
-ends_to edition image start streams status (screens.Terminal columns colours) told = ends_told streams _ status told
+ends_below : (edition : Edition) (image : List ℕ) (start : ExportStart) (options : ExportOptions) (streams : Streams) (status : ℕ)
+    → ExportsBelow edition image start options streams status → IsEndWithin (most_of options) streams status
+ends_below edition image start options streams status (whole founds walk is) =
+    let few = told_few options.graded is.short in
+    ends_lines (most_of options) (told_status options.graded is.short) streams status is.lines few.0 few.1 is.working is.said is.status
+ends_below edition image start options streams status (broken founds walk is) = ends_broken (most_of options) streams _ status (most_few options.graded) is
+ends_below edition image start options streams status (short founds walk is) =
+    let few = most_few options.graded in
+    ends_badly (most_of options) streams status (omega (arith, is.status)) (omega (arith, is.status, few))
+ends_below edition image start options streams status (unbegun told) = ends_told (most_of options) streams no_memory status (most_few options.graded) told
 
-ends_from : (edition : Edition) (image : List ℕ) (screen : Screen) (streams : Streams) (status : ℕ) (found : Result ExportStart StartFault)
-    → ExportsFrom edition image screen streams status found → IsEnd streams status
-ends_from edition image screen streams status (Ok start) exports = ends_to edition image start streams status screen exports
-ends_from edition image screen streams status (Err fault) told = ends_told streams _ status told
+ends_to : (edition : Edition) (image : List ℕ) (start : ExportStart) (options : ExportOptions) (streams : Streams) (status : ℕ) (screen : Screen)
+    → ExportsTo edition image start options streams status screen → IsEndWithin (most_of options) streams status
+ends_to edition image start options streams status screens.Stream exports = ends_below edition image start options streams status exports
+ends_to edition image start options streams status (screens.Terminal columns colours) told =
+    ends_told (most_of options) streams _ status (most_few options.graded) told
 
-verdict_few : (sound : Bool) → verdict_status sound ≤ 4
-verdict_few true = omega arith
-verdict_few false = omega arith
+-- the statuses of an export that can't start lie between
+unstarted_few : (graded : Bool) (fault : StartFault) → (1 ≤ unstarted_status graded fault) × (unstarted_status graded fault ≤ (if graded then 6 else 4))
+unstarted_few true (starts.Unsound fault) = (omega arith, omega arith)
+unstarted_few false (starts.Unsound fault) = (omega arith, omega arith)
+unstarted_few graded (starts.Refused refusal) =
+    let few = fault_few (faults.Refused refusal) in
+    let most = most_few graded in
+    (few.0, omega (arith, few.1, most))
 
-ends_checks : (edition : Edition) (image : List ℕ) (streams : Streams) (status : ℕ) → Checks edition image streams status → IsEnd streams status
-ends_checks edition image streams status (inl found) =
-    ends_prints (verdict_status found.sound) streams found.text status (verdict_few found.sound) found.prints
-ends_checks edition image streams status (inr told) = ends_told streams no_memory status told
+ends_from : (edition : Edition) (image : List ℕ) (options : ExportOptions) (screen : Screen) (streams : Streams) (status : ℕ) (found : Result ExportStart StartFault)
+    → ExportsFrom edition image options screen streams status found → IsEndWithin (most_of options) streams status
+ends_from edition image options screen streams status (Ok start) exports = ends_to edition image start options streams status screen exports
+ends_from edition image options screen streams status (Err fault) told =
+    let few = unstarted_few options.graded fault in
+    ends_badly (most_of options) streams status (subst (λ n. 1 ≤ n) (sym told.status) few.0) (subst (λ n. n ≤ most_of options) (sym told.status) few.1)
+
+verdict_few : (graded measured sound : Bool) → verdict_status graded measured sound ≤ (if graded then 6 else 4)
+verdict_few true measured true = omega arith
+verdict_few false measured true = omega arith
+verdict_few true true false = omega arith
+verdict_few true false false = omega arith
+verdict_few false measured false = omega arith
+
+ends_checks : (edition : Edition) (image : List ℕ) (graded : Bool) (streams : Streams) (status : ℕ) → Checks edition image graded streams status
+    → IsEndWithin (if graded then 6 else 4) streams status
+ends_checks edition image graded streams status (inl found) =
+    ends_prints (if graded then 6 else 4) (verdict_status graded (is_ok (geometry_read edition image)) found.sound) streams found.text status (most_few graded)
+    (verdict_few graded (is_ok (geometry_read edition image)) found.sound) found.prints
+ends_checks edition image graded streams status (inr told) = ends_told (if graded then 6 else 4) streams no_memory status (most_few graded) told
+
+ends_found : (edition : Edition) (image : List ℕ) (form : OutputForm) (streams : Streams) (status : ℕ) (found : Result ℕ Fault)
+    → ShowsFound edition image form streams status found → IsEndWithin 4 streams status
+ends_found edition image form streams status (Ok number) shows = ends_one _ _ streams status shows
+ends_found edition image form streams status (Err fault) told = ends_told 4 streams fault status (omega arith) told
 
 ends_looks : (edition : Edition) (image : List ℕ) (screen : Screen) (streams : Streams) (status : ℕ) (look : Look)
-    → Looks edition image screen streams status look → IsEnd streams status
-ends_looks edition image screen streams status (looks.Export path) shows = ends_from edition image screen streams status (start_of edition image path.now) shows
-ends_looks edition image screen streams status (looks.Inode number form) shows = ends_one _ _ streams status shows
+    → Looks edition image screen streams status look → IsEndWithin (highest_status look) streams status
+ends_looks edition image screen streams status (looks.Export path options) shows = ends_from edition image options screen streams status (start_of edition image path.now) shows
+ends_looks edition image screen streams status (looks.Inode node form) shows = ends_found edition image form streams status (number_of edition image node) shows
 ends_looks edition image screen streams status (looks.Super form) shows = ends_one _ _ streams status shows
 ends_looks edition image screen streams status (looks.Map picture) shows = ends_one _ _ streams status shows
-ends_looks edition image screen streams status looks.Check shows = ends_checks edition image streams status shows
+ends_looks edition image screen streams status (looks.Check graded) shows = ends_checks edition image graded streams status shows
 ends_looks edition image screen streams status (looks.List path listing) shows = ends_one _ _ streams status shows
 
-ends_unread : {F : Type 0} (remaining : F → Option (List ℕ)) (streams : Streams) (status : ℕ) → IsUnread remaining status → IsEnd streams status
-ends_unread remaining streams status (inl is) = ends_badly streams status (omega (arith, is)) (omega (arith, is))
-ends_unread remaining streams status (inr memory) = ends_badly streams status (omega (arith, memory.0)) (omega (arith, memory.0))
+-- the highest status of a command is at least 4
+highest_few : (look : Look) → 4 ≤ highest_status look
+highest_few (looks.Export path options) = most_few options.graded
+highest_few (looks.Inode node form) = omega arith
+highest_few (looks.Super form) = omega arith
+highest_few (looks.Map picture) = omega arith
+highest_few (looks.Check graded) = most_few graded
+highest_few (looks.List path listing) = omega arith
 
--- a command that shows part of an image ends with a status of at most 4, and with 0 only if all was printed and no fault was reported
+ends_unread : {F : Type 0} (remaining : F → Option (List ℕ)) (most : ℕ) (streams : Streams) (status : ℕ) → 4 ≤ most → IsUnread remaining status
+    → IsEndWithin most streams status
+ends_unread remaining most streams status few (inl is) = ends_badly most streams status (omega (arith, is)) (omega (arith, is, few))
+ends_unread remaining most streams status few (inr memory) = ends_badly most streams status (omega (arith, memory.0)) (omega (arith, memory.0, few))
+
+-- a command that shows part of an image ends with a status of at most 4, or 6 if it is graded, and with 0 only if all was printed and no fault was reported
 pub ends_looked : {F : Type 0} (remaining contents : F → Option (List ℕ)) (had : F → Stamp → Type 0) (stood : Stamp → Type 0) (streams : Streams)
     (screen : Screen) (edition : Edition) (look : Look) (status : ℕ) → RunsLook streams (host_files remaining contents had stood) screen edition look status
-    → IsEnd streams status
-ends_looked remaining contents had stood streams screen edition look status (inl nothing) = ends_unread remaining streams status nothing.0
+    → IsEndWithin (highest_status look) streams status
+ends_looked remaining contents had stood streams screen edition look status (inl nothing) =
+    ends_unread remaining (highest_status look) streams status (highest_few look) nothing.0
 ends_looked remaining contents had stood streams screen edition look status (inr (image, given, looks)) = ends_looks edition image screen streams status look looks

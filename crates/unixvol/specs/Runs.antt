@@ -1,5 +1,5 @@
 -- The result of a run of the program, from the bytes that its files give.
-use Rattle.std.specs.Prelude.{All, length, ◌≡◌, ◌≢◌, ◌⊎◌, ◌↔◌, ◌≤◌, ℕ, false, true, List, [], Option, IsSome, IfSome, Result, Ok, Err, IsErrAnd, Bool}
+use Rattle.std.specs.Prelude.{All, length, ◌≡◌, ◌≢◌, ◌⊎◌, ◌↔◌, ◌≤◌, ℕ, false, true, List, [], Option, IsSome, IfSome, Result, Ok, Err, IsErrAnd, Bool, if◌then◌else◌}
 use Rattle.std.specs.Io.KnownBytes.{Keeps}
 use Rattle.clap.specs.Words.{kind_of}
 use Rattle.clap.specs.declared.error.Error.{Error}
@@ -184,10 +184,10 @@ IsShownBy false screens.Stream = Unit {0}
 
 -- the image to show; `check` may see the whole file, since it also looks at the sizes of the other edition (this project)
 abbrev pub IsSeen : HostFiles → Edition → Look → List ℕ → Type 0
-IsSeen files edition looks.Check image = files.checked edition image
+IsSeen files edition (looks.Check graded) image = files.checked edition image
 IsSeen files edition (looks.List path listing) image = files.shown edition image
-IsSeen files edition (looks.Export path) image = files.shown edition image
-IsSeen files edition (looks.Inode number form) image = files.shown edition image
+IsSeen files edition (looks.Export path options) image = files.shown edition image
+IsSeen files edition (looks.Inode node form) image = files.shown edition image
 IsSeen files edition (looks.Super form) image = files.shown edition image
 IsSeen files edition (looks.Map picture) image = files.shown edition image
 
@@ -292,10 +292,23 @@ RunsToEnd files output errors read end =
     × Ends (record { old = output; new = new; had_failed = false; failed = failed; said = Gets untold errors told }) status
     × ((end ≡ status) ⊎ ((status ≡ 0) × (end ≡ 3)))
 
--- a run that may have printed something with any status ends: the status is at most 4; if it is 0, no output failed and no fault was reported (this project)
-pub record IsEnd (streams : Streams) (status : ℕ) : Type 0 where
-  pub within : status ≤ 4
+-- a run that may have printed something with any status ends: the status is at most `most`; if it is 0, no output failed and no fault was reported (this project)
+pub record IsEndWithin (most : ℕ) (streams : Streams) (status : ℕ) : Type 0 where
+  pub within : status ≤ most
   pub whole : status ≡ 0 → (streams.failed ≡ streams.had_failed) × streams.said []
+
+-- such a run ends with a status of at most 4 (this project)
+abbrev pub IsEnd : Streams → ℕ → Type 0
+IsEnd streams status = IsEndWithin 4 streams status
+
+-- the highest status of a command that shows part of an image: 6 if it is graded, else 4 (this project)
+abbrev pub highest_status : Look → ℕ
+highest_status (looks.Export path options) = if options.graded then 6 else 4
+highest_status (looks.Check graded) = if graded then 6 else 4
+highest_status (looks.Inode node form) = 4
+highest_status (looks.Super form) = 4
+highest_status (looks.Map picture) = 4
+highest_status (looks.List path listing) = 4
 
 -- work with several threads runs to its end, from the contents of the program's two streams: their contents afterwards, whether they failed, and the status of the run, which is the exit status, or 3 is in place of another (this project)
 abbrev pub WorksToEnd : HostFiles → Screen → Option (List ℕ) → Option (List ℕ) → Edition → Work → ℕ → Type 0
@@ -310,7 +323,7 @@ abbrev pub LooksToEnd : HostFiles → Screen → Option (List ℕ) → Option (L
 LooksToEnd files screen output errors edition look end =
     (new : Option (List ℕ)) × (failed : Bool) × (told : Option (List ℕ)) × (untold : Bool) × (status : ℕ)
     × RunsLook (record { old = output; new = new; had_failed = false; failed = failed; said = Gets untold errors told }) files screen edition look status
-    × IsEnd (record { old = output; new = new; had_failed = false; failed = failed; said = Gets untold errors told }) status
+    × IsEndWithin (highest_status look) (record { old = output; new = new; had_failed = false; failed = failed; said = Gets untold errors told }) status
     × ((end ≡ status) ⊎ (end ≡ 3))
 
 -- a change runs to its end, as a plain command does (this project)

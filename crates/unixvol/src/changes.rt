@@ -6,6 +6,7 @@ ghost use Rattle.unixvol.specs.Runs.{ChangesToEnd, Ends, GaveArchive, GaveBytes,
 
 use crate::explain::{NamedFile, explain_unread, finish, tell_fault};
 use crate::host::Surroundings;
+use crate::packed::packed_words;
 use crate::read::{Begun, begin, read_file, read_open};
 use crate::save::save_answer;
 use crate::subject::Subject;
@@ -53,19 +54,21 @@ pub fn run_to_end<
         volume.entry.edition change.entry (exit_status result) }
 {
     let mut errors = IntoWrite::new(errors);
-    let ending = run(host, input, is_terminal, volume, change);
-    let subject = Subject::of_change(volume, change);
+    let mut packed = None;
+    let ending = run(host, input, is_terminal, volume, change, &mut packed);
+    let subject = Subject::of_change(volume, change).with_packed(packed);
     tell_fault(host, &mut errors, &ending.fault, None, Some(subject));
     ExitCode::from(finish(host, output, ending.status))
 }
 
-/// Changes the volume in a file, saves it, and returns how the run ends.
+/// Changes the volume in a file, saves it, and returns how the run ends; sets the words for bytes to import that are compressed.
 fn run<R: ImageFiles + Clock + Eprint + AllocGlobal, I: Read + Drop>(
     host: &Surroundings<'_, R>,
     input: I,
     is_terminal: bool,
     volume: VolumeFile<'_>,
     change: Change<'_>,
+    packed: &mut Option<&'static str>,
 ) -> Ending
     ensures runs { (known : Option (List ℕ)) (failed : Bool) (errors : ErrorStream) → Hears errors result.fault
         → RunsChange (still known failed errors) (host_files R.File.remaining R.File.contents R.had R.stood) (host_input I.remaining) is_terminal volume.entry.edition change.entry result.status }
@@ -94,6 +97,7 @@ fn run<R: ImageFiles + Clock + Eprint + AllocGlobal, I: Read + Drop>(
         stamp,
         locked: _locked,
     } = begun;
+    *packed = packed_words(&given);
     let answer = perform(host.rt.alloc(), volume.edition, image, given, change);
     let status = save_answer(host, volume.image, stamp, &answer);
     Ending {

@@ -3,7 +3,7 @@
 ghost use Rattle.std.specs.Prelude.{◌≡◌, ◌≤◌, IfErr, IfOk};
 ghost use Rattle.std.specs.Process.{exit_status};
 ghost use Rattle.command_faults.specs.Streams.{ErrorStream, Hears, streams};
-ghost use Rattle.unixvol.specs.Runs.{Ends, IsEnd, IsSeen, IsShownBy, IsUnread, LooksToEnd, RunsGetOne, RunsLook, host_files};
+ghost use Rattle.unixvol.specs.Runs.{Ends, IsEndWithin, IsSeen, IsShownBy, IsUnread, LooksToEnd, RunsGetOne, RunsLook, highest_status, host_files};
 
 use crate::explain::{finish_printed, tell_fault};
 use crate::host::Surroundings;
@@ -103,7 +103,7 @@ fn run<R: ImageFiles + Eprint + AllocGlobal, O: Sink>(
     ensures runs { (errors : ErrorStream) → Hears errors result.fault
         → RunsLook (streams O.contents O.failed output.old output.new errors) (host_files R.File.remaining R.File.contents R.had R.stood) screen volume.entry.edition look.entry result.status }
     ensures ends { (errors : ErrorStream) → Hears errors result.fault
-        → IsEnd (streams O.contents O.failed output.old output.new errors) result.status }
+        → IsEndWithin (highest_status look.entry) (streams O.contents O.failed output.old output.new errors) result.status }
 {
     let image = match read_seen(host, volume, look) {
         Ok(image) => image,
@@ -127,7 +127,7 @@ fn read_seen<R: ImageFiles + Eprint + AllocGlobal>(
     ensures fault { IfErr result (IsUnread R.File.remaining) }
 {
     match look {
-        Look::Check => read_checked(host, volume),
+        Look::Check { .. } => read_checked(host, volume),
         Look::List { .. }
         | Look::Export { .. }
         | Look::Inode { .. }

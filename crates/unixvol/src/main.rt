@@ -9,6 +9,7 @@ mod host;
 mod looks;
 mod meanings;
 mod mounted;
+mod packed;
 mod read;
 mod replaced;
 mod save;

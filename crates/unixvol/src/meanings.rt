@@ -36,7 +36,7 @@ static RULES: [Rule; 12] = [
 ];
 
 /// Returns the meaning of a fault, with the subject of the command; `sizes` are those in the image, if they are known. Returns `None`
-/// for a fault in words, as `export` and `import` have for entries and members.
+/// for other faults in words, as `export` and `import` have for entries and members.
 pub fn meaning_of(
     alloc: Global,
     fault: &Fault,
@@ -45,6 +45,7 @@ pub fn meaning_of(
 ) -> Result<Option<String>, AllocError> {
     match fault {
         Fault::Unsound(rule) => rule_meaning(alloc, Some(*rule), subject, sizes),
+        Fault::Worded { rule: None, .. } => packed_meaning(alloc, subject),
         Fault::Worded { rule, .. } => rule_meaning(alloc, *rule, subject, sizes),
         Fault::BadLine { script, number, .. } => script_meaning(alloc, *script, *number, subject),
         Fault::Refused(refusal) => refusal_meaning(alloc, *refusal, subject),
@@ -73,6 +74,17 @@ pub fn meaning_of(
 /// Returns the second line of a fault, without the program's name: its subject and its meaning.
 fn meaning(alloc: Global, about: String, words: &str) -> Result<Option<String>, AllocError> {
     Ok(Some(format!(in alloc; "{about}: {words}")?))
+}
+
+/// Returns the meaning of an archive that can't be read because it is compressed.
+fn packed_meaning(alloc: Global, subject: Subject<'_>) -> Result<Option<String>, AllocError> {
+    match (subject.verb, subject.packed) {
+        (Verb::Import, Some(words)) => {
+            let input = shown(alloc, "standard input")?;
+            meaning(alloc, input, words)
+        }
+        _ => Ok(None),
+    }
 }
 
 /// Returns the meaning of a broken rule.
@@ -244,7 +256,7 @@ fn words_of(refusal: Refusal, verb: Verb) -> &'static str {
 fn no_entry(verb: Verb) -> &'static str {
     match verb {
         Verb::Cat => "there is no i-node of this number, or it is free",
-        Verb::Inode => "there is no i-node of this number",
+        Verb::Inode => "there is no i-node of this number, or the path leads to none",
         Verb::Put | Verb::Mkdir => "a directory on the way to it isn't there",
         Verb::Import => {
             "a directory on the way to it, or the file that it is a link to, isn't there"

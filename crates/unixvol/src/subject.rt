@@ -2,7 +2,7 @@
 
 use command_changes::Change;
 use command_line::{Copying, Invocation, VolumeFile, Work};
-use command_reads::Look;
+use command_reads::{Look, NodeName};
 use command_words::Verb;
 use vol_check::Checker;
 use vol_layout::Edition;
@@ -18,6 +18,8 @@ pub struct Subject<'a> {
     pub edition: Edition,
     /// The part of the image that it works on.
     pub about: About<'a>,
+    /// The words for the bytes on standard input, if they are compressed.
+    pub packed: Option<&'static str>,
 }
 
 /// The part of an image that a command works on.
@@ -56,12 +58,14 @@ impl<'a> Subject<'a> {
                 image: image.path,
                 edition: volume.edition,
                 about: About::Image,
+                packed: None,
             }),
             Invocation::Migrate { old, new, .. } => Some(Subject {
                 verb: Verb::Migrate,
                 image: old,
                 edition: Edition::V6,
                 about: About::Path(new.path),
+                packed: None,
             }),
             _ => None,
         }
@@ -74,7 +78,13 @@ impl<'a> Subject<'a> {
             image: volume.image,
             edition: volume.edition,
             about,
+            packed: None,
         }
+    }
+
+    /// Returns the subject with the words for compressed bytes.
+    pub fn with_packed(self, packed: Option<&'static str>) -> Subject<'a> {
+        Subject { packed, ..self }
     }
 
     /// Returns the subject of `cat`.
@@ -85,11 +95,18 @@ impl<'a> Subject<'a> {
     /// Returns the subject of a command that shows part of the image in a file.
     pub fn of_look(volume: VolumeFile<'a>, look: Look<'a>) -> Subject<'a> {
         let (verb, about) = match look {
-            Look::Export { path } => (Verb::Export, About::Path(path)),
-            Look::Inode { number, .. } => (Verb::Inode, About::Inode(number)),
+            Look::Export { path, .. } => (Verb::Export, About::Path(path)),
+            Look::Inode {
+                node: NodeName::Number(number),
+                ..
+            } => (Verb::Inode, About::Inode(number)),
+            Look::Inode {
+                node: NodeName::Path(path),
+                ..
+            } => (Verb::Inode, About::Path(path)),
             Look::Super { .. } => (Verb::Super, About::Image),
             Look::Map { .. } => (Verb::Map, About::Image),
-            Look::Check => (Verb::Check, About::Image),
+            Look::Check { .. } => (Verb::Check, About::Image),
             Look::List { path, .. } => (Verb::Ls, About::Path(path)),
         };
         Subject::new(volume, verb, about)

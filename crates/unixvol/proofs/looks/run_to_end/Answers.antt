@@ -1,7 +1,7 @@
 use Rattle.std.specs.Process.{exit_status}
 use Rattle.pdp_words.specs.Adapters.{writer_in, has_write_failed}
 use Rattle.command_faults.specs.Streams.{heard}
-use Rattle.unixvol.specs.Runs.{RunsLook, IsEnd, host_files}
+use Rattle.unixvol.specs.Runs.{RunsLook, IsEndWithin, highest_status, host_files}
 use Rattle.unixvol.proofs.Begun.{begun, ended_printed}
 use Rattle.unixvol.proofs.looks.run_to_end.Goals as goal
 
@@ -17,7 +17,7 @@ returns g c =
       status,
       begun (λ streams. RunsLook streams files c.args.screen c.args.volume.edition c.args.look status) (g.O.Write.contents c.args.output) (g.E.Write.contents c.args.errors) _ _ _ _ _ _ _
           c.noted_writer-output.ensures.bytes c.new-errors.ensures.bytes c.noted_writer-output.ensures.fresh (c.run-ending.ensures.runs after c.tell_fault.ensures),
-      begun (λ streams. IsEnd streams status) (g.O.Write.contents c.args.output) (g.E.Write.contents c.args.errors) _ _ _ _ _ _ _
+      begun (λ streams. IsEndWithin (highest_status c.args.look) streams status) (g.O.Write.contents c.args.output) (g.E.Write.contents c.args.errors) _ _ _ _ _ _ _
           c.noted_writer-output.ensures.bytes c.new-errors.ensures.bytes c.noted_writer-output.ensures.fresh (c.run-ending.ensures.ends after c.tell_fault.ensures),
       ended_printed status c.finish_printed.result (exit_status c.from.result) c.from.ensures c.finish_printed.ensures,
     )

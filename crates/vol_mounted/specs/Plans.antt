@@ -1,7 +1,9 @@
 -- The calls that requests make.
-use Rattle.std.specs.Prelude.{ℕ, ◌-◌, ◌%◌, ◌/◌, ◌^◌, ◌==◌, ◌&&◌, ◌||◌, nat_lt, nat_le, Bool, true, false, unwrap_or, is_none, if◌then◌else◌, List, [], ◌∷◌, ◌++◌, length, Option, None, Some, Result, Ok, Err}
+use Rattle.std.specs.Prelude.{ℕ, ◌-◌, ◌%◌, ◌/◌, ◌^◌, ◌==◌, ◌&&◌, ◌||◌, nat_lt, nat_le, min, Bool, true, false, unwrap_or, is_none, if◌then◌else◌, List, [], ◌∷◌, ◌++◌, length, Option, None, Some, Result, Ok, Err}
 use Rattle.std.specs.Option.{ok_or, option_to_list}
 use Rattle.fuse_words.specs.declared.attribute_changes.AttributeChanges.{AttributeChanges}
+use Rattle.fuse_words.specs.declared.attribute_changes.NewTime.{NewTime}
+use Rattle.fuse_words.specs.declared.attribute_changes.NewTime.TheVariants as times
 use Rattle.fuse_words.specs.declared.request.Header.{Header}
 use Rattle.vol_layout.specs.Edition.{constants}
 use Rattle.vol_layout.specs.Ids.{is_bad_id}
@@ -195,6 +197,26 @@ abbrev pub owner_call : Sight → Stat → List ℕ → Option ℕ → Option �
 owner_call sight stat path uid gid =
     if is_none uid && is_none gid then Ok None else given_call sight stat path uid gid sight.owner
 
+-- a time in seconds, a signed number of 64 bits, limited to what an i-node can hold (Linux, timestamp_truncate)
+abbrev pub inode_time : ℕ → ℕ
+inode_time seconds = if nat_le (2 ^ 63) seconds then 0 else min (2 ^ 32 - 1) seconds
+
+-- a new time: the moment, or the one that is given (utimensat)
+abbrev pub time_of : ℕ → NewTime → ℕ
+time_of now times.Now = now
+time_of now (times.At seconds) = inode_time seconds
+
+-- the time that a node gets: a new one, if it is given; else the one that it has (utimensat)
+abbrev pub set_time : ℕ → ℕ → Option NewTime → ℕ
+set_time now present None = present
+set_time now present (Some time) = time_of now time
+
+-- the call that sets a node's times, if one is given; the other stays (utimensat)
+abbrev pub times_call : ℕ → Stat → List ℕ → Option NewTime → Option NewTime → Option Call
+times_call now stat path accessed modified =
+    if is_none accessed && is_none modified then None
+    else Some (calls.Times user now path (set_time now stat.accessed accessed) (set_time now stat.modified modified))
+
 -- the calls of SETATTR of node i, all of which are checked first (fuse_setattr_in)
 abbrev pub attribute_calls : Sight → ℕ → AttributeChanges → Result (List Call) MountedRefusal
 attribute_calls sight i changes =
@@ -202,4 +224,5 @@ attribute_calls sight i changes =
     and_then (stat_at sight i) (λ stat.
     and_then (size_call sight.now stat path changes.size) (λ sized.
     and_then (owner_call sight stat path changes.uid changes.gid) (λ owned.
-    let all = (option_to_list sized ++ option_to_list (mode_call sight.now path changes.mode)) ++ option_to_list owned in asked sight all all))))
+    let all = ((option_to_list sized ++ option_to_list (mode_call sight.now path changes.mode)) ++ option_to_list owned)
+    ++ option_to_list (times_call sight.now stat path changes.accessed changes.modified) in asked sight all all))))

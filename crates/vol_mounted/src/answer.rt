@@ -100,7 +100,7 @@ impl MountedServer {
         ensures { IsServed self.old self.new now header.now operation.now (put_by result room.new.reply) }
     {
         if self.orphans.has(header.node) {
-            return self.answer_orphan(header.unique, header.node, operation, room);
+            return self.answer_orphan(now, header.unique, header.node, operation, room);
         }
         self.operate(alloc, now, header, operation, room)
     }

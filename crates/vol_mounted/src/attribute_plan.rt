@@ -1,16 +1,19 @@
 //! The calls of SETATTR.
+ghost use Rattle.std.specs.Prelude.{◌≡◌};
+ghost use Rattle.vol_mounted.specs.Plans.{set_time, time_of};
+
 use crate::calls::Calls;
 use crate::plan::{cred_of, permissions, short_number};
 use crate::refusal::MountedRefusal;
 use crate::scene::Scene;
-use fuse_words::AttributeChanges;
+use fuse_words::{AttributeChanges, NewTime};
 use pdp_words::Bytes;
 use vol_dir::Cred;
 use vol_volume::{Call, Stat};
 
 impl Scene<'_> {
     ghost use Rattle.std.specs.Prelude.{◌≡◌, Ok, Err};
-    ghost use Rattle.vol_mounted.specs.Plans.{attribute_calls, size_call, mode_call, owner_call, given_call};
+    ghost use Rattle.vol_mounted.specs.Plans.{attribute_calls, size_call, mode_call, owner_call, times_call};
     ghost use Rattle.vol_mounted.specs.Refusals.{Gives};
     ghost use Rattle.vol_mounted.specs.Scenes.{sight_of};
 
@@ -30,6 +33,7 @@ impl Scene<'_> {
         calls.extend(sized)?;
         calls.extend(self.mode_call(path.as_slice(), changes.mode)?)?;
         calls.extend(owned)?;
+        calls.extend(self.times_call(&stat, path.as_slice(), changes.accessed, changes.modified)?)?;
         self.ask(calls.as_slice())?;
         Ok(calls)
     }
@@ -113,5 +117,47 @@ impl Scene<'_> {
             uid: cred.uid,
             gid: cred.gid,
         }))
+    }
+    /// Returns the call that sets a node's times, if one is given. The other stays.
+    fn times_call(
+        &self,
+        stat: &Stat,
+        path: &[u8],
+        accessed: Option<NewTime>,
+        modified: Option<NewTime>,
+    ) -> Result<Option<Call>, MountedRefusal>
+        ensures { Gives (Ok (times_call self.now.moment stat.now path.now accessed modified)) result }
+    {
+        if accessed.is_none() && modified.is_none() {
+            return Ok(None);
+        }
+        Ok(Some(Call::Times {
+            cred: Cred::ROOT,
+            now: self.moment,
+            path: Bytes::from_slice(self.alloc, path)?,
+            atime: set_time(self.moment, stat.accessed, accessed),
+            mtime: set_time(self.moment, stat.modified, modified),
+        }))
+    }
+}
+
+/// Returns the time that a node gets: a new one, if it is given; else the one that it has.
+fn set_time(now: u32, present: u32, time: Option<NewTime>) -> u32
+    ensures { result ≡ set_time now present time }
+{
+    match time {
+        Some(time) => time_of(now, time),
+        None => present,
+    }
+}
+
+/// Returns a new time: the moment, or the one that is given, limited to what an i-node can hold.
+pub(crate) fn time_of(now: u32, time: NewTime) -> u32
+    ensures { result ≡ time_of now time }
+{
+    match time {
+        NewTime::Now => now,
+        NewTime::At(seconds) if seconds >= 1 << 63 => 0,
+        NewTime::At(seconds) => u32::try_from(seconds).unwrap_or(u32::MAX),
     }
 }

@@ -1,4 +1,5 @@
 //! Files without a name that are still open.
+use crate::attribute_plan::time_of;
 use fuse_words::{AttributeChanges, Attributes};
 use std::alloc::{AllocError, Global};
 
@@ -71,8 +72,8 @@ impl Orphan {
         Ok(())
     }
 
-    /// Sets those of its permissions, owner and group that are given.
-    pub(crate) fn set(&mut self, changes: &AttributeChanges) {
+    /// Sets those of its permissions, owner, group and times that are given.
+    pub(crate) fn set(&mut self, now: u32, changes: &AttributeChanges) {
         if let Some(mode) = changes.mode {
             let kind = self.attributes.mode & TYPE_BITS;
             self.attributes.mode = kind | (mode % 0o10000);
@@ -82,6 +83,12 @@ impl Orphan {
         }
         if let Some(gid) = changes.gid {
             self.attributes.gid = gid;
+        }
+        if let Some(time) = changes.accessed {
+            self.attributes.accessed = u64::from(time_of(now, time));
+        }
+        if let Some(time) = changes.modified {
+            self.attributes.modified = u64::from(time_of(now, time));
         }
     }
 }

@@ -17,6 +17,7 @@ impl MountedServer {
     /// Puts the reply to an operation on a file without a name into `room`. The volume isn't changed.
     pub(crate) fn answer_orphan(
         &mut self,
+        now: u32,
         unique: u64,
         node: u64,
         operation: &Operation<'_>,
@@ -41,7 +42,7 @@ impl MountedServer {
                 if let Some(size) = changes.size {
                     file.resize(short_number(size)?)?;
                 }
-                file.set(changes);
+                file.set(now, changes);
             }
             Operation::Read { offset, size, .. } => {
                 let size = MOST_DATA.min(*size as usize);

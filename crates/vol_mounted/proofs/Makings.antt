@@ -1,24 +1,28 @@
--- Calls that were planned and made.
-use Rattle.std.proofs.Common.{◌≡◌, ◌≢◌, sym, subst, inl, inr, List, Result, Ok, Err}
-use Rattle.vol_volume.specs.Volume.{Mounted}
+-- Calls keep the number of an image's bytes.
+use Rattle.std.proofs.Common.{◌≡◌, ◌∙◌, sym, ap, ℕ, List, [], ◌∷◌, length, inl, inr}
+use Rattle.vol_dir.specs.declared.refusal.Refusal.{Refusal}
+use Rattle.vol_volume.specs.Volume.{Mounted, IsConsistent}
 use Rattle.vol_volume.specs.declared.calls.Call.{Call}
-use Rattle.vol_import.specs.Make.{AreMade}
-use Rattle.vol_mounted.specs.Refusals.{no_memory}
-use Rattle.vol_mounted.specs.Servers.{IsStopped, Made, Unmade}
-use Rattle.vol_mounted.specs.declared.refusal.MountedRefusal.{MountedRefusal}
+use Rattle.vol_import.specs.Make.{AreMade, AreStopped}
 
--- all calls were made, and updating the known nodes didn't change the volume
-pub made_of : (old mid new : Mounted) (planned : Result (List Call) MountedRefusal) (calls : List Call) → planned ≡ Ok calls
-    → AreMade old calls mid → new ≡ mid → Made old planned new
-made_of old mid new planned calls is made same = (calls, is, subst (λ volume. AreMade old calls volume) (sym same) made)
+made_base : (old new : Mounted) (calls : List Call) → AreMade old calls new → new.base ≡ old.base
+unfolding AreMade
+made_base old new [] made = ap (λ (volume : Mounted). volume.base) made
+made_base old new (call ∷ calls) (between, done, accepted, made) = made_base between new calls made ∙ accepted.base
 
--- a call was refused
-pub unmade_of : (old mid new : Mounted) (planned : Result (List Call) MountedRefusal) (calls : List Call) (refusal : MountedRefusal) → planned ≡ Ok calls
-    → IsStopped old calls mid refusal → new ≡ mid → Unmade old planned new refusal
-unmade_of old mid new planned calls refusal is stopped same =
-    inr (calls, is, subst (λ volume. IsStopped old calls volume refusal) (sym same) stopped)
+stopped_base : (old new : Mounted) (calls : List Call) (refusal : Refusal) (stopped : Call) → AreStopped old calls new refusal stopped → new.base ≡ old.base
+unfolding AreStopped
+stopped_base old new [] refusal stopped none = absurd none
+stopped_base old new (call ∷ calls) refusal stopped (inl (is, refused, same)) = ap (λ (volume : Mounted). volume.base) same
+stopped_base old new (call ∷ calls) refusal stopped (inr (between, done, accepted, made)) = stopped_base between new calls refusal stopped made ∙ accepted.base
 
--- nothing was planned, or memory ran out
-pub unplanned_of : (old new : Mounted) (planned : Result (List Call) MountedRefusal) (refusal : MountedRefusal) → new ≡ old
-    → (refusal ≢ no_memory → planned ≡ Err refusal) → Unmade old planned new refusal
-unplanned_of old new planned refusal same why = inl (same, why)
+-- all calls were made
+pub made_size : (old new : Mounted) (calls : List Call) → AreMade old calls new → IsConsistent old → IsConsistent new
+    → length new.image ≡ length old.image
+made_size old new calls made was is = sym is.len ∙ (ap (λ (bytes : List ℕ). length bytes) (made_base old new calls made) ∙ was.len)
+
+-- the calls up to one that was refused were made
+pub stopped_size : (old new : Mounted) (calls : List Call) (refusal : Refusal) (stopped : Call) → AreStopped old calls new refusal stopped
+    → IsConsistent old → IsConsistent new → length new.image ≡ length old.image
+stopped_size old new calls refusal stopped made was is =
+    sym is.len ∙ (ap (λ (bytes : List ℕ). length bytes) (stopped_base old new calls refusal stopped made) ∙ was.len)

@@ -29,9 +29,9 @@ unfolding Follow
 follow_none server = refl
 
 -- a reply was sent, or it couldn't be
-pub sent_or_not : (P Q R : Type 0) (b : Bool) → OnTrue b P → OnFalse b Q → R → MatchBool b P (Q × R)
-sent_or_not P Q R true sent kept missing = sent
-sent_or_not P Q R false sent kept missing = (kept, missing)
+pub sent_or_not : (P Q R S : Type 0) (b : Bool) → OnTrue b P → OnFalse b Q → R → OnFalse b S → MatchBool b P (Q × R × S)
+sent_or_not P Q R S true sent kept missing failed = sent
+sent_or_not P Q R S false sent kept missing failed = (kept, missing, failed)
 
 -- the requests of some turns, and of one more
 pub requests_more : (turns : List Turn) (turn : Turn) → requests_of (turns ++ turn ∷ []) ≡ requests_of turns ++ turn.request ∷ []

@@ -1,5 +1,7 @@
 pub mod Errno
+pub mod Losses
 pub mod Numbers
+pub mod Orphans
 pub mod Paths
 pub mod Plans
 pub mod Refusals

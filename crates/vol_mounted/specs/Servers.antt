@@ -1,10 +1,11 @@
 -- The server of a mounted volume, as contracts see it.
-use Rattle.std.specs.Prelude.{◌≡◌, ◌≢◌, ◌⊎◌, ℕ, ◌==◌, if◌then◌else◌, List, [], Option, None, Some, Result, Ok, Err}
+use Rattle.std.specs.Prelude.{◌≡◌, ◌≢◌, ◌⊎◌, ◌≤◌, ℕ, ◌-◌, Bool, true, false, List, length, [], Option, None, Some, Result, Ok, Err}
 use Rattle.vol_layout.specs.Geometry.{geometry_of}
 use Rattle.vol_dir.specs.declared.refusal.Refusal.{Refusal}
 use Rattle.vol_volume.specs.Volume.{Mounted}
 use Rattle.vol_volume.specs.declared.calls.Call.{Call}
 use Rattle.vol_import.specs.Make.{AreMade, AreStopped}
+use Rattle.vol_mounted.specs.Orphans.{held_by}
 use Rattle.vol_mounted.specs.Plans.{Sight}
 use Rattle.vol_mounted.specs.Refusals.{no_memory}
 use Rattle.vol_mounted.specs.declared.owner.Owner.{Owner}
@@ -19,6 +20,29 @@ volume_in server = server.volume
 -- the user that all nodes are shown as, if any (this project)
 abbrev pub owner_in : MountedServer → Option Owner
 owner_in server = server.owner
+
+-- the number of bytes of the files without a name (this project)
+abbrev pub held_in : MountedServer → ℕ
+held_in server = held_by server.orphans.files.items
+
+-- the files without a name take at most as many bytes as the image (this project)
+abbrev pub IsBounded : MountedServer → Type 0
+IsBounded server = held_in server ≤ length server.volume.image
+
+-- the number of bytes that such files can still take (this project)
+abbrev pub spare_in : MountedServer → ℕ
+spare_in server = length server.volume.image - held_in server
+
+-- a change of the image is noted, if there is one; else what was noted stays (this project)
+abbrev pub IsNoted : MountedServer → MountedServer → Type 0
+IsNoted old new = ((new.volume.image ≡ old.volume.image) × (new.is_changed ≡ old.is_changed)) ⊎ (new.is_changed ≡ true)
+
+-- what an operation keeps, whether it is refused or not (this project)
+pub record Kept (old new : MountedServer) : Type 0 where
+  pub owner : new.owner ≡ old.owner
+  pub weight : new.weight ≡ old.weight
+  pub noted : IsNoted old new
+  pub bounded : IsBounded old → IsBounded new
 
 -- the sight of a server at a moment (this project)
 abbrev pub sight_at : MountedServer → ℕ → Sight

@@ -1,5 +1,5 @@
 -- The effects of serving.
-use Rattle.std.specs.Prelude.{◌≡◌, ◌≢◌, ℕ, ◌-◌, ◌^◌, Bool, true, false, List, [], ◌∷◌, ◌++◌, length, map, Option, None, Result, Ok, Err}
+use Rattle.std.specs.Prelude.{◌≡◌, ◌≢◌, ℕ, ◌-◌, ◌^◌, Bool, true, false, List, [], ◌∷◌, ◌++◌, length, map, fold, Option, None, Some, Result, Ok, Err}
 use Rattle.std.specs.List.{filter_map, flat_map}
 use Rattle.vol_serve.specs.Messages.{Grows}
 use Rattle.vol_serve.specs.declared.request_loop.ServeFault.{ServeFault}
@@ -49,3 +49,16 @@ Serves {X = X} old new taken taken' sent sent' saved saved' result =
     (between : MountedServer) × (before : Option (List (List ℕ))) × (ended : Result X ServeFault) × (images : List (List ℕ)) × (is_saved : Bool)
     × Runs old between taken taken' sent sent' saved before ended × Grows before saved' images × IsSaved between new images is_saved
     × IsEnd ended is_saved result
+
+-- the image that a file has: the last of those that were saved, or else the one before them (this project)
+abbrev pub last_of : List ℕ → List (List ℕ) → List ℕ
+last_of file images = fold (λ (before image : List ℕ). image) file images
+
+-- the images that were saved are known, and with them the file has this image (this project)
+abbrev pub IsStored : List ℕ → Option (List (List ℕ)) → List ℕ → Type 0
+IsStored file saved image = (images : List (List ℕ)) × (saved ≡ Some images) × (image ≡ last_of file images)
+
+-- the images that were saved are known, and the file has the server's image, unless a change is noted (this project)
+abbrev pub Stores : List ℕ → Option (List (List ℕ)) → MountedServer → Type 0
+Stores file saved server =
+    (images : List (List ℕ)) × (saved ≡ Some images) × (server.is_changed ≡ false → server.volume.image ≡ last_of file images)

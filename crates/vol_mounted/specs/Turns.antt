@@ -1,5 +1,5 @@
 -- The effects of requests.
-use Rattle.std.specs.Prelude.{◌≡◌, ◌≢◌, ◌⊎◌, ℕ, ◌==◌, Bool, true, false, if◌then◌else◌, List, [], ◌∷◌, Option, None, Some, Result, Ok, Err, MatchBool}
+use Rattle.std.specs.Prelude.{◌≡◌, ◌≢◌, ◌⊎◌, ◌<◌, ◌≤◌, ℕ, ◌+◌, ◌^◌, ◌==◌, nat_lt, Bool, true, false, if◌then◌else◌, List, [], ◌∷◌, length, Option, None, Some, Result, Ok, Err, MatchBool}
 use Rattle.std.specs.List.{list_any}
 use Rattle.fuse_words.specs.Replies.{status_message}
 use Rattle.fuse_words.specs.Requests.{wants_reply, request_of}
@@ -9,12 +9,14 @@ use Rattle.fuse_words.specs.declared.request.Header.{Header}
 use Rattle.fuse_words.specs.declared.request.Request.{Request}
 use Rattle.fuse_words.specs.declared.request.RequestFault.{RequestFault}
 use Rattle.fuse_words.specs.declared.request.RequestFault.TheVariants as faults
-use Rattle.vol_volume.specs.Volume.{Mounted, after_cut}
+use Rattle.vol_volume.specs.Volume.{after_cut}
+use Rattle.vol_volume.specs.declared.calls.Call.{Call}
 use Rattle.vol_serve.specs.declared.errno.RequestRefusal.TheVariants as requests
 use Rattle.vol_mounted.specs.Errno.{errno}
-use Rattle.vol_mounted.specs.Refusals.{no_memory}
+use Rattle.vol_mounted.specs.Losses.{no_space, lost_bytes}
+use Rattle.vol_mounted.specs.Refusals.{and_then, no_memory}
 use Rattle.vol_mounted.specs.Replies.{calls_of, reply_of}
-use Rattle.vol_mounted.specs.Servers.{sight_at, Made, Unmade}
+use Rattle.vol_mounted.specs.Servers.{sight_at, spare_in, Kept, Made, Unmade}
 use Rattle.vol_mounted.specs.declared.orphan.Orphan.{Orphan}
 use Rattle.vol_mounted.specs.declared.refusal.MountedRefusal.{MountedRefusal}
 use Rattle.vol_mounted.specs.declared.refusal.MountedRefusal.TheVariants as mounted
@@ -25,13 +27,19 @@ abbrev pub put_by : {X : Type 0} → Result X MountedRefusal → List ℕ → Re
 put_by (Ok done) reply = Ok reply
 put_by (Err refusal) reply = Err refusal
 
+-- the calls of an operation, if there is room for the bytes of a file that loses its last name by it (this project)
+abbrev pub planned : MountedServer → ℕ → Header → Operation → Result (List Call) MountedRefusal
+planned server now header operation =
+    and_then (calls_of (sight_at server now) header operation) (λ calls.
+    if nat_lt (spare_in server) (lost_bytes (sight_at server now) header operation) then Err no_space else Ok calls)
+
 -- an operation was answered: its calls were made, and the reply shows the tree after them; or it was refused: its calls weren't made, or that tree has no reply, or memory ran out for it (this project)
 abbrev pub IsAnswered : MountedServer → MountedServer → ℕ → Header → Operation → Result (List ℕ) MountedRefusal → Type 0
 IsAnswered old new now header operation (Ok reply) =
-    Made old.volume (calls_of (sight_at old now) header operation) new.volume × (reply_of (sight_at new now) header operation ≡ Ok reply)
+    Made old.volume (planned old now header operation) new.volume × (reply_of (sight_at new now) header operation ≡ Ok reply)
 IsAnswered old new now header operation (Err refusal) =
-    Unmade old.volume (calls_of (sight_at old now) header operation) new.volume refusal
-    ⊎ (Made old.volume (calls_of (sight_at old now) header operation) new.volume
+    Unmade old.volume (planned old now header operation) new.volume refusal
+    ⊎ (Made old.volume (planned old now header operation) new.volume
     × (refusal ≢ no_memory → reply_of (sight_at new now) header operation ≡ Err refusal))
 
 -- true if a number is that of a file without a name that is still open (this project)
@@ -41,7 +49,8 @@ is_orphan server node = list_any (λ (file : Orphan). file.node == node) server.
 -- an operation on a file without a name leaves the volume as it is; any other is answered (this project)
 abbrev pub IsServed : MountedServer → MountedServer → ℕ → Header → Operation → Result (List ℕ) MountedRefusal → Type 0
 IsServed old new now header operation outcome =
-    MatchBool (is_orphan old header.node) (new.volume ≡ old.volume) (IsAnswered old new now header operation outcome)
+    Kept old new
+    × MatchBool (is_orphan old header.node) (new.volume ≡ old.volume) (IsAnswered old new now header operation outcome)
 
 -- the image was saved, or wasn't changed since it was last saved; or it couldn't be saved (this project)
 abbrev pub IsSaved : MountedServer → MountedServer → List (List ℕ) → Bool → Type 0
@@ -93,9 +102,13 @@ Answers old new now (Err faults.NoHeader) reply images = Stays old new images ×
 Answers old new now (Err (faults.Length header)) reply images = Stays old new images × (reply ≡ malformed_reply header)
 Answers old new now (Err (faults.Body header)) reply images = Stays old new images × (reply ≡ malformed_reply header)
 
--- the journal was cut, or it wasn't (this project)
-abbrev pub IsCutOrNot : Mounted → Mounted → Type 0
-IsCutOrNot old new = (new ≡ old) ⊎ (new ≡ after_cut old)
+-- the bytes of a request are counted, and after 16 MiB of requests the journal is cut, unless a record's number would reach 2^64 (this project)
+abbrev pub IsCut : MountedServer → MountedServer → ℕ → Type 0
+IsCut old new count =
+    ((old.weight + count < 2 ^ 24) × (new ≡ record old { weight = old.weight + count }))
+    ⊎ ((2 ^ 24 ≤ old.weight + count)
+    × ((new ≡ record old { weight = 0; volume = after_cut old.volume })
+    ⊎ ((2 ^ 64 ≤ old.volume.first + length old.volume.journal) × (new ≡ record old { weight = 0 }))))
 
 -- a turn: a request's bytes, the moment, the reply, if one is sent, and the images that are saved (this project)
 pub record Turn : Type 0 where
@@ -108,7 +121,7 @@ pub record Turn : Type 0 where
 pub record Turns (old new : MountedServer) (turn : Turn) : Type 0 where
   pub answered : MountedServer
   pub answers : Answers old answered turn.now (request_of turn.request) turn.reply turn.images
-  pub cut : IsCutOrNot answered.volume new.volume
+  pub cut : IsCut answered new (length turn.request)
 
 -- the effect of some turns, one after another (this project)
 unfoldable pub Follow : MountedServer → List Turn → MountedServer → Type 0

@@ -4,22 +4,26 @@ ghost use Rattle.fuse_words.specs.Replies.{status_message};
 ghost use Rattle.vol_mounted.specs.Errno.{errno};
 ghost use Rattle.vol_mounted.specs.Turns.{is_sync, malformed_reply};
 
+use crate::calls::Calls;
 use crate::host::Host;
+use crate::loss::Loss;
 use crate::refusal::{MountedRefusal, errno};
 use crate::server::{MountedServer, geometry_in};
+use crate::settle::settle_loss;
 use fuse_words::{Header, Operation, Request, RequestFault, read_request};
 use std::alloc::Global;
 use vol_serve::errno::RequestRefusal;
 use vol_serve::memory::Room;
 
 impl MountedServer {
-    ghost use Rattle.std.specs.Prelude.{◌≡◌, ℕ, List, Some, None, Ok, if◌then◌else◌, OnOk, IfErr};
+    ghost use Rattle.std.specs.Prelude.{◌≡◌, ◌≢◌, ◌≤◌, ◌+◌, ℕ, List, Some, None, Ok, Err, if◌then◌else◌, IfOk, OnOk, IfErr};
     ghost use Rattle.fuse_words.specs.Requests.{request_of};
     ghost use Rattle.vol_serve.specs.Messages.{Grows};
-    ghost use Rattle.vol_mounted.specs.Refusals.{Puts};
-    ghost use Rattle.vol_mounted.specs.Replies.{calls_of, reply_of};
-    ghost use Rattle.vol_mounted.specs.Servers.{sight_at, Made, Unmade};
-    ghost use Rattle.vol_mounted.specs.Turns.{IsAnswered, IsServed, HasOutcome, Answers, put_by};
+    ghost use Rattle.vol_mounted.specs.Losses.{loss_size};
+    ghost use Rattle.vol_mounted.specs.Refusals.{Puts, no_memory};
+    ghost use Rattle.vol_mounted.specs.Replies.{reply_of};
+    ghost use Rattle.vol_mounted.specs.Servers.{sight_at, held_in, spare_in, Kept, Made, Unmade};
+    ghost use Rattle.vol_mounted.specs.Turns.{planned, IsAnswered, IsServed, HasOutcome, Answers, put_by};
 
     /// Puts the reply to a request into `room`; returns false if none is sent.
     pub(crate) fn answer<H: Host>(
@@ -100,7 +104,7 @@ impl MountedServer {
         ensures { IsServed self.old self.new now header.now operation.now (put_by result room.new.reply) }
     {
         if self.orphans.has(header.node) {
-            return self.answer_orphan(now, header.unique, header.node, operation, room);
+            return self.answer_orphan(now, header, operation, room);
         }
         self.operate(alloc, now, header, operation, room)
     }
@@ -114,7 +118,8 @@ impl MountedServer {
         operation: &Operation<'_>,
         room: &mut Room,
     ) -> Result<(), MountedRefusal>
-        ensures { IsAnswered self.old self.new now header.now operation.now (put_by result room.new.reply) }
+        ensures answered { IsAnswered self.old self.new now header.now operation.now (put_by result room.new.reply) }
+        ensures kept { Kept self.old self.new }
     {
         match self.change(alloc, now, header, operation) {
             Ok(()) => self.put_reply(alloc, now, header, operation, room),
@@ -138,7 +143,7 @@ impl MountedServer {
             .put_reply(header, operation, room)
     }
 
-    /// Makes the calls of an operation, and records their effects on the known nodes.
+    /// Makes the calls of an operation, and records their effects.
     fn change(
         &mut self,
         alloc: Global,
@@ -146,25 +151,57 @@ impl MountedServer {
         header: &Header,
         operation: &Operation<'_>,
     ) -> Result<(), MountedRefusal>
-        ensures made { OnOk result (Made self.old.volume (calls_of (sight_at self.old now) header.now operation.now) self.new.volume) }
-        ensures unmade { IfErr result (Unmade self.old.volume (calls_of (sight_at self.old now) header.now operation.now) self.new.volume) }
-        ensures owner { self.new.owner ≡ self.old.owner }
+        ensures made { OnOk result (Made self.old.volume (planned self.old now header.now operation.now) self.new.volume) }
+        ensures unmade { IfErr result (Unmade self.old.volume (planned self.old now header.now operation.now) self.new.volume) }
+        ensures kept { Kept self.old self.new }
+    {
+        let (calls, loss) = self.plan(alloc, now, header, operation)?;
+        self.orphans.reserve(loss.is_some())?;
+        let made = self.make(alloc, calls);
+        self.settle(header, operation, made.is_ok(), loss);
+        made
+    }
+
+    /// Returns the calls of an operation, and the file that loses a name by it.
+    fn plan(
+        &self,
+        alloc: Global,
+        now: u32,
+        header: &Header,
+        operation: &Operation<'_>,
+    ) -> Result<(Calls, Option<Loss>), MountedRefusal>
+        ensures planned { IfOk result (λ (calls, loss). planned self.now now header.now operation.now ≡ Ok calls) }
+        ensures refused { IfErr result (λ refusal. refusal ≢ no_memory → planned self.now now header.now operation.now ≡ Err refusal) }
+        ensures room { IfOk result (λ (calls, loss). loss_size loss ≤ spare_in self.now) }
     {
         let geometry = geometry_in(&self.volume);
         let scene = self.scene(alloc, &geometry, now);
         let calls = scene.plan(header, operation)?;
-        let loss = scene.loss(header, operation)?;
-        if loss.is_some() {
-            self.orphans.reserve()?;
+        let loss = scene.loss(header, operation, self.spare())?;
+        Ok((calls, loss))
+    }
+
+    /// Records the effects of an operation, after its calls were made, or some of them.
+    fn settle(
+        &mut self,
+        header: &Header,
+        operation: &Operation<'_>,
+        is_made: bool,
+        loss: Option<Loss>,
+    )
+        ensures volume { self.new.volume ≡ self.old.volume }
+        ensures owner { self.new.owner ≡ self.old.owner }
+        ensures is_changed { self.new.is_changed ≡ self.old.is_changed }
+        ensures weight { self.new.weight ≡ self.old.weight }
+        ensures held { held_in self.new ≤ held_in self.old + loss_size loss }
+    {
+        if is_made {
+            self.nodes.settle(&self.volume, header, operation);
         }
-        let made = self.make(alloc, calls);
-        if made.is_ok() {
-            self.settle(header, operation);
-        }
-        if let Some(loss) = loss {
-            self.settle_loss(loss);
-        }
-        made
+        let Some(loss) = loss else {
+            return;
+        };
+        settle_loss(&mut self.nodes, &mut self.orphans, &self.volume, loss);
     }
 }
 

@@ -1,10 +1,14 @@
 //! Files that lose a name.
+ghost use Rattle.std.specs.Prelude.{◌≡◌};
+ghost use Rattle.vol_mounted.specs.Losses.{opened_at};
+
 use crate::orphan::Orphan;
+use crate::refusal::MountedRefusal;
 use crate::scene::Scene;
-use fuse_words::{Header, Operation};
-use std::alloc::AllocError;
-use vol_layout::Kind;
-use vol_nodes::read;
+use crate::table::NodeTable;
+use fuse_words::{Attributes, Header, Operation};
+use vol_dir::Refusal;
+use vol_nodes::{look_up, read};
 use vol_serve::attributes::node_attributes;
 
 /// A file that will lose a name.
@@ -17,15 +21,25 @@ pub(crate) struct Loss {
 }
 
 impl Scene<'_> {
+    ghost use Rattle.vol_dir.specs.Tree.{tree};
+    ghost use Rattle.vol_serve.specs.Attributes.{attributes_in};
+    ghost use Rattle.vol_mounted.specs.Losses.{Keeps, lost_bytes, kept_bytes, kept_size, loss_size};
+    ghost use Rattle.vol_mounted.specs.Orphans.{size_if};
+    ghost use Rattle.vol_mounted.specs.Scenes.{sight_of};
+
     /// Returns the file that loses a name by an operation, if any: that of UNLINK, or the one that a rename replaces. Takes memory for its
-    /// bytes if it is open.
+    /// bytes if it is open, `spare` at most.
+    #[tactic(auto, unfolding(crate::specs::Losses::lost_bytes))]
     pub(crate) fn loss(
         &self,
         header: &Header,
         operation: &Operation<'_>,
-    ) -> Result<Option<Loss>, AllocError> {
-        let (directory, name) = match operation {
-            Operation::Unlink { name } => (header.node, name.as_slice()),
+        spare: usize,
+    ) -> Result<Option<Loss>, MountedRefusal>
+        ensures { Keeps loss_size spare (lost_bytes (sight_of self.now) header.now operation.now) result }
+    {
+        match operation {
+            Operation::Unlink { name } => self.loss_of(header.node, name.as_slice(), spare),
             Operation::Rename {
                 directory,
                 new_name,
@@ -35,44 +49,67 @@ impl Scene<'_> {
                 directory,
                 new_name,
                 ..
-            } => (*directory, new_name.as_slice()),
-            _ => return Ok(None),
-        };
-        let Ok(dir) = self.number(directory) else {
+            } => self.loss_of(*directory, new_name.as_slice(), spare),
+            _ => Ok(None),
+        }
+    }
+
+    /// Returns the file that loses a name in a directory, if there is one.
+    fn loss_of(
+        &self,
+        directory: u64,
+        name: &[u8],
+        spare: usize,
+    ) -> Result<Option<Loss>, MountedRefusal>
+        ensures { Keeps loss_size spare (kept_bytes (sight_of self.now) directory name.now) result }
+    {
+        let Some(dir) = self.nodes.i_number(self.geometry.edition, directory) else {
             return Ok(None);
         };
-        match self.find(dir, name) {
-            Ok(i) => Ok(Some(Loss {
-                i,
-                orphan: self.orphan(i)?,
-            })),
+        match look_up(self.volume.image(), self.geometry, dir, name) {
+            Ok(i) => {
+                let orphan = self.orphan(i, spare)?;
+                Ok(Some(Loss { i, orphan }))
+            }
             Err(_) => Ok(None),
         }
     }
 
     /// Returns the orphan of file `i`, if it is open and loses its last name.
-    fn orphan(&self, i: u16) -> Result<Option<Orphan>, AllocError> {
-        let opened = match self.nodes.known(i) {
-            Some(known) => known.opened,
-            None => 0,
-        };
-        let Ok(stat) = self.stat(i) else {
+    fn orphan(&self, i: u16, spare: usize) -> Result<Option<Orphan>, MountedRefusal>
+        ensures { Keeps size_if spare (kept_size (opened_at self.now.nodes.now i) (attributes_in (tree self.now.geometry.now self.now.volume.now.image) i)) result }
+    {
+        let opened = opened_at(self.nodes, i);
+        let Ok(attributes) = node_attributes(self.volume.image(), self.geometry, i) else {
             return Ok(None);
         };
-        if opened == 0 || stat.links != 1 || !matches!(stat.kind, Kind::Regular) {
+        if opened == 0 || attributes.links != 1 || attributes.mode / 0o10000 != 8 {
             return Ok(None);
         }
-        let Ok(mut attributes) = node_attributes(self.volume.image(), self.geometry, i) else {
-            return Ok(None);
-        };
-        attributes.links = 0;
-        let mut content = vec![in self.alloc; 0u8; stat.size as usize]?;
+        let size = attributes.size as usize;
+        if size > spare {
+            return Err(MountedRefusal::Call(Refusal::NoSpace));
+        }
+        let mut content = vec![in self.alloc; 0u8; size]?;
         let _ = read(self.volume.image(), self.geometry, i, 0, &mut content);
         Ok(Some(Orphan {
             node: self.nodes.node_number(self.geometry.edition, i),
-            attributes,
+            attributes: Attributes {
+                links: 0,
+                ..attributes
+            },
             content,
             opened,
         }))
+    }
+}
+
+/// Returns the number of times that the file of i-number `i` is open.
+fn opened_at(nodes: &NodeTable, i: u16) -> u32
+    ensures { result ≡ opened_at nodes.now i }
+{
+    match nodes.known(i) {
+        Some(known) => known.opened,
+        None => 0,
     }
 }

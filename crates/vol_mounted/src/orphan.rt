@@ -1,7 +1,9 @@
 //! Files without a name that are still open.
 use crate::attribute_plan::time_of;
+use crate::refusal::MountedRefusal;
 use fuse_words::{AttributeChanges, Attributes};
 use std::alloc::{AllocError, Global};
+use vol_dir::Refusal;
 
 /// The type bits of a mode.
 const TYPE_BITS: u32 = 0o170000;
@@ -22,11 +24,21 @@ pub struct Orphan {
 /// All files without a name that are still open.
 #[derive(Debug, Drop)]
 pub struct Orphans {
-    files: Vec<Orphan>,
+    pub(crate) files: Vec<Orphan>,
+}
+
+/// The limits of a file without a name.
+#[derive(Clone, Copy)]
+pub(crate) struct Limits {
+    /// The greatest size of a file in the edition.
+    pub(crate) greatest: u32,
+    /// The number of bytes that such files can take together, besides those that they have.
+    pub(crate) spare: usize,
 }
 
 impl Orphan {
-    ghost use Rattle.std.specs.Prelude.{◌≡◌, ◌≤◌, ◌+◌, length, take, drop, OnOk, OnErr};
+    ghost use Rattle.std.specs.Prelude.{◌≡◌, ◌≤◌, ◌+◌, length, take, drop, IfOk};
+    ghost use Rattle.vol_mounted.specs.Orphans.{size_of};
 
     /// Returns its attributes, with its present size.
     pub(crate) fn attributes(&self) -> Attributes {
@@ -50,30 +62,55 @@ impl Orphan {
     }
 
     /// Changes its size: it is cut, or gets zeros at its end.
-    pub(crate) fn resize(&mut self, size: u32) -> Result<(), AllocError> {
-        self.content.resize(size as usize, 0)
-    }
-
-    /// Writes bytes into it from byte `offset` on; the bytes between its end and the offset become zeros.
-    pub(crate) fn write(&mut self, offset: u32, bytes: &[u8]) -> Result<(), AllocError> {
-        if bytes.is_empty() {
-            return Ok(());
-        }
-        let start = offset as usize;
-        let Some(end) = start.checked_add(bytes.len()) else {
-            return Err(AllocError);
-        };
-        if self.content.len() < end {
-            self.content.resize(end, 0)?;
-        }
-        if end <= self.content.len() {
-            self.content[start..end].copy_from_slice(bytes);
-        }
+    pub(crate) fn resize(&mut self, size: u64, limits: Limits) -> Result<(), MountedRefusal>
+        ensures { size_of self.new ≤ size_of self.old + limits.spare }
+    {
+        let size = self.reach(size, limits)?;
+        self.content.truncate(size);
         Ok(())
     }
 
+    /// Writes bytes into it from byte `offset` on; the bytes between its end and the offset become zeros.
+    pub(crate) fn write(
+        &mut self,
+        offset: u64,
+        bytes: &[u8],
+        limits: Limits,
+    ) -> Result<(), MountedRefusal>
+        ensures { size_of self.new ≤ size_of self.old + limits.spare }
+    {
+        if bytes.is_empty() {
+            return Ok(());
+        }
+        let end = self.reach(offset.saturating_add(bytes.len() as u64), limits)?;
+        let start = end - bytes.len();
+        self.content[start..end].copy_from_slice(bytes);
+        Ok(())
+    }
+
+    /// Appends zeros up to a size, if it has fewer bytes. Returns the size; or TooBig if no file has that many, NoSpace if there is no room.
+    fn reach(&mut self, size: u64, limits: Limits) -> Result<usize, MountedRefusal>
+        ensures reached { IfOk result (λ end. (end ≡ size) × (end ≤ size_of self.new)) }
+        ensures bounded { size_of self.new ≤ size_of self.old + limits.spare }
+    {
+        if size > u64::from(limits.greatest) {
+            return Err(MountedRefusal::Call(Refusal::TooBig));
+        }
+        let size = size as usize;
+        let len = self.content.len();
+        if size > len {
+            if size - len > limits.spare {
+                return Err(MountedRefusal::Call(Refusal::NoSpace));
+            }
+            self.content.resize(size, 0)?;
+        }
+        Ok(size)
+    }
+
     /// Sets those of its permissions, owner, group and times that are given.
-    pub(crate) fn set(&mut self, now: u32, changes: &AttributeChanges) {
+    pub(crate) fn set(&mut self, now: u32, changes: &AttributeChanges)
+        ensures { self.new.content ≡ self.old.content }
+    {
         if let Some(mode) = changes.mode {
             let kind = self.attributes.mode & TYPE_BITS;
             self.attributes.mode = kind | (mode % 0o10000);
@@ -94,8 +131,9 @@ impl Orphan {
 }
 
 impl Orphans {
-    ghost use Rattle.std.specs.Prelude.{◌≡◌, ◌==◌};
+    ghost use Rattle.std.specs.Prelude.{◌≡◌, ◌≤◌, ◌+◌, ◌-◌, ◌==◌};
     ghost use Rattle.std.specs.List.{list_any};
+    ghost use Rattle.vol_mounted.specs.Orphans.{held_by, size_of};
 
     /// Returns no files.
     pub(crate) fn new(alloc: Global) -> Orphans {
@@ -112,38 +150,52 @@ impl Orphans {
     }
 
     /// Returns the index of the file with a number.
-    fn place(&self, node: u64) -> Option<usize> {
+    pub(crate) fn place(&self, node: u64) -> Option<usize> {
         self.files.iter().position(|file| file.node == node)
     }
 
-    /// Returns the file with a number, for changes.
-    pub(crate) fn find_mut(&mut self, node: u64) -> Option<&mut Orphan> {
-        let place = self.place(node)?;
-        self.files.get_mut(place)
+    /// Returns the number of bytes that are left of `most`.
+    #[tactic(auto, using(crate::proofs::Held::next_held))]
+    pub(crate) fn spare(&self, most: usize) -> usize
+        ensures { result ≡ most - held_by self.now.files.items }
+    {
+        let mut spare = most;
+        let files = self.files.as_slice();
+        'files: for file in files {
+            spare = spare.saturating_sub(file.content.len());
+        }
+        spare
     }
 
-    /// Reserves room for one more file.
-    pub(crate) fn reserve(&mut self) -> Result<(), AllocError> {
+    /// Reserves room for one more file, if it is needed.
+    pub(crate) fn reserve(&mut self, is_needed: bool) -> Result<(), AllocError>
+        ensures { self.new.files.items ≡ self.old.files.items }
+    {
+        if !is_needed {
+            return Ok(());
+        }
         self.files.reserve(1)
     }
 
     /// Adds a file, for which room is reserved.
-    pub(crate) fn keep(&mut self, file: Orphan) {
+    pub(crate) fn keep(&mut self, file: Orphan)
+        ensures { held_by self.new.files.items ≤ held_by self.old.files.items + size_of file }
+    {
         let _ = self.files.push(file);
     }
 
     /// Closes a file once; the last close frees it.
-    pub(crate) fn close(&mut self, node: u64) {
+    pub(crate) fn close(&mut self, node: u64)
+        ensures { held_by self.new.files.items ≤ held_by self.old.files.items }
+    {
         let Some(place) = self.place(node) else {
             return;
         };
-        if let Some(file) = self.files.get_mut(place) {
-            file.opened = file.opened.saturating_sub(1);
-            if file.opened > 0 {
-                return;
-            }
-        }
-        if place < self.files.len() {
+        let Some(file) = self.files.get_mut(place) else {
+            return;
+        };
+        file.opened = file.opened.saturating_sub(1);
+        if file.opened == 0 {
             let _ = self.files.swap_remove(place);
         }
     }

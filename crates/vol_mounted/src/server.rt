@@ -35,12 +35,12 @@ pub struct MountedServer {
 }
 
 impl MountedServer {
-    ghost use Rattle.std.specs.Prelude.{ℕ, List, IfOk, OnOk, IfErr};
+    ghost use Rattle.std.specs.Prelude.{ℕ, List, length, IfOk, OnOk, IfErr};
     ghost use Rattle.vol_serve.specs.Messages.{Grows};
-    ghost use Rattle.vol_mounted.specs.Turns.{IsSaved, IsCutOrNot};
+    ghost use Rattle.vol_mounted.specs.Turns.{IsSaved, IsCut};
     ghost use Rattle.vol_import.specs.Make.{AreMade};
     ghost use Rattle.vol_mounted.specs.Scenes.{sight_of};
-    ghost use Rattle.vol_mounted.specs.Servers.{volume_in, owner_in, sight_at, IsStopped};
+    ghost use Rattle.vol_mounted.specs.Servers.{volume_in, owner_in, spare_in, sight_at, IsStopped, IsNoted};
 
     /// Returns a server of a volume. With an owner, all nodes are shown as the owner's, and new ones belong to user 0. Takes two MiB.
     pub fn new(
@@ -75,6 +75,13 @@ impl MountedServer {
         self.volume
     }
 
+    /// Returns the number of bytes that files without a name can still take: together at most as many as the image.
+    pub(crate) fn spare(&self) -> usize
+        ensures { result ≡ spare_in self.now }
+    {
+        self.orphans.spare(self.volume.image().len())
+    }
+
     /// Returns the scene at a moment.
     pub(crate) fn scene<'a>(&'a self, alloc: Global, geometry: &'a Geometry, now: u32) -> Scene<'a>
         requires fits { Fits geometry.now self.now.volume.image }
@@ -92,17 +99,26 @@ impl MountedServer {
     }
 
     /// Makes calls in order, up to the first that is refused.
+    #[tactic(auto, unfolding(vol_import::specs::Make::AreMade), using(crate::proofs::Makings::made_size, crate::proofs::Makings::stopped_size))]
     pub(crate) fn make(&mut self, alloc: Global, calls: Calls) -> Result<(), MountedRefusal>
         ensures made { OnOk result (AreMade self.old.volume calls self.new.volume) }
         ensures stopped { IfErr result (IsStopped self.old.volume calls self.new.volume) }
+        ensures size { length self.new.volume.image ≡ length self.old.volume.image }
         ensures nodes { self.new.nodes ≡ self.old.nodes }
+        ensures orphans { self.new.orphans ≡ self.old.orphans }
         ensures owner { self.new.owner ≡ self.old.owner }
+        ensures weight { self.new.weight ≡ self.old.weight }
+        ensures noted { IsNoted self.old self.new }
     {
         let calls = calls.into_vec();
-        if !calls.is_empty() {
-            self.is_changed = true;
+        if calls.is_empty() {
+            return Ok(());
         }
-        match make_all(alloc, &mut self.volume, calls) {
+        self.is_changed = true;
+        self.volume.check();
+        let made = make_all(alloc, &mut self.volume, calls);
+        self.volume.check();
+        match made {
             Ok(()) => Ok(()),
             Err((refusal, _)) => Err(MountedRefusal::Call(refusal)),
         }
@@ -122,11 +138,11 @@ impl MountedServer {
         true
     }
 
-    /// Counts `count` more bytes of requests, and cuts the journal after [`MOST_WEIGHT`].
-    pub(crate) fn cut_if_heavy(&mut self, count: usize)
-        ensures { IsCutOrNot self.old.volume self.new.volume }
+    /// Counts the bytes of a request, and cuts the journal after [`MOST_WEIGHT`].
+    pub(crate) fn cut_if_heavy(&mut self, request: &[u8])
+        ensures { IsCut self.old self.new (length request.now) }
     {
-        self.weight = self.weight.saturating_add(count);
+        self.weight = self.weight.saturating_add(request.len());
         if self.weight >= MOST_WEIGHT {
             self.weight = 0;
             // The numbers of the records don't reach 2^64.

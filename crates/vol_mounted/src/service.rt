@@ -1,7 +1,8 @@
 //! The loop over requests.
-ghost use Rattle.std.specs.Prelude.{◌≡◌, ◌≢◌, ◌∷◌, [], true, None, OnOk, MatchBool};
+ghost use Rattle.std.specs.Prelude.{◌≡◌, ◌≢◌, ◌∷◌, [], ℕ, List, true, None, Err, OnOk, MatchBool};
 ghost use Rattle.vol_serve.specs.Messages.{Grows};
-ghost use Rattle.vol_mounted.specs.Services.{Runs, Serves, replies_of};
+ghost use Rattle.vol_mounted.specs.Servers.{volume_in};
+ghost use Rattle.vol_mounted.specs.Services.{Runs, Serves, Stores, IsStored, replies_of};
 ghost use Rattle.vol_mounted.specs.Turns.{Turn, Turns};
 
 use crate::host::Host;
@@ -51,8 +52,11 @@ pub fn serve<Q: Requests, P: Replies, H: Host>(
     ensures turns { Serves server.old server.new (Q.taken requests.old) (Q.taken requests.new) (P.sent replies.old) (P.sent replies.new)
         (H.saved host.old) (H.saved host.new) result }
     ensures ended { OnOk result (Q.has_ended requests.new ≡ true) }
+    ensures failed { result ≡ Err (MountedFault.Serve ServeFault.Send) → P.has_failed replies.new ≡ true }
+    ensures stored { (file : List ℕ) → Stores file (H.saved host.old) server.old → result ≢ Err MountedFault.Unsaved
+        → IsStored file (H.saved host.new) (volume_in server.new).image }
 {
-    let ended = serve_requests(alloc, server, requests, replies, host);
+    let ended = run(alloc, server, requests, replies, host);
     if !server.save(host) {
         return Err(MountedFault::Unsaved);
     }
@@ -63,37 +67,9 @@ pub fn serve<Q: Requests, P: Replies, H: Host>(
 }
 
 /// Answers requests until there are no more. NoMemory is returned only before the first.
-fn serve_requests<Q: Requests, P: Replies, H: Host>(
-    alloc: Global,
-    server: &mut MountedServer,
-    requests: &mut Q,
-    replies: &mut P,
-    host: &mut H,
-) -> Result<(), ServeFault>
-    ensures turns { Runs server.old server.new (Q.taken requests.old) (Q.taken requests.new) (P.sent replies.old) (P.sent replies.new)
-        (H.saved host.old) (H.saved host.new) result }
-    ensures ended { OnOk result (Q.has_ended requests.new ≡ true) }
-{
-    let Ok(mut memory) = Memory::new(alloc) else {
-        return Err(ServeFault::NoMemory);
-    };
-    run(
-        alloc,
-        server,
-        &mut memory.request,
-        &mut memory.room,
-        requests,
-        replies,
-        host,
-    )
-}
-
-/// Answers requests until there are no more.
 fn run<Q: Requests, P: Replies, H: Host>(
     alloc: Global,
     server: &mut MountedServer,
-    buffer: &mut [u8],
-    room: &mut Room,
     requests: &mut Q,
     replies: &mut P,
     host: &mut H,
@@ -101,12 +77,24 @@ fn run<Q: Requests, P: Replies, H: Host>(
     ensures turns { Runs server.old server.new (Q.taken requests.old) (Q.taken requests.new) (P.sent replies.old) (P.sent replies.new)
         (H.saved host.old) (H.saved host.new) result }
     ensures ended { OnOk result (Q.has_ended requests.new ≡ true) }
+    ensures failed { result ≡ Err ServeFault.Send → P.has_failed replies.new ≡ true }
+    ensures stored { (file : List ℕ) → Stores file (H.saved host.old) server.old → Stores file (H.saved host.new) server.new }
 {
+    let Ok(
+        Memory {
+            mut request,
+            mut room,
+        },
+    ) = Memory::new(alloc)
+    else {
+        return Err(ServeFault::NoMemory);
+    };
+    let buffer = request.as_mut_slice();
     'requests: for turn in 0..u64::MAX {
         let Some(count) = requests.take(buffer) else {
             return Ok(());
         };
-        if !take_turn(alloc, server, &buffer[..count], room, replies, host) {
+        if !take_turn(alloc, server, &buffer[..count], &mut room, replies, host) {
             return Err(ServeFault::Send);
         }
     }
@@ -125,13 +113,13 @@ fn take_turn<P: Replies, H: Host>(
     ensures { (turn : Turn) × (turn.request ≡ request.now) × Turns server.old server.new turn
         × Grows (H.saved host.old) (H.saved host.new) turn.images
         × MatchBool result (Grows (P.sent replies.old) (P.sent replies.new) (replies_of (turn ∷ [])))
-        (Grows (P.sent replies.old) (P.sent replies.new) [] × (turn.reply ≢ None)) }
+        (Grows (P.sent replies.old) (P.sent replies.new) [] × (turn.reply ≢ None) × (P.has_failed replies.new ≡ true)) }
 {
     let now = host.seconds();
     if !server.answer(alloc, now, request, room, host) {
-        server.cut_if_heavy(request.len());
+        server.cut_if_heavy(request);
         return true;
     }
-    server.cut_if_heavy(request.len());
+    server.cut_if_heavy(request);
     replies.send(room.reply.as_slice())
 }

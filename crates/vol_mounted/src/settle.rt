@@ -1,33 +1,34 @@
 //! Updates of the known nodes after a request.
+ghost use Rattle.std.specs.Prelude.{◌≤◌, ◌+◌};
 ghost use Rattle.vol_layout.specs.Geometry.{Fits};
+ghost use Rattle.vol_mounted.specs.Orphans.{held_by, size_if};
 
 use crate::loss::Loss;
-use crate::server::{MountedServer, geometry_in};
+use crate::orphan::Orphans;
+use crate::server::geometry_in;
 use crate::table::NodeTable;
 use fuse_words::{Header, Operation};
 use pdp_words::Image;
 use vol_dir::is_dots;
 use vol_layout::slot::NAME;
-use vol_layout::{Geometry, Kind, Slot};
+use vol_layout::{Edition, Geometry, Kind, Slot};
 use vol_nodes::{look_up, next_name, stat};
+use vol_volume::Volume;
 
 /// The greatest number of slots that are searched in a directory.
 const SLOTS: u32 = 1 << 28;
 
-impl MountedServer {
-    ghost use Rattle.std.specs.Prelude.{◌≡◌};
-
+impl NodeTable {
     /// Records the effect of an operation on the nodes that the kernel knows, after all its calls were made.
-    pub(crate) fn settle(&mut self, header: &Header, operation: &Operation<'_>)
-        ensures volume { self.new.volume ≡ self.old.volume }
-        ensures owner { self.new.owner ≡ self.old.owner }
-    {
+    pub(crate) fn settle(&mut self, volume: &Volume, header: &Header, operation: &Operation<'_>) {
+        let geometry = geometry_in(volume);
+        let image = volume.image();
         match operation {
             Operation::Lookup { name } | Operation::Link { name, .. } => {
-                self.meet(header.node, name.as_slice(), false);
+                self.record_name(image, &geometry, header.node, name.as_slice(), false);
             }
             Operation::MkNod { name, .. } | Operation::MkDir { name, .. } => {
-                self.meet(header.node, name.as_slice(), true);
+                self.record_name(image, &geometry, header.node, name.as_slice(), true);
             }
             Operation::Rename {
                 directory,
@@ -39,73 +40,71 @@ impl MountedServer {
                 new_name,
                 ..
             } => {
-                self.meet(*directory, new_name.as_slice(), false);
+                self.record_name(image, &geometry, *directory, new_name.as_slice(), false);
             }
-            Operation::Open { .. } => self.open(header.node),
-            Operation::Release { .. } => self.close(header.node),
+            Operation::Open { .. } => self.record_open(image, &geometry, header.node),
+            Operation::Release { .. } => self.record_close(geometry.edition, header.node),
             _ => {}
         }
     }
 
     /// Records the name of a node in a directory. A new node gets a new number.
-    fn meet(&mut self, directory: u64, name: &[u8], is_new: bool)
-        ensures volume { self.new.volume ≡ self.old.volume }
-        ensures owner { self.new.owner ≡ self.old.owner }
+    fn record_name(
+        &mut self,
+        image: &Image,
+        geometry: &Geometry,
+        directory: u64,
+        name: &[u8],
+        is_new: bool,
+    )
+        requires { Fits geometry.now image.now }
     {
-        let geometry = geometry_in(&self.volume);
-        let edition = geometry.edition;
-        let Some(dir) = self.nodes.i_number(edition, directory) else {
+        let Some(dir) = self.i_number(geometry.edition, directory) else {
             return;
         };
-        let Ok(i) = look_up(self.volume.image(), &geometry, dir, name) else {
+        let Ok(i) = look_up(image, geometry, dir, name) else {
             return;
         };
-        if name.len() > NAME || is_dots(name) || i == edition.constants().root {
+        if name.len() > NAME || is_dots(name) || i == geometry.edition.constants().root {
             return;
         }
         if is_new {
-            self.nodes.bear(i);
+            self.bear(i);
         }
-        self.nodes.meet(i, dir, name);
+        self.meet(i, dir, name);
     }
 
     /// Counts one more open of a file.
-    fn open(&mut self, node: u64)
-        ensures volume { self.new.volume ≡ self.old.volume }
-        ensures owner { self.new.owner ≡ self.old.owner }
+    fn record_open(&mut self, image: &Image, geometry: &Geometry, node: u64)
+        requires { Fits geometry.now image.now }
     {
-        let geometry = geometry_in(&self.volume);
-        if let Some(i) = self.nodes.i_number(geometry.edition, node) {
-            match stat(self.volume.image(), &geometry, i) {
-                Some(stat) if matches!(stat.kind, Kind::Regular) => self.nodes.open(i),
+        if let Some(i) = self.i_number(geometry.edition, node) {
+            match stat(image, geometry, i) {
+                Some(stat) if matches!(stat.kind, Kind::Regular) => self.open(i),
                 _ => {}
             }
         }
     }
 
     /// Counts one close of a file.
-    fn close(&mut self, node: u64)
-        ensures volume { self.new.volume ≡ self.old.volume }
-        ensures owner { self.new.owner ≡ self.old.owner }
-    {
-        if let Some(i) = self.nodes.i_number(self.volume.edition(), node) {
-            self.nodes.close(i);
+    fn record_close(&mut self, edition: Edition, node: u64) {
+        if let Some(i) = self.i_number(edition, node) {
+            self.close(i);
         }
     }
+}
 
-    /// Records that a file lost a name: if it was freed, its bytes are kept while it is open; if it has other names, one of them is
-    /// sought.
-    pub(crate) fn settle_loss(&mut self, loss: Loss)
-        ensures volume { self.new.volume ≡ self.old.volume }
-        ensures owner { self.new.owner ≡ self.old.owner }
-    {
-        let Loss { i, orphan } = loss;
-        let geometry = geometry_in(&self.volume);
-        if stat(self.volume.image(), &geometry, i).is_some() {
-            meet_again(&mut self.nodes, self.volume.image(), &geometry, i);
-        } else if let Some(orphan) = orphan {
-            self.orphans.keep(orphan);
-        }
+/// Records that a file lost a name: if it was freed, its bytes are kept while it is open; if it has other names, one of them is
+/// sought.
+pub(crate) fn settle_loss(nodes: &mut NodeTable, orphans: &mut Orphans, volume: &Volume, loss: Loss)
+    ensures { held_by orphans.new.files.items ≤ held_by orphans.old.files.items + size_if loss.orphan }
+{
+    let Loss { i, orphan } = loss;
+    let geometry = geometry_in(volume);
+    if stat(volume.image(), &geometry, i).is_some() {
+        meet_again(nodes, volume.image(), &geometry, i);
+    } else if let Some(orphan) = orphan {
+        orphans.keep(orphan);
     }
 }
 

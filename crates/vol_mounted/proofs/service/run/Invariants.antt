@@ -1,7 +1,7 @@
 -- `run` has taken a request each turn, sent the replies of the turns, and saved their images.
-use Rattle.std.proofs.Common.{◌≡◌, List, length}
+use Rattle.std.proofs.Common.{◌≡◌, ℕ, List, length}
 use Rattle.vol_serve.specs.Messages.{Grows}
-use Rattle.vol_mounted.specs.Services.{requests_of, replies_of, images_of}
+use Rattle.vol_mounted.specs.Services.{requests_of, replies_of, images_of, Stores}
 use Rattle.vol_mounted.specs.Turns.{Turn, Follow}
 use Rattle.vol_mounted.proofs.service.run.Given as goal
 
@@ -11,3 +11,4 @@ invariant-requests g l =
     × Grows (g.P.Replies.sent l.initial.replies) (g.P.Replies.sent l.replies) (replies_of turns)
     × Grows (g.H.Host.saved l.initial.host) (g.H.Host.saved l.host) (images_of turns)
     × Follow l.initial.server turns l.server × (length turns ≡ l.turn)
+    × ((file : List ℕ) → Stores file (g.H.Host.saved l.initial.host) l.initial.server → Stores file (g.H.Host.saved l.host) l.server)

@@ -20,8 +20,8 @@ returns g c = (
   refl,
   record { answered = c.answer.new.self; answers = c.if-not-answer.ensures.2; cut = c.cut_if_heavy-2.ensures },
   c.if-not-answer.ensures.1,
-  sent_or_not _ _ _ c.send.result
+  sent_or_not _ _ _ _ c.send.result
       (subst (λ (reply : List ℕ). OnTrue c.send.result (Grows (g.P.Replies.sent c.args.replies.now) (g.P.Replies.sent c.send.new.self) (reply ∷ [])))
       c.as_slice.ensures c.send.ensures.sent)
-      c.send.ensures.kept (search rules),
+      c.send.ensures.kept (search rules) c.send.ensures.failed,
 )

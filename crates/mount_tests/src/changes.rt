@@ -1,11 +1,11 @@
 //! Requests that change a volume.
+use crate::ends::{Kept, Listed};
 use pdp_words::Image;
-use std::alloc::Global;
+use std::alloc::{AllocError, Global};
 use std::process::Abort;
 use std::test::Fail;
 use vol_layout::Edition;
 use vol_mounted::{Host, MountedServer, Owner, serve};
-use vol_serve::{Replies, Requests};
 use vol_volume::{Volume, mkfs};
 
 /// Numbers of operations.
@@ -43,24 +43,11 @@ const FIRST: u64 = 0x2_0066;
 /// The second.
 const SECOND: u64 = 0x2_0065;
 
+/// The third, which has the i-number of the first.
+const THIRD: u64 = 0x3_0066;
+
 /// A request: its operation, its node and its body.
 type Asked = (u32, u64, &'static [u8]);
-
-/// The requests of the session, one after the other.
-#[derive(Drop)]
-struct Session {
-    alloc: Global,
-    next: usize,
-    ended: bool,
-}
-
-/// The replies that were sent.
-#[derive(Drop)]
-struct Kept {
-    alloc: Global,
-    replies: Vec<Vec<u8>>,
-    failed: bool,
-}
 
 /// The images that were saved.
 #[derive(Drop)]
@@ -69,67 +56,29 @@ struct Saved {
     images: Vec<Vec<u8>>,
 }
 
-/// Appends a number of `width` bytes.
-fn put(bytes: &mut Vec<u8>, number: u64, width: u32) {
-    let mut rest = number;
-    for _ in 0..width {
-        let _ = bytes.push((rest % 256) as u8);
-        rest /= 256;
-    }
-}
-
-/// The bytes of a request.
-fn request(alloc: Global, unique: u64, asked: &Asked) -> Vec<u8> {
+/// Returns the bytes of a request.
+fn request(alloc: Global, unique: u64, asked: &Asked) -> Result<Vec<u8>, AllocError> {
     let (opcode, node, body) = *asked;
-    let mut bytes = Vec::new(alloc);
-    put(&mut bytes, 40u64.saturating_add(body.len() as u64), 4);
-    put(&mut bytes, u64::from(opcode), 4);
-    put(&mut bytes, unique, 8);
-    put(&mut bytes, node, 8);
-    put(&mut bytes, 0, 8);
-    put(&mut bytes, 0, 8);
-    let _ = bytes.extend_from_slice(body);
-    bytes
+    let size = u32::try_from(body.len())
+        .unwrap_or(u32::MAX)
+        .saturating_add(40);
+    let mut bytes = Vec::with_capacity(alloc, 256)?;
+    bytes.extend_from_slice(&size.to_le_bytes())?;
+    bytes.extend_from_slice(&opcode.to_le_bytes())?;
+    bytes.extend_from_slice(&unique.to_le_bytes())?;
+    bytes.extend_from_slice(&node.to_le_bytes())?;
+    bytes.extend_from_slice(&[0; 16])?;
+    bytes.extend_from_slice(body)?;
+    Ok(bytes)
 }
 
-impl Requests for Session {
-    ghost use Rattle.std.specs.Prelude.{None};
-
-    ghost taken = { λ session. None };
-
-    ghost has_ended = { λ session. session.ended };
-
-    fn take(&mut self, buffer: &mut [u8]) -> Option<usize> {
-        if let Some((asked, _, _)) = SESSION.get(self.next) {
-            let bytes = request(self.alloc, self.next as u64, asked);
-            if bytes.len() <= buffer.len() {
-                self.next = self.next.saturating_add(1);
-                let count = bytes.len();
-                buffer[..count].copy_from_slice(&bytes);
-                return Some(count);
-            }
-        }
-        self.ended = true;
-        None
+/// Returns the requests of the session.
+fn requests(alloc: Global) -> Result<Listed, AllocError> {
+    let mut requests = Vec::new(alloc);
+    for (unique, (asked, _, _)) in SESSION.iter().enumerate() {
+        requests.push(request(alloc, unique as u64, asked)?)?;
     }
-}
-
-impl Replies for Kept {
-    ghost use Rattle.std.specs.Prelude.{None};
-
-    ghost sent = { λ kept. None };
-
-    ghost has_failed = { λ kept. kept.failed };
-
-    fn send(&mut self, reply: &[u8]) -> bool {
-        if let Ok(kept) = Vec::from_slice(self.alloc, reply) {
-            if self.replies.push(kept).is_ok() {
-                return true;
-            }
-        }
-        self.failed = true;
-        false
-    }
+    Ok(Listed::new(requests))
 }
 
 impl Host for Saved {
@@ -161,7 +110,7 @@ fn errno(reply: &[u8]) -> u32 {
 }
 
 /// A session: requests, each with the error that is wanted and bytes that the reply ends in.
-static SESSION: [(Asked, u32, &[u8]); 27] = [
+static SESSION: [(Asked, u32, &[u8]); 35] = [
     // `a`
     (
         (MKNOD, 1, b"\xa4\x81\0\0\0\0\0\0\x12\0\0\0\0\0\0\0a\0"),
@@ -270,6 +219,53 @@ static SESSION: [(Asked, u32, &[u8]); 27] = [
         0,
         b"he",
     ),
+    // more bytes than a file can have, and than the image has
+    (
+        (
+            SETATTR,
+            FIRST,
+            b"\x08\0\0\0\0\0\0\0\0\0\0\0\0\0\0\0\0\0\0\x80\0\0\0\0\0\0\0\0\0\0\0\0\0\0\0\0\0\0\0\0\0\0\0\0\0\0\0\0\0\0\0\0\0\
+            \0\0\0\0\0\0\0\0\0\0\0\0\0\0\0\0\0\0\0\0\0\0\0\0\0\0\0\0\0\0\0\0\0\0\0",
+        ),
+        27,
+        b"",
+    ),
+    (
+        (
+            WRITE,
+            FIRST,
+            b"\0\0\0\0\0\0\0\0\xfc\x1f\x03\0\0\0\0\0\x05\0\0\0\0\0\0\0\0\0\0\0\0\0\0\0\0\0\0\0\0\0\0\0hello",
+        ),
+        28,
+        b"",
+    ),
+    // as many as the image
+    (
+        (
+            WRITE,
+            FIRST,
+            b"\0\0\0\0\0\0\0\0\xfb\x1f\x03\0\0\0\0\0\x05\0\0\0\0\0\0\0\0\0\0\0\0\0\0\0\0\0\0\0\0\0\0\0hello",
+        ),
+        0,
+        b"\x05\0\0\0\0\0\0\0",
+    ),
+    // so that no other file can lose its last name while it is open
+    (
+        (MKNOD, 1, b"\xa4\x81\0\0\0\0\0\0\x12\0\0\0\0\0\0\0f\0"),
+        0,
+        b"",
+    ),
+    (
+        (
+            WRITE,
+            THIRD,
+            b"\0\0\0\0\0\0\0\0\0\0\0\0\0\0\0\0\x01\0\0\0\0\0\0\0\0\0\0\0\0\0\0\0\0\0\0\0\0\0\0\0x",
+        ),
+        0,
+        b"",
+    ),
+    ((OPEN, THIRD, b"\x02\0\0\0\0\0\0\0"), 0, b""),
+    ((UNLINK, 1, b"f\0"), 28, b""),
     (
         (
             RELEASE,
@@ -279,6 +275,7 @@ static SESSION: [(Asked, u32, &[u8]); 27] = [
         0,
         b"",
     ),
+    ((UNLINK, 1, b"f\0"), 0, b""),
     (
         (
             READ,
@@ -308,20 +305,12 @@ fn server(rt: &impl Abort, alloc: Global, owner: Option<Owner>) -> MountedServer
 fn a_session(rt: HostRuntime) -> Result<(), Fail> {
     let alloc = rt.alloc();
     let mut server = server(&rt, alloc, None);
-    let mut replies = Kept {
-        alloc,
-        replies: Vec::new(alloc),
-        failed: false,
-    };
+    let mut replies = Kept::new(alloc, 100);
     let mut saved = Saved {
         alloc,
         images: Vec::new(alloc),
     };
-    let mut session = Session {
-        alloc,
-        next: 0,
-        ended: false,
-    };
+    let mut session = requests(alloc)?;
     let served = serve(alloc, &mut server, &mut session, &mut replies, &mut saved);
     assert_eq!(rt; served, Ok(()));
     assert_eq!(rt; replies.replies.len(), SESSION.len());

@@ -5,6 +5,8 @@
 #[cfg(test)]
 mod changes;
 #[cfg(test)]
+mod ends;
+#[cfg(test)]
 mod fixtures;
 #[cfg(test)]
 mod messages;

@@ -19,7 +19,7 @@ const LATER: u32 = 0x0102_0304;
 
 /// A call, without its user and time.
 #[derive(Clone, Copy, Debug)]
-enum Asked<'a> {
+pub(crate) enum Asked<'a> {
     /// Makes a file with these permission bits.
     Create(&'a [u8], u16),
     /// Makes a directory with these permission bits.
@@ -166,7 +166,7 @@ fn make(
 }
 
 /// Makes calls, which must all be accepted.
-fn make_all(rt: &impl Abort, alloc: Global, volume: &mut Volume, calls: &[Asked]) {
+pub(crate) fn make_all(rt: &impl Abort, alloc: Global, volume: &mut Volume, calls: &[Asked]) {
     for asked in calls {
         let answer = make(rt, alloc, volume, *asked);
         assert!(rt; answer.is_ok(), "{asked:?}: {answer:?}");

@@ -1,4 +1,4 @@
-//! Outputs that fail once, a path with a zero byte, and i-nodes that no entry names.
+//! Outputs that fail once, and a path with a zero byte.
 use crate::fixtures::{Piece, with_pieces};
 use pdp_words::test_streams::{ScriptedWriter, WriteMishap};
 use pdp_words::{Image, IntoWrite};

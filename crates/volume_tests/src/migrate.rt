@@ -1,4 +1,4 @@
-//! A volume of the other edition, and the name of each fault.
+//! A volume of the other edition.
 use vol_layout::Edition;
 use vol_migrate::{MigrateFault, migrate};
 use vol_volume::{Volume, mkfs};
@@ -13,21 +13,4 @@ fn another_edition(rt: HostRuntime) {
     // This is checked before the sizes, which can't be a volume's.
     let found = migrate(alloc, &seventh, 7, 5, 1);
     assert_eq!(&rt; found.err(), Some(MigrateFault::Invalid));
-}
-
-#[test]
-fn what_a_fault_is_called(rt: HostRuntime) {
-    let alloc = rt.alloc();
-    let faults = [
-        (MigrateFault::Invalid, "22 Invalid"),
-        (MigrateFault::Bounds, "bounds"),
-        (MigrateFault::HasDevice, "105 HasDevice"),
-        (MigrateFault::NoInode, "103 NoInode"),
-        (MigrateFault::NoSpace, "28 NoSpace"),
-        (MigrateFault::NoMemory, "12 NoMemory"),
-    ];
-    for (fault, words) in faults {
-        let told = format!(in alloc; "{fault}").expect(&rt, "memory for the words");
-        assert_eq!(&rt; told.as_str(), words);
-    }
 }

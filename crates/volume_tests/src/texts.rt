@@ -4,6 +4,7 @@ use std::alloc::Global;
 use std::fmt::Display;
 use std::process::Abort;
 use vol_dir::Refusal;
+use vol_migrate::MigrateFault;
 use vol_volume::{MkfsFault, MountFault};
 
 static REFUSALS: [(Refusal, u8, &str); 15] = [
@@ -47,6 +48,16 @@ fn faults_have_their_words(rt: HostRuntime) {
         "the image could not be read",
     );
     check(&rt, alloc, &LoadFault::NoMemory, "out of memory");
+    for (fault, words) in [
+        (MigrateFault::Invalid, "22 Invalid"),
+        (MigrateFault::Bounds, "bounds"),
+        (MigrateFault::HasDevice, "105 HasDevice"),
+        (MigrateFault::NoInode, "103 NoInode"),
+        (MigrateFault::NoSpace, "28 NoSpace"),
+        (MigrateFault::NoMemory, "12 NoMemory"),
+    ] {
+        check(&rt, alloc, &fault, words);
+    }
     let fault = SaveFault { written: 513 };
     check(&rt, alloc, &fault, "the device failed after 513 bytes");
 }

@@ -31,49 +31,84 @@ fn change(alloc: Global, handle: &mut Handle) -> [i32; 11] {
 /// Queries `/b`, its bytes and the names of the root.
 fn ask(rt: &impl Abort, alloc: Global, handle: &mut Handle) {
     let mut node = NO_NODE;
-    assert_eq!(rt; unixvol_stat(alloc, handle, 0, 0, b"/b", &mut node), DONE);
+    let mut bytes = [0; 100];
+    let mut names = [NO_ENTRY; 3];
+    let (mut count, mut entries) = (0, 0);
+    let answers = [
+        unixvol_stat(alloc, handle, 0, 0, b"/b", &mut node),
+        unixvol_read(alloc, handle, 0, 0, b"/b", 550, &mut bytes, &mut count),
+        unixvol_list(alloc, handle, 0, 0, b"/", &mut names, &mut entries),
+    ];
+    assert_eq!(rt; answers, [DONE; 3]);
     assert_eq!(rt; (node.size, node.uid, node.gid, node.links), (600, 3, 4, 1));
     assert_eq!(rt; (node.accessed, node.modified, node.changed), (8, 9, 7));
-    let mut bytes = [0; 100];
-    let mut count = 0;
-    assert_eq!(rt;
-        unixvol_read(alloc, handle, 0, 0, b"/b", 550, &mut bytes, &mut count),
-        DONE
-    );
     assert_eq!(rt; (count, bytes[49], bytes[50]), (50, 9, 0));
-    let mut names = [NO_ENTRY; 3];
+    let name = *b"b\0\0\0\0\0\0\0\0\0\0\0\0\0";
     assert_eq!(rt;
-        unixvol_list(alloc, handle, 0, 0, b"/", &mut names, &mut count),
-        DONE
-    );
-    assert_eq!(rt;
-        (count, names[2].inode, names[2].name),
-        (4, node.inode, *b"b\0\0\0\0\0\0\0\0\0\0\0\0\0")
+        (entries, names[2].inode, names[2].name),
+        (4, node.inode, name)
     );
 }
 
 /// Keeps the names of `/b` and `/d`, and then their archive: two headers, two blocks of the file, two of zeros.
 fn keep(rt: &impl Abort, alloc: Global, handle: &mut Handle) {
-    let mut left_out = 1;
-    let mut size = 1;
-    let mut block = [0; 512];
-    assert_eq!(rt; unixvol_report(alloc, handle, b'n'), DONE);
+    let mut names = [0; 512];
+    let mut zeros = [1; 512];
+    let (mut left_out, mut length, mut size, mut rest) = (1, 1, 1, 1);
+    let answers = [
+        unixvol_report(alloc, handle, b'n'),
+        unixvol_answer(alloc, handle, 0, &mut names, &mut length),
+        unixvol_export(alloc, handle, b"", &mut left_out),
+        unixvol_answer_size(alloc, handle, &mut size),
+        unixvol_answer(alloc, handle, 2_600, &mut zeros, &mut rest),
+    ];
+    assert_eq!(rt; answers, [DONE; 5]);
     assert_eq!(rt;
-        unixvol_answer(alloc, handle, 0, &mut block, &mut size),
-        DONE
-    );
-    assert_eq!(rt;
-        (size, block[2], block[3], block[5]),
+        (length, names[2], names[3], names[5]),
         (12, b' ', b'/', b'\n')
     );
-    assert_eq!(rt; unixvol_export(alloc, handle, b"", &mut left_out), DONE);
-    assert_eq!(rt; unixvol_answer_size(alloc, handle, &mut size), DONE);
-    assert_eq!(rt; (size, left_out), (3_072, 0));
+    assert_eq!(rt; (size, left_out, rest, zeros[0]), (3_072, 0, 472, 0));
+}
+
+/// Queries the volume's sizes, cuts its journal, and returns its image.
+fn look(rt: &impl Abort, alloc: Global, handle: &mut Handle) -> [u8; 20480] {
+    let mut about = VolumeSizes {
+        blocks: 0,
+        data_start: 0,
+        free_blocks: 0,
+        last_inode: 0,
+        edition: 0,
+    };
+    let mut size = 0;
+    let mut image = [0; 20480];
+    let answers = [
+        unixvol_about(alloc, handle, &mut about),
+        unixvol_cut(alloc, handle),
+        unixvol_size(alloc, handle, &mut size),
+        unixvol_image(alloc, handle, &mut image),
+    ];
+    assert_eq!(rt; answers, [DONE; 4]);
     assert_eq!(rt;
-        unixvol_answer(alloc, handle, 2_600, &mut block, &mut size),
-        DONE
+        (about.blocks, about.data_start, about.last_inode),
+        (40, 4, 16)
     );
-    assert_eq!(rt; (size, block[0]), (472, 0));
+    assert_eq!(rt; (about.edition, size), (7, image.len()));
+    image
+}
+
+/// Judges, explains and salvages an image.
+fn check(rt: &impl Abort, alloc: Global, image: &mut [u8]) {
+    let mut text = [0; 4096];
+    let mut name = [0; 4096];
+    let (mut size, mut length) = (0, 0);
+    let answers = [
+        unixvol_judge(alloc, 7, image),
+        unixvol_explain(alloc, 7, image, &mut text, &mut size),
+        unixvol_name(104, &mut name, &mut length),
+        unixvol_salvage(alloc, 7, image),
+    ];
+    assert_eq!(rt; answers, [DONE; 4]);
+    assert_eq!(rt; (text[0], text[1], length, name[0]), (b'1', b' ', 5, b'B'));
 }
 
 /// No node.
@@ -102,44 +137,11 @@ fn each_export_succeeds(rt: HostRuntime) {
     let alloc = rt.alloc();
     let mut handle = Handle::closed(alloc);
     assert_eq!(rt; unixvol_mkfs(alloc, &mut handle, 7, 40, 2, 0, 0, 7), DONE);
-    for answer in change(alloc, &mut handle) {
-        assert_eq!(rt; answer, DONE);
-    }
+    assert_eq!(rt; change(alloc, &mut handle), [DONE; 11]);
     ask(&rt, alloc, &mut handle);
-    let mut about = VolumeSizes {
-        blocks: 0,
-        data_start: 0,
-        free_blocks: 0,
-        last_inode: 0,
-        edition: 0,
-    };
-    assert_eq!(rt; unixvol_about(alloc, &mut handle, &mut about), DONE);
-    assert_eq!(rt;
-        (
-            about.blocks,
-            about.data_start,
-            about.last_inode,
-            about.edition
-        ),
-        (40, 4, 16, 7)
-    );
-    assert_eq!(rt; unixvol_cut(alloc, &mut handle), DONE);
     keep(&rt, alloc, &mut handle);
-    let mut size = 0;
-    assert_eq!(rt; unixvol_size(alloc, &mut handle, &mut size), DONE);
-    let mut image = [0; 20480];
-    assert_eq!(rt; size, image.len());
-    assert_eq!(rt; unixvol_image(alloc, &mut handle, &mut image), DONE);
-    assert_eq!(rt; unixvol_judge(alloc, 7, &image), DONE);
-    let mut text = [0; 4096];
-    assert_eq!(rt;
-        unixvol_explain(alloc, 7, &image, &mut text, &mut size),
-        DONE
-    );
-    assert_eq!(rt; (text[0], text[1]), (b'1', b' '));
-    assert_eq!(rt; unixvol_name(104, &mut text, &mut size), DONE);
-    assert_eq!(rt; (size, text[0]), (5, b'B'));
-    assert_eq!(rt; unixvol_salvage(alloc, 7, &mut image), DONE);
+    let mut image = look(&rt, alloc, &mut handle);
+    check(&rt, alloc, &mut image);
     assert_eq!(rt; unixvol_open(alloc, &mut handle, 7, &image), DONE);
     ask(&rt, alloc, &mut handle);
     unixvol_close(alloc, &mut handle);

@@ -35,11 +35,11 @@ _unixvol() {
         cat) kinds='edition file any' options='--explain -h --help' ;;
         ls) kinds='edition file path' options='-l --long -R --recursive -d --directory --json --explain -h --help' ;;
         get) kinds='edition file path any...' options='-o --output --explain -h --help' valued='-o=file --output=file' others='edition file path...' ;;
-        export) kinds='edition file path' options='--explain -h --help' ;;
+        export) kinds='edition file path' options='--lost --status --explain -h --help' ;;
         inode) kinds='edition file any' options='--json --explain -h --help' ;;
         super) kinds='edition file' options='--json --explain -h --help' ;;
         map) kinds='edition file' options='--svg --explain -h --help' ;;
-        check) kinds='edition file' options='--explain -h --help' ;;
+        check) kinds='edition file' options='--status --explain -h --help' ;;
         icheck) kinds='edition file any' options='--explain -h --help' ;;
         dcheck) kinds='edition file any' options='--explain -h --help' ;;
         ncheck) kinds='edition file any' options='--explain -h --help' ;;
@@ -57,7 +57,7 @@ _unixvol() {
         salvage) kinds='edition file' options='--explain -h --help' ;;
         play) kinds='edition file file...' options='--explain -h --help' ;;
         migrate) kinds='file file any any any' options='--new --explain -h --help' ;;
-        serve) kinds='edition file' options='--read-only --explain -h --help' ;;
+        serve) kinds='edition file' options='--read-only --mine --explain -h --help' ;;
     esac
     if [[ $current == -* ]]; then
         mapfile -t COMPREPLY < <(compgen -W "$options" -- "$current")

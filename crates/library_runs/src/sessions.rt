@@ -66,7 +66,7 @@ fn perform<R: Threads + Wait + Sync>(
 }
 
 /// Makes the task's calls with the last session.
-#[tactic(auto, using(vol_shared::proofs::Fronts::all_pushed, vol_shared::proofs::Lists::all_last, vol_shared::proofs::Lists::all_front))]
+#[tactic(auto, using(vol_shared::proofs::Prefixes::all_pushed, vol_shared::proofs::Lists::all_last, vol_shared::proofs::Lists::all_prefix))]
 fn call_last<R: Wait>(
     rt: &R,
     alloc: Global,
@@ -86,7 +86,7 @@ fn call_last<R: Wait>(
 }
 
 /// Makes the task's queries with the last session but one, while the last writes the file.
-#[tactic(auto, using(vol_shared::proofs::Fronts::all_pushed, vol_shared::proofs::Lists::all_last, vol_shared::proofs::Lists::all_front))]
+#[tactic(auto, using(vol_shared::proofs::Prefixes::all_pushed, vol_shared::proofs::Lists::all_last, vol_shared::proofs::Lists::all_prefix))]
 fn ask_last<R: Threads + Wait + Sync>(
     rt: &R,
     alloc: Global,
@@ -108,7 +108,7 @@ fn ask_last<R: Threads + Wait + Sync>(
 }
 
 /// Makes the task's queries with the last view, if there is one, while the last session writes the file.
-#[tactic(auto, using(vol_shared::proofs::Fronts::all_pushed, vol_shared::proofs::Lists::all_last, vol_shared::proofs::Lists::all_front))]
+#[tactic(auto, using(vol_shared::proofs::Prefixes::all_pushed, vol_shared::proofs::Lists::all_last, vol_shared::proofs::Lists::all_prefix))]
 fn watch_last<R: Threads + Wait + Sync>(
     rt: &R,
     alloc: Global,

@@ -77,7 +77,7 @@ fn each_kind_agrees_until_it_is_cut(rt: HostRuntime) -> Result<(), Fail> {
     let alloc = rt.alloc();
     let mut volume = new_volume(&rt, alloc, Edition::V7);
     let mut receipts = each_kind(&rt, alloc, &mut volume)?;
-    let told = [
+    let reported = [
         (0, Outcome::Accepted(Done::Made(16))),
         (1, Outcome::Refused(Refusal::Exists)),
         (1, Outcome::Refused(Refusal::NoEntry)),
@@ -86,7 +86,7 @@ fn each_kind_agrees_until_it_is_cut(rt: HostRuntime) -> Result<(), Fail> {
             Outcome::Answered(Reply::Bytes(Bytes::from_vec(Vec::new(alloc)))),
         ),
     ];
-    for (receipt, (at, outcome)) in receipts.iter().zip(told.iter()) {
+    for (receipt, (at, outcome)) in receipts.iter().zip(reported.iter()) {
         assert_eq!(rt; receipt.at, *at);
         assert_eq!(rt; &receipt.outcome, outcome);
     }

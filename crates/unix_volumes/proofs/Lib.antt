@@ -1,2 +1,2 @@
-pub use Rattle.vol_shared.proofs.Fronts
+pub use Rattle.vol_shared.proofs.Prefixes
 pub use Rattle.vol_shared.proofs.Lists

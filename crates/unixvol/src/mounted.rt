@@ -65,10 +65,10 @@ pub fn run<R: ImageFiles + Clock + Eprint + AllocGlobal, Q: Requests, P: Replies
     ensures { RunsMounted (host_files R.File.remaining R.File.contents R.had R.stood) volume.entry.edition
         (says (heard E.contents E.failed errors.old errors.new)) (messages Q.taken P.sent requests.old requests.new replies.old replies.new) result }
 {
-    let told = ||
+    let owner_told = ||
         ensures { IfErr result (IsUnread R.File.remaining) }
     { owner(host, is_mine) };
-    let begun = match begin(host, volume, told) {
+    let begun = match begin(host, volume, owner_told) {
         Ok(begun) => begun,
         Err(status) => return Err(status),
     };

@@ -65,15 +65,15 @@ written_over xs ys n same is = ap (λ m. take m (ys ++ drop (length ys) xs)) is 
 
 module _ {A B : Type 0} (related : A → B → Type 0) (whole : List A) where
   -- two lists in pairs, with one more of each
-  pub pairs_more : (x : A) (rest : List A) (y : B) (front now : List B) → now ≡ front ++ y ∷ [] → related x y
-      → ((others : List B) → InPairs related (x ∷ rest) others → InPairs related whole (front ++ others))
+  pub pairs_more : (x : A) (rest : List A) (y : B) (prefix now : List B) → now ≡ prefix ++ y ∷ [] → related x y
+      → ((others : List B) → InPairs related (x ∷ rest) others → InPairs related whole (prefix ++ others))
       → (others : List B) → InPairs related rest others → InPairs related whole (now ++ others)
-  pairs_more x rest y front now now_is one given others all =
-      let joined : now ++ others ≡ front ++ y ∷ others = ap (λ (ys : List B). ys ++ others) now_is ∙ append_assoc front (y ∷ []) others in
+  pairs_more x rest y prefix now now_is one given others all =
+      let joined : now ++ others ≡ prefix ++ y ∷ others = ap (λ (ys : List B). ys ++ others) now_is ∙ append_assoc prefix (y ∷ []) others in
       subst (InPairs related whole) (sym joined) (given (y ∷ others) (one, all))
 
   -- the last of two lists in pairs
-  pub pairs_end : (rest : List A) (front : List B) → length rest ≡ 0
-      → ((others : List B) → InPairs related rest others → InPairs related whole (front ++ others)) → InPairs related whole front
-  pairs_end [] front none given = subst (InPairs related whole) (append-nil front) (given [] tt)
-  pairs_end (x ∷ rest) front none given = absurd (omega arith)
+  pub pairs_end : (rest : List A) (prefix : List B) → length rest ≡ 0
+      → ((others : List B) → InPairs related rest others → InPairs related whole (prefix ++ others)) → InPairs related whole prefix
+  pairs_end [] prefix none given = subst (InPairs related whole) (append-nil prefix) (given [] tt)
+  pairs_end (x ∷ rest) prefix none given = absurd (omega arith)

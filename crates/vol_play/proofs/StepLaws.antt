@@ -43,19 +43,19 @@ known_push known (first ∷ all) came = known_push (known_after known first) all
 
 module _ {A : Type 0} (came_of : A → ℕ → Played → Type 0) (Came : List Played → Type 0) where
   -- the result of a line comes before those of the lines after it
-  pub came_more : (rest : List A) (line : A) (next later : ℕ) (front now : List Played) (came : Played)
-      → later ≡ next_after next came → now ≡ front ++ came ∷ [] → came_of line next came
-      → ((others : List Played) → CameInTurn came_of (line ∷ rest) next others → Came (front ++ others))
+  pub came_more : (rest : List A) (line : A) (next later : ℕ) (prefix now : List Played) (came : Played)
+      → later ≡ next_after next came → now ≡ prefix ++ came ∷ [] → came_of line next came
+      → ((others : List Played) → CameInTurn came_of (line ∷ rest) next others → Came (prefix ++ others))
       → (others : List Played) → CameInTurn came_of rest later others → Came (now ++ others)
-  came_more rest line next later front now came later_is now_is one given others all =
-      let joined : now ++ others ≡ front ++ came ∷ others = ap (λ (ps : List Played). ps ++ others) now_is ∙ append_assoc front (came ∷ []) others in
+  came_more rest line next later prefix now came later_is now_is one given others all =
+      let joined : now ++ others ≡ prefix ++ came ∷ others = ap (λ (ps : List Played). ps ++ others) now_is ∙ append_assoc prefix (came ∷ []) others in
       subst Came (sym joined) (given (came ∷ others) (one, subst (λ (n : ℕ). CameInTurn came_of rest n others) later_is all))
 
   -- once no line is left, these are all results
-  pub came_end : (rest : List A) (next : ℕ) (front : List Played) → length rest ≡ 0
-      → ((others : List Played) → CameInTurn came_of rest next others → Came (front ++ others)) → Came front
-  came_end [] next front none given = subst Came (append-nil front) (given [] tt)
-  came_end (line ∷ rest) next front none given = absurd (omega arith)
+  pub came_end : (rest : List A) (next : ℕ) (prefix : List Played) → length rest ≡ 0
+      → ((others : List Played) → CameInTurn came_of rest next others → Came (prefix ++ others)) → Came prefix
+  came_end [] next prefix none given = subst Came (append-nil prefix) (given [] tt)
+  came_end (line ∷ rest) next prefix none given = absurd (omega arith)
 
 -- a session's records are those of its steps
 pub known_places : (known : Known) (all : List Played) → (known_after_all known all).places ≡ known.places ++ places_made all
@@ -86,10 +86,10 @@ known_receipts known (played.NotEntered ∷ others) = known_receipts known other
 known_receipts known (played.View ∷ others) = known_receipts known others
 
 -- the receipts with one more line
-pub receipts_push : (front : List Played) (came : Played) → receipts_in (front ++ came ∷ []) ≡ receipts_in front ++ receipts_in (came ∷ [])
+pub receipts_push : (prefix : List Played) (came : Played) → receipts_in (prefix ++ came ∷ []) ≡ receipts_in prefix ++ receipts_in (came ∷ [])
 receipts_push [] came = refl
-receipts_push (played.Told receipt ∷ front) came = ap (λ rs. receipt ∷ rs) (receipts_push front came)
-receipts_push (played.Cut first ∷ front) came = receipts_push front came
-receipts_push (played.NoMemory ∷ front) came = receipts_push front came
-receipts_push (played.NotEntered ∷ front) came = receipts_push front came
-receipts_push (played.View ∷ front) came = receipts_push front came
+receipts_push (played.Told receipt ∷ prefix) came = ap (λ rs. receipt ∷ rs) (receipts_push prefix came)
+receipts_push (played.Cut first ∷ prefix) came = receipts_push prefix came
+receipts_push (played.NoMemory ∷ prefix) came = receipts_push prefix came
+receipts_push (played.NotEntered ∷ prefix) came = receipts_push prefix came
+receipts_push (played.View ∷ prefix) came = receipts_push prefix came

@@ -23,11 +23,11 @@ reaches v gone found finds =
     let b = length-append v.history g.0 in
     omega arith
 
-pub got : (views : List Knowledge) (next count : ℕ) (told : Option Reached) → IsIdle views next count told → (me end : Me (Option Stored) Knowledge) (found given : Stored) (r : Receipt)
+pub got : (views : List Knowledge) (next count : ℕ) (reported : Option Reached) → IsIdle views next count reported → (me end : Me (Option Stored) Knowledge) (found given : Stored) (r : Receipt)
     → Took (knowledge_of views, []) me found None → IsAnswered found given r → end ≡ (gave me.0 given (receipt r), [])
     → (table other : TableId) (later : ℕ) → later ≡ next_of r.at r.outcome
     → Got (known_by table next (knowledge_of views)) (known_by other later end.0) r
-got views next count told is me end found given r took-it may gave-it table other later noted =
+got views next count reported is me end found given r took-it may gave-it table other later noted =
     let v = knowledge_of views in
     let here : end.0 ≡ gave (took v found (took-it.0 ++ found.journal)) given (receipt r) =
     ap (λ (m : Me (Option Stored) Knowledge). m.0) gave-it ∙ ap (λ (m : Me (Option Stored) Knowledge). gave m.0 given (receipt r)) took-it.2 in
@@ -45,7 +45,7 @@ got views next count told is me end found given r took-it may gave-it table othe
 pub has_cut : (views : List Knowledge) (next count : ℕ) (mine : Option Reached) → IsIdle views next count mine → (me end : Me (Option Stored) Knowledge) (found given : Stored) (first : ℕ)
     → Took (knowledge_of views, []) me found None → IsCut found given → first ≡ next_number found → end ≡ (gave me.0 given cut, [])
     → (table other : TableId) → HasCut (known_by table next (knowledge_of views)) (known_by other first end.0) first
-has_cut views next count mine is me end found given first took-it cut-it told gave-it table other =
+has_cut views next count mine is me end found given first took-it cut-it reported gave-it table other =
     let v = knowledge_of views in
     let here : end.0 ≡ gave (took v found (took-it.0 ++ found.journal)) given cut =
     ap (λ (m : Me (Option Stored) Knowledge). m.0) gave-it ∙ ap (λ (m : Me (Option Stored) Knowledge). gave m.0 given cut) took-it.2 in
@@ -55,7 +55,7 @@ has_cut views next count mine is me end found given first took-it cut-it told ga
       at = omega arith;
       next = refl;
       places = ap (λ (w : Knowledge). w.places) here;
-      cuts = ap (λ (w : Knowledge). w.cuts) here ∙ ap (λ (n : ℕ). v.cuts ++ n ∷ []) (cut-it.first ∙ sym told);
+      cuts = ap (λ (w : Knowledge). w.cuts) here ∙ ap (λ (n : ℕ). v.cuts ++ n ∷ []) (cut-it.first ∙ sym reported);
       receipts = ap (λ (w : Knowledge). w.receipts) here;
     }
 
@@ -77,8 +77,8 @@ same_book views later me end found given event took-it gave-it is =
     one ∙ (two ∙ (three ∙ four))
 
 -- the log of the volume that is given back is that of the opened one
-pub told_book : (views later : List Knowledge) (me end : Me (Option Stored) Knowledge) (found given : Stored) (event : Event) (told : Option Reached)
+pub reported_book : (views later : List Knowledge) (me end : Me (Option Stored) Knowledge) (found given : Stored) (event : Event) (reported : Option Reached)
     → Took (knowledge_of views, []) me found None → given.book ≡ found.book → end ≡ (gave me.0 given event, []) → later ≡ end.0 ∷ []
-    → book_in told ≡ given.book → book_in told ≡ (knowledge_of later).opened.book
-told_book views later me end found given event told took-it same gave-it is told-is =
-    told-is ∙ (same ∙ (took-it.1.book ∙ sym (same_book views later me end found given event took-it gave-it is)))
+    → book_in reported ≡ given.book → book_in reported ≡ (knowledge_of later).opened.book
+reported_book views later me end found given event reported took-it same gave-it is reported-is =
+    reported-is ∙ (same ∙ (took-it.1.book ∙ sym (same_book views later me end found given event took-it gave-it is)))

@@ -4,4 +4,4 @@ pub mod Steps
 pub mod Seats
 pub mod Calls
 pub mod ClosedVolumes
-pub mod Fronts
+pub mod Prefixes

@@ -43,8 +43,8 @@ module _ {A : Type 0} where
     | inr first ↦ subst (λ (l : List A). BeginsWith l ys) (sym first.0) (begins_between ys xs zs b a first.1)
   ]
 
-  pub longer_front : (xs ys zs : List A) → BeginsWith zs xs → BeginsWith zs ys → BeginsWith zs (longer xs ys)
-  longer_front xs ys zs a b = elim (longer_cases xs ys) [
+  pub longer_prefix : (xs ys zs : List A) → BeginsWith zs xs → BeginsWith zs ys → BeginsWith zs (longer xs ys)
+  longer_prefix xs ys zs a b = elim (longer_cases xs ys) [
     | inl second ↦ subst (λ (l : List A). BeginsWith zs l) (sym second.0) b
     | inr first ↦ subst (λ (l : List A). BeginsWith zs l) (sym first.0) a
   ]
@@ -112,9 +112,9 @@ module _ {A : Type 0} (P : A → Type 0) where
   all_last (y ∷ xs) x h = all_last xs x (All-tail P y (xs ++ x ∷ []) h)
 
   -- and of those before it
-  pub all_front : (xs ys : List A) → All P (xs ++ ys) → All P xs
-  all_front [] ys h = All-nil P
-  all_front (x ∷ xs) ys h = All-cons P x xs (All-head P x (xs ++ ys) h) (all_front xs ys (All-tail P x (xs ++ ys) h))
+  pub all_prefix : (xs ys : List A) → All P (xs ++ ys) → All P xs
+  all_prefix [] ys h = All-nil P
+  all_prefix (x ∷ xs) ys h = All-cons P x xs (All-head P x (xs ++ ys) h) (all_prefix xs ys (All-tail P x (xs ++ ys) h))
 
   -- and of those after it
   pub all_back : (xs ys : List A) → All P (xs ++ ys) → All P ys
@@ -135,7 +135,7 @@ module _ {A B : Type 0} (f : A → List B) where
   pub all_flat : (P : B → Type 0) (xs : List A) → All P (flat_map f xs) → All (λ x. All P (f x)) xs
   all_flat P [] h = All-nil (λ (x : A). All P (f x))
   all_flat P (x ∷ xs) h =
-      All-cons (λ (y : A). All P (f y)) x xs (all_front P (f x) (flat_map f xs) h) (all_flat P xs (all_back P (f x) (flat_map f xs) h))
+      All-cons (λ (y : A). All P (f y)) x xs (all_prefix P (f x) (flat_map f xs) h) (all_flat P xs (all_back P (f x) (flat_map f xs) h))
 
 -- a list of no length is empty
 pub no_length : {A : Type 0} (xs : List A) → length xs ≡ 0 → xs ≡ []

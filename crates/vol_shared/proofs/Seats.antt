@@ -22,14 +22,14 @@ use Rattle.vol_shared.specs.Plays.{fresh, first_knowledge, nobody, kept_part, gi
 use Rattle.vol_shared.specs.Close.{IsSettled}
 use Rattle.vol_shared.specs.declared.knowledge.Knowledge.{Knowledge}
 use Rattle.vol_shared.specs.declared.knowledge.TableStart.{TableStart}
-use Rattle.vol_shared.proofs.Lists.{begins_itself, longer_first, longer_second, longer_front, set_there, greatest_nil, greatest_cons, greatest_push, greatest_append, greatest_set, greatest_part, greatest_all}
+use Rattle.vol_shared.proofs.Lists.{begins_itself, longer_first, longer_second, longer_prefix, set_there, greatest_nil, greatest_cons, greatest_push, greatest_append, greatest_set, greatest_part, greatest_all}
 use Rattle.vol_shared.proofs.Steps.{cut_of, idle, shifts}
 
 -- a seat that did nothing fits
 fresh_fits : (opened : Stored) (parts : ℕ) (last : Stored) (history : List Record) → BeginsWith history opened.journal → SeatFits opened last history (fresh parts opened)
 fresh_fits opened parts last history begins = record {
   same = λ e. refl;
-  front = begins;
+  prefix = begins;
   agree = All-nil (Agrees opened.origin opened.journal);
   mine = λ e. absurd (cc);
   spent = λ e. (refl, refl, refl);
@@ -39,7 +39,7 @@ fresh_fits opened parts last history begins = record {
 blank_fits : (opened last : Stored) (history : List Record) → SeatFits opened last history nobody
 blank_fits opened last history = record {
   same = λ e. absurd (omega arith);
-  front = (history, refl);
+  prefix = (history, refl);
   agree = All-nil (Agrees opened.origin []);
   mine = λ e. absurd (cc);
   spent = λ e. (refl, refl, refl);
@@ -125,10 +125,10 @@ splits key id v parts some-parts is s kept at =
     fits n = fresh_fits key.stock n kept.last (kept.gone ++ kept.last.journal) kept.follows.begins
 
 -- receipts that agree with a prefix of the history agree with the history
-agree_front : (opened : Stored) (known history : List Record) (receipts : List Receipt) → BeginsWith history known
+agree_prefix : (opened : Stored) (known history : List Record) (receipts : List Receipt) → BeginsWith history known
     → All (Agrees opened.origin known) receipts → All (Agrees opened.origin history) receipts
-agree_front opened known history receipts front agree = subst (λ (l : List Record). All (Agrees opened.origin l) receipts) (sym front.1)
-    (λ k d lt. agrees_grows opened.origin known front.0 _ (agree k d lt))
+agree_prefix opened known history receipts prefix agree = subst (λ (l : List Record). All (Agrees opened.origin l) receipts) (sym prefix.1)
+    (λ k d lt. agrees_grows opened.origin known prefix.0 _ (agree k d lt))
 
 -- two seats are joined
 pub joins : (key : TableStart) (id : ℕ) (v : Knowledge) (other : ℕ) (w : Knowledge) → 0 < v.parts → v.holds ≡ false → w.holds ≡ false
@@ -176,19 +176,19 @@ joins key id v other w some-parts first-free second-free s kept at apart there =
         let a = total_set g s.views id v (as_one v w) at in
         let b = total_set g (set s.views id (as_one v w)) other w nobody there in omega arith
 
-    front-v : BeginsWith (kept.gone ++ kept.last.journal) v.history
-    front-v = (kept.each id v at).front
+    prefix-v : BeginsWith (kept.gone ++ kept.last.journal) v.history
+    prefix-v = (kept.each id v at).prefix
 
-    front-w : BeginsWith (kept.gone ++ kept.last.journal) w.history
-    front-w = (kept.each other w second).front
+    prefix-w : BeginsWith (kept.gone ++ kept.last.journal) w.history
+    prefix-w = (kept.each other w second).prefix
 
     fits : SeatFits key.stock kept.last (kept.gone ++ kept.last.journal) (as_one v w)
     fits = record {
       same = λ e. (kept.each id v at).same some-parts;
-      front = longer_front v.history w.history (kept.gone ++ kept.last.journal) front-v front-w;
+      prefix = longer_prefix v.history w.history (kept.gone ++ kept.last.journal) prefix-v prefix-w;
       agree = All-append (Agrees key.stock.origin (longer v.history w.history)) w.receipts v.receipts
-          (agree_front key.stock w.history (longer v.history w.history) w.receipts (longer_second v.history w.history (kept.gone ++ kept.last.journal) front-v front-w) (kept.each other w second).agree)
-          (agree_front key.stock v.history (longer v.history w.history) v.receipts (longer_first v.history w.history (kept.gone ++ kept.last.journal) front-v front-w) (kept.each id v at).agree);
+          (agree_prefix key.stock w.history (longer v.history w.history) w.receipts (longer_second v.history w.history (kept.gone ++ kept.last.journal) prefix-v prefix-w) (kept.each other w second).agree)
+          (agree_prefix key.stock v.history (longer v.history w.history) v.receipts (longer_first v.history w.history (kept.gone ++ kept.last.journal) prefix-v prefix-w) (kept.each id v at).agree);
       mine = λ e. absurd (cc);
       spent = λ e. absurd (omega arith);
     }
@@ -225,7 +225,7 @@ module _ (key : TableStart) (s : State (Option Stored) Knowledge) (kept : Locked
           let c = ap greatest_of ((kept.each j x e).spent (others_spent j x ne e)).2 in let n = greatest_nil (λ (k : ℕ). k) in omega arith
 
   agree_end : All (Agrees key.stock.origin (kept.gone ++ kept.last.journal)) v.receipts
-  agree_end = agree_front key.stock v.history (kept.gone ++ kept.last.journal) v.receipts (kept.each id v at).front (kept.each id v at).agree
+  agree_end = agree_prefix key.stock v.history (kept.gone ++ kept.last.journal) v.receipts (kept.each id v at).prefix (kept.each id v at).agree
 
   -- the facts at the end
   pub ends : v.holds ≡ false → (get_elem? s.homes 0 ≡ some (some (Some kept.last))) × IsSettled key.stock v kept.last

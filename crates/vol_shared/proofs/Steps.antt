@@ -84,7 +84,7 @@ module _ (key : TableStart) (s : State (Option Stored) Knowledge) (kept : Locked
         let f = kept.each j x there in
         record {
           same = f.same;
-          front = begins_on x.history (kept.gone ++ kept.last.journal) (lost ++ next.journal) moves.grows f.front;
+          prefix = begins_on x.history (kept.gone ++ kept.last.journal) (lost ++ next.journal) moves.grows f.prefix;
           agree = f.agree;
           mine = λ holds. absurd (others_idle alone j x ne there holds);
           spent = f.spent;
@@ -135,8 +135,8 @@ module _ (key : TableStart) (s : State (Option Stored) Knowledge) (kept : Locked
   -- receipts that agree with a prefix of the history agree with the history
   agree_more : (history : List Record) → BeginsWith history v.history
       → All (Agrees key.stock.origin v.history) v.receipts → All (Agrees key.stock.origin history) v.receipts
-  agree_more history front agree = subst (λ (l : List Record). All (Agrees key.stock.origin l) v.receipts) (sym front.1)
-      (λ k d lt. agrees_grows key.stock.origin v.history front.0 _ (agree k d lt))
+  agree_more history prefix agree = subst (λ (l : List Record). All (Agrees key.stock.origin l) v.receipts) (sym prefix.1)
+      (λ k d lt. agrees_grows key.stock.origin v.history prefix.0 _ (agree k d lt))
 
   -- there are no more places than numbers
   counted : length v.places ≤ next_number kept.last
@@ -151,7 +151,7 @@ module _ (key : TableStart) (s : State (Option Stored) Knowledge) (kept : Locked
   pub finds : 0 < v.parts → FindsVolume v kept.gone kept.last
   finds some-parts = record {
     follows = subst (λ (o : Stored). Follows o kept.gone kept.last) (sym (own.same some-parts)) kept.follows;
-    goes_on = own.front;
+    goes_on = own.prefix;
     counted = counted;
     book = kept.book ∙ sym (ap (λ (o : Stored). o.book) (own.same some-parts));
   }
@@ -168,8 +168,8 @@ module _ (key : TableStart) (s : State (Option Stored) Knowledge) (kept : Locked
     uncut = λ e. (e, refl);
     fits = record {
       same = own.same;
-      front = begins_itself (kept.gone ++ kept.last.journal);
-      agree = agree_more (kept.gone ++ kept.last.journal) own.front own.agree;
+      prefix = begins_itself (kept.gone ++ kept.last.journal);
+      agree = agree_more (kept.gone ++ kept.last.journal) own.prefix own.agree;
       mine = λ h. (refl, refl);
       spent = λ e. absurd (omega arith);
     };
@@ -226,7 +226,7 @@ module _ (key : TableStart) (s : State (Option Stored) Knowledge) (kept : Locked
       uncut = λ e. (e, same.origin);
       fits = record {
         same = own.same;
-        front = subst (λ (h : List Record). BeginsWith h v.history) (sym same_history) own.front;
+        prefix = subst (λ (h : List Record). BeginsWith h v.history) (sym same_history) own.prefix;
         agree = own.agree;
         mine = λ e. absurd (cc);
         spent = λ e. absurd (omega arith);
@@ -289,7 +289,7 @@ module _ (key : TableStart) (s : State (Option Stored) Knowledge) (kept : Locked
         uncut = λ e. (e, may.origin);
         fits = record {
           same = own.same;
-          front = begins_same (kept.gone ++ given.journal) (v.history ++ record_of r.asked r.outcome) known_grown;
+          prefix = begins_same (kept.gone ++ given.journal) (v.history ++ record_of r.asked r.outcome) known_grown;
           agree = agree_on;
           mine = λ e. absurd (cc);
           spent = λ e. absurd (omega arith);
@@ -323,7 +323,7 @@ module _ (key : TableStart) (s : State (Option Stored) Knowledge) (kept : Locked
         uncut = λ e. let l = length-append v.cuts (given.origin.first ∷ []) in absurd (omega arith);
         fits = record {
           same = own.same;
-          front = begins_same ((kept.gone ++ kept.last.journal) ++ given.journal) v.history (all_gone ∙ sym knows);
+          prefix = begins_same ((kept.gone ++ kept.last.journal) ++ given.journal) v.history (all_gone ∙ sym knows);
           agree = own.agree;
           mine = λ e. absurd (cc);
           spent = λ e. absurd (omega arith);

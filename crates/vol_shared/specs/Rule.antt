@@ -18,7 +18,7 @@ hold_of v = if v.holds then 1 else 0
 -- a seat's knowledge is right: its receipts agree with the records that it knows, which the history begins with; a seat that holds the volume knows all records; one that represents no session did nothing (this project)
 pub record SeatFits (opened last : Stored) (history : List Record) (v : Knowledge) : Type 0 where
   pub same : 0 < v.parts → v.opened ≡ opened
-  pub front : BeginsWith history v.history
+  pub prefix : BeginsWith history v.history
   pub agree : All (Agrees opened.origin v.history) v.receipts
   pub mine : v.holds ≡ true → (v.history ≡ history) × (v.found ≡ last)
   pub spent : v.parts ≡ 0 → (v.holds ≡ false) × (v.places ≡ []) × (v.cuts ≡ [])

@@ -43,14 +43,14 @@ known_by table next v = record {
 }
 
 -- a session between two calls, and its progress in the volume's log: the prefix up to the least number that its next receipt may have (this project)
-pub record IsIdle (views : List Knowledge) (next count : ℕ) (told : Option Reached) : Type 0 where
+pub record IsIdle (views : List Knowledge) (next count : ℕ) (reported : Option Reached) : Type 0 where
   pub one : views ≡ knowledge_of views ∷ []
   pub free : (knowledge_of views).holds ≡ false
   pub part : (knowledge_of views).parts ≡ 1
   pub reached : next ≤ (knowledge_of views).opened.origin.first + length (knowledge_of views).history
   pub counted : count ≡ length (knowledge_of views).places
-  pub book : book_in told ≡ (knowledge_of views).opened.book
-  pub number : IfSome told (λ t. number_of t.log ≡ next)
+  pub book : book_in reported ≡ (knowledge_of views).opened.book
+  pub number : IfSome reported (λ t. number_of t.log ≡ next)
 
 -- a session after it got a receipt: the receipt's number isn't below the least that it might have, and is added to the places if it is that of an accepted call (this project)
 pub record Got (old new : Known) (receipt : Receipt) : Type 0 where

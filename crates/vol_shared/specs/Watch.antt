@@ -26,5 +26,5 @@ pub record Covers (last : Stored) (view : Watched) : Type 0 where
   pub gone : List Record
   pub first : last.origin.first ≡ (origin_in view.log).first + length gone
   pub starts : start last.origin ≡ after (start (origin_in view.log)) gone
-  pub front : IsPrefix (history_of view.log) (gone ++ last.journal)
+  pub prefix : IsPrefix (history_of view.log) (gone ++ last.journal)
   pub agree : All (Agrees (origin_in view.log) (gone ++ last.journal)) view.receipts

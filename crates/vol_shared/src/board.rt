@@ -60,14 +60,14 @@ pub(crate) fn deal(
     all: &mut Vec<Session>,
     sessions: usize,
     records: u64,
-    told: &Option<LogPrefix>,
+    reported: &Option<LogPrefix>,
 )
     requires lock { IsLock lock.now.table_id lock.now.key records }
     requires own { place.table_id ≡ lock.now.table_id }
     requires place { place.me ≡ (fresh sessions lock.now.key.stock, []) }
     requires some_sessions { 1 ≤ sessions }
-    requires book { book_in told.now ≡ lock.now.key.stock.book }
-    requires number { IfSome told.now (λ told. number_of told.log ≡ records) }
+    requires book { book_in reported.now ≡ lock.now.key.stock.book }
+    requires number { IfSome reported.now (λ reported. number_of reported.log ≡ records) }
     requires empty { all.old.items ≡ [] }
     requires room { vec_capacity all.old ≡ sessions }
     ensures count { length all.new.items ≡ sessions }
@@ -75,18 +75,18 @@ pub(crate) fn deal(
 {
     for _i in 1..sessions {
         let part = lock.split_seat::<Deal>(&mut place);
-        seat_one(all, part, records, told);
+        seat_one(all, part, records, reported);
     }
-    seat_one(all, place, records, told);
+    seat_one(all, place, records, reported);
 }
 
 /// Adds one session to the list.
-fn seat_one(all: &mut Vec<Session>, place: SessionSeat, records: u64, told: &Option<LogPrefix>)
+fn seat_one(all: &mut Vec<Session>, place: SessionSeat, records: u64, reported: &Option<LogPrefix>)
     requires free { place.me.1 ≡ [] }
     requires room { vec_len all.old < vec_capacity all.old }
-    requires place { (opened : Stored) × (place.me.0 ≡ fresh 1 opened) × (records ≡ next_number opened) × (book_in told.now ≡ opened.book) }
-    requires number { IfSome told.now (λ told. number_of told.log ≡ records) }
-    ensures items { all.new.items ≡ all.old.items ++ new_session (record { table = place.table_id; book = book_in told.now }) records ∷ [] }
+    requires place { (opened : Stored) × (place.me.0 ≡ fresh 1 opened) × (records ≡ next_number opened) × (book_in reported.now ≡ opened.book) }
+    requires number { IfSome reported.now (λ reported. number_of reported.log ≡ records) }
+    ensures items { all.new.items ≡ all.old.items ++ new_session (record { table = place.table_id; book = book_in reported.now }) records ∷ [] }
     ensures len { vec_len all.new ≡ vec_len all.old + 1 }
     ensures capacity { vec_capacity all.new ≡ vec_capacity all.old }
 {
@@ -94,16 +94,16 @@ fn seat_one(all: &mut Vec<Session>, place: SessionSeat, records: u64, told: &Opt
         badge: place.into_badge(),
         next: records,
         count: 0,
-        told: copy_of(told),
+        reported: copy_of(reported),
     });
 }
 
 /// Returns a copy of a session's known progress.
-fn copy_of(told: &Option<LogPrefix>) -> Option<LogPrefix>
-    ensures { result ≡ told.now }
+fn copy_of(reported: &Option<LogPrefix>) -> Option<LogPrefix>
+    ensures { result ≡ reported.now }
 {
-    match told {
-        Some(told) => Some(told.again()),
+    match reported {
+        Some(reported) => Some(reported.again()),
         None => None,
     }
 }

@@ -38,7 +38,7 @@ fn seat_of(session: Session) -> (SessionSeat, u64)
         badge,
         next: _,
         count,
-        told: _,
+        reported: _,
     } = session;
     (badge.into_seat(), count)
 }

@@ -11,7 +11,7 @@ pub struct LockedVolume {
     /// The volume.
     pub volume: Snapshot<Volume>,
     /// The log prefix, if the records are published.
-    pub front: Option<SeenPrefix>,
+    pub prefix: Option<SeenPrefix>,
 }
 
 impl Model for LockedVolume {
@@ -20,5 +20,5 @@ impl Model for LockedVolume {
 
     ghost Value = { Stored };
 
-    ghost view = { λ k. stored_with (book_in k.front) k.volume.value };
+    ghost view = { λ k. stored_with (book_in k.prefix) k.volume.value };
 }

@@ -22,7 +22,7 @@ pub struct Session {
     pub(crate) badge: Badge<Knowledge>,
     pub(crate) next: u64,
     pub(crate) count: u64,
-    pub(crate) told: Option<LogPrefix>,
+    pub(crate) reported: Option<LogPrefix>,
 }
 
 impl Model for Session {
@@ -32,7 +32,7 @@ impl Model for Session {
 
     ghost view = { λ s. known_by s.badge.table_id s.next (knowledge_of s.badge.views) };
 
-    ghost invariant = { λ s. IsIdle s.badge.views s.next s.count s.told };
+    ghost invariant = { λ s. IsIdle s.badge.views s.next s.count s.reported };
 }
 
 impl Informed for Session {
@@ -40,9 +40,9 @@ impl Informed for Session {
 
     ghost next = { λ s. s.next };
 
-    fn told(&self) -> Option<LogPrefix> {
-        match &self.told {
-            Some(told) => Some(told.again()),
+    fn reported(&self) -> Option<LogPrefix> {
+        match &self.reported {
+            Some(reported) => Some(reported.again()),
             None => None,
         }
     }
@@ -50,7 +50,7 @@ impl Informed for Session {
 
 /// Takes the volume for a session. The session's badge is replaced by its seat until the volume is given
 /// back.
-pub(crate) fn enter<R: Wait>(
+pub(crate) fn lock_volume<R: Wait>(
     rt: &R,
     lock: &Lock,
     badge: &mut Badge<Knowledge>,

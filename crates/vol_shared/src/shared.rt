@@ -13,7 +13,7 @@ use crate::board::{Board, deal, lay};
 use crate::close::{finish, gather};
 use crate::closed::Closed;
 use crate::lock::{give_answered, give_back, give_cut};
-use crate::session::{Session, enter, note};
+use crate::session::{Session, lock_volume, note};
 use crate::stock::Stock;
 use crate::watch::{settle, watch};
 use std::alloc::{AllocError, Global};
@@ -104,7 +104,7 @@ impl Shared {
     ///
     /// Takes memory for two copies of the image, and a few bytes for the lock, for each session and for each
     /// view. Also reports out of memory if the volume's next record number isn't below 2^64.
-    #[tactic(auto, using(crate::proofs::Fronts::own_of_new))]
+    #[tactic(auto, using(crate::proofs::Prefixes::own_of_new))]
     pub fn open_with<R: Wait>(
         rt: &R,
         alloc: Global,
@@ -129,7 +129,7 @@ impl Shared {
             Err(refused) => return Err(refused),
         };
         let records = stock.end();
-        let told = stock.told();
+        let reported = stock.reported();
         let Ok(mut all) = Vec::with_capacity(alloc, sessions) else {
             return Err((OpenFault::NoMemory, end(rt, stock)));
         };
@@ -137,7 +137,7 @@ impl Shared {
             Ok(made) => made,
             Err(stock) => return Err((OpenFault::NoMemory, end(rt, stock))),
         };
-        deal(&table.shared, place, &mut all, sessions, records, &told);
+        deal(&table.shared, place, &mut all, sessions, records, &reported);
         let shared = Shared {
             table,
             records,
@@ -172,11 +172,11 @@ impl Shared {
             Err(error) => return Err((error, call)),
         };
         let lock = &self.table.shared;
-        let (place, stock) = enter(rt, lock, &mut session.badge);
+        let (place, stock) = lock_volume(rt, lock, &mut session.badge);
         let (stock, outcome) = stock.change(rt, alloc, call, asked);
         match outcome {
             Ok(receipt) => {
-                session.told = stock.told();
+                session.reported = stock.reported();
                 session.badge = give_answered(lock, place, stock, &receipt).into_badge();
                 note(&mut session.next, &mut session.count, &receipt);
                 Ok(receipt)
@@ -208,10 +208,10 @@ impl Shared {
         ensures handed_back { IfErr result (λ (error, same). same ≡ query) }
     {
         let lock = &self.table.shared;
-        let (place, stock) = enter(rt, lock, &mut session.badge);
+        let (place, stock) = lock_volume(rt, lock, &mut session.badge);
         match stock.reply(alloc, query) {
             Ok(receipt) => {
-                session.told = stock.told();
+                session.reported = stock.reported();
                 session.badge = give_answered(lock, place, stock, &receipt).into_badge();
                 note(&mut session.next, &mut session.count, &receipt);
                 Ok(receipt)
@@ -234,9 +234,9 @@ impl Shared {
         ensures cut { HasCut session.old session.new result }
     {
         let lock = &self.table.shared;
-        let (place, stock) = enter(rt, lock, &mut session.badge);
+        let (place, stock) = lock_volume(rt, lock, &mut session.badge);
         let (stock, first) = stock.cut();
-        session.told = stock.told();
+        session.reported = stock.reported();
         session.badge = give_cut(lock, place, stock).into_badge();
         session.next = first;
         first

@@ -82,20 +82,20 @@ impl Stock {
     pub(crate) fn kept(&self) -> LockedVolume
         ensures { result ≡ self.now }
     {
-        let front = match &self.publisher {
-            Some(publisher) => Some(publisher.front()),
+        let prefix = match &self.publisher {
+            Some(publisher) => Some(publisher.prefix()),
             None => None,
         };
         LockedVolume {
             volume: Snapshot::of(&self.volume),
-            front,
+            prefix,
         }
     }
 
     /// Returns the progress for a session to keep: all that is published, if anything is.
-    pub(crate) fn told(&self) -> Option<LogPrefix>
+    pub(crate) fn reported(&self) -> Option<LogPrefix>
         ensures book { book_in result ≡ self.now.book }
-        ensures number { IfSome result (λ told. number_of told.log ≡ next_number self.now) }
+        ensures number { IfSome result (λ reported. number_of reported.log ≡ next_number self.now) }
     {
         match &self.publisher {
             Some(publisher) => Some(LogPrefix::of(publisher)),

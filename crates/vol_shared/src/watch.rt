@@ -15,7 +15,7 @@ use vol_views::{Publisher, View};
 use vol_volume::Volume;
 
 /// Makes `views` views of the published version.
-#[tactic(auto, using(crate::proofs::Fronts::all_pushed))]
+#[tactic(auto, using(crate::proofs::Prefixes::all_pushed))]
 pub(crate) fn watch(
     alloc: Global,
     publisher: &mut Publisher,

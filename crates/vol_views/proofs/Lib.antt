@@ -3,7 +3,7 @@ pub mod Words
 pub mod LogSteps
 pub mod States
 pub mod Versions
-pub mod Fronts
+pub mod Prefixes
 pub mod Logs
 pub mod PublishedSteps
 pub mod Views

@@ -21,23 +21,23 @@ use Rattle.vol_views.specs.PublishedRule.{IsRight, Begins, Holds, Enters, MaySho
 use Rattle.vol_views.specs.declared.published.Published.{Published}
 use Rattle.vol_views.specs.declared.published.Operation.{Operation}
 use Rattle.vol_views.proofs.Beginnings.{prefix_self, prefix_more}
-use Rattle.vol_views.proofs.Fronts.{begins_self, begins_on}
+use Rattle.vol_views.proofs.Prefixes.{begins_self, begins_on}
 use Rattle.vol_views.proofs.Logs.{number_more, reads_more, reads_first}
 
 abbrev Known : Published → List Reached → Type 0
-Known p known = (seat : ℕ) (front : Reached) → get_elem? known seat ≡ some front → Begins front p.front
+Known p known = (seat : ℕ) (prefix : Reached) → get_elem? known seat ≡ some prefix → Begins prefix p.prefix
 
--- a front that is known at one seat
-known_set : (p : Published) (known : List Reached) (seat : ℕ) (front : Reached) → Known p known → Begins front p.front → Known p (set known seat front)
-known_set p known seat front all begins j other at =
-    ⊎_elim (λ (t : (j ≡ seat) × (front ≡ other)). subst (λ (r : Reached). Begins r p.front) t.1 begins)
-    (λ (t : (j ≢ seat) × (get_elem? known j ≡ some other)). all j other t.1) (at_set known seat j front other at)
+-- a prefix that is known at one seat
+known_set : (p : Published) (known : List Reached) (seat : ℕ) (prefix : Reached) → Known p known → Begins prefix p.prefix → Known p (set known seat prefix)
+known_set p known seat prefix all begins j other at =
+    ⊎_elim (λ (t : (j ≡ seat) × (prefix ≡ other)). subst (λ (r : Reached). Begins r p.prefix) t.1 begins)
+    (λ (t : (j ≢ seat) × (get_elem? known j ≡ some other)). all j other t.1) (at_set known seat j prefix other at)
 
 -- and at a new one
-known_more : (p : Published) (known : List Reached) (front : Reached) → Known p known → Begins front p.front → Known p (known ++ front ∷ [])
-known_more p known front all begins j other at =
-    ⊎_elim (λ (e : get_elem? known j ≡ some other). all j other e) (λ (e : front ≡ other). subst (λ (r : Reached). Begins r p.front) e begins)
-    (at_snoc known front other j at)
+known_more : (p : Published) (known : List Reached) (prefix : Reached) → Known p known → Begins prefix p.prefix → Known p (known ++ prefix ∷ [])
+known_more p known prefix all begins j other at =
+    ⊎_elim (λ (e : get_elem? known j ≡ some other). all j other e) (λ (e : prefix ≡ other). subst (λ (r : Reached). Begins r p.prefix) e begins)
+    (at_snoc known prefix other j at)
 
 -- a new reader knows nothing
 pub admits : Admits Holds nothing_reached
@@ -45,56 +45,56 @@ admits p known h = (h.0, known_more p known nothing_reached h.1 (inl refl))
 
 -- the first version may be published
 pub holds_first : (p : Published) → IsRight p → Holds p (nothing_reached ∷ [])
-holds_first p right = (right, known_more p [] nothing_reached (λ seat front at. absurd cc) (inl refl))
+holds_first p right = (right, known_more p [] nothing_reached (λ seat prefix at. absurd cc) (inl refl))
 
 -- a version is entered
-pub enters : (seat : ℕ) (front : Reached) (p : Published) → TurnsAt Holds seat front p p Enters
-enters seat front p known h at = (
-  p.front,
-  (h.0, known_set p known seat p.front h.1 (begins_self p.front p.front refl)),
-  (h.0, h.1 seat front at, refl),
+pub enters : (seat : ℕ) (prefix : Reached) (p : Published) → TurnsAt Holds seat prefix p p Enters
+enters seat prefix p known h at = (
+  p.prefix,
+  (h.0, known_set p known seat p.prefix h.1 (begins_self p.prefix p.prefix refl)),
+  (h.0, h.1 seat prefix at, refl),
 )
 
 -- a version is shown
-pub shows : (seat : ℕ) (front : Reached) (p next : Published) → IsRight next → p.front.book ≡ next.front.book → IsPrefix p.front.log next.front.log
-    → TurnsAt Holds seat front p next (λ before shown then after. after ≡ then.front)
-shows seat front p next right book goes_on known h at =
-    let all : Known next known = λ j other e. begins_on other p.front next.front book goes_on (h.1 j other e) in (
-      next.front,
-      (right, known_set next known seat next.front all (begins_self next.front next.front refl)),
+pub shows : (seat : ℕ) (prefix : Reached) (p next : Published) → IsRight next → p.prefix.book ≡ next.prefix.book → IsPrefix p.prefix.log next.prefix.log
+    → TurnsAt Holds seat prefix p next (λ before shown then after. after ≡ then.prefix)
+shows seat prefix p next right book goes_on known h at =
+    let all : Known next known = λ j other e. begins_on other p.prefix next.prefix book goes_on (h.1 j other e) in (
+      next.prefix,
+      (right, known_set next known seat next.prefix all (begins_self next.prefix next.prefix refl)),
       refl,
     )
 
 -- the owner reports its log
-pub forks : (seat : ℕ) (front : Reached) → Forks Holds seat front front front
-forks seat front p known h at =
-    let begins = h.1 seat front at in
-    (h.0, known_more p (set known seat front) front (known_set p known seat front h.1 begins) begins)
+pub forks : (seat : ℕ) (prefix : Reached) → Forks Holds seat prefix prefix prefix
+forks seat prefix p known h at =
+    let begins = h.1 seat prefix at in
+    (h.0, known_more p (set known seat prefix) prefix (known_set p known seat prefix h.1 begins) begins)
 
 -- and a reader learns it
-pub merges : (seat : ℕ) (front : Reached) (other : ℕ) (told : Reached) → Merges Holds seat front other told told nothing_reached
-merges seat front other told p known h at apart there =
-    let begins : Begins told p.front =
-    ⊎_elim (λ (t : (other ≡ seat) × (told ≡ told)). absurd (apart t.0)) (λ (t : (other ≢ seat) × (get_elem? known other ≡ some told)). h.1 other told t.1)
-    (at_set known seat other told told there) in
-    (h.0, known_set p (set known seat told) other nothing_reached (known_set p known seat told h.1 begins) (inl refl))
+pub merges : (seat : ℕ) (prefix : Reached) (other : ℕ) (reported : Reached) → Merges Holds seat prefix other reported reported nothing_reached
+merges seat prefix other reported p known h at apart there =
+    let begins : Begins reported p.prefix =
+    ⊎_elim (λ (t : (other ≡ seat) × (reported ≡ reported)). absurd (apart t.0)) (λ (t : (other ≢ seat) × (get_elem? known other ≡ some reported)). h.1 other reported t.1)
+    (at_set known seat other reported reported there) in
+    (h.0, known_set p (set known seat reported) other nothing_reached (known_set p known seat reported h.1 begins) (inl refl))
 
 -- the version that operations make may be shown
-pub may_show : (seat : ℕ) (front : Reached) (p next : Published) (operations : List Operation) → MayShow p operations → next ≡ fold absorbed p operations
-    → TurnsAt Holds seat front p next (λ before shown then after. after ≡ then.front)
-may_show seat front p next operations may is =
-    subst (λ (x : Published). TurnsAt Holds seat front p x (λ before shown then after. after ≡ then.front)) (sym is)
-    (shows seat front p (fold absorbed p operations) may.right may.book may.goes_on)
+pub may_show : (seat : ℕ) (prefix : Reached) (p next : Published) (operations : List Operation) → MayShow p operations → next ≡ fold absorbed p operations
+    → TurnsAt Holds seat prefix p next (λ before shown then after. after ≡ then.prefix)
+may_show seat prefix p next operations may is =
+    subst (λ (x : Published). TurnsAt Holds seat prefix p x (λ before shown then after. after ≡ then.prefix)) (sym is)
+    (shows seat prefix p (fold absorbed p operations) may.right may.book may.goes_on)
 
 -- with nothing pending, the next version may be shown
 pub shows_same : (p : Published) → IsRight p → MayShow p []
-shows_same p right = record { right = right; book = refl; goes_on = prefix_self p.front.log }
+shows_same p right = record { right = right; book = refl; goes_on = prefix_self p.prefix.log }
 
 -- two operations that change nothing may be pending
-pub shows_empty : (p : Published) (front : Reached) (at : ℕ) (operations : List Operation) → IsRight p → p.at ≡ at → p.front ≡ front
-    → operations ≡ empty_operation at front ∷ empty_operation at front ∷ [] → MayShow p operations
-shows_empty p front at operations right number same pending =
-    let version : (p.version ++ []) ++ [] ≡ front.log = append-nil (p.version ++ []) ∙ (append-nil p.version ∙ (right.version ∙ ap (λ r. r.log) same)) in
+pub shows_empty : (p : Published) (prefix : Reached) (at : ℕ) (operations : List Operation) → IsRight p → p.at ≡ at → p.prefix ≡ prefix
+    → operations ≡ empty_operation at prefix ∷ empty_operation at prefix ∷ [] → MayShow p operations
+shows_empty p prefix at operations right number same pending =
+    let version : (p.version ++ []) ++ [] ≡ prefix.log = append-nil (p.version ++ []) ∙ (append-nil p.version ∙ (right.version ∙ ap (λ r. r.log) same)) in
     rw pending (record {
       right = record {
         begun = λ e. right.begun (ap (λ r. r.log) same ∙ e);
@@ -103,7 +103,7 @@ shows_empty p front at operations right number same pending =
         reads = subst (λ (r : Reached). state_of r.log ≡ after (start (origin_in r.log)) (history_of r.log)) same right.reads;
       };
       book = ap (λ r. r.book) same;
-      goes_on = subst (λ (r : Reached). IsPrefix p.front.log r.log) same (prefix_self p.front.log);
+      goes_on = subst (λ (r : Reached). IsPrefix p.prefix.log r.log) same (prefix_self p.prefix.log);
     })
 
 longer_some : (log : List LogEntry) (entry : LogEntry) → (log ++ entry ∷ []) ≢ []
@@ -111,11 +111,11 @@ longer_some [] entry e = absurd cc
 longer_some (first ∷ log) entry e = absurd cc
 
 -- and so may a record that can come next
-pub shows_record : (p : Published) (old new : Reached) (entry : Record) (at : ℕ) (operations : List Operation) → IsRight p → p.front ≡ old
+pub shows_record : (p : Published) (old new : Reached) (entry : Record) (at : ℕ) (operations : List Operation) → IsRight p → p.prefix ≡ old
     → new.book ≡ old.book → new.log ≡ old.log ++ Made entry ∷ [] → MayFollow (state_of old.log) entry → at ≡ number_of old.log + 1
-    → operations ≡ (record { made = Some entry; at = at; front = new }) ∷ [] → MayShow p operations
+    → operations ≡ (record { made = Some entry; at = at; prefix = new }) ∷ [] → MayShow p operations
 shows_record p old new entry at operations right same book longer may number pending =
-    let log : p.front.log ≡ old.log = ap (λ r. r.log) same in
+    let log : p.prefix.log ≡ old.log = ap (λ r. r.log) same in
     rw pending (record {
       right = record {
         begun = λ e. longer_some old.log (Made entry) (sym longer ∙ e);
@@ -128,7 +128,7 @@ shows_record p old new entry at operations right same book longer may number pen
     })
 
 -- a volume that is opened may be published
-pub right_first : (volume : Mounted) (p : Published) → p.front.log ≡ first_log volume → p.version ≡ first_log volume → p.at ≡ number_of (first_log volume) → IsRight p
+pub right_first : (volume : Mounted) (p : Published) → p.prefix.log ≡ first_log volume → p.version ≡ first_log volume → p.at ≡ number_of (first_log volume) → IsRight p
 right_first volume p log version number =
     record {
       begun = λ e. let some : first_log volume ≡ [] = sym log ∙ e in absurd cc;
@@ -141,10 +141,10 @@ right_first volume p log version number =
 pub shown_same : (p shown : Published) (operations : List Operation) → operations ≡ [] → shown ≡ fold absorbed p operations → shown ≡ p
 shown_same p shown operations pending is = is ∙ ap (λ os. fold absorbed p os) pending
 
-pub shown_empty : (p shown : Published) (front : Reached) (at : ℕ) (operations : List Operation)
-    → operations ≡ empty_operation at front ∷ empty_operation at front ∷ [] → shown ≡ fold absorbed p operations → shown.front ≡ front
-shown_empty p shown front at operations pending is = ap (λ q. q.front) is ∙ ap (λ os. (fold absorbed p os).front) pending
+pub shown_empty : (p shown : Published) (prefix : Reached) (at : ℕ) (operations : List Operation)
+    → operations ≡ empty_operation at prefix ∷ empty_operation at prefix ∷ [] → shown ≡ fold absorbed p operations → shown.prefix ≡ prefix
+shown_empty p shown prefix at operations pending is = ap (λ q. q.prefix) is ∙ ap (λ os. (fold absorbed p os).prefix) pending
 
-pub shown_record : (p shown : Published) (front : Reached) (entry : Record) (at : ℕ) (operations : List Operation)
-    → operations ≡ (record { made = Some entry; at = at; front = front }) ∷ [] → shown ≡ fold absorbed p operations → shown.front ≡ front
-shown_record p shown front entry at operations pending is = ap (λ q. q.front) is ∙ ap (λ os. (fold absorbed p os).front) pending
+pub shown_record : (p shown : Published) (prefix : Reached) (entry : Record) (at : ℕ) (operations : List Operation)
+    → operations ≡ (record { made = Some entry; at = at; prefix = prefix }) ∷ [] → shown ≡ fold absorbed p operations → shown.prefix ≡ prefix
+shown_record p shown prefix entry at operations pending is = ap (λ q. q.prefix) is ∙ ap (λ os. (fold absorbed p os).prefix) pending

@@ -108,7 +108,7 @@ impl Ledger {
     }
 
     /// Returns the whole log as a prefix.
-    pub fn front(&self) -> SeenPrefix
+    pub fn prefix(&self) -> SeenPrefix
         ensures { result ≡ self.now }
     {
         SeenPrefix {
@@ -117,13 +117,13 @@ impl Ledger {
     }
 
     /// Does nothing; its contract says that the whole log extends each of its prefixes.
-    pub fn covers(&mut self, front: &SeenPrefix)
-        requires { front.now.book ≡ self.old.book }
+    pub fn covers(&mut self, prefix: &SeenPrefix)
+        requires { prefix.now.book ≡ self.old.book }
         ensures same { self.new ≡ self.old }
-        ensures covers { IsPrefix front.now.log self.old.log }
+        ensures covers { IsPrefix prefix.now.log self.old.log }
     {
         let mut both = self.seen.again();
-        both.learn(&front.seen);
+        both.learn(&prefix.seen);
         let mut offer: Offer<LogEntry, u64, OneOwner, Nothing> = both.plain::<Nothing, (), Compare>(
             &(),
         );

@@ -11,7 +11,7 @@ use std::marker::Model;
 /// prefix.
 #[derive(Drop)]
 pub struct LogPrefix {
-    pub(crate) front: SeenPrefix,
+    pub(crate) prefix: SeenPrefix,
     pub(crate) at: u64,
 }
 
@@ -22,9 +22,9 @@ impl Model for LogPrefix {
 
     ghost Value = { Reached };
 
-    ghost view = { λ t. t.front };
+    ghost view = { λ t. t.prefix };
 
-    ghost invariant = { λ t. (t.at ≡ number_of t.front.log) × (t.front.log ≢ []) };
+    ghost invariant = { λ t. (t.at ≡ number_of t.prefix.log) × (t.prefix.log ≢ []) };
 }
 
 impl LogPrefix {
@@ -34,7 +34,7 @@ impl LogPrefix {
     {
         publisher.check();
         LogPrefix {
-            front: publisher.front(),
+            prefix: publisher.prefix(),
             at: publisher.next_record(),
         }
     }
@@ -44,7 +44,7 @@ impl LogPrefix {
         ensures { result ≡ self.now }
     {
         LogPrefix {
-            front: self.front.again(),
+            prefix: self.prefix.again(),
             at: self.at,
         }
     }
@@ -56,7 +56,7 @@ impl LogPrefix {
         requires later { number_of self.now.log ≤ number_of later.now.log }
         ensures { GoesOn self.now.log later.now.log }
     {
-        self.front.in_line(&later.front);
+        self.prefix.in_line(&later.prefix);
     }
 
     /// Does nothing; its contract says that the published log extends this prefix.
@@ -65,7 +65,7 @@ impl LogPrefix {
         ensures same { publisher.new ≡ publisher.old }
         ensures covered { GoesOn self.now.log publisher.old.log }
     {
-        publisher.covers(&self.front);
+        publisher.covers(&self.prefix);
     }
 
     /// Returns the number of the next record.
@@ -86,7 +86,7 @@ pub trait Informed {
     ghost next: { Self → ℕ };
 
     /// Returns the last prefix that was told, if any: one of the volume's log, up to a number.
-    fn told(&self) -> Option<LogPrefix>
+    fn reported(&self) -> Option<LogPrefix>
         ensures book { book_in result ≡ Self.book self.now }
-        ensures next { IfSome result (λ told. number_of told.log ≡ Self.next self.now) };
+        ensures next { IfSome result (λ reported. number_of reported.log ≡ Self.next self.now) };
 }

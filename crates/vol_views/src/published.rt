@@ -16,7 +16,7 @@ pub struct Published {
     /// The number of records that it reflects, including those that were cut.
     pub at: u64,
     /// The log prefix that it reflects.
-    pub front: SeenPrefix,
+    pub prefix: SeenPrefix,
 }
 
 /// An operation on the published version: a record to apply, if any, and the number and the prefix that go
@@ -28,7 +28,7 @@ pub struct Operation {
     /// The number of records that the result reflects, including those that were cut.
     pub at: u64,
     /// The log prefix that the result reflects.
-    pub front: SeenPrefix,
+    pub prefix: SeenPrefix,
 }
 
 impl Absorb<Operation> for Published {
@@ -46,7 +46,7 @@ impl Absorb<Operation> for Published {
         let _ = other;
         apply(&mut self.version, &operation.made);
         self.at = operation.at;
-        self.front = operation.front.again();
+        self.prefix = operation.prefix.again();
         Ok(())
     }
 }

@@ -25,7 +25,7 @@ pub(crate) struct Show;
 impl Outcome<Published, SeenPrefix> for Show {
     ghost use Rattle.std.specs.Prelude.{◌≡◌};
 
-    ghost then = { λ before shown next after. after ≡ next.front };
+    ghost then = { λ before shown next after. after ≡ next.prefix };
 }
 
 /// Enters the published version to read it.
@@ -52,7 +52,7 @@ pub(crate) struct Learn;
 impl Join<SeenPrefix> for Learn {
     ghost use Rattle.vol_views.specs.PublishedRule.{nothing_reached};
 
-    ghost both = { λ known told. told };
+    ghost both = { λ known reported. reported };
 
     ghost spent = { nothing_reached };
 }

@@ -38,7 +38,7 @@ impl Model for Publisher {
     ghost view = { λ p. p.ledger };
 
     ghost invariant = { λ p. (p.copies.desk.place.me.0.client ≡ p.ledger)
-        × (p.copies.desk.shown.value.front ≡ p.ledger)
+        × (p.copies.desk.shown.value.prefix ≡ p.ledger)
         × IsRight p.copies.desk.shown.value
         × (drop p.copies.behind p.copies.log.items ≡ []) };
 }
@@ -115,7 +115,7 @@ impl Publisher {
         let operation = Operation {
             made: Some(made),
             at: copies.published().at + 1,
-            front: ledger.front(),
+            prefix: ledger.prefix(),
         };
         add(rt, &mut copies, operation);
         let copies = show(rt, copies);
@@ -135,19 +135,19 @@ impl Publisher {
     }
 
     /// Returns the whole log as a prefix.
-    pub fn front(&self) -> SeenPrefix
+    pub fn prefix(&self) -> SeenPrefix
         ensures { result ≡ self.now }
     {
-        self.ledger.front()
+        self.ledger.prefix()
     }
 
     /// Does nothing; its contract says that the whole log extends each of its prefixes.
-    pub fn covers(&mut self, front: &SeenPrefix)
-        requires { front.now.book ≡ self.old.book }
+    pub fn covers(&mut self, prefix: &SeenPrefix)
+        requires { prefix.now.book ≡ self.old.book }
         ensures same { self.new ≡ self.old }
-        ensures covers { IsPrefix front.now.log self.old.log }
+        ensures covers { IsPrefix prefix.now.log self.old.log }
     {
-        self.ledger.covers(front);
+        self.ledger.covers(prefix);
     }
 
     /// Ends publishing. Waits until no reader reads.
@@ -176,12 +176,12 @@ fn first_version(
     requires log { ledger.now.log ≡ first_log volume.now }
     ensures version { IfOk result (λ published. published.version ≡ first_log volume.now) }
     ensures at { IfOk result (λ published. published.at ≡ at) }
-    ensures front { IfOk result (λ published. published.front ≡ ledger.now) }
+    ensures prefix { IfOk result (λ published. published.prefix ≡ ledger.now) }
 {
     Ok(Published {
         version: Version::new(alloc, volume)?,
         at,
-        front: ledger.front(),
+        prefix: ledger.prefix(),
     })
 }
 
@@ -215,7 +215,7 @@ fn add_empty<R: Wait>(
     let operation = Operation {
         made: None,
         at,
-        front: ledger.front(),
+        prefix: ledger.prefix(),
     };
     if copies.append(operation).is_err() {
         copies.take(rt);

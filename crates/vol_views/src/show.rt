@@ -32,7 +32,7 @@ pub(crate) fn show<R: Wait>(rt: &R, copies: Copies) -> Copies
     ensures shown { result.desk.shown.value ≡ fold absorbed copies.desk.shown.value (drop copies.behind copies.log.items) }
     ensures right { IsRight result.desk.shown.value }
     ensures pending { drop result.behind result.log.items ≡ [] }
-    ensures view { view result.desk.place ≡ result.desk.shown.value.front }
+    ensures view { view result.desk.place ≡ result.desk.shown.value.prefix }
 {
     let (copies, shown) = copies.publish_as::<Show, R>(rt);
     if shown.is_err() {

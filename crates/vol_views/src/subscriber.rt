@@ -40,7 +40,7 @@ pub struct Answered {
     /// The number of records that the answer reflects, including those that were cut.
     pub at: u64,
     /// The log prefix of those records.
-    pub front: SeenPrefix,
+    pub prefix: SeenPrefix,
     /// The reply or the refusal.
     pub reply: Result<Reply, Refusal>,
 }
@@ -54,7 +54,7 @@ impl Subscriber {
         ensures book { IfOk result (λ (subscriber, answered). subscriber.book ≡ self.book) }
         ensures goes_on { IfOk result (λ (subscriber, answered). IsPrefix self.log subscriber.log) }
         ensures begun { IfOk result (λ (subscriber, answered). subscriber.log ≢ []) }
-        ensures front { IfOk result (λ (subscriber, answered). answered.front ≡ subscriber) }
+        ensures prefix { IfOk result (λ (subscriber, answered). answered.prefix ≡ subscriber) }
         ensures at { IfOk result (λ (subscriber, answered). answered.at ≡ number_of subscriber.log) }
         ensures reply { IfOk result (λ (subscriber, answered). Answers (after (start (origin_in subscriber.log)) (history_of subscriber.log)).tree query.now answered.reply) }
         ensures same { IfErr result (λ same. same ≡ self) }
@@ -76,13 +76,13 @@ impl Subscriber {
 /// Returns the answer of the published version.
 fn answer(alloc: Global, published: &Published, query: &Query) -> Answered
     requires { IsRight published.now }
-    ensures front { result.front ≡ published.now.front }
+    ensures prefix { result.prefix ≡ published.now.prefix }
     ensures at { result.at ≡ published.now.at }
-    ensures reply { Answers (after (start (origin_in published.now.front.log)) (history_of published.now.front.log)).tree query.now result.reply }
+    ensures reply { Answers (after (start (origin_in published.now.prefix.log)) (history_of published.now.prefix.log)).tree query.now result.reply }
 {
     Answered {
         at: published.at,
-        front: published.front.again(),
+        prefix: published.prefix.again(),
         reply: published.version.ask(alloc, query),
     }
 }

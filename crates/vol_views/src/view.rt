@@ -109,10 +109,10 @@ impl View {
     /// Returns the receipt of an answer, unless the answer is older than what the view knows, which never
     /// happens (no contract can say so).
     fn take_over(&mut self, answered: Answered, query: Query) -> Result<Receipt, (ViewFault, Query)>
-        requires book { answered.front.book ≡ self.old.book }
-        requires begun { answered.front.log ≢ [] }
-        requires at { answered.at ≡ number_of answered.front.log }
-        requires reply { Answers (after (start (origin_in answered.front.log)) (history_of answered.front.log)).tree query answered.reply }
+        requires book { answered.prefix.book ≡ self.old.book }
+        requires begun { answered.prefix.log ≢ [] }
+        requires at { answered.at ≡ number_of answered.prefix.log }
+        requires reply { Answers (after (start (origin_in answered.prefix.log)) (history_of answered.prefix.log)).tree query answered.reply }
         ensures book { self.new.book ≡ self.old.book }
         ensures goes_on { GoesOn self.old.log self.new.log }
         ensures asked { IfOk result (λ receipt. receipt.asked ≡ Question query) }
@@ -122,11 +122,11 @@ impl View {
         ensures memory { IfErr result (λ (fault, same). fault ≡ ViewFault.NoMemory → takes_memory query ≡ true) }
         ensures handed_back { IfErr result (λ (fault, same). same ≡ query) }
     {
-        let Answered { at, front, reply } = answered;
+        let Answered { at, prefix, reply } = answered;
         if at < self.known.at {
             return Err((ViewFault::NotEntered, query));
         }
-        self.know(LogPrefix { front, at });
+        self.know(LogPrefix { prefix, at });
         let outcome = match reply {
             Ok(reply) => Outcome::Answered(reply),
             Err(Refusal::NoMemory) => return Err((ViewFault::NoMemory, query)),
@@ -151,16 +151,16 @@ impl View {
     }
 
     /// Advances to a log prefix that isn't older than the known one.
-    fn know(&mut self, told: LogPrefix)
-        requires book { told.book ≡ self.old.book }
-        requires later { number_of self.old.log ≤ number_of told.log }
+    fn know(&mut self, reported: LogPrefix)
+        requires book { reported.book ≡ self.old.book }
+        requires later { number_of self.old.log ≤ number_of reported.log }
         ensures book { self.new.book ≡ self.old.book }
-        ensures log { self.new.log ≡ told.log }
-        ensures goes_on { GoesOn self.old.log told.log }
+        ensures log { self.new.log ≡ reported.log }
+        ensures goes_on { GoesOn self.old.log reported.log }
         ensures receipts { self.new.receipts ≡ self.old.receipts }
     {
-        self.known.goes_on(&told);
-        self.known = told;
+        self.known.goes_on(&reported);
+        self.known = reported;
     }
 
     /// Learns a session's progress: from now on each answer reflects all that the session knows.
@@ -176,24 +176,24 @@ impl View {
         ensures never_less { number_of self.old.log ≤ number_of self.new.log }
         ensures learnt { S.next session.old ≤ number_of self.new.log }
     {
-        let Some(told) = session.told() else {
+        let Some(reported) = session.reported() else {
             unreachable!();
         };
-        self.learn_told(told);
+        self.learn_reported(reported);
     }
 
     /// Advances to a reported log prefix, if it is newer.
-    fn learn_told(&mut self, told: LogPrefix)
-        requires { told.book ≡ self.old.book }
+    fn learn_reported(&mut self, reported: LogPrefix)
+        requires { reported.book ≡ self.old.book }
         ensures book { self.new.book ≡ self.old.book }
         ensures receipts { self.new.receipts ≡ self.old.receipts }
         ensures goes_on { GoesOn self.old.log self.new.log }
-        ensures learnt { GoesOn told.log self.new.log }
+        ensures learnt { GoesOn reported.log self.new.log }
     {
-        if self.known.at < told.at {
-            self.know(told);
+        if self.known.at < reported.at {
+            self.know(reported);
         } else {
-            told.goes_on(&self.known);
+            reported.goes_on(&self.known);
         }
     }
 

@@ -146,7 +146,7 @@ fn check_same(found: &mut Found, volume: &Volume, bytes: &[u8]) {
 }
 
 /// Lets both sessions take their turns.
-#[tactic(auto, using(vol_shared::proofs::Fronts::all_pushed, vol_shared::proofs::Lists::all_last, vol_shared::proofs::Lists::all_front))]
+#[tactic(auto, using(vol_shared::proofs::Prefixes::all_pushed, vol_shared::proofs::Lists::all_last, vol_shared::proofs::Lists::all_prefix))]
 fn take_turns<R: Wait>(
     rt: &R,
     alloc: Global,
@@ -241,7 +241,7 @@ fn ask<R: Wait>(
 }
 
 /// Lets the view, if there is one, learn from a session and make a query.
-#[tactic(auto, using(vol_shared::proofs::Fronts::all_pushed, vol_shared::proofs::Lists::all_last, vol_shared::proofs::Lists::all_front))]
+#[tactic(auto, using(vol_shared::proofs::Prefixes::all_pushed, vol_shared::proofs::Lists::all_last, vol_shared::proofs::Lists::all_prefix))]
 fn look(
     alloc: Global,
     found: &mut Found,

@@ -12,12 +12,12 @@ scripts-preserved c =
     let fewer = ap length left in
     let callers = ap (count_by wants_session) left in
     let viewers = ap (count_by wants_view) left in
-    let front = c.scripts.players.ok.0 in
+    let prefix = c.scripts.players.ok.0 in
     let now = c.push_reserved.new.self.ok.0 in
     record {
       left = omega (arith, callers, counted_first wants_session c.in-Some.script c.next.new.self.rest.items, counted_first wants_session c.in-Some.script [], c.seat-player.ensures.sessions, c.scripts.sessions.ok.0, c.seat-player.new.sessions.ok.0, c.scripts.invariant.left);
       views = omega (arith, viewers, counted_first wants_view c.in-Some.script c.next.new.self.rest.items, counted_first wants_view c.in-Some.script [], c.seat-player.ensures.views, c.scripts.views.ok.0, c.seat-player.new.views.ok.0, c.scripts.invariant.views);
-      room = omega (arith, fewer, front, now, c.push_reserved.ensures.len, c.push_reserved.ensures.capacity, c.scripts.invariant.room);
+      room = omega (arith, fewer, prefix, now, c.push_reserved.ensures.len, c.push_reserved.ensures.capacity, c.scripts.invariant.room);
       rooms = (c.seat-player.ensures.rooms.0 ∙ c.scripts.invariant.rooms.0, c.seat-player.ensures.rooms.1 ∙ c.scripts.invariant.rooms.1);
       alike = λ fresh all. c.seat-player.ensures.alike fresh (c.scripts.invariant.alike fresh all);
       fresh_views = λ shared all. c.seat-player.ensures.fresh_views shared (c.scripts.invariant.fresh_views shared all);

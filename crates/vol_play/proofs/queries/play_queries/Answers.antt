@@ -11,7 +11,7 @@ pub queries-preserved : goal.queries-preserved
 queries-preserved c =
     let left = c.in-Some.ensures.steps.0 in
     let fewer = ap length left in
-    let front = c.queries.played.ok.0 in
+    let prefix = c.queries.played.ok.0 in
     let now = c.push_reserved-in-queries.new.self.ok.0 in
     let came = c.ask-came.result in
     record {
@@ -26,7 +26,7 @@ queries-preserved c =
           c.ask-came.ensures.receipts ∙ ap (λ rs. rs ++ receipts_in (came ∷ [])) c.queries.invariant.receipts
           ∙ append_assoc c.args.view.now.receipts (receipts_in c.queries.played.items) (receipts_in (came ∷ []))
           ∙ ap (λ rs. c.args.view.now.receipts ++ rs) (sym (receipts_push c.queries.played.items came) ∙ ap receipts_in (sym c.push_reserved-in-queries.ensures.items));
-      room = omega (arith, fewer, front, now, c.push_reserved-in-queries.ensures.len, c.push_reserved-in-queries.ensures.capacity, c.queries.invariant.room);
+      room = omega (arith, fewer, prefix, now, c.push_reserved-in-queries.ensures.len, c.push_reserved-in-queries.ensures.capacity, c.queries.invariant.room);
     }
 
 pub returns-clause-came : goal.returns-clause-came

@@ -9,7 +9,7 @@ pub steps-preserved : goal.steps-preserved
 steps-preserved g c =
     let left = c.in-Some.ensures.steps.0 in
     let fewer = ap length left in
-    let front = c.steps.played.ok.0 in
+    let prefix = c.steps.played.ok.0 in
     let now = c.push_reserved.new.self.ok.0 in
     let came = c.play_step-came.result in
     let known = c.play_step-came.ensures.known in
@@ -23,7 +23,7 @@ steps-preserved g c =
       known =
           known ∙ ap (λ (k : Known). known_after k came) c.steps.invariant.known ∙ sym (known_push c.args.session.now c.steps.played.items came)
           ∙ ap (known_after_all c.args.session.now) (sym c.push_reserved.ensures.items);
-      room = omega (arith, fewer, front, now, c.push_reserved.ensures.len, c.push_reserved.ensures.capacity, c.steps.invariant.room);
+      room = omega (arith, fewer, prefix, now, c.push_reserved.ensures.len, c.push_reserved.ensures.capacity, c.steps.invariant.room);
     }
 
 pub returns-clause-came : goal.returns-clause-came

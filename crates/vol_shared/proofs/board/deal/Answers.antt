@@ -33,17 +33,17 @@ seat_one-requires-2-clause-place c =
 pub loop-i-preserved : goal.loop-i-preserved
 loop-i-preserved c =
     let kept = c.loop-i.invariant in
-    let told = c.split_seat-part.ensures in
+    let reported = c.split_seat-part.ensures in
     let session = new_session (record { table = c.args.lock.now.table_id; book = c.args.lock.now.key.stock.book }) c.args.records in
     let inside = c.loop-i-test.true in
     let fewer : (c.args.sessions + 1 - c.loop-i._i) - 1 ≡ c.args.sessions + 1 - (c.loop-i._i + 1) = omega arith in
     let items : c.seat_one.new.all.items ≡ c.loop-i.all.items ++ session ∷ [] =
     c.seat_one.ensures.items
-    ∙ (ap (λ id. c.loop-i.all.items ++ new_session (record { table = id; book = book_in c.args.told.now }) c.args.records ∷ []) (told.3 ∙ kept.own)
+    ∙ (ap (λ id. c.loop-i.all.items ++ new_session (record { table = id; book = book_in c.args.reported.now }) c.args.records ∷ []) (reported.3 ∙ kept.own)
     ∙ ap (λ b. c.loop-i.all.items ++ new_session (record { table = c.args.lock.now.table_id; book = b }) c.args.records ∷ []) c.requires.book) in
     record {
-      own = told.0 ∙ kept.own;
-      place = told.2 ∙ (ap (λ m. (kept_part m.0, m.1)) kept.place ∙ ap (λ (n : ℕ). (fresh n c.args.lock.now.key.stock, [])) fewer);
+      own = reported.0 ∙ kept.own;
+      place = reported.2 ∙ (ap (λ m. (kept_part m.0, m.1)) kept.place ∙ ap (λ (n : ℕ). (fresh n c.args.lock.now.key.stock, [])) fewer);
       count = let e = ap length items in let a = length-append c.loop-i.all.items (session ∷ []) in let k = kept.count in omega arith;
       room = c.seat_one.ensures.capacity ∙ kept.room;
       fresh = subst (All (λ (s : Known). s ≡ session)) (sym items)

@@ -1,7 +1,7 @@
 use Rattle.std.proofs.Common.{◌≡◌, ℕ, ◌+◌, List, [], ◌∷◌, ◌++◌, length, ◌∙◌, sym, ap, subst, All, append-nil, length-append, arith}
 use Rattle.std.specs.List.{flat_map}
 use Rattle.vol_shared.specs.Sessions.{Known}
-use Rattle.vol_shared.proofs.Lists.{all_last, all_front}
+use Rattle.vol_shared.proofs.Lists.{all_last, all_prefix}
 use Rattle.vol_shared.proofs.Seats.{joins, last_joins}
 use Rattle.vol_shared.proofs.close.gather.Goals as goal
 
@@ -63,6 +63,6 @@ loop-session-preserved c =
           (ap (λ l. flat_map (λ (x : Known). x.receipts) l ++ c.loop-session.place.me.0.receipts) (sym items) ∙ kept.receipts);
       count = omega arith;
       small = omega arith;
-      others = all_front (λ (x : Known). x.of.table ≡ c.args.lock.now.table_id) xs (s ∷ [])
+      others = all_prefix (λ (x : Known). x.of.table ≡ c.args.lock.now.table_id) xs (s ∷ [])
           (subst (All (λ (x : Known). x.of.table ≡ c.args.lock.now.table_id)) items kept.others);
     }

@@ -15,19 +15,19 @@ compare_exchange-requires c =
 
 pub exchange-requires : goal.exchange-requires
 exchange-requires c =
-    let told = c.compare_exchange.ensures in
-    let took = told.2.0 c.if-compare_exchange-ne0.false in
+    let reported = c.compare_exchange.ensures in
+    let took = reported.2.0 c.if-compare_exchange-ne0.false in
     let e = took.1.2 in
-    (told.0 ∙ c.requires.own, (Some took.0, ap (λ m. m.1) e ∙ sym (ap (λ m. (0, Some took.0) ∷ rest m.1) e)))
+    (reported.0 ∙ c.requires.own, (Some took.0, ap (λ m. m.1) e ∙ sym (ap (λ m. (0, Some took.0) ∷ rest m.1) e)))
 
 pub returns : goal.returns
 returns c =
-    let told = c.compare_exchange.ensures in
-    let took = told.2.0 c.if-compare_exchange-ne0.false in
+    let reported = c.compare_exchange.ensures in
+    let took = reported.2.0 c.if-compare_exchange-ne0.false in
     let changed = c.exchange.ensures in
     let out = took_out c.args.place.now.me c.compare_exchange.new.seat.me c.exchange.new.seat.me took.0 c.exchange.result took.1 changed.2 changed.3 in
     record {
-      own = changed.0 ∙ told.0;
+      own = changed.0 ∙ reported.0;
       took = subst (λ (found : Option Stored). IfSome found (λ stock. Took c.args.place.now.me c.exchange.new.seat.me stock None)) (sym out.0) out.1;
       missed = subst (λ (found : Option Stored). IfNone found (c.exchange.new.seat.me ≡ c.args.place.now.me)) (sym out.0) tt;
     }

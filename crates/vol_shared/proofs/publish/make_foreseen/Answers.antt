@@ -11,7 +11,7 @@ use Rattle.vol_views.specs.declared.history.LogEntry.TheVariants.{Made}
 use Rattle.vol_views.specs.States.{state_of}
 use Rattle.vol_shared.specs.Published.{IsPublished}
 use Rattle.vol_shared.specs.Stored.{stored_of}
-use Rattle.vol_shared.proofs.Fronts.{published_state, published_more}
+use Rattle.vol_shared.proofs.Prefixes.{published_state, published_more}
 use Rattle.vol_shared.proofs.publish.make_foreseen.Goals as goal
 
 pub publish-publisher-requires-clause-may_follow : goal.publish-publisher-requires-clause-may_follow

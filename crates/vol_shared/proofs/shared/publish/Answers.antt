@@ -1,7 +1,7 @@
 use Rattle.std.proofs.Common.{◌∙◌, ap, Some}
 use Rattle.vol_views.specs.History.{Reached}
 use Rattle.vol_shared.specs.Stored.{Stored, unpublished}
-use Rattle.vol_shared.proofs.Fronts.{all_new}
+use Rattle.vol_shared.proofs.Prefixes.{all_new}
 use Rattle.vol_shared.proofs.shared.publish.Goals as goal
 
 pub returns-in-Ok-watch-clause-new_views : goal.returns-in-Ok-watch-clause-new_views

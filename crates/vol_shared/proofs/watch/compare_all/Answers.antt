@@ -1,5 +1,5 @@
 use Rattle.vol_shared.specs.Stored.{stored_of}
-use Rattle.vol_shared.proofs.Fronts.{all_covered, all_agree}
+use Rattle.vol_shared.proofs.Prefixes.{all_covered, all_agree}
 use Rattle.vol_shared.proofs.watch.compare_all.Goals as goal
 
 pub returns-clause-covers : goal.returns-clause-covers

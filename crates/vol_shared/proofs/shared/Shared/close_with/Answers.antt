@@ -3,7 +3,7 @@ use Rattle.vol_shared.specs.Close.{IsSettled}
 use Rattle.vol_shared.specs.Opened.{Opened}
 use Rattle.vol_shared.specs.Stored.{Stored, stored_of, next_number}
 use Rattle.vol_shared.proofs.ClosedVolumes.{counts, end_first, end_uncut, end_places, end_count, end_goes_on, end_agree}
-use Rattle.vol_shared.proofs.Fronts.{settled_alone}
+use Rattle.vol_shared.proofs.Prefixes.{settled_alone}
 use Rattle.vol_shared.proofs.shared.Shared.close_with.Goals as goal
 use Rattle.vol_shared.proofs.shared.Shared.close_with.Goals.{After-drop-views}
 

@@ -2,7 +2,7 @@ use Rattle.std.proofs.Common.{ap, sym, subst, IfSome, arith}
 use Rattle.vol_volume.specs.Volume.{Mounted, after_cut}
 use Rattle.vol_shared.specs.Published.{IsPublished}
 use Rattle.vol_shared.specs.Stored.{stored_of, next_number}
-use Rattle.vol_shared.proofs.Fronts.{published_after_cut, some_map}
+use Rattle.vol_shared.proofs.Prefixes.{published_after_cut, some_map}
 use Rattle.vol_shared.proofs.stock.Stock.cut.Goals as goal
 
 pub invariant_of-result : goal.invariant_of-result

@@ -11,6 +11,6 @@ returns c =
     let mine = ap (λ (r : Reached). r.log) c.self.view_is in
     let theirs = ap (λ (r : Reached). r.log) c.later.view_is in
     let later = c.requires.later in
-    let on = goes_on c.self.inside.front.log c.later.inside.front.log c.self.invariant.1 c.later.invariant.1 c.in_line.ensures
+    let on = goes_on c.self.inside.prefix.log c.later.inside.prefix.log c.self.invariant.1 c.later.invariant.1 c.in_line.ensures
     (omega (arith, ap number_of mine, ap number_of theirs, later)) in
-    subst (λ (l : List LogEntry). GoesOn l c.args.later.now.log) mine (subst (λ (l : List LogEntry). GoesOn c.self.inside.front.log l) theirs on)
+    subst (λ (l : List LogEntry). GoesOn l c.args.later.now.log) mine (subst (λ (l : List LogEntry). GoesOn c.self.inside.prefix.log l) theirs on)

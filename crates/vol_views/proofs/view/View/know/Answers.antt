@@ -9,5 +9,5 @@ invariant_of-self c =
     let book = ap (λ (w : Watched). w.book) c.self.view_is ∙ sym c.requires.book in (
       c.self.invariant.0,
       subst (λ (b : Book). IfSome c.self.inside.subscriber (λ s. s.book ≡ b)) book c.self.invariant.1,
-      all_agree_on c.self.inside.known.log c.args.told.log c.self.inside.notes.log c.goes_on.ensures c.self.invariant.2,
+      all_agree_on c.self.inside.known.log c.args.reported.log c.self.inside.notes.log c.goes_on.ensures c.self.invariant.2,
     )

@@ -148,7 +148,7 @@ covers_view last log view is behind = record {
   gone = is.gone;
   first = is.first ∙ ap (λ (o : Origin). o.first + length is.gone) behind.goes_on.origin;
   starts = is.starts ∙ ap (λ (o : Origin). after (start o) is.gone) behind.goes_on.origin;
-  front = subst (λ (l : List Record). IsPrefix (history_of view.log) l) is.records behind.goes_on.records;
+  prefix = subst (λ (l : List Record). IsPrefix (history_of view.log) l) is.records behind.goes_on.records;
   agree = λ k d lt.
       subst (λ (o : Origin). Agrees o (is.gone ++ last.journal) (lib.ListN.get_or view.receipts k d)) behind.goes_on.origin
       (subst (λ (l : List Record). Agrees (origin_in log) l (lib.ListN.get_or view.receipts k d)) is.records

@@ -4,6 +4,7 @@
 # tests/mount.sh mounts volumes. Usage: tests/serve.sh PROGRAM. It prints a line for each row that fails, and ends with 'N passed, N failed'.
 kernel=$(realpath "$(dirname "$0")/serves/kernel.py")
 changes=$(realpath "$(dirname "$0")/serves/changes.py")
+session=$(realpath "$(dirname "$0")/serves/session.txt")
 . "$(dirname "$0")/rows.sh"
 linux="$samples/linux_made.v7"
 
@@ -77,6 +78,32 @@ has 'a reply that cannot be written' '3 unixvol: cannot write -' "$? $(cat error
 "$program" serve --explain --read-only 7 "$linux" < . > output 2> error
 has 'an input that is a folder' '3 unixvol: cannot read - unixvol: standard input: Is a directory (os error 21)' "$? $(paste -s -d ' ' error)"
 
+# A volume of the seventh edition, of ten blocks: i-node 2 is the root, with an empty slot; 3 is the file `hello`, and 4 the block special file `disk`.
+head -c 5120 /dev/zero > small
+put small 512 '04000000 0a00'
+put small 1088 'ed41 0200 0000 0000 00005000 000400'
+put small 1152 'a481 0100 0300 0500 00000600 000500'
+put small 1216 '8061 0100 0000 0000 00000000 000701'
+put small 2048 '0200 2e'
+put small 2080 '0300 68656c6c6f'
+put small 2096 '0400 6469736b'
+put small 2560 68656c6c6f0a
+has 'each request and its reply, byte for byte' '' "$(timeout 60 python3 "$kernel" messages "$program" 7 small "$session" 2>&1)"
+
+# From the reply to this READDIR, `ls` of Linux 6.18 listed both entries.
+head -c 2560 /dev/zero > sixth
+put sixth 512 '0100 0500'
+put sixth 1024 'edc1 0200 0000 2000 0300'
+put sixth 1152 'a481 0100'
+put sixth 1536 '0100 2e'
+put sixth 1552 '0500 657463'
+cat > messages << 'end'
+# READDIR
+> 50000000 1c000000 0c000000 00000000 01000000 00x20 00x16 00100000 00x20
+< 50000000 00000000 0c000000 00000000 01000000 00000000 01000000 00000000 01000000 04000000 2e000000 00000000 05000000 00000000 02000000 00000000 03000000 08000000 65746300 00000000
+end
+has 'a listing that Linux took' '' "$(timeout 60 python3 "$kernel" messages "$program" 6 sixth messages 2>&1)"
+
 serves 'a volume that Linux wrote' 37 '' 7 "$linux"
 for edition in 6 7; do
     # Names of 1 and 14 bytes and of bytes above 127, further names, holes, an empty file, each kind of block map, special files, permissions, owners.
@@ -113,7 +140,7 @@ for edition in 6 7; do
     serves "an entry without a file in edition $edition" 80 "$(runs serve --read-only "$edition" free.img; cat error)" "$edition" free.img
 
     # Changes. Random ones leave a sound image.
-    for kind in session mine full replaced; do
+    for kind in session linux mine full replaced; do
         "$program" mkfs "$edition" empty 6000 40 0 0 1000
         changes $kind empty
     done

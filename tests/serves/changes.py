@@ -1,17 +1,18 @@
 #!/usr/bin/env python3
 """Plays the Linux kernel for `unixvol serve` without --read-only: each operation, its error, what the tree has then, and what is saved.
 Usage: changes.py session PROGRAM EDITION IMAGE      an empty volume of 6,000 blocks; it prints the lines that the server printed
+       changes.py linux PROGRAM EDITION IMAGE        requests that a kernel sent
        changes.py mine PROGRAM EDITION IMAGE         the same volume, with --mine
        changes.py replaced PROGRAM EDITION IMAGE     another file takes the image's place meanwhile
        changes.py full PROGRAM EDITION IMAGE         writes until the volume is full
 It prints a line for each thing that is wrong. Structs and numbers are those of Linux's include/uapi/linux/fuse.h."""
-import fcntl, os, struct, subprocess, sys
+import fcntl, os, struct, subprocess, sys, time
 import kernel as k
 from kernel import Attributes, Kernel, check, printed
 
 EPERM, EIO, EEXIST, EXDEV, ENOTDIR, EISDIR, EINVAL, EFBIG, ENOSPC, ENOTEMPTY, ESTALE = 1, 5, 17, 18, 20, 21, 22, 27, 28, 39, 116
 FSYNC, FSYNCDIR = 20, 30
-SIZE, MODE, UID, GID = 8, 1, 2, 4
+SIZE, MODE, UID, GID, ATIME, MTIME, ATIME_NOW = 8, 1, 2, 4, 16, 32, 128
 FILE, DIRECTORY, PIPE = 0o100000, 0o040000, 0o010000
 
 
@@ -48,8 +49,8 @@ class Changing(Kernel):
         error, reply = self.ask(k.WRITE, node, struct.pack("<QQIIQII", 0, offset, len(content), 0, 0, 0, 0) + content)
         return error if error else struct.unpack_from("<I", reply)[0]
 
-    def set(self, node, valid, size=0, mode=0, uid=0, gid=0):
-        error, reply = self.ask(k.SETATTR, node, struct.pack("<IIQQQQQQIIIIIIII", valid, 0, 0, size, 0, 0, 0, 0, 0, 0, 0, mode, 0, uid, gid, 0))
+    def set(self, node, valid, size=0, mode=0, uid=0, gid=0, times=(0, 0)):
+        error, reply = self.ask(k.SETATTR, node, struct.pack("<IIQQQQQQIIIIIIII", valid, 0, 0, size, 0, *times, 0, 0, 0, 0, mode, 0, uid, gid, 0))
         return error if error else Attributes(reply[16:])
 
     def open(self, node):
@@ -138,6 +139,7 @@ def links(volume, d, f):
     e = volume.mkdir(d, b"sub")[0]
     for label, wanted, got in (
         ("a name that is there for a link", EEXIST, error_of(volume.link(f, d, b"g"))), ("a name that isn't there", k.ENOENT, volume.remove(k.UNLINK, d, b"none")),
+        ("a link to a directory", EISDIR, error_of(volume.link(e, d, b"l"))),
         ("unlink of a directory", EISDIR, volume.remove(k.UNLINK, d, b"sub")), ("rmdir of a file", ENOTDIR, volume.remove(k.RMDIR, d, b"g")),
         ("rmdir of a full directory", ENOTEMPTY, volume.remove(k.RMDIR, k.ROOT, b"d")), ("rename of a directory", EXDEV, volume.rename(d, b"sub", k.ROOT, b"sub")),
         ("rename of no file", k.ENOENT, volume.rename(d, b"none", d, b"new")), ("rename to a directory", EISDIR, volume.rename(d, b"g", d, b"sub")),
@@ -166,6 +168,10 @@ def attributes(volume, f):
     check("an owner above the edition's", EINVAL, error_of(volume.set(e, UID, uid=256 if volume.edition == "6" else 65536)))
     check("a size above the greatest", EFBIG, error_of(volume.set(e, SIZE, size=1 << 40)))
     check("attributes of a file that is gone", ESTALE, error_of(volume.set(f, MODE, mode=0)))
+    found = volume.set(e, ATIME | MTIME, times=(5, 1 << 33))
+    check("times; the second is more than an i-node can hold", (5, 0xFFFFFFFF), (found.atime, found.mtime))
+    found = volume.set(e, ATIME | ATIME_NOW)
+    check("one of them is now", (True, 0xFFFFFFFF), (abs(found.atime - time.time()) < 60, found.mtime))
 
 
 def orphans(volume, d):
@@ -179,8 +185,52 @@ def orphans(volume, d):
     check("its links", 0, volume.attributes(node).nlink)
     check("more bytes of it", 5, volume.write(node, 4, b" more"))
     check("its bytes", b"kept more", volume.read(node))
+    most = os.path.getsize(volume.image)
+    check("a size above the greatest", EFBIG, error_of(volume.set(node, SIZE, size=1 << 31)))
+    check("more bytes than the image has", ENOSPC, volume.write(node, most - 4, b"hello"))
+    check("as many", 5, volume.write(node, most - 5, b"hello"))
+    other = volume.mknod(d, b"other")[0]
+    check("the i-number is used again, under another number", (node & 0xFFFF, True), (other & 0xFFFF, other != node))
+    volume.write(other, 0, b"x")
+    volume.open(other)
+    check("no room for a second open file", ENOSPC, volume.remove(k.UNLINK, d, b"other"))
     check("release", 0, volume.release(node))
     check("then it is gone", ESTALE, error_of(volume.attributes(node)))
+    check("its bytes then", ESTALE, error_of(volume.read(node)))
+    check("now there is room", 0, volume.remove(k.UNLINK, d, b"other"))
+    volume.release(other)
+
+
+# Requests as Linux 6.18 sent them: a WRITE of `hello` at byte 0, `chown 3:4`, `touch`, and `mv` of `a` to `c` that replaces nothing.
+# The first three name node 2.
+WRITE_HELLO = """55000000 10000000 26000000 00000000 02000000 00x12 76650000 00000000 07000000 00x12 05000000 00x12 01840000 00000000 68656c6c 6f"""
+CHOWN = """80000000 04000000 c2000000 00000000 02000000 00x12 80650000 00000000 06000000 00x72 03000000 04000000 00000000"""
+TOUCH = """80000000 04000000 52000000 00000000 02000000 00x12 79650000 00000000 b0010000 00x28 7c1c096b 00000000 7c1c096b 00x44"""
+MOVE = """3c000000 2d000000 78000000 00000000 01000000 00x12 7b650000 00000000 01000000 00000000 01000000 00000000 61006300"""
+
+
+def linux(volume):
+    """Requests that a kernel sent, but for the number of the node."""
+    node = volume.mknod(k.ROOT, b"a")[0]
+
+    def sent(text):
+        message = bytearray(k.message("> " + text))
+        if message[16] == 2:
+            message[16:24] = struct.pack("<Q", node)
+        volume.unique = struct.unpack_from("<Q", message, 8)[0]
+        volume.ours.send(message)
+        return volume.reply()
+
+    check("WRITE", (0, struct.pack("<II", 5, 0)), sent(WRITE_HELLO))
+    check("what it wrote", b"hello", volume.read(node))
+    check("chown", 0, sent(CHOWN)[0])
+    check("the owner", (3, 4), (lambda found: (found.uid, found.gid))(volume.attributes(node)))
+    volume.set(node, ATIME | MTIME, times=(5, 6))
+    check("touch", 0, sent(TOUCH)[0])
+    found = volume.attributes(node)
+    check("times", [True, True], [abs(at - time.time()) < 60 for at in (found.atime, found.mtime)])
+    check("mv", (0, b""), sent(MOVE))
+    check("names then", (k.ENOENT, node), (volume.lookup(k.ROOT, b"a"), volume.lookup(k.ROOT, b"c")[0]))
 
 
 def mine(volume):
@@ -222,7 +272,7 @@ def full(volume):
 def main():
     kind, program, edition, image = sys.argv[1:5]
     volume = Changing(program, edition, image, *(["--mine"] if kind == "mine" else []))
-    {"session": session, "mine": mine, "replaced": replaced, "full": full}[kind](volume)
+    {"session": session, "linux": linux, "mine": mine, "replaced": replaced, "full": full}[kind](volume)
     if kind != "replaced":
         check("the status and the lines", (0, ""), volume.end())
         is_sound("the end", volume)

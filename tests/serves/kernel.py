@@ -3,6 +3,7 @@
 Usage: kernel.py tree PROGRAM EDITION IMAGE          all that is served is compared with what the program prints of the image
        kernel.py random PROGRAM EDITION IMAGE SEED COUNT [OPTION..]    random requests, many of them cut off, are each answered once; the
                                                      server gets the options, else --read-only
+       kernel.py messages PROGRAM EDITION IMAGE FILE  each request of a file gets exactly the reply beside it, or none
        kernel.py request                             writes the first request of a mount
 It prints a line for each thing that is wrong. Numbers and structs are those of Linux's include/uapi/linux/fuse.h."""
 import json, random, socket, struct, subprocess, sys
@@ -307,11 +308,30 @@ def random_requests(program, edition, image, seed, count, options):
     check("the status", 0, kernel.end()[0])
 
 
+def message(line):
+    """The bytes of a line: words of four bytes in hexadecimal, and 00x8 for eight bytes 0."""
+    return b"".join(bytes(int(word[3:])) if word.startswith("00x") else bytes.fromhex(word) for word in line.split()[1:])
+
+
+def send_messages(program, edition, image, file):
+    kernel, label = Kernel(program, edition, image), ""
+    for line in open(file):
+        if line.startswith("#"):
+            label = line[2:].strip()
+        elif line.startswith(">"):
+            kernel.ours.send(message(line))
+        else:
+            check(f"the reply to {label}", message(line).hex(), kernel.ours.recv(1 << 20).hex())
+    check("the status", 0, kernel.end()[0])
+
+
 def main():
     if sys.argv[1] == "request":
         sys.stdout.buffer.write(request(INIT, 2, 0, init_body()))
     elif sys.argv[1] == "tree":
         compare_tree(*sys.argv[2:5])
+    elif sys.argv[1] == "messages":
+        send_messages(*sys.argv[2:6])
     else:
         random_requests(*sys.argv[2:5], int(sys.argv[5]), int(sys.argv[6]), sys.argv[7:])
     print("\n".join(wrong[:10]), end="\n" if wrong else "")

@@ -52,10 +52,9 @@ InspectsInode edition image i (Err (Unsound fault)) = node_in edition image i �
 abbrev pub used : ℕ → ℕ → ℕ
 used count places = if nat_lt places count then places else count
 
--- the numbers in use in the free array, in order (filsys.h)
-unfoldable pub free_numbers : Edition → List ℕ → List ℕ
-free_numbers edition image =
-    map (λ k. number edition image (free_head edition + 2) k) (range_with_len 0 (used (word image (free_head edition)) (constants edition).free_slots))
+-- the numbers in use in the array after the count at byte `at`, in order (filsys.h, fblk.h)
+unfoldable pub link_numbers : Edition → List ℕ → ℕ → List ℕ
+link_numbers edition image at = map (λ k. number edition image (at + 2) k) (range_with_len 0 (used (word image at) (constants edition).free_slots))
 
 -- the i-numbers in use in the cache, in order (filsys.h)
 unfoldable pub cached_numbers : Edition → List ℕ → List ℕ
@@ -73,7 +72,7 @@ pub record IsSuperReport (g : Geometry) (image : List ℕ) (report : SuperReport
   pub list_size : report.list_size ≡ list_size image
   pub block_count : report.block_count ≡ block_count g.edition image
   pub free_count : report.free_count ≡ word image (free_head g.edition)
-  pub free : report.free.items ≡ free_numbers g.edition image
+  pub free : report.free.items ≡ link_numbers g.edition image (free_head g.edition)
   pub free_blocks : report.free_blocks ≡ length (free_walk g image).met
   pub fault : report.fault ≡ (free_walk g image).fault
   pub cache_count : report.cache_count ≡ word image (cache_head g.edition)

@@ -12,6 +12,7 @@ pub mod Texts
 pub mod PlaceCounts
 pub mod SharedBlocks
 pub mod FreeListStatus
+pub mod FreeChain
 pub mod Uses
 pub mod Pictures
 pub mod Svg

@@ -9,6 +9,8 @@ use Rattle.vol_inspect.specs.declared.extent.Extent.{Extent}
 use Rattle.vol_free.specs.FreeWalk.{fault_word}
 use Rattle.vol_free.specs.declared.free_walk.FreeFault.{FreeFault}
 use Rattle.vol_inspect.specs.declared.super_report.SuperReport.{SuperReport}
+use Rattle.vol_inspect.specs.declared.free_chain.ChainReport.{ChainReport}
+use Rattle.vol_inspect.specs.declared.free_chain.FreeLink.{FreeLink}
 use Rattle.vol_inspect.specs.declared.inode_report.InodeReport.{InodeReport}
 
 -- a number in octal digits, with a zero before them (this project)
@@ -135,3 +137,24 @@ found_text report = counts_text report ++ free_fault_line report.fault
 -- the super-block: its fields by their names in filsys.h, and the totals (this project)
 abbrev pub super_text : SuperReport → List ℕ
 super_text report = free_text report ++ (cache_text report ++ (guards_text report ++ found_text report))
+
+-- the place of a link of the free list's chain: the super-block, or a block (this project)
+abbrev pub link_where : ℕ → List ℕ
+link_where block = if block == 1 then codes "super-block" else codes "block " ++ decimal block
+
+-- the lines of a link: its place and count, and its numbers (this project)
+abbrev pub link_text : FreeLink → List ℕ
+link_text link =
+    link_where link.block ++ (codes ": nfree " ++ (decimal link.count ++ (array_text (codes "free") link.numbers.items ++ codes "\n")))
+
+-- the lines of links (this project)
+unfoldable pub links_text : List FreeLink → List ℕ
+links_text links = flat_map link_text links
+
+-- the line of the totals: the numbers of links and of free blocks (this project)
+abbrev pub chain_totals : ChainReport → List ℕ
+chain_totals report = codes "links " ++ (decimal (length report.links.items) ++ (codes ", free blocks " ++ (decimal report.free_blocks ++ codes "\n")))
+
+-- the chain of the free list: its links, the fault that ends it, and the totals (this project)
+abbrev pub chain_text : ChainReport → List ℕ
+chain_text report = links_text report.links.items ++ (free_fault_line report.fault ++ chain_totals report)

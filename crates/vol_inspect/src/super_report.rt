@@ -4,9 +4,10 @@ ghost use Rattle.vol_layout.specs.Geometry.{Fits};
 ghost use Rattle.vol_layout.specs.declared.mode.Kind.TheVariants as kinds;
 ghost use Rattle.vol_file.specs.Rules.{kind_at};
 ghost use Rattle.vol_reports.specs.Blocks.{is_kind, kind_count};
-ghost use Rattle.vol_inspect.specs.Inspect.{InspectsSuper, IsSuperReport, cached_numbers, flag_bytes, free_numbers, used};
+ghost use Rattle.vol_inspect.specs.Inspect.{InspectsSuper, IsSuperReport, cached_numbers, flag_bytes, used};
 
 use crate::fault::InspectFault;
+use crate::free_chain::link_numbers;
 use pdp_words::Image;
 use std::alloc::{AllocError, Global};
 use vol_free::{FreeFault, walk_free};
@@ -74,7 +75,7 @@ pub fn super_report(
         edition: geometry.edition,
     };
     let walk = walk_free(alloc, image, geometry)?;
-    let free = free_numbers(alloc, image, geometry.edition)?;
+    let free = link_numbers(alloc, image, geometry.edition, block.free_head())?;
     let cache = cached_numbers(alloc, image, geometry.edition)?;
     Ok(SuperReport {
         geometry: *geometry,
@@ -93,25 +94,11 @@ pub fn super_report(
 }
 
 /// Returns the number of an array's entries in use, by its count.
-fn used(count: u16, places: u16) -> u16
+pub(crate) fn used(count: u16, places: u16) -> u16
     ensures value { result ≡ used count places }
     ensures bound { result ≤ places }
 {
     if count > places { places } else { count }
-}
-
-/// Returns the numbers in use in the free array, in order.
-fn free_numbers(alloc: Global, image: &Image, edition: Edition) -> Result<Vec<u32>, AllocError>
-    requires { 1024 ≤ length image.now }
-    ensures { IfOk result (λ numbers. numbers.items ≡ free_numbers edition image.now) }
-{
-    let block = Super { edition };
-    let count = used(block.free_count(image), edition.constants().free_slots);
-    let mut numbers = Vec::new(alloc);
-    for k in 0..count {
-        numbers.push(block.free(image, k as usize))?;
-    }
-    Ok(numbers)
 }
 
 /// Returns the i-numbers in use in the cache, in order.

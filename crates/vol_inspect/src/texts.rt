@@ -23,9 +23,15 @@ ghost use Rattle.vol_inspect.specs.Texts.{
   cache_text,
   found_text,
   super_text,
+  link_where,
+  link_text,
+  links_text,
+  chain_totals,
+  chain_text,
 };
 
 use crate::extent::Extent;
+use crate::free_chain::{ChainReport, FreeLink};
 use crate::inode_report::InodeReport;
 use crate::super_report::SuperReport;
 use std::alloc::AllocError;
@@ -155,6 +161,61 @@ impl SuperReport {
             "data blocks {blocks}, free {free_blocks}\ni-nodes {inodes}, free {free_inodes}\n"
         )
     }
+}
+
+impl ChainReport {
+    /// Appends the report's text: for each link a line with its place and its count, and its numbers, ten on a line after the
+    /// index of the first; then a line for the fault of the free list, if it has one, as the checkers print it; then the
+    /// numbers of links and of free blocks.
+    ///
+    /// Costs as much as the text is long.
+    pub fn push_text(&self, text: &mut String) -> Result<(), AllocError>
+        ensures { OnOk result (string_bytes text.new ≡ string_bytes text.old ++ chain_text self.now) }
+    {
+        push_links(text, &self.links)?;
+        push_fault(text, self.fault)?;
+        self.push_totals(text)
+    }
+
+    /// Appends the line of the totals.
+    fn push_totals(&self, text: &mut String) -> Result<(), AllocError>
+        ensures { OnOk result (string_bytes text.new ≡ string_bytes text.old ++ chain_totals self.now) }
+    {
+        let links = self.links.len();
+        let free_blocks = self.free_blocks;
+        write!(text, "links {links}, free blocks {free_blocks}\n")
+    }
+}
+
+/// Appends the lines of links.
+fn push_links(text: &mut String, links: &[FreeLink]) -> Result<(), AllocError>
+    ensures { OnOk result (string_bytes text.new ≡ string_bytes text.old ++ links_text links.now) }
+{
+    for link in links {
+        push_link(text, link)?;
+    }
+    Ok(())
+}
+
+/// Appends the lines of a link.
+fn push_link(text: &mut String, link: &FreeLink) -> Result<(), AllocError>
+    ensures { OnOk result (string_bytes text.new ≡ string_bytes text.old ++ link_text link.now) }
+{
+    push_where(text, link.block)?;
+    let count = link.count;
+    write!(text, ": nfree {count}")?;
+    push_array(text, "free", &link.numbers)?;
+    write!(text, "\n")
+}
+
+/// Appends the place of a link.
+fn push_where(text: &mut String, block: u32) -> Result<(), AllocError>
+    ensures { OnOk result (string_bytes text.new ≡ string_bytes text.old ++ link_where block) }
+{
+    if block == 1 {
+        return write!(text, "super-block");
+    }
+    write!(text, "block {block}")
 }
 
 /// Appends the line of the fault that ended the walk over the free list.

@@ -1,9 +1,0 @@
-use Rattle.std.proofs.Common.{◌≡◌, ◌+◌, map}
-use Rattle.std.specs.List.{range_with_len}
-use Rattle.vol_layout.specs.Edition.{number}
-use Rattle.vol_layout.specs.Super.{free_head}
-use Rattle.vol_inspect.proofs.super_report.free_numbers.Given as goal
-
--- the numbers so far have been added
-abbrev pub invariant-loop-k : goal.invariant-loop-k
-invariant-loop-k l = l.numbers.items ≡ map (λ k. number l.block.edition l.image (free_head l.block.edition + 2) k) (range_with_len 0 l.k)

@@ -4,7 +4,8 @@
 Each function must be declared everywhere, with the same parameters and result, and with the same names in C and Rust.
 Structs are compared by their fields with order and types, numbers by name. Python's part needs the shared object,
 since it is read by loading it.
-Usage: declarations.py FOLDER, the folder of the built Python package. It ends with 'N passed, N failed'.
+Usage: declarations.py [FOLDER], the folder of the built Python package; without it Python's part is left out. It ends
+with 'N passed, N failed'.
 """
 from __future__ import annotations
 
@@ -29,16 +30,22 @@ IN_C = {
     "&mut u16": ["uint16_t *"],
     "&mut Handle": ["unixvol *"],
     "&mut Node": ["unixvol_node *"],
-    "&mut About": ["unixvol_sizes *"],
+    "&mut VolumeSizes": ["unixvol_sizes *"],
     "&[u8]": ["const void *", "size_t"],
     "&mut [u8]": ["void *", "size_t"],
-    "&mut [Entry]": ["unixvol_entry *", "size_t"],
+    "&mut [ListedName]": ["unixvol_entry *", "size_t"],
     "[u8; 14]": ["uint8_t[14]"],
     "*mut u8": ["void *"],
 }
 
 # The types of C in the Rust wrapper.
-IN_RUST = {"*const u8": "const void *", "*mut u8": "void *", "*mut c_void": "void *", "*mut Entry": "unixvol_entry *"}
+IN_RUST = {
+    "*const u8": "const void *",
+    "*mut u8": "void *",
+    "*mut c_void": "void *",
+    "*mut Entry": "unixvol_entry *",
+    "&mut About": "unixvol_sizes *",
+}
 
 # The types of C in Python.
 IN_PYTHON = {
@@ -101,7 +108,7 @@ def of_source() -> tuple[Functions, Fields, dict[str, int]]:
     }
     structs = {
         called: [(field, IN_C[kind][0]) for field, kind in fields_of(name, text)]
-        for called, name in {"unixvol_entry": "Entry", "unixvol_node": "Node", "unixvol_sizes": "About"}.items()
+        for called, name in {"unixvol_entry": "ListedName", "unixvol_node": "Node", "unixvol_sizes": "VolumeSizes"}.items()
     }
     # A handle's sealed volume is a pointer.
     structs["unixvol"] = [
@@ -183,17 +190,21 @@ def compare(where: str, wanted: dict, found: dict) -> tuple[int, int]:
 
 def main() -> int:
     functions, structs, numbers = of_source()
-    header, rust, python = of_header(), of_rust(), of_python(sys.argv[1])
+    header, rust = of_header(), of_rust()
     results = [
         compare("unixvol.h", functions, header[0]),
         compare("unixvol.h", structs, header[1]),
         compare("unixvol.h", numbers, header[2]),
         compare("declared.rs", functions, rust[0]),
         compare("declared.rs", structs, rust[1]),
-        compare("_library.py", kinds(functions), python[0]),
-        compare("_library.py", structs, python[1]),
-        compare("_faults.py", {name: it for name, it in numbers.items() if 0 < it < 200}, python[2]),
     ]
+    if sys.argv[1:]:
+        python = of_python(sys.argv[1])
+        results += [
+            compare("_library.py", kinds(functions), python[0]),
+            compare("_library.py", structs, python[1]),
+            compare("_faults.py", {name: it for name, it in numbers.items() if 0 < it < 200}, python[2]),
+        ]
     passed, failed = map(sum, zip(*results))
     print(f"{passed} passed, {failed} failed")
     return failed != 0

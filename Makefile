@@ -1,36 +1,48 @@
-# Targets of this repository. All but `make run` and `make install` need the Rattle toolchain (its command `rt`); `make bench` and `make faults` also
-# need rustc.
+# Targets of this repository. All but `make run`, `make install` and `make uninstall` need the Rattle toolchain (its command `rt`); `make bench` and
+# `make faults` also need rustc.
 
 RT ?= rt
 PREFIX ?= /usr/local
 
 .DEFAULT_GOAL := help
-.PHONY: help run build test bench faults wrong-bodies manual release install library library-test
+.PHONY: help run install uninstall build library test library-test bench faults wrong-bodies manual release verify
 
 # The test scripts that the gate runs the built program through.
-ROWS = program words volumes looks checks checkers changes trees many_trees archives migrations plays explaining serve mount manual readme lessons
+ROWS = program words volumes looks checks checkers changes trees many_trees archives migrations plays explaining serve mount manual readme lessons release
 
 help:
-	@echo 'make run                    prints the file in samples/hello.v6, by ./unixvol where it was built, else by the program in dist/'
-	@echo 'make install PREFIX=FOLDER  copies the program and unixvol-mount to FOLDER/bin, with manual pages and completions (to /usr/local without PREFIX): ./unixvol'
-	@echo '                            where it was built, else the program in dist/'
-	@echo 'make build                  proves and builds the program, and leaves it as ./unixvol'
-	@echo 'make test                   the whole gate: every proof and test from nothing, then the built program from the shell, and library-test if the library was built'
-	@echo 'make library                proves and builds the library for C, Python and Rust, and leaves it in bindings/out; make install then installs it too'
-	@echo 'make library-test           tests that library, as two compilers make it, from each of the three; a tool that is missing is skipped aloud'
-	@echo 'make bench                  times the program against one in plain Rust that does the same; needs rustc, and some minutes'
-	@echo 'make faults                 refuses each allocation in turn, of the libraries and of the program, and runs the program 10,000 times where memory, the stack,'
-	@echo '                            the disk or a descriptor fails it, or a signal ends it; needs rustc, and some minutes'
-	@echo 'make wrong-bodies           tries the wrong bodies that the gate leaves out, on a copy: the prover has to refuse each; CRATES="NAME .." tries those of some crates'
-	@echo 'make manual                 builds the program, and makes the manual page and the completions anew from what it says of itself'
-	@echo 'make release                packs ./unixvol as it was built, with its manual page and completions, into dist/'
+	@echo 'Without the Rattle toolchain:'
+	@echo 'make run                      prints the file in samples/hello.v6, by ./unixvol where it was built, else by the program in dist/'
+	@echo 'make install PREFIX=FOLDER    copies programs, manual pages, completions and the library for C, Python and Rust to FOLDER/bin, lib, include and share, or'
+	@echo '                              to those of /usr/local: what was built here, else what is in dist/; DESTDIR=ROOT puts FOLDER below ROOT'
+	@echo 'make uninstall PREFIX=FOLDER  removes what was installed there'
+	@echo 'With it:'
+	@echo 'make build                    proves and builds the program, and leaves it as ./unixvol'
+	@echo 'make library                  proves and builds the library for C, Python and Rust, and leaves it in bindings/out'
+	@echo 'make test                     the whole gate: every proof and test from nothing, then the built program from the shell, and library-test if the library'
+	@echo '                              was built; then it compares what was built with dist/, if that is of the same sources'
+	@echo 'make library-test             tests that library, as two compilers make it, from each of the three; a tool that is missing is skipped aloud'
+	@echo 'make bench                    times the program against one in plain Rust that does the same; needs rustc, and some minutes'
+	@echo 'make faults                   refuses each allocation in turn, of the libraries and of the program, and runs the program 10,000 times where memory, the'
+	@echo '                              stack, the disk or a descriptor fails it, or a signal ends it; needs rustc, and some minutes'
+	@echo 'make wrong-bodies             tries the wrong bodies that the gate leaves out, on a copy: the prover has to refuse each; CRATES="NAME .." tries those of'
+	@echo '                              some crates'
+	@echo 'make manual                   builds the program, and makes the manual page and the completions anew from what it says of itself'
+	@echo 'make release                  packs what was built, the program and the library, into dist/'
+	@echo 'make verify                   proves and builds the program and the library, and compares them with those in dist/, byte for byte'
+
+run:
+	tools/run.sh
+
+install:
+	tools/install.sh "$(PREFIX)"
+
+uninstall:
+	tools/remove.sh "$(PREFIX)"
 
 # The program is built only when it is proved.
 build:
 	RT=$(RT) tools/build.sh
-
-run:
-	tools/run.sh
 
 # The gate leaves the program that it proved and built in out/.
 test:
@@ -38,9 +50,9 @@ test:
 	cp -f crates/unixvol/out/unixvol unixvol
 	RT=$(RT) tools/sources.sh > crates/unixvol/out/sources
 	@set -e; for rows in $(ROWS); do echo "tests/$$rows.sh ./unixvol"; tests/$$rows.sh ./unixvol; done
-	RT=$(RT) tools/compare.sh
 	@# The gate proves the library's crate, but builds no archive: rt would prove all crates below it once more for that.
 	@if [ -e bindings/out/libunixvol.a ]; then $(MAKE) library-test; else echo 'library-test: skipped, since `make library` has built no library here'; fi
+	@RT=$(RT) tools/compare.sh
 
 library:
 	RT=$(RT) tools/library.sh
@@ -72,5 +84,8 @@ manual: build
 release:
 	RT=$(RT) tools/release.sh
 
-install:
-	tools/install.sh "$(DESTDIR)$(PREFIX)"
+# The sources are compared first, since the proofs take long.
+verify:
+	@RT=$(RT) tools/compare.sh sources
+	$(MAKE) build library
+	@RT=$(RT) tools/compare.sh all

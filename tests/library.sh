@@ -134,9 +134,17 @@ test_rust() {
     fails 1 'look at an image that is none' "$room/rust/debug/examples/look" 7 README.md
 }
 
+# The C library that the wheel's tag, manylinux2014, promises to be enough.
+test_wheel_tag() {
+    local newest
+    newest=$(grep -ao 'GLIBC_2\.[0-9]*' "$built/libunixvol.so.0" | sort -Vu | tail -n 1)
+    runs "no newer C library than that of manylinux2014: $newest" test "$(printf '%s\n' "$newest" GLIBC_2.17 | sort -V | tail -n 1)" = GLIBC_2.17
+}
+
 # The installed files, used as another program would.
 test_installed() {
-    LIBRARY=$built runs 'install' tools/install_library.sh "$room/usr"
+    LIBRARY=$built runs 'lay out' tools/lay_out.sh "$room/tree"
+    runs 'install' tools/place.sh "$room/usr" "$room/tree"
     if there pkg-config 'the installed library in C'; then
         local flags
         flags=$(PKG_CONFIG_PATH=$room/usr/lib/pkgconfig pkg-config --cflags --libs unixvol)
@@ -149,6 +157,7 @@ test_installed() {
     fi
 }
 
+test_wheel_tag
 if [ -n "$compiler" ]; then
     test_header
     test_c

@@ -1401,7 +1401,7 @@ put disk.img 2560 '68 65 6C 6C 6F'
 prints hello cat 7 disk.img 9
 
 # The program's help and version.
-echo 'unixvol 0.1.0' > version
+echo "unixvol $(sed -n 's/^## \([0-9][0-9.]*\)$/\1/p' "$samples/../CHANGELOG.md" | head -n 1)" > version
 prints version --version
 prints version -V
 helps --help

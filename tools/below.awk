@@ -1,4 +1,4 @@
-# Prints the lines of crates.txt for the program and each crate that it needs, lowest first.
+# Prints the lines of crates.txt for the crate that `crate` names and each crate that it needs, lowest first.
 function take(name, list, count, k) {
     if (!(name in line) || name in taken) return
     taken[name]
@@ -7,4 +7,4 @@ function take(name, list, count, k) {
     print line[name]
 }
 /^[^#]/ { split($0, half, ":"); split(half[1], words, " "); line[words[1]] = $0; deps[words[1]] = half[2] }
-END { take("unixvol") }
+END { take(crate) }

@@ -1,25 +1,19 @@
 #!/usr/bin/env bash
-# Installs the program, unixvol-mount, their manual pages and the completions: ./unixvol if it was built, else the release in dist/. It prints which.
-# Usage: tools/install.sh FOLDER
+# Installs what was built here, if that is the program, else the release in dist/, and prints which. Usage: tools/install.sh PREFIX. DESTDIR, if it is set, is
+# a folder in which PREFIX is.
 set -euo pipefail
-folder=$(realpath -m "${1:?usage: $0 FOLDER}")
+prefix=$(realpath -m "${1:?usage: $0 PREFIX}")
 cd "$(dirname "$0")/.."
 if [ -x unixvol ]; then
-    program=unixvol manual=manual
-    echo "./unixvol, as it was built here, to $folder"
+    room=$(mktemp -d)
+    trap 'rm -rf "$room"' EXIT
+    tree=$room
+    echo "./unixvol, as it was built here, to ${DESTDIR:-}$prefix"
+    tools/lay_out.sh "$tree"
+    [ -d "$tree/lib" ] || echo 'without the library, since `make library` has built none here'
 else
     . tools/unpack.sh
-    program=$release/unixvol manual=$release
-    echo "${release##*/}, from dist/, to $folder"
+    tree=$release
+    echo "${release##*/}, from dist/, to ${DESTDIR:-}$prefix"
 fi
-install -D -m 755 "$program" "$folder/bin/unixvol"
-install -D -m 755 bin/unixvol-mount "$folder/bin/unixvol-mount"
-install -D -m 644 "$manual/unixvol.1" "$folder/share/man/man1/unixvol.1"
-install -D -m 644 manual/unixvol-mount.1 "$folder/share/man/man1/unixvol-mount.1"
-install -D -m 644 "$manual/unixvol.bash" "$folder/share/bash-completion/completions/unixvol"
-install -D -m 644 "$manual/_unixvol" "$folder/share/zsh/site-functions/_unixvol"
-
-# The library for C, Python and Rust, if it was built.
-if [ -e bindings/out/libunixvol.a ]; then
-    tools/install_library.sh "$folder"
-fi
+tools/place.sh "$prefix" "$tree"

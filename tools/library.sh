@@ -1,14 +1,16 @@
 #!/usr/bin/env bash
 # Proves and builds the library for C, Python and Rust, and leaves it in bindings/out: libunixvol.a, libunixvol.so, unixvol.pc, and in python/ the package with
 # the shared object. It needs only `rt`, since the archiver and the linker are the toolchain's.
-# BACKEND names the compiler: llvm or rattle. OUT names another folder than bindings/out.
+# BACKEND names the compiler: llvm or rattle. OUT names another folder than bindings/out. OUT/sources is the checksum of the sources (tools/sources.sh), if the
+# compiler is the one of releases, llvm.
 set -euo pipefail
 cd "$(dirname "$0")/.."
 rt=$(realpath "$(command -v "${RT:-rt}")")
 kit=${rt%/bin/rt}
 out=$(realpath -m "${OUT:-bindings/out}")
+sources=$(tools/sources.sh unixvol_c)
 (cd crates/unixvol_c && "$rt" lib --backend "${BACKEND:-llvm}")
-rm -rf "$out"/libunixvol.* "$out"/python/unixvol
+rm -rf "$out"/libunixvol.* "$out"/python/unixvol "$out/sources"
 mkdir -p "$out/python/unixvol"
 
 # One archive, with the toolchain's three functions over malloc, realloc and free.
@@ -30,14 +32,17 @@ ln -s libunixvol.so.0 "$out/libunixvol.so"
 version=$(sed -n 's/^version = "\(.*\)"$/\1/p' bindings/python/pyproject.toml)
 cat >"$out/unixvol.pc" <<END
 prefix=\${pcfiledir}/../..
+libdir=\${prefix}/lib
+includedir=\${prefix}/include
 Name: unixvol
 Description: Volumes of Sixth and Seventh Edition Unix
 Version: $version
-Libs: -L\${prefix}/lib -lunixvol
-Cflags: -I\${prefix}/include
+Libs: -L\${libdir} -lunixvol
+Cflags: -I\${includedir}
 END
 
-cp bindings/python/pyproject.toml bindings/python/make_wheel.py "$out/python"
+cp LICENSE bindings/python/pyproject.toml bindings/python/make_wheel.py "$out/python"
 cp bindings/python/unixvol/*.py bindings/python/unixvol/py.typed "$out/python/unixvol"
 cp "$out/libunixvol.so.0" "$out/python/unixvol"
+[ "${BACKEND:-llvm}" != llvm ] || echo "$sources" >"$out/sources"
 echo "$out: libunixvol.a ($(wc -c <"$out/libunixvol.a") bytes), libunixvol.so ($(wc -c <"$out/libunixvol.so") bytes)"

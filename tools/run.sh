@@ -7,7 +7,7 @@ if [ -x unixvol ]; then
     echo './unixvol, as it was built here:' >&2
 else
     . tools/unpack.sh
-    program=$release/unixvol
+    program=$release/bin/unixvol
     echo "${release##*/}, from dist/:" >&2
 fi
 "$program" cat 6 samples/hello.v6 1

@@ -1,10 +1,12 @@
 #!/usr/bin/env bash
-# Prints the SHA-256 checksum of the sources from which the program is built: the crates that it needs, their lines of crates.txt, HANDLES, and the name of the
-# toolchain.
+# Prints the SHA-256 checksum of the sources from which a crate is built, the program `unixvol` or the library `unixvol_c`: the crate and those that it needs,
+# their lines of crates.txt, HANDLES, and the name of the toolchain; for the library also what tools/library.sh puts beside it.
+# Usage: tools/sources.sh [CRATE]. Without CRATE it is unixvol.
 set -euo pipefail
 export LC_ALL=C
 cd "$(dirname "$0")/.."
-lines=$(awk -f tools/below.awk crates.txt)
+crate=${1:-unixvol}
+lines=$(awk -v crate="$crate" -f tools/below.awk crates.txt)
 names=$(sed 's/[: ].*//' <<<"$lines")
 {
     "${RT:-rt}" version
@@ -13,4 +15,7 @@ names=$(sed 's/[: ].*//' <<<"$lines")
     for name in $names; do
         find "crates/$name" -type f \( -path '*/src/*' -o -path '*/specs/*' -o -path '*/proofs/*' \) ! -path '*/out/*'
     done | sort | xargs sha256sum
+    if [ "$crate" = unixvol_c ]; then
+        sha256sum tools/library.sh LICENSE bindings/c/unixvol.h bindings/python/*.* bindings/python/unixvol/*.*
+    fi
 } | sha256sum | cut -d' ' -f1

@@ -119,7 +119,7 @@ done << 'END'
  | clock
 END
 for word in 2026-11-23 2026-11-23T12:00:00 2026-11-23T12:00:00.5Z 1969-12-31T23:59:59Z 2106-02-07T06:28:16Z now ''; do
-    misread "error: invalid value '$word' for '<NOW>': not a number from 0" rm 7 disk /f "$word"
+    misread "error: invalid value '$word' for '<NOW>': not a decimal number from 0" rm 7 disk /f "$word"
 done
 
 # Several files that are put: the words, the time, and the files in order, each with the bytes of its path.
@@ -187,23 +187,23 @@ refused << 'END'
 put 7 disk -t '' a | invalid value '' for '<DIR>': it is empty
 get 7 disk --output= /d/f | invalid value '' for '<FOLDER>': it is empty
 put 7 disk /d/f | no value for '<FILE>': a file is missing
-put 7 disk /d/f a notamoment | invalid value 'notamoment' for '<NOW>': not a number from 0
-put 7 disk /d/f a 8 b | invalid value 'b' for '<MORE>': several files are put into a directory, by -t DIR
-mkfs 7 disk rk06 | invalid value 'rk06' for '<FSIZE>': not a number from 0 to 4294967295 in decimal digits, nor rk05
+put 7 disk /d/f a notamoment | invalid value 'notamoment' for '<NOW>': not a decimal number from 0
+put 7 disk /d/f a 8 b | invalid value 'b' for '<MORE>': several files need -t DIR
+mkfs 7 disk rk06 | invalid value 'rk06' for '<FSIZE>': not a decimal number from 0 to 4294967295, nor rk05
 mkfs 7 disk rk05 x | invalid value 'x' for '<IBLOCKS>'
 mkfs 7 disk rk05 5 65536 | invalid value '65536' for '<UID>'
 put 7 disk -t /d | <FILE>
 put 7 --target-directory=/d disk | <FILE>
 put 7 disk | <PATH>
-rm 7 disk /d/f /d/g | nor a date as 2026-11-23T12:00:00Z; rm takes one PATH, and then the moment
-mkdir 7 disk /d/f /d/g | ; mkdir takes one PATH, and then the moment
-mv 7 disk /d/f /d/g /d/h | ; mv takes two paths, FROM and TO, and then the moment
+rm 7 disk /d/f /d/g | nor a date like 2026-11-23T12:00:00Z; rm takes one PATH, then the time
+mkdir 7 disk /d/f /d/g | ; mkdir takes one PATH, then the time
+mv 7 disk /d/f /d/g /d/h | ; mv takes two paths, FROM and TO, then the time
 put 7 disk a -t | a value is required for '--target-directory <DIR>'
 put 7 disk -t /d -t /d a | '--target-directory <DIR>' cannot be used multiple times
 put 7 disk -t /d x/a b y/a | invalid value 'a' for '<FILE>': two files have this last name
 put 7 disk -t /d a a/. 8 | invalid value 'a' for '<FILE>'
 put 7 disk -o /d a | unexpected argument '-o'
-get 7 disk /d/f /d/g | invalid value '/d/g' for '<MORE>': several files are written into a folder, by -o FOLDER
+get 7 disk /d/f /d/g | invalid value '/d/g' for '<MORE>': several files need -o FOLDER
 get 7 disk -o out | <PATH>
 get 7 disk -o out -o out /d/f | '--output <FOLDER>' cannot be used multiple times
 get 7 disk -o out /d/f /e/f/ | invalid value 'f' for '<PATH>': two files have this last name

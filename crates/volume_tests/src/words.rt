@@ -140,7 +140,7 @@ fn a_moment_is_given_or_told(rt: HostRuntime) {
             panic!(rt; "the words are refused")
         };
         let text = format!(in alloc; "{error}").expect(&rt, "memory for the text");
-        let told = "no value for '<NOW>': the clock tells no moment from 1970 to 2106";
+        let told = "no value for '<NOW>': the clock isn't set to a time from 1970 to 2106";
         assert!(rt; text.as_str().contains(told));
     }
 }

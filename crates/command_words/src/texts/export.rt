@@ -1,41 +1,46 @@
 //! The texts of `export`.
 
 pub const ABOUT: &str =
-    "Writes all that is below a directory as a tar archive, of an image that isn't sound too.";
+    "Writes everything below a directory as a tar archive, even from an unsound image.";
 
 pub const MORE: &str = "\
 Example:
   unixvol export 7 disk.img /usr > usr.tar
   unixvol export --lost --status 7 damaged.img > all.tar
 
-It writes a ustar archive of POSIX to standard output: files, directories and special files, with their permissions,
-owners and times of modification. The names of a file after its first one are links. Members stand in the order of
-their names, by paths from PATH on, and none stands twice.
+A POSIX ustar archive is written to standard output: files, directories and special files, with their permissions,
+owners and times of modification. The second and further names of a file are links to the first. Members are
+sorted by name, with paths that start at PATH, and no path occurs twice.
 
-Of the volume's soundness only the image's size and its super-block's sizes are asked; all is exported to which
-entries lead from PATH. What is left out, and what is wrong with the volume, is told line by line on standard error,
-and the status is 1: an entry, with the reason; an i-node that no entry of the volume names, which is searched for if rules
-1 to 7 hold, or with an option; a block that two files name; and the least rule that the volume breaks. Further entries of
-one name in a directory have no line.
+The volume need not be sound. Only rules 1 and 2 are checked: the image's size, and the sizes in its super-block.
+Everything that entries lead to, from PATH on, is exported. Anything left out, and anything wrong with the volume,
+has a line on standard error, and the status is then 1. There is a line for
+  - an entry that is left out, with the reason
+  - an i-node that no entry of the volume names, if rules 1 to 7 hold, or with --lost or --status
+  - a block that two files use
+  - the first rule that the volume breaks
+If a directory has a name more than once, the first entry counts, and the others have no line.
 
-With --lost the i-nodes that nothing names are exported too, with all that is below them, each under its number:
-lost+found/#96 is i-node 96. It keeps its owner and its time.
+With --lost, i-nodes that no entry names are exported too, with everything below them, each under its number:
+lost+found/#96 is i-node 96. Each keeps its owner and its time.
 
 Status:
-  0  all was exported, and the volume is sound
-  1  all to which entries lead was exported, but for what is told; or nothing was:
-     `unixvol: unsound, rule 1`, `unixvol: unsound, rule 2`: the image is too short, or the sizes don't fit one another
-     `unixvol: 2 NoEntry`: there is no such name
-     `unixvol: 20 NotDirectory`: PATH, or what it leads through, is no directory
-  2  the command line can't be read
+  0  everything was exported, and the volume is sound
+  1  everything that entries lead to was exported, except what standard error says; or nothing was exported:
+     `unixvol: unsound, rule 1`: the image is shorter than its super-block says
+     `unixvol: unsound, rule 2`: the sizes in the super-block contradict one another
+     `unixvol: 2 NoEntry`: there is no such file or directory
+     `unixvol: 20 NotDirectory`: PATH isn't a directory, or leads through something that isn't one
+  2  the command line is wrong
   3  `unixvol: cannot read IMAGE`, or `unixvol: cannot write -`: standard output failed, or is a terminal
   4  `unixvol: 12 NoMemory`
-  5  with --status: all but what is told was exported; 1 then means that all was, of a volume that isn't sound
+  5  with --status: something was left out, as standard error says; 1 then means that the volume isn't sound, but
+     nothing was left out
   6  with --status: rule 1 or 2 doesn't hold, so the image has no volume of this edition, and nothing was exported";
 
-pub const BELOW: &str = "The directory's path in the volume; left out, the root";
+pub const BELOW: &str = "The directory's path in the volume; by default, the root";
 
-pub const LOST: &str = "Export the i-nodes that nothing names too, below lost+found";
+pub const LOST: &str = "Also export i-nodes that no entry names, below lost+found";
 
 pub const GRADED: &str =
-    "Say by status 5 that something isn't exported, by 6 that the image has no volume of this edition";
+    "Exit with status 5 if something isn't exported, and 6 if the image has no volume of this edition";

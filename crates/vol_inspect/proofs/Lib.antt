@@ -1,5 +1,8 @@
 pub mod Spans
 pub mod Gatherings
+pub mod Finds
+pub mod Owned
+pub mod Pointers
 pub mod Found
 pub mod Tallies
 pub mod UseLaws

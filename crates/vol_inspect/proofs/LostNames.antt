@@ -10,7 +10,6 @@ use Rattle.vol_layout.specs.Slot.{name_of}
 use Rattle.vol_layout.specs.declared.geometry.Geometry.{Geometry}
 use Rattle.vol_layout.specs.declared.slot.Slot.{Slot}
 use Rattle.vol_dir.specs.Names.{is_dots}
-use Rattle.vol_judge.specs.InodeMarks.{IsEnteredBefore}
 use Rattle.vol_judge.specs.Steps.{rank, IsNextSlot, IsPastEntries}
 use Rattle.vol_judge.proofs.PassedEntries.{split}
 use Rattle.vol_judge.specs.Directories.{root_of}

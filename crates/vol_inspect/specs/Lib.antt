@@ -13,6 +13,8 @@ pub mod PlaceCounts
 pub mod SharedBlocks
 pub mod FreeListStatus
 pub mod FreeChain
+pub mod Owners
+pub mod OwnerTexts
 pub mod Uses
 pub mod Pictures
 pub mod Svg

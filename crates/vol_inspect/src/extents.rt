@@ -68,7 +68,7 @@ fn note_inode(
 }
 
 /// Returns the first logical block below address `k`.
-fn first_logical(form: BlockMap, k: usize) -> u32
+pub(crate) fn first_logical(form: BlockMap, k: usize) -> u32
     requires { k ≤ 12 }
     ensures value { result ≡ first_at form k }
     ensures bound { result ≤ 16522 }
@@ -124,7 +124,7 @@ fn note_from(
 }
 
 /// Returns the number of logical blocks below a number that has `level` levels of indirect blocks below it.
-fn span(geometry: &Geometry, level: u8) -> u32
+pub(crate) fn span(geometry: &Geometry, level: u8) -> u32
     requires { level ≤ 2 }
     ensures { result ≡ (constants geometry.now.edition).pointers ^ level }
 {

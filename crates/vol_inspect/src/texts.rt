@@ -209,7 +209,7 @@ fn push_link(text: &mut String, link: &FreeLink) -> Result<(), AllocError>
 }
 
 /// Appends the place of a link.
-fn push_where(text: &mut String, block: u32) -> Result<(), AllocError>
+pub(crate) fn push_where(text: &mut String, block: u32) -> Result<(), AllocError>
     ensures { OnOk result (string_bytes text.new ≡ string_bytes text.old ++ link_where block) }
 {
     if block == 1 {

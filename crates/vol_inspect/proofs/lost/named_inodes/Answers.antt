@@ -1,9 +1,8 @@
-use Rattle.std.proofs.Common.{◌≡◌, take, drop, ◌++◌, get_or, length, refl, arith, rules}
-use Rattle.std.proofs.lemmas.Grind.{common_steps}
+use Rattle.std.proofs.Common.{◌≡◌, take, drop, ◌++◌, length, arith}
 use Rattle.vol_judge.specs.Steps.{rank}
 use Rattle.vol_judge.proofs.Once.{marks_written}
 use Rattle.vol_inspect.specs.Lost.{NamedBefore}
-use Rattle.vol_inspect.proofs.LostNames.{named_first, named_all}
+use Rattle.vol_inspect.proofs.LostNames.{named_all}
 use Rattle.vol_inspect.proofs.lost.named_inodes.Goals as goal
 
 pub loop-entry-preserved : goal.loop-entry-preserved

@@ -22,7 +22,7 @@ const ACCESSED_NOW: u32 = 128;
 const MODIFIED_NOW: u32 = 256;
 
 /// A time to set.
-#[derive(Clone, Copy, Debug, PartialEq, Eq, Drop)]
+#[derive(Clone, Copy, Drop)]
 pub enum NewTime {
     /// The time at which it is set.
     Now,
@@ -31,7 +31,7 @@ pub enum NewTime {
 }
 
 /// The attributes of a node to set. Those that are `None` stay.
-#[derive(Clone, Copy, Debug, PartialEq, Eq)]
+#[derive(Clone, Copy)]
 pub struct AttributeChanges {
     /// Kind and permissions, as in stat(2).
     pub mode: Option<u32>,

@@ -6,13 +6,13 @@ ghost use Rattle.fuse_words.specs.Requests.{name_of, names_of};
 use std::marker::Model;
 
 /// A name in a request, without its final NUL. Contracts see it as the list of its bytes.
-#[derive(Debug, Drop)]
+#[derive(Drop)]
 pub struct Name<'a> {
     bytes: &'a [u8],
 }
 
 /// The bytes for a file in a request. Contracts see them as their list.
-#[derive(Debug, Drop)]
+#[derive(Drop)]
 pub struct Content<'a> {
     bytes: &'a [u8],
 }

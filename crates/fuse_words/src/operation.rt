@@ -15,7 +15,7 @@ use crate::request::{u32_at, u64_at};
 const WRITE_FRONT: usize = 40;
 
 /// The operation of a request.
-#[derive(Debug, Drop)]
+#[derive(Drop)]
 pub enum Operation<'a> {
     /// The first request of a mount.
     Init {

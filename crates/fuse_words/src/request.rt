@@ -13,7 +13,7 @@ pub const ROOT: u64 = 1;
 pub const HEADER: usize = 40;
 
 /// The header of a request.
-#[derive(Clone, Copy, Debug, PartialEq, Eq)]
+#[derive(Clone, Copy, PartialEq, Eq)]
 pub struct Header {
     /// The number of bytes in the request, including its header.
     pub length: u32,
@@ -32,7 +32,7 @@ pub struct Header {
 }
 
 /// A request.
-#[derive(Debug, Drop)]
+#[derive(Drop)]
 pub struct Request<'a> {
     /// Its header.
     pub header: Header,
@@ -41,7 +41,7 @@ pub struct Request<'a> {
 }
 
 /// Why bytes aren't a request.
-#[derive(Clone, Copy, Debug, PartialEq, Eq)]
+#[derive(Clone, Copy, PartialEq, Eq)]
 pub enum RequestFault {
     /// There are fewer bytes than in a header.
     NoHeader,

@@ -8,6 +8,9 @@ mod rules;
 mod texts;
 
 pub use outcome::{RuleOutcome, RuleOutcomes, check_rules};
-pub use report::{RuleLine, RuleReport, edition_number, make_report, other_edition};
+pub use report::{
+    RuleLine, RuleReport, are_held, edition_number, lines_of, make_report, other_edition,
+};
 pub use rules::Rule;
+pub use texts::{Spot, spot_of, words_of};
 pub use vol_judge::Finding;

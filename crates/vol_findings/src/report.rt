@@ -59,7 +59,7 @@ pub fn make_report(alloc: Global, edition: Edition, image: &Image) -> Result<Rul
 }
 
 /// Returns the rules in order, each with its outcome.
-fn lines_of(found: &RuleOutcomes) -> [RuleLine; 12]
+pub fn lines_of(found: &RuleOutcomes) -> [RuleLine; 12]
     ensures { result ≡ lines_of found.now }
 {
     [
@@ -86,7 +86,7 @@ fn line_of(rule: Rule, outcome: RuleOutcome) -> RuleLine
 }
 
 /// True if all of some rules hold.
-fn are_held(lines: &[RuleLine]) -> bool
+pub fn are_held(lines: &[RuleLine]) -> bool
     ensures { result ≡ are_held lines.now }
 {
     lines

@@ -8,7 +8,7 @@ use vol_judge::Finding;
 
 /// The position of a finding.
 #[derive(Clone, Copy, Drop)]
-enum Spot {
+pub enum Spot {
     /// The image as a whole.
     Image,
     /// An i-node.
@@ -66,7 +66,7 @@ impl fmt::Display for RuleOutcome {
 }
 
 /// Returns the words for a finding.
-fn words_of(finding: Finding) -> &'static str
+pub fn words_of(finding: Finding) -> &'static str
     ensures { result.now ≡ words_of finding }
 {
     match finding {
@@ -98,7 +98,7 @@ fn words_of(finding: Finding) -> &'static str
 }
 
 /// Returns the position of a finding.
-fn spot_of(finding: Finding) -> Spot
+pub fn spot_of(finding: Finding) -> Spot
     ensures { result ≡ spot_of finding }
 {
     match finding {

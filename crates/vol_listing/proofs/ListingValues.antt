@@ -1,12 +1,12 @@
 -- The values of a listing as JSON.
-use Rattle.std.proofs.Common.{◌≡◌, ℕ, zero, suc, ◌+◌, ◌/◌, ◌%◌, ◌<◌, Bool, true, false, ◌||◌, if◌then◌else◌, List, [], ◌∷◌, ◌++◌, map, nat_le, nat_lt, slice_index, refl, ap, ◌∙◌, arith}
+use Rattle.std.proofs.Common.{◌≡◌, ℕ, zero, suc, ◌+◌, ◌/◌, ◌%◌, ◌<◌, Bool, true, false, ◌||◌, if◌then◌else◌, List, [], ◌∷◌, ◌++◌, map, nat_le, nat_lt, Option, None, Some, slice_index, refl, ap, ◌∙◌, arith}
 use Rattle.std.specs.Prelude.{◌==◌, ◌&&◌, codes}
 use Rattle.std.specs.List.{flat_map}
 use Rattle.std.specs.Str.{IsAscii, IsUtf8}
 use Rattle.std.proofs.lemmas.Bool.Decides.{nat_tests}
 use Rattle.std.proofs.lemmas.Str.{IsAscii-append, IsUtf8-from_ascii}
 use Rattle.std.proofs.lemmas.Str.Ascii.{IsAscii-nil}
-use Rattle.serde_json.specs.Data.{Data, Members, object, member, no_members}
+use Rattle.serde_json.specs.Data.{Data, Members, object, member, no_members, put}
 use Rattle.serde_json.specs.View.{items_of}
 use Rattle.serde_json.specs.Written.{has_float, items_have_float, members_have_float}
 use Rattle.vol_dir.specs.Tree.{Tree}
@@ -15,6 +15,8 @@ use Rattle.vol_listing.specs.Depths.{opens}
 use Rattle.vol_listing.specs.ListingJson.{all_data, device_members, entries_data, entry_data, row_data, with_device, with_file, with_numbers}
 use Rattle.vol_listing.specs.Places.{joined, names_under}
 use Rattle.vol_listing.specs.Rows.{row_of}
+use Rattle.vol_listing.specs.Sums.{is_left, met_data, sum_at, sum_data, summed_data, sums_data}
+use Rattle.vol_archive.specs.declared.met_entries.MetEntry.{MetEntry}
 use Rattle.escaped_text.specs.Escape.{escaped, escaped_byte}
 use Rattle.vol_listing.specs.declared.options.Depth.{Depth}
 use Rattle.vol_listing.specs.declared.places.ListedNode.{ListedNode}
@@ -65,15 +67,9 @@ device_in_order (sorts.Character device) gid inode kind links modified path perm
 device_in_order (sorts.Block device) gid inode kind links modified path permissions size uid = refl
 
 -- the members of a row are in the order of their keys
-row_in_order : (path : List ℕ) (row : Row) → object (with_device row.sort (with_file path row (with_numbers row no_members))) ≡ row_data path row
+pub row_in_order : (path : List ℕ) (row : Row) → object (with_device row.sort (with_file path row (with_numbers row no_members))) ≡ row_data path row
 unfolding row_data with_file with_numbers
 row_in_order path row = ap object (device_in_order row.sort _ _ _ _ _ _ _ _ _)
-
--- a row, built of these
-pub row_built : (path : List ℕ) (row : Row) (none numbers file device : Members) → none ≡ no_members → numbers ≡ with_numbers row none
-    → file ≡ with_file path row numbers → device ≡ with_device row.sort file → object device ≡ row_data path row
-row_built path row none numbers file device n m f d =
-    ap object (d ∙ ap (with_device row.sort) (f ∙ ap (with_file path row) (m ∙ ap (with_numbers row) n))) ∙ row_in_order path row
 
 -- no number of a device is a fraction
 device_whole : (sort : Sort) (others : Members) → members_have_float others ≡ false → members_have_float (device_members sort others) ≡ false
@@ -129,3 +125,34 @@ all_whole tree depth place places =
       | true ↦ whole_append (entries_data tree place) (flat_map (entries_data tree) places) (entries_whole tree place) (places_whole tree places)
       | false ↦ whole_more (row_data place.path (row_of place.inode (node_at tree place.inode))) [] (row_whole place.path (row_of place.inode (node_at tree place.inode))) refl
     ]
+
+-- nor of a node with its sum
+summed_by : (sum : Option (List ℕ)) (sort : Sort) (path : List ℕ) (row : Row)
+    → has_float (object (put (codes "sha256") (sum_data sum) (with_device sort (with_file path row (with_numbers row no_members))))) ≡ false
+unfolding with_file with_numbers
+summed_by None sorts.Regular path row = refl
+summed_by None sorts.Directory path row = refl
+summed_by None (sorts.Character device) path row = refl
+summed_by None (sorts.Block device) path row = refl
+summed_by (Some sum) sorts.Regular path row = refl
+summed_by (Some sum) sorts.Directory path row = refl
+summed_by (Some sum) (sorts.Character device) path row = refl
+summed_by (Some sum) (sorts.Block device) path row = refl
+
+summed_whole : (sum : Option (List ℕ)) (row : Row) (path : List ℕ) → has_float (summed_data sum row path) ≡ false
+unfolding summed_data
+summed_whole sum row path = summed_by sum row.sort path row
+
+-- nor of a manifest
+met_whole : (tree : Tree) (found : MetEntry) → AreWhole (met_data tree found)
+met_whole tree found =
+    let node = summed_data (sum_at tree found.inode) (row_of found.inode (node_at tree found.inode)) found.path in
+    elim (is_left found.role) as (λ b. AreWhole (if b then [] else node ∷ [])) [
+      | true ↦ refl
+      | false ↦ whole_more node [] (summed_whole (sum_at tree found.inode) (row_of found.inode (node_at tree found.inode)) found.path) refl
+    ]
+
+pub sums_whole : (tree : Tree) (founds : List MetEntry) → AreWhole (sums_data tree founds)
+sums_whole tree [] = refl
+sums_whole tree (found ∷ founds) =
+    whole_append (met_data tree found) (sums_data tree founds) (met_whole tree found) (sums_whole tree founds)

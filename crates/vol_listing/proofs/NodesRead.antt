@@ -1,7 +1,9 @@
 -- The node of an i-number, in the tree of an image.
-use Rattle.std.proofs.Common.{◌≡◌, ◌≢◌, ◌⊎◌, inl, inr, ℕ, ◌≤◌, ◌/◌, ◌%◌, ◌∙◌, ap, refl, sym, true, false, cond, List, None, slice_index, arith}
-use Rattle.std.specs.Option.{option_map, unwrap_or}
+use Rattle.std.proofs.Common.{◌≡◌, ◌≢◌, ◌⊎◌, inl, inr, ℕ, ◌≤◌, ◌/◌, ◌%◌, ◌∙◌, ap, refl, sym, true, false, cond, List, Option, None, Some, slice_index, arith}
+use Rattle.std.specs.Option.{option_map, option_map_or, unwrap_or}
 use Rattle.std.proofs.lemmas.Bool.Decides.{nat_tests}
+use Rattle.sha2.specs.Sha256.{sha256}
+use Rattle.vol_layout.specs.Body.{body}
 use Rattle.vol_layout.specs.Inode.{inode_of, inode_place}
 use Rattle.vol_layout.specs.declared.geometry.Geometry.{Geometry}
 use Rattle.vol_layout.specs.declared.i_node.Inode.{Inode}
@@ -14,6 +16,7 @@ use Rattle.vol_dir.specs.Walk.{is_directory}
 use Rattle.vol_dir.proofs.WalkLaws.{node_inside}
 use Rattle.vol_change.specs.Nodes.{no_node, node_at}
 use Rattle.vol_listing.specs.Rows.{row_of, row_with, special_sort}
+use Rattle.vol_listing.specs.Sums.{sum_at, sum_of}
 use Rattle.vol_listing.specs.declared.rows.Sort.{Sort}
 use Rattle.vol_listing.specs.declared.rows.Sort.TheVariants as sorts
 
@@ -90,3 +93,33 @@ module _ (geometry : Geometry) (image : List ℕ) (i : ℕ) where
   pub directory_not : is_number geometry i ≡ true → kind_at geometry image i ≢ kinds.Directory → is_directory (node_at (tree geometry image) i) ≡ false
   directory_not number other =
       ap is_directory (node_is (kind_at geometry image i) number refl) ∙ no_directory (kind_at geometry image i) other
+
+  -- the sum of an i-node of some kind
+  abbrev sum_by : Kind → Option (List ℕ)
+  sum_by kind =
+      option_map_or (λ (n : Node). sum_of n.content) (option_map (node_with (inode_of geometry.edition image i)) (content_of geometry image i kind)) None
+
+  sum_is : (kind : Kind) → is_number geometry i ≡ true → kind ≡ kind_at geometry image i → sum_at (tree geometry image) i ≡ sum_by kind
+  unfolding sum_at
+  sum_is kind number is =
+      let first : 1 ≤ i = grind (arith, nat_tests) in
+      let last : i ≤ geometry.last_inode = grind (arith, nat_tests) in
+      ap (λ n. option_map_or (λ (n : Node). sum_of n.content) n None) (node_inside geometry image i first last ∙ node_of_kind kind is)
+
+  no_sum : (kind : Kind) → kind ≢ kinds.Regular → sum_by kind ≡ None
+  no_sum kinds.Free other = refl
+  no_sum kinds.Regular other = absurd (other refl)
+  no_sum kinds.Directory other = refl
+  no_sum kinds.Special other = refl
+  no_sum kinds.Odd other = refl
+
+  -- only a regular file has a sum
+  pub sum_regular : is_number geometry i ≡ true → kinds.Regular ≡ kind_at geometry image i → sum_at (tree geometry image) i ≡ Some (sha256 (body geometry image i))
+  sum_regular number is = sum_is kinds.Regular number is
+
+  pub sum_other : is_number geometry i ≡ true → kind_at geometry image i ≢ kinds.Regular → sum_at (tree geometry image) i ≡ None
+  sum_other number other = sum_is (kind_at geometry image i) number refl ∙ no_sum (kind_at geometry image i) other
+
+  pub sum_outside : is_number geometry i ≡ false → sum_at (tree geometry image) i ≡ None
+  unfolding tree sum_at
+  sum_outside number = ap (λ b. option_map_or (λ (n : Node). sum_of n.content) (cond b (node_of geometry image i) None) None) number

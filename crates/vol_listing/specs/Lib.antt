@@ -16,3 +16,4 @@ pub mod ListingJson
 pub mod LongLines
 pub mod Places
 pub mod Rows
+pub mod Sums

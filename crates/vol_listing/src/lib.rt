@@ -12,7 +12,9 @@ mod long_lines;
 mod options;
 mod places;
 mod rows;
+pub mod sums;
 
 pub use lines::push_shown;
 pub use listing::list;
 pub use options::{Depth, Lines, ListOptions, Screen};
+pub use sums::{sums_json, sums_text};

@@ -1,6 +1,7 @@
 //! Listings as JSON.
 ghost use Rattle.std.specs.Prelude.{◌≡◌, ◌++◌, IfOk, OnOk, map, string_bytes};
 ghost use Rattle.std.specs.List.{flat_map};
+ghost use Rattle.serde_json.specs.Data.{no_members};
 ghost use Rattle.serde_json.specs.View.{members_view, view};
 ghost use Rattle.vol_dir.specs.Tree.{tree};
 ghost use Rattle.vol_layout.specs.Geometry.{Fits};
@@ -135,11 +136,23 @@ fn entry_value(
 fn row_value(alloc: Global, path: &[u8], row: Row) -> Result<Value, AllocError>
     ensures { IfOk result (λ value. view value ≡ row_data path.now row) }
 {
+    let object = row_object(alloc, path, row)?;
+    Ok(Value::Object(object))
+}
+
+/// Returns the members of the object of a row at a path.
+pub(crate) fn row_object(
+    alloc: Global,
+    path: &[u8],
+    row: Row,
+) -> Result<Map<String, Value>, AllocError>
+    ensures { IfOk result (λ object. members_view object.entries ≡ with_device row.sort (with_file path.now row (with_numbers row no_members))) }
+{
     let mut object = Map::new(alloc);
     put_numbers(alloc, row, &mut object)?;
     put_file(alloc, path, row, &mut object)?;
     put_device(alloc, row.sort, &mut object)?;
-    Ok(Value::Object(object))
+    Ok(object)
 }
 
 /// Puts the numbers that every node has.

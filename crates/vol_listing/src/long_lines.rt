@@ -34,7 +34,7 @@ fn push_owner_columns(text: &mut Vec<u8>, row: Row) -> Result<(), AllocError>
 }
 
 /// Appends a column of a line, followed by a space.
-fn push_column(text: &mut Vec<u8>, column: &[u8]) -> Result<(), AllocError>
+pub(crate) fn push_column(text: &mut Vec<u8>, column: &[u8]) -> Result<(), AllocError>
     ensures { OnOk result (text.new.items ≡ text.old.items ++ spaced column.now) }
 {
     text.extend_from_slice(column)?;
@@ -44,7 +44,7 @@ fn push_column(text: &mut Vec<u8>, column: &[u8]) -> Result<(), AllocError>
 
 /// Returns the kind of a node and its permissions, in ten letters.
 #[tactic(auto, unfolding(crate::specs::LongLines::mode_text))]
-fn mode_text(sort: Sort, permissions: u16) -> [u8; 10]
+pub(crate) fn mode_text(sort: Sort, permissions: u16) -> [u8; 10]
     ensures { result ≡ mode_text sort permissions }
 {
     [
@@ -111,7 +111,7 @@ fn special_flag(permissions: u16, value: u16, special: u16, both: u8, alone: u8)
 }
 
 /// Returns the size of a node, or its device's numbers, in ten columns.
-fn size_text(sort: Sort, size: u32) -> [u8; 10]
+pub(crate) fn size_text(sort: Sort, size: u32) -> [u8; 10]
     ensures { result ≡ size_text sort size }
 {
     match sort {

@@ -1,14 +1,12 @@
-use Rattle.std.proofs.Common.{◌≡◌, ◌∙◌, rules}
-use Rattle.serde_json.specs.Data.{no_members, object}
+use Rattle.std.proofs.Common.{◌≡◌, ◌∙◌, ap, rules}
+use Rattle.serde_json.specs.Data.{object}
 use Rattle.serde_json.specs.View.{members_view, view}
 use Rattle.serde_json.specs.declared.value.Value.{Object, the_lemmas}
-use Rattle.vol_listing.proofs.ListingValues.{row_built}
+use Rattle.vol_listing.proofs.ListingValues.{row_in_order}
 use Rattle.vol_listing.proofs.listing_json.row_value.Goals as goal
 
 pub returns : goal.returns
 returns c =
-    let built = c.put_device.new.object in
+    let built = c.in_ok-object.object in
     let opened : view (Object built) ≡ object (members_view built.entries) = search (rules, the_lemmas) in
-    let none : members_view c.new-object.result.entries ≡ no_members = search rules in
-    opened
-    ∙ row_built c.args.path.now c.args.row _ _ _ _ none c.in_ok-put_numbers.ensures c.in_ok-put_file.ensures c.in_ok-put_device.ensures
+    opened ∙ (ap object c.in_ok-object.ensures ∙ row_in_order c.args.path.now c.args.row)

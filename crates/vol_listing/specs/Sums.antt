@@ -1,0 +1,89 @@
+-- Manifests: the attributes of nodes, with the sum of each file.
+use Rattle.std.specs.Prelude.{ℕ, Bool, true, false, if◌then◌else◌, List, [], ◌∷◌, ◌++◌, codes, Option, None, Some}
+use Rattle.std.specs.List.{flat_map}
+use Rattle.std.specs.Option.{option_map_or}
+use Rattle.hex.specs.Hex.{encode_lower}
+use Rattle.serde_json.specs.Data.{Data, null, string, array, object, no_members, put}
+use Rattle.serde_json.specs.View.{items_of}
+use Rattle.serde_json.specs.Written.{compact_text}
+use Rattle.sha2.specs.Sha256.{sha256}
+use Rattle.escaped_text.specs.Escape.{escaped}
+use Rattle.vol_archive.specs.declared.met_entries.MetEntry.{MetEntry}
+use Rattle.vol_archive.specs.declared.met_entries.Role.{Role}
+use Rattle.vol_archive.specs.declared.met_entries.Role.TheVariants as roles
+use Rattle.vol_change.specs.Nodes.{node_at}
+use Rattle.vol_dir.specs.Tree.{Content, Body, Directory, Device, Node, Tree}
+use Rattle.vol_listing.specs.Dates.{moment_text}
+use Rattle.vol_listing.specs.Digits.{padded_number}
+use Rattle.vol_listing.specs.ListingJson.{with_device, with_file, with_numbers}
+use Rattle.vol_listing.specs.LongLines.{column, mode_text, size_text}
+use Rattle.vol_listing.specs.Rows.{row_of}
+use Rattle.vol_listing.specs.declared.rows.Row.{Row}
+
+-- the SHA-256 of a regular file's bytes; no other node has one (FIPS 180-4)
+abbrev pub sum_of : Content → Option (List ℕ)
+sum_of (Body bytes) = Some (sha256 bytes)
+sum_of (Directory names) = None
+sum_of (Device type addresses) = None
+
+-- the sum of node i (FIPS 180-4)
+unfoldable pub sum_at : Tree → ℕ → Option (List ℕ)
+sum_at tree i = option_map_or (λ (node : Node). sum_of node.content) (tree.nodes i) None
+
+-- a sum in hexadecimal digits, or a dash for a node without one (sha256sum)
+abbrev pub sum_text : Option (List ℕ) → List ℕ
+sum_text None = codes "-"
+sum_text (Some sum) = encode_lower sum
+
+-- the mode of a node, its owner and its group, each followed by a space (ls -l)
+unfoldable pub mode_columns : Row → List ℕ
+mode_columns row = column (mode_text row.sort row.permissions) ++ (column (padded_number row.uid) ++ column (padded_number row.gid))
+
+-- the same, and its size and the time of the last change of its contents (ls -l)
+unfoldable pub attribute_columns : Row → List ℕ
+attribute_columns row =
+    mode_columns row ++ (column (size_text row.sort row.size) ++ column (moment_text row.modified))
+
+-- the line of a node: its sum, its attributes and its path (sha256sum; ls -l)
+unfoldable pub sum_line : Option (List ℕ) → Row → List ℕ → List ℕ
+sum_line sum row path = column (sum_text sum) ++ (attribute_columns row ++ (escaped path ++ 10 ∷ []))
+
+-- true if an entry that was met is left out of an archive (this project)
+abbrev pub is_left : Role → Bool
+is_left (roles.Left reason) = true
+is_left roles.File = false
+is_left roles.Directory = false
+is_left roles.Special = false
+is_left (roles.Link k) = false
+
+-- the line of an entry that was met, unless it is left out (this project)
+abbrev pub met_line : Tree → MetEntry → List ℕ
+met_line tree found =
+    if is_left found.role then [] else sum_line (sum_at tree found.inode) (row_of found.inode (node_at tree found.inode)) found.path
+
+-- the lines of the entries that were met (this project)
+abbrev pub sums_text : Tree → List MetEntry → List ℕ
+sums_text tree founds = flat_map (met_line tree) founds
+
+-- a sum in hexadecimal digits, or null for a node without one (this project)
+abbrev pub sum_data : Option (List ℕ) → Data
+sum_data None = null
+sum_data (Some sum) = string (encode_lower sum)
+
+-- the object of a node at a path: that of a listing, and its sum (this project)
+unfoldable pub summed_data : Option (List ℕ) → Row → List ℕ → Data
+summed_data sum row path = object (put (codes "sha256") (sum_data sum) (with_device row.sort (with_file path row (with_numbers row no_members))))
+
+-- the object of an entry that was met, unless it is left out (this project)
+abbrev pub met_data : Tree → MetEntry → List Data
+met_data tree found =
+    if is_left found.role then []
+    else summed_data (sum_at tree found.inode) (row_of found.inode (node_at tree found.inode)) found.path ∷ []
+
+-- the objects of the entries that were met (this project)
+abbrev pub sums_data : Tree → List MetEntry → List Data
+sums_data tree founds = flat_map (met_data tree) founds
+
+-- the same as one array, on one line (RFC 8259)
+abbrev pub sums_json : Tree → List MetEntry → List ℕ
+sums_json tree founds = compact_text (array (items_of (sums_data tree founds))) ++ codes "\n"

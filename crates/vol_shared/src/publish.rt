@@ -112,7 +112,7 @@ fn make_foreseen<R: Wait>(
 }
 
 /// Returns the receipt of a refused call.
-#[tactic(auto, using(vol_receipts::proofs::Records::agrees_reported))]
+#[tactic(auto, using(vol_receipts::proofs::Records::agrees_told))]
 fn refused(volume: &Volume, at: u64, asked: Call, refusal: Refusal) -> Receipt
     requires at { at ≡ volume.now.first + length volume.now.journal }
     requires refusal { verdict (reads_as volume.now.edition volume.now.image) asked ≡ Some refusal }

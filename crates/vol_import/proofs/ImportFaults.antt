@@ -4,15 +4,15 @@ use Rattle.std.specs.Prelude.{Result, ◌+◌, nat_le, if◌then◌else◌, leng
 use Rattle.ustar.specs.Read.{path_of}
 use Rattle.ustar.specs.declared.read.HeaderFault.{HeaderFault}
 use Rattle.ustar.specs.declared.read.HeaderFault.TheVariants as headers
-use Rattle.std.specs.Global.{Vec}
 use Rattle.vol_dir.specs.Tree.{Tree}
 use Rattle.vol_judge.specs.Sound.{IsSound}
 use Rattle.vol_volume.specs.Faults.{IsFaultOf}
 use Rattle.vol_volume.specs.Volume.{Mounted, IsConsistent, mounted, reads_as}
 use Rattle.vol_import.specs.Entries.{block_at}
 use Rattle.vol_import.specs.Members.{members as read_members}
+use Rattle.vol_import.specs.Options.{calls_with, chosen, chosen_members, left_out}
 use Rattle.vol_import.specs.Plan.{plan}
-use Rattle.vol_import.specs.Make.{AreMade, AreStopped, TakesMemory, unmounted, unheaded, unread, unplanned, told, planned, calls_to_make, Tells, IsUnmounted, IsStop, Imports, IsReason}
+use Rattle.vol_import.specs.Make.{AreMade, AreStopped, TakesMemory, unmounted, unheaded, unread, unplanned, told, planned, Tells, IsUnmounted, IsStop, Imports, IsReason}
 use Rattle.vol_import.proofs.MadeCalls.{imported}
 use Rattle.vol_dir.specs.declared.refusal.Refusal.{Refusal}
 use Rattle.vol_layout.specs.declared.edition.Edition.{Edition}
@@ -22,7 +22,9 @@ use Rattle.vol_volume.specs.declared.volume.MountFault.TheVariants as mounts
 use Rattle.vol_import.specs.declared.member_check.MemberFault.TheVariants as members
 use Rattle.vol_import.specs.declared.faults.ArchiveFault.{ArchiveFault}
 use Rattle.vol_import.specs.declared.faults.ArchiveFault.TheVariants as archives
+use Rattle.vol_import.specs.declared.import_options.ImportOptions.{ImportOptions}
 use Rattle.vol_import.specs.declared.make.ImportFault.{ImportFault}
+use Rattle.vol_import.specs.declared.make.Planned.{Planned}
 use Rattle.vol_import.specs.declared.make.ImportFault.TheVariants as faults
 use Rattle.vol_import.specs.declared.import_plan.PlanFault.{PlanFault}
 use Rattle.vol_import.specs.declared.import_plan.PlanFault.TheVariants as plans
@@ -76,14 +78,14 @@ planned_reason edition image wanted (faults.Member path cause) sound plans tells
 planned_reason edition image wanted (faults.Refused refusal call) sound plans tells = absurd (plans (faults.Refused refusal call) (tells (λ same. cc)))
 planned_reason edition image wanted faults.NoMemory sound plans tells = tt
 
-pub no_calls : (edition : Edition) (image archive base : List ℕ) (now : ℕ) (old : Mounted) (fault : ImportFault) → IsSound edition image
-    → old ≡ mounted edition image → Tells (calls_to_make (reads_as old.edition old.image).tree archive base now) fault
-    → IsReason edition image (calls_to_make (reads_as edition image).tree archive base now) fault
-unfolding calls_to_make
-no_calls edition image archive base now old fault sound is tells =
-    planned_reason edition image (calls_to_make (reads_as edition image).tree archive base now) fault sound
-    (planned_plans (reads_as edition image).tree archive base now (read_members archive))
-    (subst (λ (v : Mounted). Tells (calls_to_make (reads_as v.edition v.image).tree archive base now) fault) is tells)
+pub no_calls : (options : ImportOptions) (edition : Edition) (image archive base : List ℕ) (now : ℕ) (old : Mounted) (fault : ImportFault)
+    → IsSound edition image → old ≡ mounted edition image → Tells (calls_with options (reads_as old.edition old.image).tree archive base now) fault
+    → IsReason edition image (calls_with options (reads_as edition image).tree archive base now) fault
+unfolding calls_with
+no_calls options edition image archive base now old fault sound is tells =
+    planned_reason edition image (calls_with options (reads_as edition image).tree archive base now) fault sound
+    (planned_plans (reads_as edition image).tree archive base now (chosen_members options (read_members archive)))
+    (subst (λ (v : Mounted). Tells (calls_with options (reads_as v.edition v.image).tree archive base now) fault) is tells)
 
 -- a fault of mounting is reported
 unmounted_reason : (edition : Edition) (image : List ℕ) (wanted : Result (List Call) ImportFault) (why : MountFault) → IsFaultOf edition image why
@@ -107,23 +109,24 @@ stop_reason edition image calls new (faults.Member path cause) sound is = absurd
 stop_reason edition image calls new (faults.Refused refusal call) sound is = (sound, (new, is))
 stop_reason edition image calls new faults.NoMemory sound is = tt
 
-pub not_made : (edition : Edition) (image archive base : List ℕ) (now : ℕ) (old new : Mounted) (calls : List Call) (fault : ImportFault) → IsSound edition image
-    → old ≡ mounted edition image → calls_to_make (reads_as old.edition old.image).tree archive base now ≡ Ok calls → IsStop old calls new fault
-    → IsReason edition image (calls_to_make (reads_as edition image).tree archive base now) fault
-not_made edition image archive base now old new calls fault sound is wanted stop =
-    let here : calls_to_make (reads_as edition image).tree archive base now ≡ Ok calls =
-    subst (λ (v : Mounted). calls_to_make (reads_as v.edition v.image).tree archive base now ≡ Ok calls) is wanted in
+pub not_made : (options : ImportOptions) (edition : Edition) (image archive base : List ℕ) (now : ℕ) (old new : Mounted) (calls : List Call) (fault : ImportFault)
+    → IsSound edition image → old ≡ mounted edition image → calls_with options (reads_as old.edition old.image).tree archive base now ≡ Ok calls
+    → IsStop old calls new fault → IsReason edition image (calls_with options (reads_as edition image).tree archive base now) fault
+not_made options edition image archive base now old new calls fault sound is wanted stop =
+    let here : calls_with options (reads_as edition image).tree archive base now ≡ Ok calls =
+    subst (λ (v : Mounted). calls_with options (reads_as v.edition v.image).tree archive base now ≡ Ok calls) is wanted in
     subst (λ (w : Result (List Call) ImportFault). IsReason edition image w fault) (sym here)
     (stop_reason edition image calls new fault sound (subst (λ (v : Mounted). IsStop v calls new fault) is stop))
 
 -- all calls are made
-pub all_made : (edition : Edition) (image archive base bytes : List ℕ) (now : ℕ) (old new : Mounted) (calls : List Call) → IsSound edition image
-    → old ≡ mounted edition image → calls_to_make (reads_as old.edition old.image).tree archive base now ≡ Ok calls → AreMade old calls new
-    → IsConsistent new → bytes ≡ new.image → Imports edition image (calls_to_make (reads_as edition image).tree archive base now) bytes
+pub all_made : (options : ImportOptions) (edition : Edition) (image archive base bytes : List ℕ) (now : ℕ) (old new : Mounted) (calls : List Call)
+    → IsSound edition image → old ≡ mounted edition image → calls_with options (reads_as old.edition old.image).tree archive base now ≡ Ok calls
+    → AreMade old calls new → IsConsistent new → bytes ≡ new.image
+    → Imports edition image (calls_with options (reads_as edition image).tree archive base now) bytes
 unfolding Imports
-all_made edition image archive base bytes now old new calls sound is wanted made consistent left =
-    let here : calls_to_make (reads_as edition image).tree archive base now ≡ Ok calls =
-    subst (λ (v : Mounted). calls_to_make (reads_as v.edition v.image).tree archive base now ≡ Ok calls) is wanted in
+all_made options edition image archive base bytes now old new calls sound is wanted made consistent left =
+    let here : calls_with options (reads_as edition image).tree archive base now ≡ Ok calls =
+    subst (λ (v : Mounted). calls_with options (reads_as v.edition v.image).tree archive base now ≡ Ok calls) is wanted in
     subst (λ (w : Result (List Call) ImportFault). Imports edition image w bytes) (sym here)
     (imported edition image bytes calls new sound (subst (λ (v : Mounted). AreMade v calls new) is made) consistent left)
 
@@ -135,27 +138,38 @@ plan_told wanted why fault tells is = λ other.
     ap told e ∙ ap Err (sym is)
 
 -- a fault of the archive is reported
-pub archive_told : (tree : Tree) (archive base : List ℕ) (now : ℕ) (why : ArchiveFault) (fault : ImportFault)
+pub archive_told : (options : ImportOptions) (tree : Tree) (archive base : List ℕ) (now : ℕ) (why : ArchiveFault) (fault : ImportFault)
     → (why ≢ archives.NoMemory → read_members archive ≡ Err why) → ((fault ≡ faults.NoMemory) × TakesMemory why) ⊎ (fault ≡ unread archive why)
-    → Tells (calls_to_make tree archive base now) fault
-unfolding calls_to_make
-archive_told tree archive base now why fault tells (inl none) = λ other. absurd (other none.0)
-archive_told tree archive base now why fault tells (inr is) = λ other.
+    → Tells (calls_with options tree archive base now) fault
+unfolding calls_with
+archive_told options tree archive base now why fault tells (inl none) = λ other. absurd (other none.0)
+archive_told options tree archive base now why fault tells (inr is) = λ other.
     let e : read_members archive ≡ Err why = tells (λ (same : why ≡ archives.NoMemory). other (is ∙ ap (unread archive) same)) in
-    ap (planned tree archive base now) e ∙ ap Err (sym is)
+    ap (λ (read : Result (List Member) ArchiveFault). planned tree archive base now (chosen_members options read)) e ∙ ap Err (sym is)
 
 -- the result for the members of an archive is the one for the archive
-pub found_ok : (result : Result (Vec Call) ImportFault) (tree : Tree) (archive base : List ℕ) (now : ℕ) (found : List Member) → read_members archive ≡ Ok found
-    → IfOk result (λ calls. told (plan tree base now found) ≡ Ok calls.items) → IfOk result (λ calls. calls_to_make tree archive base now ≡ Ok calls.items)
-unfolding calls_to_make
-found_ok result tree archive base now found e ok =
-    subst (λ (read : Result (List Member) ArchiveFault). IfOk result (λ calls. planned tree archive base now read ≡ Ok calls.items)) (sym e) ok
+pub found_ok : (result : Result Planned ImportFault) (options : ImportOptions) (tree : Tree) (archive base : List ℕ) (now : ℕ) (found : List Member)
+    → read_members archive ≡ Ok found → IfOk result (λ planned. told (plan tree base now (chosen options found).0) ≡ Ok planned.calls.items)
+    → IfOk result (λ planned. calls_with options tree archive base now ≡ Ok planned.calls.items)
+unfolding calls_with
+found_ok result options tree archive base now found e ok =
+    subst (λ (read : Result (List Member) ArchiveFault). IfOk result (λ calls. planned tree archive base now (chosen_members options read) ≡ Ok calls.calls.items))
+    (sym e) ok
 
-pub found_fault : (result : Result (Vec Call) ImportFault) (tree : Tree) (archive base : List ℕ) (now : ℕ) (found : List Member) → read_members archive ≡ Ok found
-    → IfErr result (Tells (told (plan tree base now found))) → IfErr result (Tells (calls_to_make tree archive base now))
-unfolding calls_to_make
-found_fault result tree archive base now found e fault =
-    subst (λ (read : Result (List Member) ArchiveFault). IfErr result (Tells (planned tree archive base now read))) (sym e) fault
+-- and so are the paths left out
+pub found_left : (result : Result Planned ImportFault) (options : ImportOptions) (archive : List ℕ) (found : List Member) → read_members archive ≡ Ok found
+    → IfOk result (λ planned. planned.left_out.items ≡ (chosen options found).1)
+    → IfOk result (λ planned. planned.left_out.items ≡ left_out options (read_members archive))
+found_left result options archive found e left =
+    subst (λ (read : Result (List Member) ArchiveFault). IfOk result (λ planned. planned.left_out.items ≡ left_out options read)) (sym e) left
+
+-- and so is a fault
+pub found_fault : (result : Result Planned ImportFault) (options : ImportOptions) (tree : Tree) (archive base : List ℕ) (now : ℕ) (found : List Member)
+    → read_members archive ≡ Ok found → IfErr result (Tells (told (plan tree base now (chosen options found).0)))
+    → IfErr result (Tells (calls_with options tree archive base now))
+unfolding calls_with
+found_fault result options tree archive base now found e fault =
+    subst (λ (read : Result (List Member) ArchiveFault). IfErr result (Tells (planned tree archive base now (chosen_members options read)))) (sym e) fault
 
 -- a refused call among several is reported
 pub stop_told : (old new : Mounted) (calls : List Call) (refusal : Refusal) (call : Call) (fault : ImportFault) → AreStopped old calls new refusal call

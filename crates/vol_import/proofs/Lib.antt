@@ -19,6 +19,7 @@ mod NodeNumbers
 pub mod PlanRuns
 pub mod RecordRuns
 mod SameTrees
+pub mod SortRuns
 mod SplitPaths
 pub mod Steps
 pub mod TreeWalks

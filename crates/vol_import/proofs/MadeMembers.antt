@@ -27,6 +27,8 @@ use Rattle.vol_volume.specs.declared.queries.Reply.TheVariants as replies
 use Rattle.vol_volume.proofs.Journals.{reads_made}
 use Rattle.vol_import.specs.MadeMembers.{AddsNames, EndsIn, HasMember, HasMembers, HasArchive, KeepsNodes, is_among, is_for, is_made_at, made_paths}
 use Rattle.vol_import.specs.Make.{AreMade, Imports, ImportsCalls, calls_to_make, planned, told}
+use Rattle.vol_import.specs.Options.{calls_with, chosen_members}
+use Rattle.vol_import.specs.declared.import_options.ImportOptions.{ImportOptions}
 use Rattle.vol_import.specs.Members.{members}
 use Rattle.vol_import.specs.Plan.{and_next, base_permissions, below, check, closed, closing_calls, is_base, is_directory as says_directory, is_directory_at, is_directory_kind, is_there, joined, made_as, moment_of, permissions_given, permissions_of, permissions_told, plan, plan_onto, steps_of, times}
 use Rattle.vol_import.specs.declared.member_check.MadeAs.{MadeAs}
@@ -384,12 +386,12 @@ run_made old new (call ∷ calls) made =
       subst (λ (s : State). IsRun s calls (reads_as new.edition new.image)) next (run_made mid new calls made.3),
     )
 
--- an import leaves all members of its archive
-pub archive_had : (edition : Edition) (image archive base bytes : List ℕ) (now : ℕ)
-    → Imports edition image (calls_to_make (reads_as edition image).tree archive base now) bytes
-    → HasArchive (reads_as edition image).tree (reads_as edition bytes).tree base now (members archive)
-unfolding Imports calls_to_make HasArchive
-archive_had edition image archive base bytes now = by (members archive)
+-- an import leaves all members that were read
+pub members_left : (edition : Edition) (image archive base bytes : List ℕ) (now : ℕ) (read : Result (List Member) ArchiveFault)
+    → Imports edition image (planned (reads_as edition image).tree archive base now read) bytes
+    → HasArchive (reads_as edition image).tree (reads_as edition bytes).tree base now read
+unfolding Imports HasArchive
+members_left edition image archive base bytes now = by
   where
     Has : List Member → Type 0
     Has all = HasMembers (reads_as edition image).tree (reads_as edition bytes).tree base now all
@@ -424,3 +426,17 @@ archive_had edition image archive base bytes now = by (members archive)
         → HasArchive (reads_as edition image).tree (reads_as edition bytes).tree base now read
     by (Ok all) imports = by_plan all (plan (reads_as edition image).tree base now all) refl imports
     by (Err fault) imports = absurd imports
+
+-- an import with options leaves the members that they choose
+pub chosen_had : (options : ImportOptions) (edition : Edition) (image archive base bytes : List ℕ) (now : ℕ)
+    → Imports edition image (calls_with options (reads_as edition image).tree archive base now) bytes
+    → HasArchive (reads_as edition image).tree (reads_as edition bytes).tree base now (chosen_members options (members archive))
+unfolding calls_with
+chosen_had options edition image archive base bytes now = members_left edition image archive base bytes now (chosen_members options (members archive))
+
+-- an import leaves all members of its archive
+pub archive_had : (edition : Edition) (image archive base bytes : List ℕ) (now : ℕ)
+    → Imports edition image (calls_to_make (reads_as edition image).tree archive base now) bytes
+    → HasArchive (reads_as edition image).tree (reads_as edition bytes).tree base now (members archive)
+unfolding calls_to_make
+archive_had edition image archive base bytes now = members_left edition image archive base bytes now (members archive)

@@ -11,6 +11,7 @@ pub mod Make
 pub mod MadeMembers
 pub mod Members
 pub mod Names
+pub mod Options
 pub mod Plan
 pub mod Records
 pub mod WrittenMembers

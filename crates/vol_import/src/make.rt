@@ -5,11 +5,13 @@ ghost use Rattle.vol_volume.specs.Volume.{mounted, reads_as};
 ghost use Rattle.vol_import.specs.MadeMembers.{HasArchive};
 ghost use Rattle.vol_import.specs.Make.{AreMade, AreStopped, IsUnmounted, TakesMemory, unread, unplanned, told, calls_to_make, IsStop, Tells, Imports, IsReason};
 ghost use Rattle.vol_import.specs.Members.{members};
-ghost use Rattle.vol_import.specs.Plan.{plan};
+ghost use Rattle.vol_import.specs.Options.{calls_with, chosen, chosen_members, left_out};
+ghost use Rattle.vol_import.specs.Plan.{Tells as PlanTells, plan};
 
 use crate::archive_members::{Member, members};
 use crate::entries::block_at;
 use crate::faults::ArchiveFault;
+use crate::import_options::{Chosen, ImportOptions, choose};
 use crate::import_plan::{PlanFault, plan};
 use crate::member_check::MemberFault;
 use std::alloc::Global;
@@ -46,12 +48,17 @@ impl From<MountFault> for ImportFault {
     }
 }
 
-/// Makes the members of an archive below the path `base` of the volume in some bytes, and returns the new bytes. Makes all
-/// calls of [`plan`], in order and as user 0; or there is nothing to save, and the fault has the first reason: of the image,
-/// then of the archive, then of the members, then of the calls.
-///
-/// Takes memory to mount the image, for the paths of the members twice and for their bytes once, and what the calls take. Drops
-/// the archive once its members are read.
+/// A volume after an import.
+#[derive(Drop)]
+pub struct Imported {
+    /// The bytes of the volume.
+    pub bytes: Vec<u8>,
+    /// The paths of the members that were left out, in the order of the archive.
+    pub left_out: Vec<Bytes>,
+}
+
+/// Makes all members of an archive below the path `base` of the volume in some bytes, each with its own owner, as
+/// [`import_with`] does without options, and returns the new bytes.
 pub fn import(
     alloc: Global,
     edition: Edition,
@@ -64,10 +71,44 @@ pub fn import(
     ensures members { IfOk result (λ bytes. HasArchive (reads_as edition image.items).tree (reads_as edition bytes.items).tree base.now now (members archive.items)) }
     ensures fault { IfErr result (IsReason edition image.items (calls_to_make (reads_as edition image.items).tree archive.items base.now now)) }
 {
+    let options = ImportOptions {
+        skip_special: false,
+        owner: None,
+    };
+    match import_with(alloc, edition, image, archive, options, base, now) {
+        Ok(imported) => Ok(imported.bytes),
+        Err(fault) => Err(fault),
+    }
+}
+
+/// Makes the members of an archive that the options choose below the path `base` of the volume in some bytes, and returns the
+/// new bytes, and the paths of the other members. Makes all calls of [`plan`], in order and as user 0; or there is nothing to
+/// save, and the fault has the first reason: of the image, then of the archive, then of the members, then of the calls.
+///
+/// Takes memory to mount the image, for the paths of the members twice and for their bytes once, and what the calls take. Drops
+/// the archive once its members are read.
+pub fn import_with(
+    alloc: Global,
+    edition: Edition,
+    image: Vec<u8>,
+    archive: Vec<u8>,
+    options: ImportOptions,
+    base: &[u8],
+    now: u32,
+) -> Result<Imported, ImportFault>
+    ensures made { IfOk result (λ imported. Imports edition image.items (calls_with options (reads_as edition image.items).tree archive.items base.now now) imported.bytes.items) }
+    ensures members { IfOk result (λ imported. HasArchive (reads_as edition image.items).tree (reads_as edition imported.bytes.items).tree base.now now (chosen_members options (members archive.items))) }
+    ensures left_out { IfOk result (λ imported. imported.left_out.items ≡ left_out options (members archive.items)) }
+    ensures fault { IfErr result (IsReason edition image.items (calls_with options (reads_as edition image.items).tree archive.items base.now now)) }
+{
     let mut volume = mount(alloc, edition, image)?;
-    let calls = calls_to_make(alloc, &volume, archive, base, now)?;
+    let planned = calls_with(alloc, &volume, archive, options, base, now)?;
+    let Planned { calls, left_out } = planned;
     make(alloc, &mut volume, calls)?;
-    Ok(volume.unmount())
+    Ok(Imported {
+        bytes: volume.unmount(),
+        left_out,
+    })
 }
 
 /// Mounts the volume in some bytes. Fails if it isn't sound or memory runs out.
@@ -120,41 +161,73 @@ pub fn unplanned(fault: PlanFault) -> ImportFault
     }
 }
 
-/// Returns the calls that make the members of an archive below a path of a volume. Drops the archive once its members are read.
-fn calls_to_make(
+/// The calls of an import.
+#[derive(Drop)]
+struct Planned {
+    /// The calls.
+    calls: Vec<Call>,
+    /// The paths of the members that are left out.
+    left_out: Vec<Bytes>,
+}
+
+/// Returns the calls that make the members of an archive that the options choose below a path of a volume. Drops the archive
+/// once its members are read.
+fn calls_with(
     alloc: Global,
     volume: &Volume,
     archive: Vec<u8>,
+    options: ImportOptions,
     base: &[u8],
     now: u32,
-) -> Result<Vec<Call>, ImportFault>
-    ensures ok { IfOk result (λ calls. calls_to_make (reads_as volume.now.edition volume.now.image).tree archive.items base.now now ≡ Ok calls.items) }
-    ensures fault { IfErr result (Tells (calls_to_make (reads_as volume.now.edition volume.now.image).tree archive.items base.now now)) }
+) -> Result<Planned, ImportFault>
+    ensures ok { IfOk result (λ planned. calls_with options (reads_as volume.now.edition volume.now.image).tree archive.items base.now now ≡ Ok planned.calls.items) }
+    ensures left_out { IfOk result (λ planned. planned.left_out.items ≡ left_out options (members archive.items)) }
+    ensures fault { IfErr result (Tells (calls_with options (reads_as volume.now.edition volume.now.image).tree archive.items base.now now)) }
 {
     match members(alloc, &archive) {
         Ok(found) => {
             drop(archive);
-            calls_for(alloc, volume, base, now, found)
+            calls_for(alloc, volume, options, base, now, found)
         }
         Err(fault) => Err(unread(alloc, &archive, fault)),
     }
 }
 
-/// Returns the calls that make members below a path of a volume.
+/// Returns the calls that make the chosen ones of some members below a path of a volume.
 fn calls_for(
     alloc: Global,
     volume: &Volume,
+    options: ImportOptions,
     base: &[u8],
     now: u32,
     found: Vec<Member>,
-) -> Result<Vec<Call>, ImportFault>
-    ensures ok { IfOk result (λ calls. told (plan (reads_as volume.now.edition volume.now.image).tree base.now now found.items) ≡ Ok calls.items) }
-    ensures fault { IfErr result (Tells (told (plan (reads_as volume.now.edition volume.now.image).tree base.now now found.items))) }
+) -> Result<Planned, ImportFault>
+    ensures ok { IfOk result (λ planned. told (plan (reads_as volume.now.edition volume.now.image).tree base.now now (chosen options found.items).0) ≡ Ok planned.calls.items) }
+    ensures left_out { IfOk result (λ planned. planned.left_out.items ≡ (chosen options found.items).1) }
+    ensures fault { IfErr result (Tells (told (plan (reads_as volume.now.edition volume.now.image).tree base.now now (chosen options found.items).0))) }
 {
-    match plan(alloc, volume, base, now, found) {
-        Ok(calls) => Ok(calls),
+    match plan_chosen(alloc, volume, options, base, now, found) {
+        Ok(planned) => Ok(planned),
         Err(fault) => Err(unplanned(fault)),
     }
+}
+
+/// Returns the calls of [`plan`] for the chosen ones of some members.
+fn plan_chosen(
+    alloc: Global,
+    volume: &Volume,
+    options: ImportOptions,
+    base: &[u8],
+    now: u32,
+    found: Vec<Member>,
+) -> Result<Planned, PlanFault>
+    ensures ok { IfOk result (λ planned. plan (reads_as volume.now.edition volume.now.image).tree base.now now (chosen options found.items).0 ≡ Ok planned.calls.items) }
+    ensures left_out { IfOk result (λ planned. planned.left_out.items ≡ (chosen options found.items).1) }
+    ensures fault { IfErr result (PlanTells (plan (reads_as volume.now.edition volume.now.image).tree base.now now (chosen options found.items).0)) }
+{
+    let Chosen { members, left_out } = choose(alloc, options, found)?;
+    let calls = plan(alloc, volume, base, now, members)?;
+    Ok(Planned { calls, left_out })
 }
 
 /// Makes calls on a volume, up to the first that is refused, which becomes the fault of the import.

@@ -1,28 +1,15 @@
-use Rattle.std.proofs.lemmas.Result.{err_from_is_err_and}
-use Rattle.vol_import.proofs.ImportFaults.{no_volume, no_calls, not_made, all_made}
 use Rattle.vol_import.proofs.MadeMembers.{archive_had}
+use Rattle.vol_import.proofs.SortRuns.{plain_made, plain_reason}
 use Rattle.vol_import.proofs.make.import.Goals as goal
 
-pub returns-in_err-volume-clause-fault : goal.returns-in_err-volume-clause-fault
-returns-in_err-volume-clause-fault c =
-    let p = err_from_is_err_and c.from_residual.result c.from_residual.ensures.1 in
-    rw (p.1, p.2) (no_volume _ _ _ _ c.in_err-volume.ensures.fault)
+pub returns-in-Ok-clause-made : goal.returns-in-Ok-clause-made
+returns-in-Ok-clause-made c =
+    plain_made c.args.edition c.args.image.items c.args.archive.items c.args.base.now c.in-Ok.imported.bytes.items c.args.now c.in-Ok.ensures.made
 
-pub returns-in_err-calls-clause-fault : goal.returns-in_err-calls-clause-fault
-returns-in_err-calls-clause-fault c =
-    let p = err_from_is_err_and c.from_residual-in_err-calls.result c.from_residual-in_err-calls.ensures.1 in
-    rw (p.1, p.2) (no_calls _ _ _ _ _ _ _ c.in_ok-volume.ensures.sound c.in_ok-volume.ensures.mounted c.in_err-calls.ensures.fault)
+pub returns-in-Ok-clause-members : goal.returns-in-Ok-clause-members
+returns-in-Ok-clause-members c =
+    archive_had c.args.edition c.args.image.items c.args.archive.items c.args.base.now c.in-Ok.imported.bytes.items c.args.now (returns-in-Ok-clause-made c)
 
-pub returns-in_err-make-clause-fault : goal.returns-in_err-make-clause-fault
-returns-in_err-make-clause-fault c =
-    let p = err_from_is_err_and c.from_residual-in_err-make.result c.from_residual-in_err-make.ensures.1 in
-    rw (p.1, p.2)
-    (not_made _ _ _ _ _ _ _ _ _ c.in_ok-volume.ensures.sound c.in_ok-volume.ensures.mounted c.in_ok-calls.ensures.ok c.in_err-make.ensures.fault)
-
-pub returns-clause-made : goal.returns-clause-made
-returns-clause-made c =
-    all_made _ _ _ _ _ _ _ _ _ c.in_ok-volume.ensures.sound c.in_ok-volume.ensures.mounted c.in_ok-calls.ensures.ok c.in_ok-make.ensures.made
-    c.unmount.ensures.consistent c.unmount.ensures.bytes
-
-pub returns-clause-members : goal.returns-clause-members
-returns-clause-members c = archive_had _ _ _ _ _ _ (returns-clause-made c)
+pub returns-in-Err-clause-fault : goal.returns-in-Err-clause-fault
+returns-in-Err-clause-fault c =
+    plain_reason c.args.edition c.args.image.items c.args.archive.items c.args.base.now c.args.now c.in-Err.fault c.in-Err.ensures.fault

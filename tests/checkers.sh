@@ -109,6 +109,37 @@ finds 1 dcheck large '15 4 3' '16 2100 2101'
 mapfile -t found < <(seq -f '16 /n%04g' 2099)
 finds 0 ncheck large '14 /d/e' '15 /d' '15 /n2100' '16 /f' "${found[@]}"
 
+# Directory 3 has 527 logical blocks and seven slots. They lead by two shared indirect blocks, 60 and 62, to four blocks of entries, 70 to 73, to holes and
+# outside the volume. awk makes these blocks, and counts the entries slot by slot.
+awk '
+    function entry(block, j) { return j % 11 == 0 ? 0 : j % 7 == 0 ? 200 : 70 + (j * j + block) % 4 }
+    function number(b) { return b < 10 ? first[b + 1] : b < 138 ? entry(60, b - 10) : entry(60 + int((b - 138) / 128) % 2 * 2, (b - 138) % 128) }
+    function inode(block, slot) { return block >= 70 && block < 74 ? (slot * slot + block) % 20 : 0 }
+    BEGIN {
+        split("70 71 0 200 70 72 72 0 73 70", first)
+        for (block = 60; block < 63; block++) {
+            printf "put %d ", 512 * block
+            for (j = 0; j < 128; j++) printf "0000%02x00", block == 61 ? 60 + j % 2 * 2 : entry(block, j)
+            print ""
+        }
+        for (block = 70; block < 74; block++) {
+            printf "put %d ", 512 * block
+            for (slot = 0; slot < 32; slot++) printf "%02x0078%026d", inode(block, slot), 0
+            print ""
+        }
+        links[2] = 2; links[3] = 1; count[2] = 2
+        for (slot = 0; slot < 527 * 32 + 7; slot++) { i = inode(number(int(slot / 32)), slot % 32); if (i > 0) { lines++; count[i]++ } }
+        for (i = 1; i < 17; i++) if (count[i] != links[i]) print "line", i, count[i] + 0, links[i] + 0
+        print "names", lines
+    }' > shared.txt
+make image new.7 1152=ED4101 1160=0400701E 1164=00460000470000000000C800004600004800004800000000004900004600 1194=003C00003D00
+while read -r word at bytes; do
+    if [ "$word" = put ]; then put image "$at" "$bytes"; fi
+done < shared.txt
+mapfile -t found < <(sed -n 's/^line //p' shared.txt)
+finds 1 dcheck image "${found[@]}"
+has 'the names of shared entries' "$(sed -n 's/^names //p' shared.txt)" "$("$program" ncheck 7 image 1 | wc -l)"
+
 edition=6
 
 # A size that is out of bounds.

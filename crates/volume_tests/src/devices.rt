@@ -1,18 +1,14 @@
-// Numbers as they are on the disk, and devices that fail at each of their calls.
+// Devices that fail at each of their calls.
 ghost use Rattle.std.specs.Prelude.{◌<◌};
 
-use crate::fixtures::{Piece, check_whole, with_pieces};
-use command_reads::cat::{CatFault, cat};
 use pdp_words::test_streams::{ScriptedReader, ScriptedWriter, WriteMishap};
 use pdp_words::{
-    FromRead, Image, IntoWrite, LoadFault, SaveFault, Sink, Source, load, load_with_capacity, save,
-    words, write_all,
+    FromRead, Image, IntoWrite, LoadFault, SaveFault, Sink, Source, load, save, write_all,
 };
 use std::alloc::Global;
 use std::fmt::Display;
 use std::io::{ErrorKind, Write};
 use std::process::Abort;
-use vol_layout::Edition;
 
 /// Returns `len` bytes, which repeat after 251.
 fn sample(rt: &impl Abort, alloc: Global, len: usize) -> Vec<u8> {
@@ -22,21 +18,6 @@ fn sample(rt: &impl Abort, alloc: Global, len: usize) -> Vec<u8> {
         pushed.expect(rt, "memory for the bytes");
     }
     bytes
-}
-
-#[test]
-fn numbers_stand_in_the_order_of_the_pdp_11(rt: HostRuntime) {
-    let mut bytes = [0xEE; 11];
-    words::put_word(&mut bytes, 0, 0x0A0B);
-    words::put_long(&mut bytes, 3, 0x0A0B_0C0D);
-    words::put_addr3(&mut bytes, 8, 0x0A_0B0C);
-    check_whole(
-        &rt,
-        &bytes,
-        &[
-            0x0B, 0x0A, 0xEE, 0x0B, 0x0A, 0x0D, 0x0C, 0xEE, 0x0A, 0x0C, 0x0B,
-        ],
-    );
 }
 
 /// The number of bytes that the devices below move.
@@ -149,140 +130,4 @@ fn check_interrupted_write(rt: &impl Abort, alloc: Global, bytes: &[u8], at: u64
     assert_eq!(rt; result, Ok(()), "write {at}");
     writer.flush().expect(rt, "a flush");
     assert_eq!(rt; writer.taken.as_slice(), bytes, "write {at}");
-}
-
-#[test]
-fn reads_of_no_byte_and_of_one_do_their_work(rt: HostRuntime) {
-    let mut source = FromRead::new(ScriptedReader::new(&[5, 6], 7));
-    check_read(&rt, &mut source, &[]);
-    check_read(&rt, &mut source, &[5]);
-    check_source(&rt, source, false, &[6], &"after two reads");
-}
-
-/// Checks that a read into a buffer of N bytes gives these.
-fn check_read<const N: usize>(rt: &impl Abort, source: &mut impl Source, wanted: &[u8; N]) {
-    let mut bytes = [0; N];
-    let count = source.read(&mut bytes).expect(rt, "a read");
-    assert_eq!(rt; count, N);
-    check_whole(rt, &bytes, wanted);
-}
-
-#[test]
-fn writes_of_no_byte_and_of_one_do_their_work(rt: HostRuntime) {
-    let mut sink = IntoWrite::new(ScriptedWriter::new(rt.alloc(), 7));
-    for bytes in [[].as_slice(), [8].as_slice()] {
-        let count = sink.write(bytes).expect(&rt, "a write");
-        assert_eq!(rt; count, bytes.len());
-    }
-    check_sink(&rt, sink, false, &[8], &"after two writes");
-}
-
-#[test]
-fn long_images_are_loaded_whole(rt: HostRuntime) {
-    let bytes = sample(&rt, rt.alloc(), 200_000);
-    for capacity in [0, 1, 199_999, 200_000, 300_000] {
-        let mut source = FromRead::new(ScriptedReader::new(&bytes, 65_536));
-        let image = load_with_capacity(rt.alloc(), capacity, &mut source).expect(&rt, "a load");
-        assert_eq!(rt;
-            image.as_bytes(),
-            bytes.as_slice(),
-            "with room for {capacity}"
-        );
-    }
-}
-
-/// A volume of the sixth edition of five blocks: i-node 1 is a file of five bytes in block 3.
-static SIXTH: [Piece; 3] = [
-    (512, b"\x01\x00\x05\x00"),
-    (1024, b"\xA4\x81\x01\x00\x00\x00\x05\x00\x03\x00"),
-    (1536, b"hello"),
-];
-
-/// The same, with 515 zeros more in the file.
-static LONGER: [Piece; 3] = [
-    (512, b"\x01\x00\x05\x00"),
-    (1024, b"\xA4\x81\x01\x00\x00\x00\x08\x02\x03\x00"),
-    (1536, b"hello"),
-];
-
-/// Runs `cat` of i-node 1 with a reader and a writer, and checks its result, whether a read and a write failed, and the
-/// bytes that the writer took.
-fn check_cat(
-    rt: &impl Abort,
-    alloc: Global,
-    reader: ScriptedReader<'_>,
-    writer: ScriptedWriter,
-    wanted: Result<(), CatFault>,
-    taken: &[u8],
-    label: &impl Display,
-) {
-    let mut source = FromRead::new(reader);
-    let mut sink = IntoWrite::new(writer);
-    let answer = cat(alloc, Edition::V6, 1, &mut source, &mut sink);
-    assert_eq!(rt; answer, wanted, "{label}");
-    let has_read_failed = wanted == Err(CatFault::Device);
-    assert_eq!(rt; source.failed(), has_read_failed, "{label}");
-    check_sink(rt, sink, wanted.is_err() && !has_read_failed, taken, label);
-}
-
-#[test]
-fn a_read_that_fails_is_the_devices(rt: HostRuntime) {
-    let alloc = rt.alloc();
-    let bytes = with_pieces(&rt, alloc, 2560, &SIXTH);
-    for piece in [1, 7, 512] {
-        check_reads(&rt, alloc, &bytes, piece);
-    }
-}
-
-/// Prints file 1 as `check_loads` loads it.
-fn check_reads(rt: &impl Abort, alloc: Global, bytes: &[u8], piece: usize)
-    requires { 0 < piece }
-{
-    let reads = bytes.len().div_ceil(piece).saturating_add(1);
-    for at in 0..reads.saturating_add(2) {
-        let label = format_args!("read {at} by {piece}");
-        let reader = ScriptedReader::new(bytes, piece).failing_at(at as u64, ErrorKind::Other);
-        let writer = ScriptedWriter::new(alloc, 512);
-        let (answer, taken): (Result<(), CatFault>, &[u8]) = if at < reads {
-            (Err(CatFault::Device), b"")
-        } else {
-            (Ok(()), b"hello")
-        };
-        check_cat(rt, alloc, reader, writer, answer, taken, &label);
-    }
-}
-
-#[test]
-fn a_write_that_fails_counts_what_was_taken(rt: HostRuntime) {
-    let alloc = rt.alloc();
-    let bytes = with_pieces(&rt, alloc, 2560, &LONGER);
-    let body = with_pieces(&rt, alloc, 520, &[(0, b"hello")]);
-    for mishap in MISHAPS {
-        for piece in [1, 7, 104, 512, 520] {
-            check_writes(&rt, alloc, &bytes, &body, piece, mishap);
-        }
-    }
-}
-
-/// Prints file 1 as `check_saves` saves an image.
-fn check_writes(
-    rt: &impl Abort,
-    alloc: Global,
-    bytes: &[u8],
-    body: &[u8],
-    piece: usize,
-    mishap: WriteMishap,
-)
-    requires { 0 < piece }
-{
-    let writes = body.len().div_ceil(piece);
-    for at in 0..writes.saturating_add(2) {
-        let label = format_args!("write {at} by {piece}");
-        let writer = ScriptedWriter::new(alloc, piece).failing_at(at as u64, mishap);
-        let reader = ScriptedReader::new(bytes, 65_536);
-        let written = at.saturating_mul(piece).min(body.len());
-        let fault = CatFault::Writer(written as u64);
-        let answer = if at < writes { Err(fault) } else { Ok(()) };
-        check_cat(rt, alloc, reader, writer, answer, &body[..written], &label);
-    }
 }

@@ -1,34 +1,19 @@
-//! Tests of all crates through their public functions: worked values of the formats, border cases, replayed journals, and
-//! facts that no contract states.
+//! Tests through public functions, of what no contract and no command shows: devices that fail at each of their calls, headers
+//! of another program, the words of faults; threads that wait for one another, with sessions and as checkers; and what
+//! a log and a sweep are given.
 #![tactic(auto)]
 
 #[cfg(test)]
-mod answer;
-#[cfg(test)]
-mod blank;
-#[cfg(test)]
-mod calls;
-#[cfg(test)]
-mod commands;
-#[cfg(test)]
-mod copies;
-#[cfg(test)]
-mod cuts;
+mod checkers;
 #[cfg(test)]
 mod devices;
-#[cfg(test)]
-mod export;
 #[cfg(test)]
 mod fixtures;
 #[cfg(test)]
 mod headers;
 #[cfg(test)]
-mod migrate;
-#[cfg(test)]
-mod removals;
+mod ledgers;
 #[cfg(test)]
 mod texts;
 #[cfg(test)]
-mod trees;
-#[cfg(test)]
-mod words;
+mod threads;

@@ -1,18 +1,18 @@
 // Gates: four workers that work at the same time, and each piece between two calls.
-use crate::checkers::fixtures::{SIXTH, check_report, image_of};
+use crate::checkers::fixtures::{BLOCKS, check_report, sixth_image};
 use std::sync::atomic::{AtomicU64, Ordering};
 use vol_check::test_gate::Meeting;
 use vol_check::{Gate, icheck};
+use vol_layout::Edition;
 
 #[test]
 fn four_workers_meet_before_their_first_pieces(rt: HostRuntime) {
     let alloc = rt.alloc();
-    let image = image_of(&rt, alloc, &SIXTH);
+    let image = sixth_image(&rt, alloc);
     let gate = Meeting::of(4);
-    let report = icheck(&rt, &rt, alloc, SIXTH.edition, &image, 4, &gate);
+    let report = icheck(&rt, &rt, alloc, Edition::V6, &image, 4, &gate);
     assert_eq!(rt; gate.missed(), 0);
-    let wanted = b"files 0\ndirectories 1\nspecial 0\nodd 0\nused 1\nfree 15\nmissing 0\n";
-    check_report(&rt, alloc, report, (wanted, false));
+    check_report(&rt, alloc, report, BLOCKS);
 }
 
 /// The unit in which calls are counted; the bits below represent the pieces.
@@ -47,12 +47,12 @@ impl Gate for Counting {
 #[test]
 fn each_piece_is_between_two_calls_of_the_gate(rt: HostRuntime) {
     let alloc = rt.alloc();
-    let image = image_of(&rt, alloc, &SIXTH);
+    let image = sixth_image(&rt, alloc);
     let gate = Counting {
         before: AtomicU64::new(0),
         after: AtomicU64::new(0),
     };
-    let report = icheck(&rt, &rt, alloc, SIXTH.edition, &image, 7, &gate);
+    let report = icheck(&rt, &rt, alloc, Edition::V6, &image, 7, &gate);
     assert!(rt; report.is_ok());
     // 33 calls, for the pieces 0 to 32.
     let wanted = 33 * CALLS + (1 << 33) - 1;

@@ -1,20 +1,95 @@
 //! Two threads with a session each.
-ghost use Rattle.std.specs.Prelude.{◌≡◌};
+ghost use Rattle.std.specs.Prelude.{◌≡◌, None};
 
-use crate::fixtures::{ask, check_all, close_two, create, make, open_two, sixth, stat};
+use crate::fixtures::{bytes_of, create, new_volume};
 use std::alloc::Global;
 use std::process::Abort;
 use std::sync::Wait;
 use std::test::Fail;
 use std::thread;
 use std::thread::Threads;
+use vol_dir::Cred;
+use vol_layout::Edition;
 use vol_shared::{Closed, Outcome, Receipt, Session, Shared};
+use vol_volume::{Call, Query, Volume};
 
 /// The number of times a thread looks for the other's file.
 const TURNS: u32 = 20_000_000;
 
 /// The files of a thread: it makes the first, and waits for the second.
 type Task = (&'static [u8], &'static [u8]);
+
+/// Opens a volume with two sessions.
+fn open_two(rt: &impl Abort, alloc: Global, volume: Volume) -> (Shared, Session, Session)
+    ensures first { result.1.of ≡ result.0.of }
+    ensures second { result.2.of ≡ result.0.of }
+    ensures sessions { result.0.sessions ≡ 2 }
+    ensures unpublished { result.0.of.book ≡ None }
+{
+    let Ok((shared, mut sessions)) = Shared::open(alloc, volume, 2) else {
+        panic!(rt; "memory for two sessions")
+    };
+    let second = sessions.take_last();
+    let first = sessions.take_last();
+    (shared, first, second)
+}
+
+/// Closes a volume with two sessions.
+fn close_two(
+    rt: &impl Abort,
+    alloc: Global,
+    shared: Shared,
+    first: Session,
+    second: Session,
+) -> Closed
+    requires sessions { shared.sessions ≡ 2 }
+    requires unpublished { shared.of.book ≡ None }
+    requires first { first.of ≡ shared.of }
+    requires second { second.of ≡ shared.of }
+{
+    let mut sessions = Vec::with_capacity(alloc, 2).expect(rt, "memory for two sessions");
+    sessions.push_reserved(first);
+    sessions.push_reserved(second);
+    shared.close(sessions)
+}
+
+/// Makes a call on a shared volume.
+fn make<R: Wait + Abort>(
+    rt: &R,
+    alloc: Global,
+    shared: &Shared,
+    session: &mut Session,
+    call: Call,
+) -> Receipt
+    requires { session.old.of ≡ shared.now.of }
+    ensures { session.new.of ≡ session.old.of }
+{
+    let receipt = shared.call(rt, alloc, session, call);
+    receipt.expect(rt, "memory for a call")
+}
+
+/// Runs a query on a shared volume.
+fn ask<R: Wait + Abort>(
+    rt: &R,
+    alloc: Global,
+    shared: &Shared,
+    session: &mut Session,
+    query: Query,
+) -> Receipt
+    requires { session.old.of ≡ shared.now.of }
+    ensures { session.new.of ≡ session.old.of }
+{
+    let receipt = shared.ask(rt, alloc, session, query);
+    receipt.expect(rt, "memory for a query")
+}
+
+/// Returns a query for a node's attributes.
+fn stat(rt: &impl Abort, alloc: Global, path: &[u8]) -> Query {
+    Query::Stat {
+        cred: Cred::ROOT,
+        path: bytes_of(rt, alloc, path),
+    }
+}
 
 /// Does a task, and returns its receipts.
 fn perform<R: Wait + Abort>(
@@ -65,7 +140,7 @@ fn run_two<R: Threads + Wait + Abort + Sync>(
     alloc: Global,
     tasks: [Task; 2],
 ) -> (Closed, Vec<Receipt>, Vec<Receipt>) {
-    let (shared, first, second) = open_two(rt, alloc, sixth(rt, alloc));
+    let (shared, first, second) = open_two(rt, alloc, new_volume(rt, alloc, Edition::V6));
     let lock = &shared;
     let [one, other] = tasks;
     let ((first, mine), (second, theirs)) = thread::join(
@@ -84,7 +159,12 @@ fn run_two<R: Threads + Wait + Abort + Sync>(
 
 /// Checks that each receipt is confirmed.
 fn check_confirmed(rt: &impl Abort, alloc: Global, closed: &Closed, receipts: &[Receipt]) {
-    check_all(rt, alloc, closed, receipts, receipts.len() as u64, 0);
+    let confirmed = closed.confirm_all(alloc, receipts);
+    let confirmed = confirmed.expect(rt, "memory to confirm");
+    assert_eq!(rt;
+        [confirmed.agree, confirmed.gone],
+        [receipts.len() as u64, 0]
+    );
 }
 
 #[test]

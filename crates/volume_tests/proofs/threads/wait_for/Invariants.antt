@@ -1,5 +1,5 @@
 use Rattle.std.proofs.Common.{◌≡◌}
-use Rattle.thread_tests.proofs.threads.wait_for.Given as goal
+use Rattle.volume_tests.proofs.threads.wait_for.Given as goal
 
 abbrev pub invariant-loop : goal.invariant-loop
 invariant-loop g l = l.session.of ≡ l.fn.session.of

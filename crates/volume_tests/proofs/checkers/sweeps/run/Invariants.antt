@@ -1,5 +1,5 @@
-use Rattle.thread_tests.specs.Work.{IsAtWork}
-use Rattle.thread_tests.proofs.checkers.sweeps.pieces_in_order.Given as goal
+use Rattle.volume_tests.specs.Work.{IsAtWork}
+use Rattle.volume_tests.proofs.checkers.sweeps.run.Given as goal
 
 -- the seat is one of the sweep's, and of the image
 abbrev pub invariant-loop-count : goal.invariant-loop-count

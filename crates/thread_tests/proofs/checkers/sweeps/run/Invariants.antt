@@ -1,6 +1,0 @@
-use Rattle.thread_tests.specs.Work.{IsAtWork}
-use Rattle.thread_tests.proofs.checkers.sweeps.run.Given as goal
-
--- the seat is one of the sweep's, and of the image
-abbrev pub invariant-loop-count : goal.invariant-loop-count
-invariant-loop-count g l = IsAtWork l.sweep l.image l.seat

@@ -276,7 +276,7 @@ LIST
     lists 'a directory that stays' stays "$edition" disk.img
     played "$edition" disk.img '1000 0 0 create /src 644'
     cp disk.img before.img
-    unimported 'unixvol: 17 Exists: //src' "$edition" "$archives/ways.tar"
+    unimported 'unixvol: 17 Exists: /src' "$edition" "$archives/ways.tar"
     saves 'an image with a file in the place of a directory' disk.img before.img
 
     # Members that can't be made, archives that can't be read, and refusals of the calls.
@@ -303,7 +303,7 @@ ROWS
     saves 'an image into which nothing was imported' disk.img "blank.v$edition"
     imports "$edition" disk.img ok
     cp disk.img before.img
-    unimported 'unixvol: 17 Exists: //ok' "$edition" "$archives/ok.tar"
+    unimported 'unixvol: 17 Exists: /ok' "$edition" "$archives/ok.tar"
     saves 'an image with a file of the same path' disk.img before.img
     # Headers without magic, as V7's tar writes them.
     for name in old spaced; do
@@ -387,15 +387,15 @@ for edition in 6 7; do
     python3 make.py linked.tar link ././first
     unimported 'unixvol: second: a link to a path above 4096 bytes' "$edition" linked.tar
     python3 make.py way.tar way ab
-    unimported "unixvol: 103 NoInode: //${dots//./a}a/a/ab" "$edition" way.tar
+    unimported "unixvol: 103 NoInode: /${dots//./a}a/a/ab" "$edition" way.tar
     python3 make.py ways.tar ways 1000
-    unimported "unixvol: 103 NoInode: //d$inodes/f" "$edition" ways.tar
+    unimported "unixvol: 103 NoInode: /d$inodes/f" "$edition" ways.tar
     python3 make.py directories.tar directories 1000
-    unimported "unixvol: 103 NoInode: //d$((inodes + 1))/" "$edition" directories.tar
+    unimported "unixvol: 103 NoInode: /d$((inodes + 1))/" "$edition" directories.tar
     # With fewer, the calls report what is missing: i-nodes, or links of the root, of which the sixth edition has 127 at most.
     python3 make.py directories.tar directories "$inodes"
-    refusal='103 NoInode: //d62/'
-    [ "$edition" = 6 ] && refusal='31 TooManyLinks: //d125/'
+    refusal='103 NoInode: /d62/'
+    [ "$edition" = 6 ] && refusal='31 TooManyLinks: /d125/'
     unimported "unixvol: $refusal" "$edition" directories.tar
     saves 'an image without a member whose path is too long' disk.img "blank.v$edition"
 done
@@ -460,6 +460,77 @@ for edition in 6 7; do
     wants "import of base.tar into /new of edition $edition" 0 none none
     has "the time of a volume of edition $edition after an import with its directory" 3000 "$(volume_time "$edition" disk.img)"
     has "the directory of an import into edition $edition that it makes" 'drwx--x--t 2 0 0' "$("$program" ls -l "$edition" disk.img / | awk '$NF == "new" { print $2, $3, $4, $5 }')"
+done
+
+# Special files: without the option the first of them is refused; with it they are left out, in the order of the archive, and the rest is made. A pack
+# with special files, and a link to one, is copied so.
+for edition in 6 7; do
+    cp "tree.v$edition" pack.img
+    played_on() { printf '%b\n' "${@:3}" > script; "$program" play "$1" "$2" script > output 2> error; has "the status of a play on $2" 0 "$?$(cat error)"; }
+    played_on "$edition" pack.img '1000 3 5 mkdir /dev 755' '1000 3 5 link /null /dev/null'
+    "$program" export "$edition" pack.img > pack.tar
+    cp "blank.v$edition" disk.img
+    unimported 'unixvol: dev/null: neither a file, a directory nor a hard link' "$edition" pack.tar
+    saves 'an image into which no pack was imported' disk.img "blank.v$edition"
+    cp disk.img copy.img
+    "$program" import --skip-special "$edition" copy.img / 2000 < pack.tar > output 2> error
+    echo $? > status
+    printf '%s\n' 'unixvol: dev/null: a special file, left out' 'unixvol: disk: a special file, left out' 'unixvol: null: a special file, left out' > line
+    wants "import of a pack with special files into edition $edition" 0 none line
+    "$program" rm "$edition" pack.img /null 2000
+    "$program" rm "$edition" pack.img /dev/null 2000
+    "$program" rm "$edition" pack.img /disk 2000
+    "$program" export "$edition" pack.img > wanted.tar
+    "$program" export "$edition" copy.img > output.tar
+    python3 - << 'PYTHON' > output
+import tarfile
+def of(name):
+    return [(m.name, m.type, m.mode, m.uid, m.gid, m.size, m.linkname, a.extractfile(m).read() if m.isreg() else b"") for a in [tarfile.open(name)] for m in a]
+print(of("wanted.tar") == of("output.tar"))
+PYTHON
+    has "the copy of a pack without its special files, edition $edition" True "$(cat output)"
+    # A FIFO alone: the volume stays as it is, byte for byte.
+    cp "blank.v$edition" copy.img
+    "$program" import --skip-special "$edition" copy.img < "$archives/fifo.tar" > output 2> error
+    echo $? > status
+    echo 'unixvol: fifo: a special file, left out' > line
+    wants "import of fifo.tar into edition $edition" 0 none line
+    saves 'an image into which no FIFO was imported' copy.img "blank.v$edition"
+    # A symbolic link stays a fault, and then nothing is told of what would be left out.
+    cp "blank.v$edition" copy.img
+    { head -c 512 "$archives/fifo.tar"; cat "$archives/symbolic.tar"; } > both.tar
+    "$program" import --skip-special "$edition" copy.img < both.tar > output 2> error
+    echo $? > status
+    echo 'unixvol: b: neither a file, a directory nor a hard link' > line
+    wants "import of a FIFO and a symbolic link into edition $edition" 1 none line
+    saves 'an image into which no symbolic link was imported' copy.img "blank.v$edition"
+    # Without special files the option changes nothing.
+    cp "blank.v$edition" disk.img
+    cp "blank.v$edition" copy.img
+    imports "$edition" disk.img plain
+    "$program" import --skip-special "$edition" copy.img / 2000 < "$archives/plain.tar" > output 2> error
+    echo $? > status
+    wants "import of plain.tar into edition $edition, without special files" 0 none none
+    saves 'an image into which no special file could be imported' copy.img disk.img
+    # All members are one owner's; a directory that exists keeps its own.
+    played "$edition" copy.img '1000 9 9 mkdir /dir 700'
+    "$program" import --owner 3:255 "$edition" copy.img / 2000 < "$archives/old_tree.tar" > output 2> error
+    echo $? > status
+    wants "import of old_tree.tar with an owner into edition $edition" 0 none none
+    has "the owners of all members, edition $edition" '1 9 9
+6 3 255' "$(listed "$edition" copy.img | awk 'NF > 7 { print $3, $4 }' | sort | uniq -c | sed 's/^ *//' | sort)"
+    # An owner above the edition's highest is a fault of the first member.
+    cp "blank.v$edition" disk.img
+    cp "blank.v$edition" before.img
+    "$program" import --owner 65535:0 "$edition" disk.img / 2000 < "$archives/ok.tar" > output 2> error
+    echo $? > status
+    echo "unixvol: ok: an owner or a group above the edition's highest" > line
+    wants "import with too high an owner into edition $edition" 1 none line
+    saves 'an image into which nothing was imported for an owner' disk.img before.img
+done
+for owner in '' : 3 3: :3 3:x x:3 65536:3 3:65536 3:3:3 +3:3 -3:3 3,3 ' 3:3'; do
+    "$program" import 7 disk.img "--owner=$owner" < "$archives/ok.tar" > output 2> error
+    has "the owner '$owner' of an import" "2 error: invalid value '$owner' for '<owner>': not two numbers from 0 to 65535 with a colon between them" "$? $(head -n 1 error)"
 done
 
 # An owner of the seventh edition that the sixth can't have.

@@ -129,11 +129,11 @@ END
     saves 'a volume into which no archive was imported' unread.img blank.img
     imports 0 '' odd.tar odd.img
     cp odd.img odd_before.img
-    imports 1 'unixvol: 17 Exists: //odd\012name' odd.tar odd.img
+    imports 1 'unixvol: 17 Exists: /odd\012name' odd.tar odd.img
     saves 'a volume that has the file already' odd.img odd_before.img
     "$program" mkfs "$edition" five.img 5 2 0 0 1000
     cp five.img five_before.img
-    imports 1 'unixvol: 28 NoSpace: //d/' tree.tar five.img
+    imports 1 'unixvol: 28 NoSpace: /d/' tree.tar five.img
     saves 'a volume without room for an archive' five.img five_before.img
     imports 1 'unixvol: unsound, rule 1' tree.tar empty
 

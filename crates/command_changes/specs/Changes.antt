@@ -9,13 +9,15 @@ use Rattle.vol_volume.specs.Volume.{reads_as}
 use Rattle.vol_volume.specs.declared.calls.Call.{Call}
 use Rattle.vol_volume.specs.declared.calls.Call.TheVariants as calls
 use Rattle.vol_import.specs.MadeMembers.{HasArchive, HasDirectory, HasFile}
-use Rattle.vol_import.specs.Make.{calls_to_make}
 use Rattle.vol_import.specs.Members.{members}
+use Rattle.vol_import.specs.Options.{calls_with, chosen_members, left_out}
+use Rattle.vol_import.specs.declared.import_options.ImportOptions.{ImportOptions}
 use Rattle.command_faults.specs.ChangeFaults.{ChangesVolume}
 use Rattle.command_faults.specs.Streams.{Streams}
 use Rattle.command_faults.specs.declared.answer.Answer.{Answer}
 use Rattle.command_changes.specs.Lookup.{last_name}
 use Rattle.command_changes.specs.Import.{ImportsArchive}
+use Rattle.command_changes.specs.ImportLines.{left_lines}
 use Rattle.command_changes.specs.Mkdir.{mkdir_all_calls, mkdir_call}
 use Rattle.command_changes.specs.Mv.{HasMoved, move_calls}
 use Rattle.command_changes.specs.Put.{put_calls}
@@ -43,24 +45,27 @@ abbrev pub Salvages : Edition → List ℕ → Streams → Answer → Type 0
 Salvages edition image streams answer =
     SalvagesVolume edition image streams.said answer × Keeps streams.old streams.new × (streams.failed ≡ streams.had_failed)
 
--- an archive is imported below a path, and standard output is as it was; the tree to save has its members, and keeps all that the image's had (this project)
-abbrev pub ImportsBelow : Edition → List ℕ → List ℕ → Streams → Answer → List ℕ → ℕ → Type 0
-ImportsBelow edition image archive streams answer path now =
-    ImportsArchive edition image (calls_to_make (reads_as edition image).tree archive path now) streams.said answer
+-- an archive is imported below a path, each member that the options leave out has a line, and standard output is as it was; the tree to save has the other members, and keeps all that the image's had (this project)
+abbrev pub ImportsBelow : Edition → List ℕ → List ℕ → Streams → Answer → List ℕ → ImportOptions → ℕ → Type 0
+ImportsBelow edition image archive streams answer path options now =
+    ImportsArchive edition image (calls_with options (reads_as edition image).tree archive path now) (left_lines (left_out options (members archive)))
+    streams.said answer
     × Keeps streams.old streams.new
     × (streams.failed ≡ streams.had_failed)
-    × IfSome answer.image (λ saved. HasArchive (reads_as edition image).tree (reads_as edition saved.items).tree path now (members archive))
+    × IfSome answer.image (λ saved.
+    HasArchive (reads_as edition image).tree (reads_as edition saved.items).tree path now (chosen_members options (members archive)))
 
 -- the file or directory at a path is removed, with all that is below it, and standard output is as it was (this project)
 abbrev pub RemovesBelow : Edition → List ℕ → Streams → Answer → List ℕ → ℕ → Type 0
 RemovesBelow edition image streams answer path now =
     RemovesTree edition image path now streams.said answer × Keeps streams.old streams.new × (streams.failed ≡ streams.had_failed)
 
--- the result of a change, given some bytes: its calls are made, all or none, or the free list is rebuilt. Afterwards the members of the archive are below PATH of `import`, PATH of `put` leads to a file of these bytes, that of `mkdir` to a directory, and so does that of `mkdir -p` unless its last name is `.` or `..`; FROM of `mv` leads nowhere, and its new path to what FROM led to (this project)
+-- the result of a change, given some bytes: its calls are made, all or none, or the free list is rebuilt. Afterwards the members of the archive that aren't left out are below PATH of `import`, PATH of `put` leads to a file of these bytes, that of `mkdir` to a directory, and so does that of `mkdir -p` unless its last name is `.` or `..`; FROM of `mv` leads nowhere, and its new path to what FROM led to (this project)
 abbrev pub Changes : Edition → List ℕ → List ℕ → Streams → Answer → Change → Type 0
 Changes edition image given streams answer (changes.Put path file now) =
     CallsLeave edition image streams answer (put_calls (reads_as edition image).tree now path.now given) (λ tree. HasFile tree path.now given)
-Changes edition image given streams answer (changes.Import path now) = ImportsBelow edition image given streams answer path.now now
+Changes edition image given streams answer (changes.Import path options now) =
+    ImportsBelow edition image given streams answer path.now options now
 Changes edition image given streams answer (changes.Rm path now) = Calls edition image streams answer (calls.Unlink user now path.now ∷ [])
 Changes edition image given streams answer (changes.RmAll path now) = RemovesBelow edition image streams answer path.now now
 Changes edition image given streams answer (changes.Rmdir path now) = Calls edition image streams answer (calls.Rmdir user now path.now ∷ [])

@@ -1,5 +1,6 @@
 -- Messages for archives that can't be imported.
-use Rattle.std.specs.Prelude.{ℕ, ◌++◌, List, codes, decimal}
+use Rattle.std.specs.Prelude.{ℕ, ◌==◌, ◌&&◌, ◌++◌, List, codes, decimal, drop, if◌then◌else◌, length, nat_lt, slice_index}
+use Rattle.std.specs.List.{flat_map}
 use Rattle.escaped_text.specs.Escape.{escaped}
 use Rattle.ustar.specs.declared.read.HeaderFault.{HeaderFault}
 use Rattle.ustar.specs.declared.read.HeaderFault.TheVariants as headers
@@ -39,6 +40,18 @@ archive_line archives.NoMemory = line_of_refusal refusals.NoMemory
 abbrev pub worded_line : List ℕ → List ℕ → List ℕ
 worded_line path text = codes "unixvol: " ++ escaped path ++ codes ": " ++ text ++ codes "\n"
 
+-- the message for a member of an archive that is left out (this project)
+abbrev pub left_line : List ℕ → List ℕ
+left_line path = worded_line path (codes "a special file, left out")
+
+-- the messages for the members that are left out, by their paths (this project)
+abbrev pub left_lines : List (List ℕ) → List ℕ
+left_lines paths = flat_map left_line paths
+
+-- a path in a volume, without the first of two slashes that it begins with: those of the root and of a name below it (this project)
+abbrev pub from_root : List ℕ → List ℕ
+from_root path = if nat_lt 1 (length path) && ((slice_index path 0 == 47) && (slice_index path 1 == 47)) then drop 1 path else path
+
 -- the message for a member of an archive that can't be made: the reason, in plain words, or that of a call which finds no i-node (this project)
 abbrev pub member_line : List ℕ → MemberFault → List ℕ
 member_line path members.Kind = worded_line path (codes "neither a file, a directory nor a hard link")
@@ -49,7 +62,7 @@ member_line path members.LongLinkPath = worded_line path (codes "a link to a pat
 member_line path members.LongLink = worded_line path (codes "a link to a path with a name above 14 bytes")
 member_line path members.DotDotLink = worded_line path (codes "a link to a path with a name ..")
 member_line path members.Owner = worded_line path (codes "an owner or a group above the edition's highest")
-member_line path members.NoInode = path_line refusals.NoInode path
+member_line path members.NoInode = path_line refusals.NoInode (from_root path)
 member_line path members.Number = worded_line path (header_text headers.Number)
 
 -- the path that a call makes or changes (this project)
@@ -65,9 +78,9 @@ path_of (calls.Chmod cred now path perm) = path
 path_of (calls.Chown cred now path uid gid) = path
 path_of (calls.Times cred now path atime mtime) = path
 
--- the message for a refused call: that of the refusal, with the call's path (this project)
+-- the message for a refused call: that of the refusal, with the call's path in the volume (this project)
 abbrev pub call_line : Refusal → Call → List ℕ
-call_line refusal call = path_line refusal (path_of call)
+call_line refusal call = path_line refusal (from_root (path_of call))
 
 -- the exit status if an archive can't be read: 1, or 4 for memory (this project)
 abbrev pub archive_status : ArchiveFault → ℕ

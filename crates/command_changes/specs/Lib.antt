@@ -4,6 +4,7 @@ pub use Rattle.command_faults.specs.Streams
 pub use Rattle.vol_check.specs.SalvagedImages
 pub use Rattle.vol_dir.specs.Access
 pub use Rattle.vol_import.specs.Make
+pub use Rattle.vol_import.specs.Options
 pub use Rattle.vol_import.specs.Plan
 pub use Rattle.vol_judge.specs.Sound
 pub use Rattle.vol_layout.specs.Ids

@@ -57,8 +57,8 @@ pub fn perform(
 {
     let call = match change {
         Change::Put { path, now, .. } => return put(alloc, edition, image, path, given, now),
-        Change::Import { path, now } => {
-            return import_archive(alloc, edition, image, given, path, now);
+        Change::Import { path, options, now } => {
+            return import_archive(alloc, edition, image, given, path, options, now);
         }
         Change::RmAll { path, now } => return rm_all(alloc, edition, image, path, now),
         Change::MkdirAll { path, now } => return mkdir_all(alloc, edition, image, path, now),

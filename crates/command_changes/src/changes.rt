@@ -1,5 +1,7 @@
 //! The changes of a volume.
 
+use vol_import::ImportOptions;
+
 /// A change of a volume, made whole or not at all. Paths start at the root and have `/` between their names; `now` is the
 /// time of the calls, in seconds since the beginning of 1970.
 #[derive(Clone, Copy, Debug, PartialEq, Eq)]
@@ -10,9 +12,10 @@ pub enum Change<'a> {
         file: &'a str,
         now: u32,
     },
-    /// Add the members of an archive below a path.
+    /// Add the members of an archive that the options choose below a path.
     Import {
         path: &'a str,
+        options: ImportOptions,
         now: u32,
     },
     /// Remove a name.

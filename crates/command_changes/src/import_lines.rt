@@ -1,8 +1,8 @@
 //! Messages for archives that can't be imported.
-ghost use Rattle.std.specs.Prelude.{◌≡◌, IfOk};
+ghost use Rattle.std.specs.Prelude.{◌≡◌, ◌++◌, IfOk, OnOk};
 ghost use Rattle.command_faults.specs.Faults.{fault_line, fault_status};
 ghost use Rattle.command_changes.specs.Import.{TellsFault};
-ghost use Rattle.command_changes.specs.ImportLines.{header_text, line_at, archive_line, worded_line, member_line, path_of, archive_status, import_status, import_line};
+ghost use Rattle.command_changes.specs.ImportLines.{header_text, line_at, archive_line, worded_line, member_line, path_of, archive_status, from_root, import_status, import_line, left_line, left_lines};
 
 use command_faults::Fault;
 use command_faults::path_lines::refused_at;
@@ -36,7 +36,7 @@ fn worded(alloc: Global, why: &ImportFault) -> Result<Fault, AllocError>
         ImportFault::Refused(refusal, call) => refused_at(
             alloc,
             *refusal,
-            path_of(call).as_slice(),
+            from_root(path_of(call).as_slice()),
         ),
         ImportFault::NoMemory => Ok(Fault::Refused(Refusal::NoMemory)),
     }
@@ -104,7 +104,7 @@ fn unmade(alloc: Global, path: &[u8], cause: MemberFault) -> Result<Fault, Alloc
             path,
             b"an owner or a group above the edition's highest",
         ),
-        MemberFault::NoInode => refused_at(alloc, Refusal::NoInode, path),
+        MemberFault::NoInode => refused_at(alloc, Refusal::NoInode, from_root(path)),
         MemberFault::Number => in_words(alloc, path, header_text(HeaderFault::Number)),
     }
 }
@@ -128,6 +128,37 @@ fn worded_line(alloc: Global, path: &[u8], text: &[u8]) -> Result<Vec<u8>, Alloc
     line.extend_from_slice(text)?;
     line.push(b'\n')?;
     Ok(line)
+}
+
+/// Returns the lines for the members that are left out, by their paths.
+pub(crate) fn left_lines(alloc: Global, paths: &[Bytes]) -> Result<Vec<u8>, AllocError>
+    ensures { IfOk result (λ lines. lines.items ≡ left_lines paths.now) }
+{
+    let mut lines = Vec::new(alloc);
+    for path in paths {
+        push_left(alloc, path.as_slice(), &mut lines)?;
+    }
+    Ok(lines)
+}
+
+/// Appends the line for a member that is left out.
+fn push_left(alloc: Global, path: &[u8], lines: &mut Vec<u8>) -> Result<(), AllocError>
+    ensures { OnOk result (lines.new.items ≡ lines.old.items ++ left_line path.now) }
+{
+    let line = worded_line(alloc, path, b"a special file, left out")?;
+    lines.extend_from_slice(&line)?;
+    Ok(())
+}
+
+/// Returns a path in a volume, without the first of two slashes that it begins with: those of the root and of a name below it.
+fn from_root(path: &[u8]) -> &[u8]
+    ensures { result.now ≡ from_root path.now }
+{
+    if path.len() > 1 && path[0] == b'/' && path[1] == b'/' {
+        &path[1..]
+    } else {
+        path
+    }
 }
 
 /// Returns the path that a call makes or changes.

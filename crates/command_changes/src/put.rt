@@ -17,7 +17,7 @@ ghost use Rattle.command_changes.specs.Import.{ImportsArchive};
 ghost use Rattle.command_changes.specs.Put.{calls_to_put, emptying_by, file_calls, onto, put_calls, put_onto};
 
 use crate::calls::{make_call, push};
-use crate::import;
+use crate::import::{self, Remarked};
 use crate::lookup::name_in;
 use command_faults::answer::{conclude, tell};
 use command_faults::mount::mount;
@@ -162,7 +162,7 @@ pub fn put_all<O: Sink, E: Sink>(
     _output: &mut O,
     errors: &mut E,
 ) -> Answer
-    ensures put { ImportsArchive edition image.items (told (calls_to_put (reads_as edition image.items).tree now directory.now files.entry.items))
+    ensures put { ImportsArchive edition image.items (told (calls_to_put (reads_as edition image.items).tree now directory.now files.entry.items)) []
         (says (heard E.contents E.failed errors.old errors.new)) result }
     ensures unprinted { Keeps (O.contents _output.old) (O.contents _output.new) }
     ensures unused { O.failed _output.new ≡ O.failed _output.old }
@@ -188,7 +188,7 @@ pub fn put_files(
     now: u32,
 ) -> Answer
     ensures { (errors : ErrorStream) → Hears errors result.fault
-        → ImportsArchive edition image.items (told (calls_to_put (reads_as edition image.items).tree now directory.now files.entry.items)) (says errors) result }
+        → ImportsArchive edition image.items (told (calls_to_put (reads_as edition image.items).tree now directory.now files.entry.items)) [] (says errors) result }
 {
     let outcome = put_into(alloc, edition, image, directory.as_bytes(), files, now);
     import::conclude(alloc, outcome)
@@ -202,8 +202,9 @@ fn put_into(
     directory: &[u8],
     files: Vec<NewFile<'_>>,
     now: u32,
-) -> Result<Vec<u8>, ImportFault>
-    ensures made { IfOk result (λ bytes. Imports edition image.items (told (calls_to_put (reads_as edition image.items).tree now directory.now files.entry.items)) bytes.items) }
+) -> Result<Remarked, ImportFault>
+    ensures made { IfOk result (λ remarked. Imports edition image.items (told (calls_to_put (reads_as edition image.items).tree now directory.now files.entry.items)) remarked.bytes.items) }
+    ensures lines { IfOk result (λ remarked. remarked.lines.items ≡ []) }
     ensures fault { IfErr result (IsUnimported edition image.items (told (calls_to_put (reads_as edition image.items).tree now directory.now files.entry.items))) }
 {
     let mut volume = make::mount(alloc, edition, image)?;
@@ -212,7 +213,10 @@ fn put_into(
         Err(fault) => return Err(make::unplanned(fault)),
     };
     make::make(alloc, &mut volume, calls)?;
-    Ok(volume.unmount())
+    Ok(Remarked {
+        bytes: volume.unmount(),
+        lines: Vec::new(alloc),
+    })
 }
 
 /// Returns the calls of `put -t`.

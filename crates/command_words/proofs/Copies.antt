@@ -65,7 +65,7 @@ unfolding is_get
 gets clock given (invocations.Get volume path) got is = inl (is.1.1, is.1.2)
 gets clock given (invocations.Copy volume (copies.Get folder paths)) got is = inr (folder.now, map (λ path. path.now) paths.items, is.1.0, is.1.1)
 gets clock given (invocations.Change volume (changes.Put p file now)) got is = absurd (true≢false (sym got))
-gets clock given (invocations.Change volume (changes.Import p now)) got is = absurd (true≢false (sym got))
+gets clock given (invocations.Change volume (changes.Import p options now)) got is = absurd (true≢false (sym got))
 gets clock given (invocations.Change volume (changes.Rm p now)) got is = absurd (true≢false (sym got))
 gets clock given (invocations.Change volume (changes.RmAll p now)) got is = absurd (true≢false (sym got))
 gets clock given (invocations.Change volume (changes.Rmdir p now)) got is = absurd (true≢false (sym got))

@@ -3,4 +3,5 @@ pub mod Faults
 pub mod FileWords
 pub mod Moments
 pub mod Names
+pub mod OwnerWords
 pub mod Values

@@ -1,7 +1,8 @@
 -- Invocations come from words that are valid; a word that isn't gives none.
-use Rattle.std.proofs.Common.{◌≡◌, ◌⊎◌, ◌∙◌, ◌≤◌, ◌∷◌, ℕ, List, [], Option, codes, length, map, sym, ap, subst, inl, inr, Result, Ok, Err, IfErr}
+use Rattle.std.proofs.Common.{◌≡◌, ◌⊎◌, ◌∙◌, ◌≤◌, ◌∷◌, ℕ, List, [], Option, None, Some, codes, length, map, sym, ap, subst, inl, inr, Result, Ok, Err, IfErr}
 use Rattle.std.specs.Borrow.{Bor}
 use Rattle.std.proofs.lemmas.List.{length-map}
+use Rattle.vol_dir.specs.declared.cred.Cred.{Cred}
 use Rattle.vol_layout.specs.declared.edition.Edition.{Edition}
 use Rattle.vol_layout.specs.declared.edition.Edition.TheVariants.{V6, V7}
 use Rattle.command_reads.specs.declared.looks.Look.TheVariants as looks
@@ -10,6 +11,7 @@ use Rattle.command_reads.specs.declared.looks.NodeName.TheVariants as nodes
 use Rattle.vol_check.specs.declared.checker.Checker.TheVariants as checkers
 use Rattle.command_changes.specs.declared.changes.Change.TheVariants as changes
 use Rattle.command_words.specs.Invocations.{AreValues, AsksForNothing, IsEditionNamed, IsGiven, IsNodeGiven, IsNodeWord, IsOneWrong, IsWordIfAny, IsWordOr, NameAsksFor, TellsOf, Words, verb_of}
+use Rattle.command_words.specs.Owners.{IsOwnerGiven, IsOwnerIfAny}
 use Rattle.command_words.specs.Verbs.{Argument, IsNoCommand, arguments_of, verb_name}
 use Rattle.command_words.specs.declared.fault.WordFault.{WordFault}
 use Rattle.command_words.specs.declared.fault.WordFault.TheVariants as faults
@@ -38,6 +40,12 @@ scripts_value items words are least most =
 word_value : (other number : ℕ) (words : List (List ℕ)) → IsWordOr other words number → IsWordIfAny words
 word_value other number [] is = tt
 word_value other number (word ∷ more) is = is.0
+
+-- a word that names an owner is one
+owner_value : (words : List (List ℕ)) (owner : Option Cred) → IsOwnerGiven words owner → IsOwnerIfAny words
+owner_value [] owner is = tt
+owner_value (word ∷ more) None is = absurd is
+owner_value (word ∷ more) (Some owner) is = (is.0.0, is.1.0)
 
 -- a word that names an i-node is one
 node_value : (node : NodeName) (word : List ℕ) → IsNodeGiven word node → IsNodeWord word
@@ -81,7 +89,8 @@ values_given clock given (invocations.Look volume (looks.Super form)) is = (edit
 values_given clock given (invocations.Look volume (looks.Map picture)) is = (edition_value volume.edition _ is.0.0, (tt, (tt, tt)))
 values_given clock given (invocations.Look volume (looks.Check graded)) is = (edition_value volume.edition _ is.0.0, (tt, (tt, tt)))
 values_given clock given (invocations.Look volume (looks.List path listing)) is = (edition_value volume.edition _ is.0.0, (tt, (tt, (tt, (tt, (tt, (tt, tt)))))))
-values_given clock given (invocations.Change volume (changes.Import path now)) is = (edition_value volume.edition _ is.0.0, (tt, (is.1.0.1, ((now, is.1.1), tt))))
+values_given clock given (invocations.Change volume (changes.Import path options now)) is =
+    (edition_value volume.edition _ is.0.0, (tt, (is.1.0.1, ((now, is.1.1), (tt, (owner_value _ options.owner is.1.2.1, tt))))))
 values_given clock given (invocations.Change volume (changes.MkdirAll path now)) is = (edition_value volume.edition _ is.0.0, (tt, (tt, ((now, is.1.1), (tt, tt)))))
 values_given clock given (invocations.Change volume (changes.RmAll path now)) is = (edition_value volume.edition _ is.0.0, (tt, (tt, ((now, is.1.1), (tt, tt)))))
 values_given clock given (invocations.Change volume (changes.Mv from to now)) is =

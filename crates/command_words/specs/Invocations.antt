@@ -9,6 +9,7 @@ use Rattle.command_words.specs.Disks.{AreBlocksOf, list_default}
 use Rattle.command_words.specs.Decimal.{IsNumberUpTo, IsNumberGiven, IsThreads, IsThreadsGiven}
 use Rattle.command_words.specs.Moment.{IsMomentOf}
 use Rattle.command_words.specs.Octal.{IsOctalUpTo, IsOctalGiven}
+use Rattle.command_words.specs.Owners.{IsOwnerGiven, IsOwnerIfAny}
 use Rattle.command_words.specs.Verbs.{Argument, verb_name}
 use Rattle.command_words.specs.declared.fault.WordFault.{WordFault}
 use Rattle.command_words.specs.declared.fault.WordFault.TheVariants as faults
@@ -43,6 +44,7 @@ use Rattle.vol_check.specs.declared.checker.Checker.TheVariants as checkers
 use Rattle.command_changes.specs.declared.changes.Change.{Change}
 use Rattle.command_changes.specs.declared.changes.Change.TheVariants as changes
 use Rattle.command_changes.specs.declared.migrate.Migration.{Migration}
+use Rattle.vol_import.specs.declared.import_options.ImportOptions.{ImportOptions}
 use Rattle.vol_mkfs.specs.declared.blank.NewVolume.{NewVolume}
 
 -- the words given for each argument, by its name (this project)
@@ -126,6 +128,7 @@ IsValue clock kinds.WordOr words = IsWordIfAny words
 IsValue clock kinds.Blocks words = (blocks : ℕ) × AreBlocksOf (first_word words) blocks
 IsValue clock kinds.Long words = IsNumberUpTo 4294967295 (first_word words)
 IsValue clock kinds.Permissions words = IsOctalUpTo 4095 (first_word words)
+IsValue clock kinds.Owner words = IsOwnerIfAny words
 IsValue clock kinds.Threads words = IsThreads (first_word words)
 IsValue clock kinds.Moment words = (now : ℕ) × IsMomentGiven clock words now
 IsValue clock kinds.Scripts words = (1 ≤ length words) × (length words ≤ 64)
@@ -155,7 +158,7 @@ work_verb (works.Play scripts) = verbs.Play
 -- the command for a change (this project)
 abbrev pub change_verb : Change → Verb
 change_verb (changes.Put path file now) = verbs.Put
-change_verb (changes.Import path now) = verbs.Import
+change_verb (changes.Import path options now) = verbs.Import
 change_verb (changes.Rm path now) = verbs.Rm
 change_verb (changes.RmAll path now) = verbs.Rm
 change_verb (changes.Rmdir path now) = verbs.Rmdir
@@ -222,12 +225,17 @@ IsMigrationGiven clock given migration = IsNumberGiven 4294967295 (the_word give
 abbrev pub IsOnePathGiven : Words → List ℕ → Type 0
 IsOnePathGiven given path = (path ≡ the_word given (codes "PATH")) × IsLeftOut given (codes "MORE") × IsLeftOut given (codes "output")
 
+-- the words describe these options of an import (this project)
+abbrev pub IsImportGiven : Words → ImportOptions → Type 0
+IsImportGiven given options =
+    (options.skip_special ≡ is_set (given (codes "skip-special"))) × IsOwnerGiven (given (codes "owner")) options.owner
+
 -- the words describe this change (this project)
 abbrev pub IsChangeGiven : Option ℕ → Words → Change → Type 0
 IsChangeGiven clock given (changes.Put path file now) = (path.now ≡ the_word given (codes "PATH")) × IsFirstWord given (codes "FILE") file.now
     × IsMomentGiven clock (given (codes "NOW")) now × IsLeftOut given (codes "MORE") × IsLeftOut given (codes "target-directory")
-IsChangeGiven clock given (changes.Import path now) =
-    IsPathGiven (given (codes "PATH")) path.now × IsMomentGiven clock (given (codes "NOW")) now
+IsChangeGiven clock given (changes.Import path options now) = IsPathGiven (given (codes "PATH")) path.now
+    × IsMomentGiven clock (given (codes "NOW")) now × IsImportGiven given options
 IsChangeGiven clock given (changes.Rm path now) =
     (path.now ≡ the_word given (codes "PATH")) × IsMomentGiven clock (given (codes "NOW")) now × (is_set (given (codes "recursive")) ≡ false)
 IsChangeGiven clock given (changes.RmAll path now) =

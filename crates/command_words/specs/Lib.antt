@@ -3,4 +3,5 @@ pub mod Decimal
 pub mod Disks
 pub mod Moment
 pub mod Octal
+pub mod Owners
 pub mod Verbs

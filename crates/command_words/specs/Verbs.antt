@@ -126,7 +126,8 @@ arguments_of verbs.Mkfs =
     ∷ option (codes "new") ∷ [])
 arguments_of verbs.Put = on_volume (word (codes "PATH") ∷ maybe_word (codes "FILE") ∷ maybe_word (codes "NOW") ∷ more_words
     ∷ valued (codes "target-directory") 116 values.Directory ∷ [])
-arguments_of verbs.Import = on_volume (path needs.Maybe ∷ moment ∷ [])
+arguments_of verbs.Import = on_volume (path needs.Maybe ∷ moment ∷ option (codes "skip-special")
+    ∷ (codes "owner", kinds.Owner, needs.Value 111 values.Owner) ∷ [])
 arguments_of verbs.Rm = on_volume (word (codes "PATH") ∷ moment ∷ lettered (codes "recursive") 114 ∷ [])
 arguments_of verbs.Rmdir = on_volume (word (codes "PATH") ∷ moment ∷ [])
 arguments_of verbs.Mkdir = on_volume (word (codes "PATH") ∷ moment ∷ lettered (codes "parents") 112 ∷ [])

@@ -1,8 +1,9 @@
 //! The words given for the arguments of a command.
-ghost use Rattle.std.specs.Prelude.{◌≡◌, ◌≤◌, true, ℕ, List, None, IfOk, IfErr, codes, length, map, option_map, slice_get};
+ghost use Rattle.std.specs.Prelude.{◌≡◌, ◌≤◌, true, ℕ, List, None, IfOk, IfErr, IfSome, IsSome, codes, length, map, option_map, slice_get};
 ghost use Rattle.command_words.specs.Decimal.{IsNumberUpTo, IsNumberGiven, IsThreads, IsThreadsGiven};
 ghost use Rattle.command_words.specs.Octal.{IsOctalUpTo, IsOctalGiven};
 ghost use Rattle.command_words.specs.Disks.{AreBlocksOf};
+ghost use Rattle.command_words.specs.Owners.{IsOwnerGiven, IsOwnerIfAny, IsOwnerNamed, IsOwnerWord};
 ghost use Rattle.command_words.specs.Invocations.{IsEditionNamed, IsMomentGiven, IsNodeGiven, IsNodeWord, IsPathGiven, IsPathWord, IsValue, IsWordOr, IsWrong, TellsOf, is_path, is_set, the_word};
 ghost use Rattle.command_words.specs.declared.parameters.WordKind.TheVariants as kinds;
 
@@ -11,9 +12,11 @@ use crate::disks::blocks_of;
 use crate::fault::{Said, WordFault, WrongWord};
 use crate::moment::moment_of;
 use crate::octal::permissions_of;
+use crate::owners::owner_of;
 use crate::texts;
 use command_reads::NodeName;
 use std::alloc::{AllocError, Global};
+use vol_dir::Cred;
 use vol_layout::Edition;
 
 /// The words given for the arguments of a command.
@@ -154,6 +157,28 @@ pub(crate) fn permissions_in<'a, G: Given<'a>>(
 {
     let text = text_in(given, name);
     permissions_of(text).ok_or(wrong(name, text, texts::OCTAL))
+}
+
+/// Reads the user and the group of an option, if it was given.
+pub(crate) fn owner_in<'a, G: Given<'a>>(given: &G) -> Result<Option<Cred>, WordFault<'a>>
+    ensures read { IfOk result (IsOwnerGiven (G.words given.now (codes "owner"))) }
+    ensures refused { IfErr result (TellsOf (IsOwnerIfAny (G.words given.now (codes "owner")) → ⊥)) }
+{
+    match given.first("owner") {
+        Some(text) => owner_of_word(text),
+        None => Ok(None),
+    }
+}
+
+/// Reads a user and a group.
+fn owner_of_word(text: &str) -> Result<Option<Cred>, WordFault<'_>>
+    ensures read { IfOk result (λ owner. IfSome owner (IsOwnerNamed text.now) × IsSome owner) }
+    ensures refused { IfErr result (TellsOf (IsOwnerWord text.now → ⊥)) }
+{
+    match owner_of(text) {
+        Some(owner) => Ok(Some(owner)),
+        None => Err(wrong("owner", text, texts::import::OWNER_WORD)),
+    }
 }
 
 /// Reads the time, or returns the program's clock if it was left out.

@@ -8,6 +8,7 @@ pub mod given;
 pub mod invocation;
 mod moment;
 mod octal;
+mod owners;
 pub mod parameters;
 pub mod read_words;
 mod several;

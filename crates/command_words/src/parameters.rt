@@ -22,6 +22,8 @@ pub enum WordKind {
     Long,
     /// Permissions, in octal digits.
     Permissions,
+    /// A user and a group, if there is a word: two 16-bit numbers with a colon between them.
+    Owner,
     /// A number of threads, 1 to 64.
     Threads,
     /// A time; without a word, that of the program's clock.
@@ -56,6 +58,8 @@ pub enum ValueName {
     Directory,
     /// A folder outside it.
     Folder,
+    /// A user and a group.
+    Owner,
 }
 
 impl ValueName {
@@ -64,6 +68,7 @@ impl ValueName {
         match self {
             ValueName::Directory => "DIR",
             ValueName::Folder => "FOLDER",
+            ValueName::Owner => "UID:GID",
         }
     }
 }
@@ -347,7 +352,21 @@ const IMPORTED: Parameter = Parameter {
     name: "PATH",
     kind: WordKind::Path,
     need: Need::Maybe,
-    help: texts::IMPORTED,
+    help: texts::import::BELOW,
+};
+
+const SKIP_SPECIAL: Parameter = Parameter {
+    name: "skip-special",
+    kind: WordKind::Flag,
+    need: Need::Flag(None),
+    help: texts::import::SKIP_SPECIAL,
+};
+
+const OWNER: Parameter = Parameter {
+    name: "owner",
+    kind: WordKind::Owner,
+    need: Need::Value('o', ValueName::Owner),
+    help: texts::import::OWNER,
 };
 
 const LONG: Parameter = Parameter {
@@ -505,7 +524,14 @@ pub static MIGRATE_WORDS: [Parameter; 6] = [OLD, NEW, BLOCKS, LIST_BLOCKS, MIGRA
 pub static SERVE_WORDS: [Parameter; 4] = [EDITION, IMAGE, READ_ONLY, MINE];
 
 /// The words of `import`.
-pub static IMPORT_WORDS: [Parameter; 4] = [EDITION, IMAGE, IMPORTED, CALL_NOW];
+pub static IMPORT_WORDS: [Parameter; 6] = [
+    EDITION,
+    IMAGE,
+    IMPORTED,
+    CALL_NOW,
+    SKIP_SPECIAL,
+    OWNER,
+];
 
 /// The words of `export`.
 pub static EXPORT_WORDS: [Parameter; 5] = [EDITION, IMAGE, BELOW, LOST, EXPORT_GRADED];

@@ -8,8 +8,8 @@ ghost use Rattle.command_words.specs.declared.verbs.Verb.TheVariants as verbs;
 use crate::disks::list_default;
 use crate::fault::WordFault;
 use crate::given::{
-    Given, blocks_in, edition_in, flag_in, long_in, moment_in, node_in, path_in, permissions_in,
-    scripts_in, text_in, threads_in, word_in, word_or,
+    Given, blocks_in, edition_in, flag_in, long_in, moment_in, node_in, owner_in, path_in,
+    permissions_in, scripts_in, text_in, threads_in, word_in, word_or,
 };
 use crate::invocation::{Copying, Invocation, MadeFile, Serving, VolumeFile, Work};
 use crate::several::{PutFiles, file_in, files_in, no_more, not_empty, paths_in};
@@ -19,6 +19,7 @@ use command_changes::{Change, Migration};
 use command_reads::{ExportOptions, Look, OutputForm, Picture};
 use std::alloc::Global;
 use vol_check::Checker;
+use vol_import::ImportOptions;
 use vol_listing::{Depth, Lines, ListOptions};
 use vol_mkfs::NewVolume;
 
@@ -328,9 +329,13 @@ fn read_import<'a, G: Given<'a>>(
     let volume = volume_in(given)?;
     let path = path_in(given)?;
     let now = moment_in(given, clock)?;
+    let options = ImportOptions {
+        skip_special: flag_in(given, "skip-special"),
+        owner: owner_in(given)?,
+    };
     Ok(Invocation::Change {
         volume,
-        change: Change::Import { path, now },
+        change: Change::Import { path, options, now },
     })
 }
 

@@ -1,6 +1,7 @@
 //! The texts of the help.
 
 pub mod export;
+pub mod import;
 pub mod touch;
 
 pub const ABOUT: &str = "Works on disk images of Sixth and Seventh Edition Unix.";
@@ -362,47 +363,6 @@ pub const NO_FILE: &str = "a file is missing";
 
 pub const SAME_NAME: &str = "two files have this last name, and one would replace the other";
 
-pub const IMPORT_ABOUT: &str = "Adds the files and directories of a tar archive to a volume.";
-
-pub const IMPORT_MORE: &str = "\
-Example:
-  unixvol import 7 disk.img /usr/src < src.tar
-  unixvol export 6 old.img | unixvol import 7 new.img
-
-The archive is read from standard input, which can't be a terminal. Its format is ustar, GNU tar, pax or V7's tar.
-Its members are made below PATH: directories and files with their permissions and owners, files with their bytes
-and times of modification, and more names of files. All members are made, or none. If there are any, PATH must
-exist.
-
-If a directory on the way to a member is missing, it is made too, with permissions 0755, user 0 and group 0. A
-directory that the volume already has stays as it is. A name longer than 14 bytes is refused, never cut, and so is
-a path longer than 4096 bytes. Special files, sparse files and symbolic links are refused, as no call of these
-systems makes them.
-
-IMAGE is written only if everything succeeded: a new file is written beside it and then takes its place.
-
-Status:
-  0  all members were made, and the volume was saved
-  1  `unixvol: unsound, rule N`: this is the first rule that the volume breaks; `unixvol check` says what breaks it
-     `unixvol: archive, byte N: WHY`: the archive can't be read from the header at this byte on
-     `unixvol: MEMBER: WHY`: this member can't be made as it is, because of its kind, its path, the path of the file
-     that it links to, a field of its header that isn't a number, or an owner or group above the edition's highest,
-     255 in the sixth and 32767 in the seventh
-     `unixvol: 17 Exists: MEMBER`: its path, or that of a directory on the way, is taken by something that isn't
-     the directory wanted
-     `unixvol: 2 NoEntry: MEMBER`: PATH doesn't exist, or the file that the member links to doesn't
-     `unixvol: 28 NoSpace: MEMBER`, `unixvol: 103 NoInode: MEMBER`: there are too few free blocks, or there is no
-     free i-node
-     Other refusals of a call look the same: number, name, and the member's path in the volume, in which bytes
-     that a terminal can't show are a backslash and three octal digits
-  2  the command line is wrong
-  3  `unixvol: cannot read IMAGE`, `unixvol: cannot write IMAGE`, or `unixvol: cannot read -`: standard input
-     failed, is a terminal, or has an archive larger than 64 MiB plus 64 times the size of IMAGE
-  4  `unixvol: 12 NoMemory`";
-
-pub const IMPORTED: &str =
-    "The directory of the volume to make the members in; by default, the root";
-
 pub const RM_ABOUT: &str = "Removes a name of a file of a volume, or with -r a whole tree.";
 
 pub const RM_MORE: &str = "\
@@ -519,8 +479,8 @@ Example:
   unixvol mv 7 disk.img /etc/motd /etc/motd.old
 
 The file gets the new name and loses the old one; it keeps its i-number. If TO is a directory, the file moves into
-it under its last name. A file that already has the new name is never replaced. Directories can't be moved: the
-systems had no call for it.
+it under its last name. A file that already has the new name is never replaced. Directories can't be moved: on
+these systems only user 0 could link a directory, and no command here does.
 
 IMAGE is written only if everything succeeded: a new file is written beside it and then takes its place.
 

@@ -18,3 +18,4 @@ pub use Rattle.vol_check.specs.SalvagedImages
 pub use Rattle.vol_migrate.specs.Migrate
 pub use Rattle.vol_archive.specs.Export
 pub use Rattle.vol_import.specs.Make
+pub use Rattle.vol_import.specs.Options

@@ -25,7 +25,7 @@
 //! into one of the seventh.
 //!
 //! **Archives.** [`export`] writes everything below a directory as a tar archive, and [`import`] adds an archive's members to a
-//! volume.
+//! volume; [`import_with`] may leave out special files, and give all members to one owner.
 //!
 //! Memory always comes from an allocator that the caller passes, and running out of it is an error like any other.
 //!
@@ -42,7 +42,9 @@ pub use vol_check::{
 };
 pub use vol_dir::{Cred, Refusal};
 pub use vol_findings as rules;
-pub use vol_import::{ArchiveFault, ImportFault, import};
+pub use vol_import::{
+    ArchiveFault, ImportFault, ImportOptions, Imported, import, import_with,
+};
 pub use vol_layout::{Edition, Geometry, GeometryFault, Kind};
 pub use vol_migrate::{MigrateFault, migrate};
 pub use vol_mkfs::mkfs::mkfs;

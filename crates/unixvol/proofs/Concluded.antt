@@ -1,5 +1,5 @@
 -- The end of a run that saves a command's result, or of one that reads no file.
-use Rattle.std.proofs.Common.{◌≡◌, ◌∙◌, true≢false, ℕ, ◌≤◌, List, [], Option, None, Some, IsSome, IfSome, Result, inl, inr, refl, sym, subst, arith}
+use Rattle.std.proofs.Common.{◌≡◌, ◌∙◌, Bool, true, false, true≢false, ℕ, ◌≤◌, List, [], Option, None, Some, IsSome, IfSome, Result, inl, inr, refl, sym, subst, arith}
 use Rattle.std.specs.Global.{Vec}
 use Rattle.std.specs.Io.KnownBytes.{Keeps}
 use Rattle.command_faults.proofs.Concluded.{fault_few, refusal_few}
@@ -22,7 +22,7 @@ use Rattle.command_reads.specs.declared.get.FilesRead.{FilesRead}
 use Rattle.command_reads.specs.declared.get.GetFault.{GetFault}
 use Rattle.command_reads.specs.declared.get.GetFault.TheVariants.{Volume, File}
 use Rattle.unixvol.specs.Copies.{ReadSaved}
-use Rattle.unixvol.specs.Runs.{EndsSaved, Ends, IsUnread}
+use Rattle.unixvol.specs.Runs.{EndsSaved, Ends, IsUnread, but_remarks}
 
 -- a run that reads no file ends
 pub ends_unread : {F : Type 0} (remaining : F → Option (List ℕ)) (streams : Streams) (status : ℕ) → IsUnread remaining status
@@ -47,10 +47,15 @@ ends_answer streams taken answer status few quiet unprinted unused (inr file) = 
   whole = λ e. absurd (elim file.1 [ inl three ↦ omega (arith, three, e) | inr four ↦ omega (arith, four, e) ]);
 }
 
--- if something was made, no fault is reported
-quiet : {A : Type 0} (makes : A → Type 0) (said : List ℕ → Type 0) (made : Option A) → IsSome made → IfSome made (λ a. makes a × said []) → said []
-quiet makes said (Some a) some given = given.1
-quiet makes said None some given = absurd (true≢false (sym some))
+-- a run that may report something with status 0 ends as another one
+pub ends_remarked : (may : Bool) (streams : Streams) (status : ℕ) → Ends streams status → Ends (but_remarks may streams) status
+ends_remarked true streams status ends = record { within = ends.within; silent = ends.silent; whole = λ e. ((ends.whole e).0, tt) }
+ends_remarked false streams status ends = ends
+
+-- if something was made, this is what is reported
+quiet : {A : Type 0} (makes : A → Type 0) (reported : Type 0) (made : Option A) → IsSome made → IfSome made (λ a. makes a × reported) → reported
+quiet makes reported (Some a) some given = given.1
+quiet makes reported None some given = absurd (true≢false (sym some))
 
 -- the status of an answer is at most 4, if that of each reason is
 few : {A : Type 0} (made : Option A) (status : ℕ) → (IsSome made → status ≡ 0) → (made ≡ None → status ≤ 4) → status ≤ 4
@@ -65,7 +70,7 @@ ends_concluded makes is_reason streams taken answer status concludes unprinted u
     ends_answer streams taken answer status
     (few answer.image answer.status concludes.saved.1
     (λ none. let why = concludes.refused (rw none refl) in subst (λ n. n ≤ 4) (sym why.2) (fault_few why.0).1))
-    (λ e. quiet (λ (bytes : Vec ℕ). makes bytes.items) streams.said answer.image (concludes.saved.0 e) concludes.made) unprinted unused saved
+    (λ e. quiet (λ (bytes : Vec ℕ). makes bytes.items) (streams.said []) answer.image (concludes.saved.0 e) concludes.made) unprinted unused saved
 
 refusal_within : (refusal : Refusal) → refusal_status refusal ≤ 4
 refusal_within refusal = elim (refusal_few refusal) [ inl one ↦ omega (arith, one) | inr four ↦ omega (arith, four) ]
@@ -86,14 +91,14 @@ import_few (imports.Refused refusal call) = refusal_within refusal
 import_few imports.NoMemory = omega arith
 
 -- the end of an import
-pub ends_imported : (edition : Edition) (image : List ℕ) (wanted : Result (List Call) ImportFault) (streams : Streams) (taken : List ℕ → Type 0) (answer : Answer)
-    (status : ℕ) → ImportsArchive edition image wanted streams.said answer → Keeps streams.old streams.new → streams.failed ≡ streams.had_failed
-    → EndsSaved taken answer status → Ends streams status
-ends_imported edition image wanted streams taken answer status imports unprinted unused saved =
+pub ends_imported : (edition : Edition) (image : List ℕ) (wanted : Result (List Call) ImportFault) (lines : List ℕ) (said : List ℕ → Type 0) (streams : Streams)
+    (taken : List ℕ → Type 0) (answer : Answer) (status : ℕ) → ImportsArchive edition image wanted lines said answer → (said lines → streams.said [])
+    → Keeps streams.old streams.new → streams.failed ≡ streams.had_failed → EndsSaved taken answer status → Ends streams status
+ends_imported edition image wanted lines said streams taken answer status imports reported unprinted unused saved =
     ends_answer streams taken answer status
     (few answer.image answer.status imports.saved.1
     (λ none. let why = imports.refused (rw none refl) in subst (λ n. n ≤ 4) (sym why.2) (import_few why.0)))
-    (λ e. quiet _ streams.said answer.image (imports.saved.0 e) imports.made) unprinted unused saved
+    (λ e. reported (quiet _ (said lines) answer.image (imports.saved.0 e) imports.made)) unprinted unused saved
 
 get_few : (fault : GetFault) → get_status fault ≤ 4
 get_few (Volume fault) = (fault_few fault).1

@@ -52,7 +52,7 @@ abbrev pub PutsFiles : Streams → HostFiles → Edition → List ℕ → List (
 PutsFiles streams files edition directory names now status =
     RunsNothing streams files status
     ⊎ ((image : List ℕ) × (stamp : Stamp) × (news : List NewFile) × (answer : Answer) × files.opened edition image stamp × AreGiven files.given names news
-    × ImportsArchive edition image (told (calls_to_put (reads_as edition image).tree now directory news)) streams.said answer
+    × ImportsArchive edition image (told (calls_to_put (reads_as edition image).tree now directory news)) [] streams.said answer
     × Keeps streams.old streams.new × (streams.failed ≡ streams.had_failed) × EndsSaved (λ saved. files.taken saved × files.stood stamp) answer status)
 
 -- several files are to be put at a time: if the word that was read as the time is a file's path too, nothing is done; otherwise they are put (this project)

@@ -208,7 +208,7 @@ host_input remaining = record { unread = IsUnread remaining; given = GaveArchive
 -- the bytes that a change needs aren't read, with this status: those of the file to put, or of the archive on standard input (this project)
 abbrev pub IsUngiven : (ℕ → Type 0) → (ℕ → Type 0) → Change → ℕ → Type 0
 IsUngiven unread unheard (changes.Put path file now) status = unread status
-IsUngiven unread unheard (changes.Import path now) status = unheard status
+IsUngiven unread unheard (changes.Import path options now) status = unheard status
 IsUngiven unread unheard _ status = ⊥
 
 -- nothing is done: the bytes that a change needs aren't read, and nothing is printed (this project)
@@ -219,12 +219,12 @@ TakesNothing streams files input change status =
 -- a file gave the bytes to put, and standard input the archive to import; other changes need no bytes (this project)
 abbrev pub IsGivenTo : (List ℕ → Type 0) → (List ℕ → Type 0) → Change → List ℕ → Type 0
 IsGivenTo given heard (changes.Put path file now) bytes = given bytes
-IsGivenTo given heard (changes.Import path now) bytes = heard bytes
+IsGivenTo given heard (changes.Import path options now) bytes = heard bytes
 IsGivenTo given heard _ bytes = Unit {0}
 
 -- true if a change imports an archive from standard input, which is a terminal and gives none (this project)
 abbrev pub wants_terminal : Bool → Change → Bool
-wants_terminal is_terminal (changes.Import path now) = is_terminal
+wants_terminal is_terminal (changes.Import path options now) = is_terminal
 wants_terminal is_terminal _ = false
 
 -- nothing is done, since an archive is needed from a terminal: the status is that of a file that can't be read, and nothing is printed (this project)
@@ -326,10 +326,20 @@ LooksToEnd files screen output errors edition look end =
     × IsEndWithin (highest_status look) (record { old = output; new = new; had_failed = false; failed = failed; said = Gets untold errors told }) status
     × ((end ≡ status) ⊎ (end ≡ 3))
 
--- a change runs to its end, as a plain command does (this project)
+-- true if a change may report something though it succeeds: an import that leaves members out reports them (this project)
+abbrev pub may_remark : Change → Bool
+may_remark (changes.Import path options now) = options.skip_special
+may_remark _ = false
+
+-- the streams, of which nothing is said of the reports if a change may succeed with some (this project)
+abbrev pub but_remarks : Bool → Streams → Streams
+but_remarks true streams = record streams { said = λ bytes. Unit {0} }
+but_remarks false streams = streams
+
+-- a change runs to its end, as a plain command does, but for the report of members left out (this project)
 abbrev pub ChangesToEnd : HostFiles → HostInput → Bool → Option (List ℕ) → Option (List ℕ) → Edition → Change → ℕ → Type 0
 ChangesToEnd files input is_terminal output errors edition change end =
     (new : Option (List ℕ)) × (failed : Bool) × (told : Option (List ℕ)) × (untold : Bool) × (status : ℕ)
     × RunsChange (record { old = output; new = new; had_failed = false; failed = failed; said = Gets untold errors told }) files input is_terminal edition change status
-    × Ends (record { old = output; new = new; had_failed = false; failed = failed; said = Gets untold errors told }) status
+    × Ends (but_remarks (may_remark change) (record { old = output; new = new; had_failed = false; failed = failed; said = Gets untold errors told })) status
     × ((end ≡ status) ⊎ ((status ≡ 0) × (end ≡ 3)))

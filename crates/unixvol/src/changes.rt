@@ -2,7 +2,7 @@
 ghost use Rattle.std.specs.Prelude.{◌≡◌, ◌+◌, ◌*◌, ◌/◌, ◌^◌, ◌≤◌, min, ℕ, Bool, IfErr, IfOk, List, Option};
 ghost use Rattle.std.specs.Process.{exit_status};
 ghost use Rattle.command_faults.specs.Streams.{ErrorStream, Hears, still};
-ghost use Rattle.unixvol.specs.Runs.{ChangesToEnd, Ends, GaveArchive, GaveBytes, IsGivenTo, IsUngiven, IsUnread, RunsChange, host_files, host_input, wants_terminal};
+ghost use Rattle.unixvol.specs.Runs.{ChangesToEnd, Ends, GaveArchive, GaveBytes, IsGivenTo, IsUngiven, IsUnread, RunsChange, but_remarks, host_files, host_input, may_remark, wants_terminal};
 
 use crate::explain::{NamedFile, explain_unread, finish, tell_fault};
 use crate::host::Surroundings;
@@ -73,7 +73,7 @@ fn run<R: ImageFiles + Clock + Eprint + AllocGlobal, I: Read + Drop>(
     ensures runs { (known : Option (List ℕ)) (failed : Bool) (errors : ErrorStream) → Hears errors result.fault
         → RunsChange (still known failed errors) (host_files R.File.remaining R.File.contents R.had R.stood) (host_input I.remaining) is_terminal volume.entry.edition change.entry result.status }
     ensures ends { (known : Option (List ℕ)) (failed : Bool) (errors : ErrorStream) → Hears errors result.fault
-        → Ends (still known failed errors) result.status }
+        → Ends (but_remarks (may_remark change.entry) (still known failed errors)) result.status }
 {
     if wants_terminal(is_terminal, change) {
         return Ending {

@@ -17,7 +17,7 @@ returns-in-Put c known failed errors hears =
 pub returns-in-Import : goal.returns-in-Import
 returns-in-Import c known failed errors hears =
     let does = c.import_archive.ensures errors hears in
-    rw c.in-Import.is (does, search rules, refl, archive_saved _ _ _ _ _ (says errors) _ does)
+    rw c.in-Import.is (does, search rules, refl, archive_saved _ _ _ _ _ _ _ (says errors) _ does)
 
 pub returns-in-MkdirAll : goal.returns-in-MkdirAll
 returns-in-MkdirAll c known failed errors hears =

@@ -2,7 +2,7 @@ use Rattle.std.proofs.Common.{◌∙◌, inl, inr, refl, rules, sym}
 use Rattle.std.proofs.KnownBytes.{Keeps-refl}
 use Rattle.command_faults.specs.Streams.{still}
 use Rattle.unixvol.specs.Runs.{GaveArchive, GaveBytes, IsGivenTo, IsUngiven, IsUnread}
-use Rattle.unixvol.proofs.Concluded.{ends_unread}
+use Rattle.unixvol.proofs.Concluded.{ends_remarked, ends_unread}
 use Rattle.unixvol.proofs.Done.{ends_change, ends_ungiven}
 use Rattle.unixvol.proofs.changes.run.Goals as goal
 
@@ -50,16 +50,17 @@ returns-clause-runs g c known failed errors hears =
 
 pub returns-then-wants_terminal-clause-ends : goal.returns-then-wants_terminal-clause-ends
 returns-then-wants_terminal-clause-ends g c known failed errors hears =
-    ends_unread g.R.File.Read.remaining (still known failed errors) c.explain_unread.result (inl c.explain_unread.ensures) (Keeps-refl known)
+    ends_remarked _ _ _
+    (ends_unread g.R.File.Read.remaining (still known failed errors) c.explain_unread.result (inl c.explain_unread.ensures) (Keeps-refl known))
 
 pub returns-in-Err-clause-ends : goal.returns-in-Err-clause-ends
 returns-in-Err-clause-ends g c known failed errors hears =
-    elim c.in-Err.ensures.fault [
+    ends_remarked _ _ _ (elim c.in-Err.ensures.fault [
       | inl unread ↦ ends_unread g.R.File.Read.remaining (still known failed errors) c.in-Err.status unread (Keeps-refl known)
       | inr called ↦
           let ungiven : IsUngiven (IsUnread g.R.File.Read.remaining) (IsUnread g.I.Read.remaining) c.args.change c.in-Err.status = search rules in
           ends_ungiven g.R.File.Read.remaining g.I.Read.remaining (still known failed errors) c.in-Err.status c.args.change ungiven (Keeps-refl known)
-    ]
+    ])
 
 pub returns-clause-ends : goal.returns-clause-ends
 returns-clause-ends g c known failed errors hears =

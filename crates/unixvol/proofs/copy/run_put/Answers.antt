@@ -1,6 +1,6 @@
 use Rattle.std.proofs.Common.{arith, inl, inr, refl, rules}
 use Rattle.std.proofs.KnownBytes.{Keeps-refl}
-use Rattle.command_faults.specs.Streams.{still}
+use Rattle.command_faults.specs.Streams.{says, still}
 use Rattle.unixvol.specs.Copies.{AreGiven}
 use Rattle.unixvol.specs.Runs.{GaveBytes, IsUnread}
 use Rattle.unixvol.proofs.Concluded.{ends_imported, ends_unread}
@@ -48,8 +48,8 @@ returns-in-Err-clause-ends g c known failed errors hears =
 
 pub returns-clause-ends : goal.returns-clause-ends
 returns-clause-ends g c known failed errors hears =
-    ends_imported c.args.volume.edition c.in-Ok.begun.image.items _ (still known failed errors) _ c.put_files-answer.result c.save_answer-status.result
-    (c.put_files-answer.ensures errors hears) (Keeps-refl known) refl c.save_answer-status.ensures
+    ends_imported c.args.volume.edition c.in-Ok.begun.image.items _ _ (says errors) (still known failed errors) _ c.put_files-answer.result
+    c.save_answer-status.result (c.put_files-answer.ensures errors hears) (λ said. said) (Keeps-refl known) refl c.save_answer-status.ensures
 
 pub returns-in-Some-clause-ends : goal.returns-in-Some-clause-ends
 returns-in-Some-clause-ends g c known failed errors hears =

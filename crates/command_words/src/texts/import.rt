@@ -1,0 +1,53 @@
+//! The texts of `import`.
+
+pub const ABOUT: &str = "Adds the files and directories of a tar archive to a volume.";
+
+pub const MORE: &str = "\
+Example:
+  unixvol import 7 disk.img /usr/src < src.tar
+  unixvol export 6 old.img | unixvol import --skip-special 7 new.img
+  unixvol import --owner 3:3 7 disk.img /usr/src < src.tar
+
+The archive is read from standard input, which can't be a terminal. Its format is ustar, GNU tar, pax or V7's tar.
+Its members are made below PATH: directories and files with their permissions and owners, files with their bytes
+and times of modification, and more names of files. All members are made, or none. If there are any, PATH must
+exist.
+
+If a directory on the way to a member is missing, it is made too, with permissions 0755, user 0 and group 0. A
+directory that the volume already has stays as it is. A name longer than 14 bytes is refused, never cut, and so is
+a path longer than 4096 bytes. Sparse files and symbolic links are refused, as these systems have none. Special
+files are refused too: these systems make them with mknod, but no command here does.
+
+With --skip-special, special files are left out, and each has a line on standard error. These are character and
+block files, FIFOs, and links to what is left out.
+
+IMAGE is written only if everything succeeded: a new file is written beside it and then takes its place.
+
+Status:
+  0  all members were made, and the volume was saved; with --skip-special, all but these:
+     `unixvol: MEMBER: a special file, left out`
+  1  `unixvol: unsound, rule N`: this is the first rule that the volume breaks; `unixvol check` says what breaks it
+     `unixvol: archive, byte N: WHY`: the archive can't be read from the header at this byte on
+     `unixvol: MEMBER: WHY`: this member can't be made as it is, because of its kind, its path, the path of the file
+     that it links to, a field of its header that isn't a number, or an owner or group above the edition's highest,
+     255 in the sixth and 32767 in the seventh
+     `unixvol: 17 Exists: MEMBER`: its path, or that of a directory on the way, is taken by something that isn't
+     the directory wanted
+     `unixvol: 2 NoEntry: MEMBER`: PATH doesn't exist, or the file that the member links to doesn't
+     `unixvol: 28 NoSpace: MEMBER`, `unixvol: 103 NoInode: MEMBER`: there are too few free blocks, or there is no
+     free i-node
+     Other refusals of a call look the same: number, name, and the member's path in the volume, in which bytes
+     that a terminal can't show are a backslash and three octal digits
+  2  the command line is wrong
+  3  `unixvol: cannot read IMAGE`, `unixvol: cannot write IMAGE`, or `unixvol: cannot read -`: standard input
+     failed, is a terminal, or has an archive larger than 64 MiB plus 64 times the size of IMAGE
+  4  `unixvol: 12 NoMemory`";
+
+pub const BELOW: &str =
+    "The directory of the volume to make the members in; by default, the root";
+
+pub const SKIP_SPECIAL: &str = "Leave out special files, and list them on standard error";
+
+pub const OWNER: &str = "Give every member to this user and group";
+
+pub const OWNER_WORD: &str = "not two numbers from 0 to 65535 with a colon between them";

@@ -116,7 +116,7 @@ refuses 3 'unixvol: cannot read missing' export 7 missing
 "$program" export 7 "$linux" > /dev/full 2> error
 has 'export to a full device' '3 unixvol: cannot write -' "$? $(cat error)"
 head -c 600 "$linux" > short
-for command in export super map; do refuses 1 'unixvol: unsound, rule 1' "$command" 7 short; done
+for command in export super free map; do refuses 1 'unixvol: unsound, rule 1' "$command" 7 short; done
 refuses 1 'unixvol: unsound, rule 1' inode 7 short 2
 refuses 1 'unixvol: unsound, rule 1' inode 7 short /
 refuses 6 'unixvol: unsound, rule 1' export --status 7 short
@@ -164,6 +164,33 @@ nfree $(word 518)" "$(head -n 3 output)"
 has 'how many blocks are free' "$(sed -n 's/^free //p' report)" "$(sed -n 's/^data blocks [0-9]*, free //p' output)"
 runs super --json 7 "$linux"
 has 'the super-block as JSON' "$(word 512) $(word 518)" "$(python3 -c 'import json, sys; it = json.load(sys.stdin); print(it["isize"], it["nfree"])' < output)"
+
+# The chain of the free list: of 125 free blocks the last 99 are in the array in block 30.
+"$program" mkfs 6 chain.v6 130 2 0 0 1000
+runs free 6 chain.v6
+has 'the links of a chain' 'super-block: nfree 26;block 30: nfree 100;links 2, free blocks 125' "$(grep -v '^free' output | paste -s -d ';' -)"
+has 'the last numbers of a chain' 'free[90] 40 39 38 37 36 35 34 33 32 31' "$(grep '^free\[90\]' output)"
+owner() { "$program" block "$@"; }
+has 'a block in the second link' 'block 31: free, listed in block 30 free[99]' "$(owner 6 chain.v6 31)"
+has 'the block of the second link' 'block 30: free, listed in super-block free[0]' "$(owner 6 chain.v6 30)"
+runs free 7 "$linux"
+has 'how many blocks are free, link by link' "$("$program" icheck 7 "$linux" 1 | sed -n 's/^free //p')" "$(sed -n 's/^links .*, free blocks //p' output)"
+
+# The owners of indirect blocks, with the numbers in them as od reads them.
+head -c 102400 /dev/zero | tr '\0' x > long
+"$program" mkfs 7 deep.v7 400 10 0 0 1000
+"$program" put 7 deep.v7 /long long 1001
+number=$("$program" inode 7 deep.v7 /long | awk '{ print $2; exit }')
+addresses=$("$program" inode 7 deep.v7 /long | grep '^addr')
+long_at() { od -An -tu2 -j $((512 * $1 + 4 * $2)) -N 4 deep.v7 | awk '{ print 65536 * $1 + $2 }'; }
+single=$(awk '{ print $12 }' <<< "$addresses")
+double=$(awk '{ print $13 }' <<< "$addresses")
+first=$(long_at "$double" 0)
+data=$(long_at "$first" 5)
+has 'an indirect block' "block $single: indirect block of i-node $number, from logical 10, addr[10]" "$(owner 7 deep.v7 "$single")"
+has 'a doubly indirect block' "block $double: doubly indirect block of i-node $number, from logical 138, addr[11]" "$(owner 7 deep.v7 "$double")"
+has 'an indirect block below another' "block $first: indirect block of i-node $number, from logical 138, addr[11][0]" "$(owner 7 deep.v7 "$first")"
+has 'a block below two indirect blocks' "block $data: data of i-node $number, logical 143, addr[11][0][5]" "$(owner 7 deep.v7 "$data")"
 
 # A map.
 runs map 7 "$linux"
@@ -250,6 +277,7 @@ put special.v7 $((1024 + 11 * 64)) 'A4 61'
 put special.v7 $((1024 + 11 * 64 + 13)) '01 C8'
 changed directory.v6 links.v6 1026 05
 changed bare.v6 twice_free.v6 544 '06 00'
+changed three.v6 claimed.v6 2026 '08 00'
 
 # Rules of soundness, listings, reports and the map, from the lines of a file.
 follows "$data/rows"
@@ -272,7 +300,7 @@ echo 'unixvol: cannot write -' > line
 wants 'export to a terminal' 3 none line
 
 # A full device, whatever command prints.
-for command in 'check 6 directory.v6' 'ls -l 6 special.v6' 'ls -R --json 6 tree.v6' 'inode 6 three.v6 32' 'super --json 6 bare.v6' 'map 6 three.v6' 'map --svg 6 three.v6'; do
+for command in 'check 6 directory.v6' 'ls -l 6 special.v6' 'ls -R --json 6 tree.v6' 'inode 6 three.v6 32' 'super --json 6 bare.v6' 'free 6 bare.v6' 'block 6 three.v6 8' 'map 6 three.v6' 'map --svg 6 three.v6'; do
     read -r -a words <<< "$command"
     "$program" "${words[@]}" > /dev/full 2> error < /dev/null
     echo $? > status

@@ -168,6 +168,8 @@ asks_listing clock given edition image path (invocations.Change volume changes.S
 asks_listing clock given edition image path (invocations.Look volume (looks.Export p options)) test e_is i_is p_is none is = absurd (true≢false (sym test))
 asks_listing clock given edition image path (invocations.Look volume (looks.Inode number form)) test e_is i_is p_is none is = absurd (true≢false (sym test))
 asks_listing clock given edition image path (invocations.Look volume (looks.Super form)) test e_is i_is p_is none is = absurd (true≢false (sym test))
+asks_listing clock given edition image path (invocations.Look volume (looks.Free form)) test e_is i_is p_is none is = absurd (true≢false (sym test))
+asks_listing clock given edition image path (invocations.Look volume (looks.Block block)) test e_is i_is p_is none is = absurd (true≢false (sym test))
 asks_listing clock given edition image path (invocations.Look volume (looks.Map picture)) test e_is i_is p_is none is = absurd (true≢false (sym test))
 asks_listing clock given edition image path (invocations.Look volume (looks.Check graded)) test e_is i_is p_is none is = absurd (true≢false (sym test))
 asks_listing clock given edition image path (invocations.Look volume (looks.List directory listing)) test e_is i_is p_is none is = (
@@ -221,6 +223,8 @@ listing_asks clock (Some met) edition image path (invocations.Serve volume servi
 listing_asks clock (Some met) edition image path (invocations.Look v (looks.Export p options)) is listed = absurd listed
 listing_asks clock (Some met) edition image path (invocations.Look v (looks.Inode number form)) is listed = absurd listed
 listing_asks clock (Some met) edition image path (invocations.Look v (looks.Super form)) is listed = absurd listed
+listing_asks clock (Some met) edition image path (invocations.Look v (looks.Free form)) is listed = absurd listed
+listing_asks clock (Some met) edition image path (invocations.Look v (looks.Block block)) is listed = absurd listed
 listing_asks clock (Some met) edition image path (invocations.Look v (looks.Map picture)) is listed = absurd listed
 listing_asks clock (Some met) edition image path (invocations.Look v (looks.Check graded)) is listed = absurd listed
 listing_asks clock (Some met) edition image path (invocations.Look volume (looks.List directory listing)) is listed =

@@ -5,9 +5,12 @@ use Rattle.serde_json.specs.Written.{has_float, items_have_float}
 use Rattle.vol_layout.specs.Inode.{address_count}
 use Rattle.vol_free.specs.declared.free_walk.FreeFault.{FreeFault}
 use Rattle.vol_inspect.specs.declared.extent.Extent.{Extent}
+use Rattle.vol_inspect.specs.declared.free_chain.ChainReport.{ChainReport}
+use Rattle.vol_inspect.specs.declared.free_chain.FreeLink.{FreeLink}
 use Rattle.vol_inspect.specs.declared.inode_report.InodeReport.{InodeReport}
 use Rattle.vol_inspect.specs.declared.super_report.SuperReport.{SuperReport}
 use Rattle.vol_listing.specs.Json.{count}
+use Rattle.command_reads.specs.Free.{chain_data, link_data}
 use Rattle.command_reads.specs.Json.{count_or_null, extent_data}
 use Rattle.command_reads.specs.SuperBlock.{fault_data, super_data}
 use Rattle.command_reads.specs.Inode.{inode_data}
@@ -42,3 +45,12 @@ inode_whole report =
 pub super_whole : (report : SuperReport) → has_float (super_data report) ≡ false
 unfolding super_data
 super_whole report = rw (fault_whole report.fault, counts_whole report.free.items, counts_whole report.cache.items) refl
+
+-- none of a list of links
+links_whole : (ls : List FreeLink) → items_have_float (items_of (map link_data ls)) ≡ false
+links_whole [] = refl
+links_whole (l ∷ ls) = rw (counts_whole l.numbers.items) (links_whole ls)
+
+-- nor one of the chain of the free list
+pub chain_whole : (report : ChainReport) → has_float (chain_data report) ≡ false
+chain_whole report = rw (fault_whole report.fault, links_whole report.links.items) refl

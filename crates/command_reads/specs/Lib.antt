@@ -9,11 +9,13 @@ pub use Rattle.vol_layout.specs.Body
 pub use Rattle.vol_layout.specs.Geometry
 pub use Rattle.vol_reports.specs.Texts
 pub use Rattle.vol_volume.specs.Volume
+pub mod Block
 pub mod Cat
 pub mod Check
 pub mod Checkers
 pub mod Export
 pub mod Faults
+pub mod Free
 pub mod Get
 pub mod GetFiles
 pub mod Inode

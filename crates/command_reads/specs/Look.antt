@@ -2,8 +2,10 @@
 use Rattle.std.specs.Prelude.{ℕ, List}
 use Rattle.vol_layout.specs.declared.edition.Edition.{Edition}
 use Rattle.command_faults.specs.Streams.{Streams}
+use Rattle.command_reads.specs.Block.{ShowsBlock}
 use Rattle.command_reads.specs.Check.{Checks}
 use Rattle.command_reads.specs.Export.{Exports}
+use Rattle.command_reads.specs.Free.{ShowsFree}
 use Rattle.command_reads.specs.Ls.{Lists}
 use Rattle.command_reads.specs.Map.{DrawsMap}
 use Rattle.command_reads.specs.Inode.{ShowsInode}
@@ -17,6 +19,8 @@ abbrev pub Looks : Edition → List ℕ → Screen → Streams → ℕ → Look 
 Looks edition image screen streams status (looks.Export path options) = Exports edition image path.now options screen streams status
 Looks edition image screen streams status (looks.Inode node form) = ShowsInode edition image node form streams status
 Looks edition image screen streams status (looks.Super form) = ShowsSuper edition image form streams status
+Looks edition image screen streams status (looks.Block block) = ShowsBlock edition image block streams status
+Looks edition image screen streams status (looks.Free form) = ShowsFree edition image form streams status
 Looks edition image screen streams status (looks.Map picture) = DrawsMap edition image screen picture streams status
 Looks edition image screen streams status (looks.Check graded) = Checks edition image graded streams status
 Looks edition image screen streams status (looks.List path listing) = Lists edition image path.now listing screen streams status

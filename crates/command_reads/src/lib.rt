@@ -1,11 +1,13 @@
 //! Commands that print: their output, status and faults.
 #![tactic(auto)]
 
+mod block;
 pub mod cat;
 mod check;
 pub mod checkers;
 mod export;
 mod faults;
+mod free;
 pub mod get;
 mod inode;
 mod json;

@@ -19,6 +19,14 @@ pub enum Look<'a> {
     Super {
         form: OutputForm,
     },
+    /// The owners of a block.
+    Block {
+        block: u32,
+    },
+    /// The chain of the free list.
+    Free {
+        form: OutputForm,
+    },
     /// The use of each block.
     Map {
         picture: Picture,

@@ -2,8 +2,10 @@
 ghost use Rattle.command_faults.specs.Streams.{heard, ErrorStream, Hears, streams};
 ghost use Rattle.command_reads.specs.Look.{Looks};
 
+use crate::block::show_block;
 use crate::check::check;
 use crate::export::export;
+use crate::free::show_free;
 use crate::inode::show_inode;
 use crate::looks::Look;
 use crate::ls::list;
@@ -53,6 +55,8 @@ pub fn perform<O: Sink>(
         }
         Look::Inode { node, form } => show_inode(alloc, edition, image, node, form, output),
         Look::Super { form } => show_super(alloc, edition, image, form, output),
+        Look::Block { block } => show_block(alloc, edition, image, block, output),
+        Look::Free { form } => show_free(alloc, edition, image, form, output),
         Look::Map { picture } => draw_map(alloc, edition, image, picture, screen, output),
         Look::Check { graded } => check(alloc, edition, image, graded, output),
         Look::List { path, listing } => list(alloc, edition, image, path, listing, screen, output),

@@ -160,7 +160,10 @@ fn put_cache(
 }
 
 /// Returns the fault that ended the walk over the free list.
-fn fault_value(alloc: Global, fault: Option<(FreeFault, u32)>) -> Result<Value, AllocError>
+pub(crate) fn fault_value(
+    alloc: Global,
+    fault: Option<(FreeFault, u32)>,
+) -> Result<Value, AllocError>
     ensures { IfOk result (λ value. view value ≡ fault_data fault) }
 {
     match fault {

@@ -86,6 +86,8 @@ verb_name verbs.Get = codes "get"
 verb_name verbs.Export = codes "export"
 verb_name verbs.Inode = codes "inode"
 verb_name verbs.Super = codes "super"
+verb_name verbs.Free = codes "free"
+verb_name verbs.Block = codes "block"
 verb_name verbs.Map = codes "map"
 verb_name verbs.Check = codes "check"
 verb_name verbs.Icheck = codes "icheck"
@@ -116,6 +118,8 @@ arguments_of verbs.Get = on_volume (word (codes "PATH") ∷ more_words ∷ value
 arguments_of verbs.Export = on_volume (maybe_path ∷ option (codes "lost") ∷ option (codes "status") ∷ [])
 arguments_of verbs.Inode = on_volume ((codes "INO", kinds.Node, needs.Once) ∷ option (codes "json") ∷ [])
 arguments_of verbs.Super = on_volume (option (codes "json") ∷ [])
+arguments_of verbs.Free = on_volume (option (codes "json") ∷ [])
+arguments_of verbs.Block = on_volume (long_number (codes "BLOCK") ∷ [])
 arguments_of verbs.Map = on_volume (option (codes "svg") ∷ [])
 arguments_of verbs.Check = on_volume (option (codes "status") ∷ [])
 arguments_of verbs.Icheck = of_checker
@@ -145,7 +149,7 @@ arguments_of verbs.Serve = on_volume (option (codes "read-only") ∷ option (cod
 -- all commands, in the order in which the help lists them (this project)
 abbrev pub all_verbs : List Verb
 all_verbs =
-    verbs.Cat ∷ verbs.Ls ∷ verbs.Get ∷ verbs.Export ∷ verbs.Inode ∷ verbs.Super ∷ verbs.Map ∷ verbs.Check ∷ verbs.Icheck ∷ verbs.Dcheck
+    verbs.Cat ∷ verbs.Ls ∷ verbs.Get ∷ verbs.Export ∷ verbs.Inode ∷ verbs.Super ∷ verbs.Free ∷ verbs.Block ∷ verbs.Map ∷ verbs.Check ∷ verbs.Icheck ∷ verbs.Dcheck
     ∷ verbs.Ncheck ∷ verbs.Mkfs ∷ verbs.Put ∷ verbs.Import ∷ verbs.Rm ∷ verbs.Rmdir ∷ verbs.Mkdir ∷ verbs.Ln ∷ verbs.Mv ∷ verbs.Chmod
     ∷ verbs.Chown ∷ verbs.Touch ∷ verbs.Salvage ∷ verbs.Play ∷ verbs.Migrate ∷ verbs.Serve ∷ []
 

@@ -131,6 +131,13 @@ const WORKERS: Parameter = Parameter {
     help: texts::WORKERS,
 };
 
+const BLOCK: Parameter = Parameter {
+    name: "BLOCK",
+    kind: WordKind::Long,
+    need: Need::Once,
+    help: texts::block::BLOCK,
+};
+
 const BLOCKS: Parameter = Parameter {
     name: "FSIZE",
     kind: WordKind::Long,
@@ -538,6 +545,12 @@ pub static EXPORT_WORDS: [Parameter; 5] = [EDITION, IMAGE, BELOW, LOST, EXPORT_G
 
 /// The words of `inode`.
 pub static INODE_WORDS: [Parameter; 4] = [EDITION, IMAGE, NODE, JSON];
+
+/// The words of `block`.
+pub static BLOCK_WORDS: [Parameter; 3] = [EDITION, IMAGE, BLOCK];
+
+/// The words of `free`.
+pub static FREE_WORDS: [Parameter; 3] = [EDITION, IMAGE, JSON];
 
 /// The words of `super`.
 pub static SUPER_WORDS: [Parameter; 3] = [EDITION, IMAGE, JSON];

@@ -43,6 +43,8 @@ pub fn read<'a, G: Given<'a>>(
         Verb::Export => read_export(given),
         Verb::Inode => read_inode(given),
         Verb::Super => read_super(given),
+        Verb::Free => read_free(given),
+        Verb::Block => read_block(given),
         Verb::Map => read_map(given),
         Verb::Check => read_check(given),
         Verb::Icheck => read_checker(given, Checker::Blocks),
@@ -181,6 +183,32 @@ fn read_super<'a, G: Given<'a>>(given: &G) -> Result<Invocation<'a>, WordFault<'
     Ok(Invocation::Look {
         volume,
         look: Look::Super { form },
+    })
+}
+
+/// Reads the words of `free`.
+fn read_free<'a, G: Given<'a>>(given: &G) -> Result<Invocation<'a>, WordFault<'a>>
+    ensures read { IfOk result (AsksFor None verbs.Free (G.words given.now)) }
+    ensures refused { IfErr result (TellsOf (IsOneWrong None (G.words given.now) (arguments_of verbs.Free))) }
+{
+    let volume = volume_in(given)?;
+    let form = form_in(given);
+    Ok(Invocation::Look {
+        volume,
+        look: Look::Free { form },
+    })
+}
+
+/// Reads the words of `block`.
+fn read_block<'a, G: Given<'a>>(given: &G) -> Result<Invocation<'a>, WordFault<'a>>
+    ensures read { IfOk result (AsksFor None verbs.Block (G.words given.now)) }
+    ensures refused { IfErr result (TellsOf (IsOneWrong None (G.words given.now) (arguments_of verbs.Block))) }
+{
+    let volume = volume_in(given)?;
+    let block = long_in(given, "BLOCK")?;
+    Ok(Invocation::Look {
+        volume,
+        look: Look::Block { block },
     })
 }
 

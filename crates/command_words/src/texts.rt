@@ -1,7 +1,9 @@
 //! The texts of the help.
 
+pub mod block;
 pub mod export;
 pub mod import;
+pub mod free;
 pub mod touch;
 
 pub const ABOUT: &str = "Works on disk images of Sixth and Seventh Edition Unix.";

@@ -3,7 +3,7 @@ ghost use Rattle.std.specs.Prelude.{◌≡◌, ◌∷◌, [], None, IfSome, map}
 ghost use Rattle.command_words.specs.Verbs.{IsNoCommand, argument_of, arguments_of, verb_name};
 
 use crate::parameters::{
-    CAT_WORDS, CHECK_WORDS, CHECKER_WORDS, CHMOD_WORDS, CHOWN_WORDS, EXPORT_WORDS, GET_WORDS,
+    BLOCK_WORDS, CAT_WORDS, CHECK_WORDS, CHECKER_WORDS, CHMOD_WORDS, CHOWN_WORDS, EXPORT_WORDS, FREE_WORDS, GET_WORDS,
     IMPORT_WORDS, INODE_WORDS, LS_WORDS, MAP_WORDS, MIGRATE_WORDS, MKDIR_WORDS, MKFS_WORDS,
     NAMES_WORDS, PLAY_WORDS, PUT_WORDS, Parameter, RM_WORDS, RMDIR_WORDS, SERVE_WORDS, SUPER_WORDS,
     TOUCH_WORDS, VOLUME_WORDS,
@@ -19,6 +19,8 @@ pub enum Verb {
     Export,
     Inode,
     Super,
+    Free,
+    Block,
     Map,
     Check,
     Icheck,
@@ -42,13 +44,15 @@ pub enum Verb {
 }
 
 /// All commands, in the order in which the help lists them.
-pub static VERBS: [Verb; 26] = [
+pub static VERBS: [Verb; 28] = [
     Verb::Cat,
     Verb::Ls,
     Verb::Get,
     Verb::Export,
     Verb::Inode,
     Verb::Super,
+    Verb::Free,
+    Verb::Block,
     Verb::Map,
     Verb::Check,
     Verb::Icheck,
@@ -83,6 +87,8 @@ impl Verb {
             Verb::Export => "export",
             Verb::Inode => "inode",
             Verb::Super => "super",
+            Verb::Free => "free",
+            Verb::Block => "block",
             Verb::Map => "map",
             Verb::Check => "check",
             Verb::Icheck => "icheck",
@@ -125,6 +131,8 @@ impl Verb {
             Verb::Export => &EXPORT_WORDS,
             Verb::Inode => &INODE_WORDS,
             Verb::Super => &SUPER_WORDS,
+            Verb::Free => &FREE_WORDS,
+            Verb::Block => &BLOCK_WORDS,
             Verb::Map => &MAP_WORDS,
             Verb::Check => &CHECK_WORDS,
             Verb::Salvage => &VOLUME_WORDS,
@@ -172,6 +180,8 @@ impl Verb {
             Verb::Export => texts::export::ABOUT,
             Verb::Inode => texts::INODE_ABOUT,
             Verb::Super => texts::SUPER_ABOUT,
+            Verb::Free => texts::free::ABOUT,
+            Verb::Block => texts::block::ABOUT,
             Verb::Map => texts::MAP_ABOUT,
             Verb::Check => texts::CHECK_ABOUT,
             Verb::Icheck => texts::ICHECK_ABOUT,
@@ -204,6 +214,8 @@ impl Verb {
             Verb::Export => texts::export::MORE,
             Verb::Inode => texts::INODE_MORE,
             Verb::Super => texts::SUPER_MORE,
+            Verb::Free => texts::free::MORE,
+            Verb::Block => texts::block::MORE,
             Verb::Map => texts::MAP_MORE,
             Verb::Check => texts::CHECK_MORE,
             Verb::Icheck => texts::ICHECK_MORE,

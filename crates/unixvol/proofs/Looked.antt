@@ -132,6 +132,8 @@ ends_looks : (edition : Edition) (image : List ℕ) (screen : Screen) (streams :
 ends_looks edition image screen streams status (looks.Export path options) shows = ends_from edition image options screen streams status (start_of edition image path.now) shows
 ends_looks edition image screen streams status (looks.Inode node form) shows = ends_found edition image form streams status (number_of edition image node) shows
 ends_looks edition image screen streams status (looks.Super form) shows = ends_one _ _ streams status shows
+ends_looks edition image screen streams status (looks.Free form) shows = ends_one _ _ streams status shows
+ends_looks edition image screen streams status (looks.Block block) shows = ends_one _ _ streams status shows
 ends_looks edition image screen streams status (looks.Map picture) shows = ends_one _ _ streams status shows
 ends_looks edition image screen streams status (looks.Check graded) shows = ends_checks edition image graded streams status shows
 ends_looks edition image screen streams status (looks.List path listing) shows = ends_one _ _ streams status shows
@@ -141,6 +143,8 @@ highest_few : (look : Look) → 4 ≤ highest_status look
 highest_few (looks.Export path options) = most_few options.graded
 highest_few (looks.Inode node form) = omega arith
 highest_few (looks.Super form) = omega arith
+highest_few (looks.Free form) = omega arith
+highest_few (looks.Block block) = omega arith
 highest_few (looks.Map picture) = omega arith
 highest_few (looks.Check graded) = most_few graded
 highest_few (looks.List path listing) = omega arith

@@ -189,6 +189,8 @@ IsSeen files edition (looks.List path listing) image = files.shown edition image
 IsSeen files edition (looks.Export path options) image = files.shown edition image
 IsSeen files edition (looks.Inode node form) image = files.shown edition image
 IsSeen files edition (looks.Super form) image = files.shown edition image
+IsSeen files edition (looks.Free form) image = files.shown edition image
+IsSeen files edition (looks.Block block) image = files.shown edition image
 IsSeen files edition (looks.Map picture) image = files.shown edition image
 
 -- part of an image is shown: nothing is done; or it is shown from an image that a file gave (this project)
@@ -307,6 +309,8 @@ highest_status (looks.Export path options) = if options.graded then 6 else 4
 highest_status (looks.Check graded) = if graded then 6 else 4
 highest_status (looks.Inode node form) = 4
 highest_status (looks.Super form) = 4
+highest_status (looks.Free form) = 4
+highest_status (looks.Block block) = 4
 highest_status (looks.Map picture) = 4
 highest_status (looks.List path listing) = 4
 

@@ -132,6 +132,8 @@ fn read_seen<R: ImageFiles + Eprint + AllocGlobal>(
         | Look::Export { .. }
         | Look::Inode { .. }
         | Look::Super { .. }
+        | Look::Free { .. }
+        | Look::Block { .. }
         | Look::Map { .. } => read_volume(host, volume),
     }
 }

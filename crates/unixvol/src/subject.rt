@@ -105,6 +105,8 @@ impl<'a> Subject<'a> {
                 ..
             } => (Verb::Inode, About::Path(path)),
             Look::Super { .. } => (Verb::Super, About::Image),
+            Look::Free { .. } => (Verb::Free, About::Image),
+            Look::Block { .. } => (Verb::Block, About::Image),
             Look::Map { .. } => (Verb::Map, About::Image),
             Look::Check { .. } => (Verb::Check, About::Image),
             Look::List { path, .. } => (Verb::Ls, About::Path(path)),

@@ -26,6 +26,14 @@ pub returns-in-Super-clause-refused : goal.returns-in-Super-clause-refused
 returns-in-Super-clause-refused g c =
     rw c.in-Super.is (refuses_value c.args.clock verbs.Super (g.G.Given.words c.args.given.now) c.read_super.result c.read_super.ensures.refused)
 
+pub returns-in-Free-clause-refused : goal.returns-in-Free-clause-refused
+returns-in-Free-clause-refused g c =
+    rw c.in-Free.is (refuses_value c.args.clock verbs.Free (g.G.Given.words c.args.given.now) c.read_free.result c.read_free.ensures.refused)
+
+pub returns-in-Block-clause-refused : goal.returns-in-Block-clause-refused
+returns-in-Block-clause-refused g c =
+    rw c.in-Block.is (refuses_value c.args.clock verbs.Block (g.G.Given.words c.args.given.now) c.read_block.result c.read_block.ensures.refused)
+
 pub returns-in-Map-clause-refused : goal.returns-in-Map-clause-refused
 returns-in-Map-clause-refused g c =
     rw c.in-Map.is (refuses_value c.args.clock verbs.Map (g.G.Given.words c.args.given.now) c.read_map.result c.read_map.ensures.refused)

@@ -83,6 +83,16 @@ check_rules() {
     reported > wanted
     runs check "$1" image
     wants "check of $2" "$([ -s lines ] && echo 1 || echo 0)" wanted none
+    reports_json "$1" "$2" "$([ -s lines ] && echo 1 || echo 0)"
+}
+
+# reports_json EDITION LABEL STATUS: the report on `image` in JSON says what is in `wanted`
+reports_json() {
+    runs check --json "$1" image
+    has "the lines of check --json of $2" 1 "$(wc -l < output)"
+    python3 "$rows/as_report.py" < output > text 2>> error
+    mv text output
+    wants "check --json of $2" "$3" wanted none
 }
 each rules check_rules
 
@@ -91,6 +101,9 @@ each rules check_rules
 { reported && echo 'note: rules 1 and 2 hold for edition 6'; } > wanted
 runs check 7 new.6
 wants 'check of a volume of the sixth edition as one of the seventh' 1 wanted none
+cp new.6 image
+reports_json 7 'a volume of the sixth edition as one of the seventh' 1
+has 'the status of check --json --status of it' 6 "$("$program" check --json --status 7 image > output; echo $?)"
 { echo "2 the sizes are no volume's" && printf '%d not asked\n' {3..12}; } > lines
 { reported && echo 'note: rules 1 and 2 hold for edition 7'; } > wanted
 runs check 6 new.7

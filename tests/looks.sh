@@ -113,12 +113,14 @@ done
 
 # Standard output.
 refuses 3 'unixvol: cannot read missing' export 7 missing
+refuses 3 'unixvol: cannot read missing' sums 7 missing
 "$program" export 7 "$linux" > /dev/full 2> error
 has 'export to a full device' '3 unixvol: cannot write -' "$? $(cat error)"
 head -c 600 "$linux" > short
 for command in export super free map; do refuses 1 'unixvol: unsound, rule 1' "$command" 7 short; done
 refuses 1 'unixvol: unsound, rule 1' inode 7 short 2
 refuses 1 'unixvol: unsound, rule 1' inode 7 short /
+refuses 1 'unixvol: unsound, rule 1' sums 7 short
 refuses 6 'unixvol: unsound, rule 1' export --status 7 short
 for row in '0 --' '0 --status' '1 --'  '6 --status'; do
     "$program" check ${row#* } 7 "$([ "${row% *}" = 0 ] && echo "$linux" || echo short)" > output
@@ -279,6 +281,43 @@ changed directory.v6 links.v6 1026 05
 changed bare.v6 twice_free.v6 544 '06 00'
 changed three.v6 claimed.v6 2026 '08 00'
 
+# Manifests, as Python makes them of the archive: in text and in JSON.
+# manifest STATUS EDITION IMAGE: both are those of the archive, with its status and its lines on standard error
+manifest() {
+    "$program" ls -R --json "$2" "$3" > listing
+    exports "$1" it.tar "$2" "$3"
+    cp error told
+    python3 "$data/manifest.py" it.tar listing > wanted
+    runs sums "$2" "$3"
+    wants "sums $2 $3" "$1" wanted told
+    runs sums --json "$2" "$3"
+    has "the lines of sums --json $2 $3" 1 "$(wc -l < output)"
+    python3 "$data/manifest.py" --json < output > text
+    mv text output
+    wants "sums --json $2 $3" "$1" wanted told
+}
+manifest 0 7 "$linux"
+for edition in 6 7; do
+    for name in bare three tree special archived; do manifest 0 "$edition" "$name.v$edition"; done
+    "$program" sums "$edition" "tree.v$edition" > all
+    runs sums "$edition" "tree.v$edition" /d
+    sed -n 's, d/, ,p' all > wanted
+    wants 'sums of a directory' 0 wanted none
+    refuses 1 'unixvol: 2 NoEntry' sums "$edition" "tree.v$edition" /x
+    refuses 1 'unixvol: 20 NotDirectory' sums "$edition" "tree.v$edition" /b
+    cp "tree.v$edition" broken.img
+    put broken.img $((edition == 6 ? 1024 + 2 : 1024 + 64 + 2)) 09
+    echo 'unixvol: unsound, rule 12' > line
+    runs sums "$edition" broken.img
+    wants 'sums of a volume that is not sound' 1 all line
+done
+rm -rf out
+mkdir out
+tar -xf linux.tar -C out
+"$program" sums 7 "$linux" | grep -v '^-' | cut -c 1-65,119- > SHA256SUMS
+has 'a manifest as sha256sum reads it' 34 "$(cd out && sha256sum -c ../SHA256SUMS 2> ../error | grep -c ': OK$')"
+has 'what sha256sum tells of a manifest' '' "$(cat error)"
+
 # Rules of soundness, listings, reports and the map, from the lines of a file.
 follows "$data/rows"
 
@@ -300,7 +339,7 @@ echo 'unixvol: cannot write -' > line
 wants 'export to a terminal' 3 none line
 
 # A full device, whatever command prints.
-for command in 'check 6 directory.v6' 'ls -l 6 special.v6' 'ls -R --json 6 tree.v6' 'inode 6 three.v6 32' 'super --json 6 bare.v6' 'free 6 bare.v6' 'block 6 three.v6 8' 'map 6 three.v6' 'map --svg 6 three.v6'; do
+for command in 'check 6 directory.v6' 'check --json 6 directory.v6' 'sums 6 tree.v6' 'sums --json 6 tree.v6' 'ls -l 6 special.v6' 'ls -R --json 6 tree.v6' 'inode 6 three.v6 32' 'super --json 6 bare.v6' 'free 6 bare.v6' 'block 6 three.v6 8' 'map 6 three.v6' 'map --svg 6 three.v6'; do
     read -r -a words <<< "$command"
     "$program" "${words[@]}" > /dev/full 2> error < /dev/null
     echo $? > status
@@ -330,6 +369,10 @@ printf 'unixvol: %s\n' '\012dd\\name: no i-node' 'block 5: two places of files n
 exports 1 wrong.tar 6 wrong.v6 ''
 has 'what is told of an image of which much is wrong' same "$(cmp -s error wanted && echo same)"
 has 'the bytes of an archive of an image of which much is wrong' 3072 "$(wc -c < wrong.tar)"
+runs sums 6 wrong.v6
+cp output manifest
+wants 'the lines on a manifest of it' 1 manifest wanted
+has 'the paths in a manifest of it' 'a b' "$(cut -c 120- output | paste -s -d ' ' -)"
 
 # A block that each of 32 directories names two million times is read once for each: 31 members, and 993 of the 1,024 names again.
 shared shared.v7 32

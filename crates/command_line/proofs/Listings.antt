@@ -166,12 +166,13 @@ asks_listing clock given edition image path (invocations.Change volume (changes.
 asks_listing clock given edition image path (invocations.Change volume (changes.Touch p now)) test e_is i_is p_is none is = absurd (true≢false (sym test))
 asks_listing clock given edition image path (invocations.Change volume changes.Salvage) test e_is i_is p_is none is = absurd (true≢false (sym test))
 asks_listing clock given edition image path (invocations.Look volume (looks.Export p options)) test e_is i_is p_is none is = absurd (true≢false (sym test))
+asks_listing clock given edition image path (invocations.Look volume (looks.Sums p form)) test e_is i_is p_is none is = absurd (true≢false (sym test))
 asks_listing clock given edition image path (invocations.Look volume (looks.Inode number form)) test e_is i_is p_is none is = absurd (true≢false (sym test))
 asks_listing clock given edition image path (invocations.Look volume (looks.Super form)) test e_is i_is p_is none is = absurd (true≢false (sym test))
 asks_listing clock given edition image path (invocations.Look volume (looks.Free form)) test e_is i_is p_is none is = absurd (true≢false (sym test))
 asks_listing clock given edition image path (invocations.Look volume (looks.Block block)) test e_is i_is p_is none is = absurd (true≢false (sym test))
 asks_listing clock given edition image path (invocations.Look volume (looks.Map picture)) test e_is i_is p_is none is = absurd (true≢false (sym test))
-asks_listing clock given edition image path (invocations.Look volume (looks.Check graded)) test e_is i_is p_is none is = absurd (true≢false (sym test))
+asks_listing clock given edition image path (invocations.Look volume (looks.Check graded form)) test e_is i_is p_is none is = absurd (true≢false (sym test))
 asks_listing clock given edition image path (invocations.Look volume (looks.List directory listing)) test e_is i_is p_is none is = (
   edition_is volume.edition edition (subst (IsEditionNamed volume.edition) e_is is.0.0),
   is.0.1 ∙ i_is,
@@ -221,12 +222,13 @@ listing_asks clock (Some met) edition image path (invocations.Migrate old new mi
 listing_asks clock (Some met) edition image path (invocations.Get volume p) is listed = absurd listed
 listing_asks clock (Some met) edition image path (invocations.Serve volume serving) is listed = absurd listed
 listing_asks clock (Some met) edition image path (invocations.Look v (looks.Export p options)) is listed = absurd listed
+listing_asks clock (Some met) edition image path (invocations.Look v (looks.Sums p form)) is listed = absurd listed
 listing_asks clock (Some met) edition image path (invocations.Look v (looks.Inode number form)) is listed = absurd listed
 listing_asks clock (Some met) edition image path (invocations.Look v (looks.Super form)) is listed = absurd listed
 listing_asks clock (Some met) edition image path (invocations.Look v (looks.Free form)) is listed = absurd listed
 listing_asks clock (Some met) edition image path (invocations.Look v (looks.Block block)) is listed = absurd listed
 listing_asks clock (Some met) edition image path (invocations.Look v (looks.Map picture)) is listed = absurd listed
-listing_asks clock (Some met) edition image path (invocations.Look v (looks.Check graded)) is listed = absurd listed
+listing_asks clock (Some met) edition image path (invocations.Look v (looks.Check graded form)) is listed = absurd listed
 listing_asks clock (Some met) edition image path (invocations.Look volume (looks.List directory listing)) is listed =
     let name : met.0 ≡ codes "ls" = ap (λ (l : List (List ℕ)). slice_index_or l 0 []) is in
     let word : the_word (words_by met.1) (codes "EDITION") ≡ word_of edition = ap (λ (l : List (List ℕ)). slice_index_or l 1 []) is in

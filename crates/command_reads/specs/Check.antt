@@ -1,25 +1,43 @@
 -- The check of the rules of soundness.
-use Rattle.std.specs.Prelude.{◌⊎◌, ℕ, ◌&&◌, Bool, true, false, not, if◌then◌else◌, List}
+use Rattle.std.specs.Prelude.{◌≡◌, ◌⊎◌, IsTrue, ◌↔◌, ℕ, ◌&&◌, Bool, true, false, not, if◌then◌else◌, List}
 use Rattle.std.specs.Result.{is_ok}
 use Rattle.vol_layout.specs.Geometry.{geometry_read}
-use Rattle.vol_findings.specs.Reports.{IsReport}
+use Rattle.vol_findings.specs.Outcomes.{Tells}
+use Rattle.vol_findings.specs.Reports.{IsReport, lines_of}
+use Rattle.vol_findings.specs.declared.outcome.RuleOutcomes.{RuleOutcomes}
+use Rattle.vol_judge.specs.Sound.{IsSound}
 use Rattle.vol_layout.specs.declared.edition.Edition.{Edition}
 use Rattle.command_faults.specs.Faults.{no_memory}
 use Rattle.command_faults.specs.Streams.{Streams}
+use Rattle.command_reads.specs.CheckJson.{report_json}
 use Rattle.command_reads.specs.Print.{IsTold, PrintsWith}
+use Rattle.command_reads.specs.declared.looks.OutputForm.{OutputForm}
+use Rattle.command_reads.specs.declared.looks.OutputForm.TheVariants as forms
 
 -- the status of a check: 0 if all twelve rules hold, else 1, or graded 6 if the image has no geometry (this project)
 abbrev pub verdict_status : Bool → Bool → Bool → ℕ
 verdict_status graded measured true = 0
 verdict_status graded measured false = if graded && not measured then 6 else 1
 
+-- a text is the report on an image as JSON, and the truth value says if all twelve rules hold (this project)
+pub record IsJsonReport (edition : Edition) (image text : List ℕ) (sound : Bool) : Type 0 where
+  pub found : RuleOutcomes
+  pub tells : Tells edition image found
+  pub words : text ≡ report_json edition image (lines_of found)
+  pub verdict : IsTrue sound ↔ IsSound edition image
+
+-- a text is the report on an image in some form (this project)
+abbrev pub IsReportIn : OutputForm → Edition → List ℕ → List ℕ → Bool → Type 0
+IsReportIn forms.Text edition image text sound = IsReport edition image text sound
+IsReportIn forms.Json edition image text sound = IsJsonReport edition image text sound
+
 -- the report on an image is printed, with the status for its soundness (this project)
-pub record PrintsReport (edition : Edition) (image : List ℕ) (graded : Bool) (streams : Streams) (status : ℕ) : Type 0 where
+pub record PrintsReport (edition : Edition) (image : List ℕ) (graded : Bool) (form : OutputForm) (streams : Streams) (status : ℕ) : Type 0 where
   pub text : List ℕ
   pub sound : Bool
-  pub report : IsReport edition image text sound
+  pub report : IsReportIn form edition image text sound
   pub prints : PrintsWith (verdict_status graded (is_ok (geometry_read edition image)) sound) streams text status
 
 -- the report on an image is printed, or out of memory is reported (this project)
-abbrev pub Checks : Edition → List ℕ → Bool → Streams → ℕ → Type 0
-Checks edition image graded streams status = PrintsReport edition image graded streams status ⊎ IsTold streams no_memory status
+abbrev pub Checks : Edition → List ℕ → Bool → OutputForm → Streams → ℕ → Type 0
+Checks edition image graded form streams status = PrintsReport edition image graded form streams status ⊎ IsTold streams no_memory status

@@ -12,6 +12,7 @@ pub use Rattle.vol_volume.specs.Volume
 pub mod Block
 pub mod Cat
 pub mod Check
+pub mod CheckJson
 pub mod Checkers
 pub mod Export
 pub mod Faults
@@ -27,4 +28,5 @@ pub mod Map
 pub mod Print
 pub mod Queries
 pub mod Remarks
+pub mod Sums
 pub mod SuperBlock

@@ -9,6 +9,7 @@ use Rattle.command_reads.specs.Free.{ShowsFree}
 use Rattle.command_reads.specs.Ls.{Lists}
 use Rattle.command_reads.specs.Map.{DrawsMap}
 use Rattle.command_reads.specs.Inode.{ShowsInode}
+use Rattle.command_reads.specs.Sums.{Sums}
 use Rattle.command_reads.specs.SuperBlock.{ShowsSuper}
 use Rattle.command_reads.specs.declared.looks.Look.{Look}
 use Rattle.command_reads.specs.declared.looks.Look.TheVariants as looks
@@ -17,10 +18,11 @@ use Rattle.vol_listing.specs.declared.options.Screen.{Screen}
 -- the part that the command names is shown (this project)
 abbrev pub Looks : Edition → List ℕ → Screen → Streams → ℕ → Look → Type 0
 Looks edition image screen streams status (looks.Export path options) = Exports edition image path.now options screen streams status
+Looks edition image screen streams status (looks.Sums path form) = Sums edition image path.now form streams status
 Looks edition image screen streams status (looks.Inode node form) = ShowsInode edition image node form streams status
 Looks edition image screen streams status (looks.Super form) = ShowsSuper edition image form streams status
 Looks edition image screen streams status (looks.Block block) = ShowsBlock edition image block streams status
 Looks edition image screen streams status (looks.Free form) = ShowsFree edition image form streams status
 Looks edition image screen streams status (looks.Map picture) = DrawsMap edition image screen picture streams status
-Looks edition image screen streams status (looks.Check graded) = Checks edition image graded streams status
+Looks edition image screen streams status (looks.Check graded form) = Checks edition image graded form streams status
 Looks edition image screen streams status (looks.List path listing) = Lists edition image path.now listing screen streams status

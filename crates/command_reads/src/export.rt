@@ -138,7 +138,7 @@ fn find(
 }
 
 /// Returns the result of an export with some remarks or none.
-fn ending_with(graded: bool, remarks: Remarks) -> Ending
+pub(crate) fn ending_with(graded: bool, remarks: Remarks) -> Ending
     ensures status { result.status ≡ (if length remarks.lines.items == 0 then 0 else told_status graded remarks.is_short) }
     ensures line { line_after result.fault ≡ remarks.lines.items }
 {
@@ -177,7 +177,7 @@ fn unstarted_status(graded: bool, fault: StartFault) -> u8
 }
 
 /// Returns the fault of an export that can't start for this reason.
-fn unstarted(fault: StartFault) -> Fault
+pub(crate) fn unstarted(fault: StartFault) -> Fault
     ensures { result ≡ unstarted fault }
 {
     match fault {

@@ -4,6 +4,7 @@
 mod block;
 pub mod cat;
 mod check;
+mod check_json;
 pub mod checkers;
 mod export;
 mod faults;
@@ -19,6 +20,7 @@ mod print;
 mod remarks;
 pub mod show;
 mod statuses;
+mod sums;
 mod super_block;
 
 pub use cat::CatFault;

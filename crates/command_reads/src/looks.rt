@@ -10,6 +10,11 @@ pub enum Look<'a> {
         path: &'a str,
         options: ExportOptions,
     },
+    /// Everything below a directory, as a manifest.
+    Sums {
+        path: &'a str,
+        form: OutputForm,
+    },
     /// An i-node.
     Inode {
         node: NodeName<'a>,
@@ -34,6 +39,7 @@ pub enum Look<'a> {
     /// The rules of soundness that hold. With `graded` the status also says that the image has no volume of the edition.
     Check {
         graded: bool,
+        form: OutputForm,
     },
     /// The names in a directory, or a file.
     List {

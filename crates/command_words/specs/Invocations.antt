@@ -174,12 +174,13 @@ change_verb changes.Salvage = verbs.Salvage
 -- the command that shows part of an image (this project)
 abbrev pub look_verb : Look → Verb
 look_verb (looks.Export path options) = verbs.Export
+look_verb (looks.Sums path form) = verbs.Sums
 look_verb (looks.Inode node form) = verbs.Inode
 look_verb (looks.Super form) = verbs.Super
 look_verb (looks.Free form) = verbs.Free
 look_verb (looks.Block block) = verbs.Block
 look_verb (looks.Map picture) = verbs.Map
-look_verb (looks.Check graded) = verbs.Check
+look_verb (looks.Check graded form) = verbs.Check
 look_verb (looks.List path listing) = verbs.Ls
 
 -- the command that copies files (this project)
@@ -287,12 +288,13 @@ IsDepthGiven given depths.Below = (is_set (given (codes "directory")) ≡ false)
 abbrev pub IsLookGiven : Words → Look → Type 0
 IsLookGiven given (looks.Export path options) = (path.now ≡ the_word given (codes "PATH")) × (options.lost ≡ is_set (given (codes "lost")))
     × (options.graded ≡ is_set (given (codes "status")))
+IsLookGiven given (looks.Sums path form) = (path.now ≡ the_word given (codes "PATH")) × IsFormGiven given form
 IsLookGiven given (looks.Inode node form) = IsNodeGiven (the_word given (codes "INO")) node × IsFormGiven given form
 IsLookGiven given (looks.Super form) = IsFormGiven given form
 IsLookGiven given (looks.Free form) = IsFormGiven given form
 IsLookGiven given (looks.Block block) = IsNumberGiven 4294967295 (the_word given (codes "BLOCK")) block
 IsLookGiven given (looks.Map picture) = IsPictureGiven given picture
-IsLookGiven given (looks.Check graded) = graded ≡ is_set (given (codes "status"))
+IsLookGiven given (looks.Check graded form) = (graded ≡ is_set (given (codes "status"))) × IsFormGiven given form
 IsLookGiven given (looks.List path listing) = (path.now ≡ the_word given (codes "PATH")) × AreLinesGiven given listing.lines
     × IsDepthGiven given listing.depth
 

@@ -348,6 +348,13 @@ const CHECK_GRADED: Parameter = Parameter {
     help: texts::CHECK_GRADED,
 };
 
+const SUMMED: Parameter = Parameter {
+    name: "PATH",
+    kind: WordKind::Text,
+    need: Need::Maybe,
+    help: texts::sums::BELOW,
+};
+
 const LISTED: Parameter = Parameter {
     name: "PATH",
     kind: WordKind::Text,
@@ -516,7 +523,7 @@ pub static CHOWN_WORDS: [Parameter; 6] = [EDITION, IMAGE, OWNED, NEW_UID, NEW_GI
 pub static TOUCH_WORDS: [Parameter; 4] = [EDITION, IMAGE, TOUCHED, CALL_NOW];
 
 /// The words of `check`.
-pub static CHECK_WORDS: [Parameter; 3] = [EDITION, IMAGE, CHECK_GRADED];
+pub static CHECK_WORDS: [Parameter; 4] = [EDITION, IMAGE, CHECK_GRADED, JSON];
 
 /// The words of `salvage`.
 pub static VOLUME_WORDS: [Parameter; 2] = [EDITION, IMAGE];
@@ -542,6 +549,9 @@ pub static IMPORT_WORDS: [Parameter; 6] = [
 
 /// The words of `export`.
 pub static EXPORT_WORDS: [Parameter; 5] = [EDITION, IMAGE, BELOW, LOST, EXPORT_GRADED];
+
+/// The words of `sums`.
+pub static SUMS_WORDS: [Parameter; 4] = [EDITION, IMAGE, SUMMED, JSON];
 
 /// The words of `inode`.
 pub static INODE_WORDS: [Parameter; 4] = [EDITION, IMAGE, NODE, JSON];

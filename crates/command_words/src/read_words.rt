@@ -41,6 +41,7 @@ pub fn read<'a, G: Given<'a>>(
         Verb::Ls => read_ls(given),
         Verb::Get => read_get(alloc, given),
         Verb::Export => read_export(given),
+        Verb::Sums => read_sums(given),
         Verb::Inode => read_inode(given),
         Verb::Super => read_super(given),
         Verb::Free => read_free(given),
@@ -159,6 +160,20 @@ fn read_export<'a, G: Given<'a>>(given: &G) -> Result<Invocation<'a>, WordFault<
     })
 }
 
+/// Reads the words of `sums`.
+fn read_sums<'a, G: Given<'a>>(given: &G) -> Result<Invocation<'a>, WordFault<'a>>
+    ensures read { IfOk result (AsksFor None verbs.Sums (G.words given.now)) }
+    ensures refused { IfErr result (TellsOf (IsOneWrong None (G.words given.now) (arguments_of verbs.Sums))) }
+{
+    let volume = volume_in(given)?;
+    let path = text_in(given, "PATH");
+    let form = form_in(given);
+    Ok(Invocation::Look {
+        volume,
+        look: Look::Sums { path, form },
+    })
+}
+
 /// Reads the words of `inode`.
 fn read_inode<'a, G: Given<'a>>(given: &G) -> Result<Invocation<'a>, WordFault<'a>>
     ensures read { IfOk result (AsksFor None verbs.Inode (G.words given.now)) }
@@ -232,9 +247,10 @@ fn read_check<'a, G: Given<'a>>(given: &G) -> Result<Invocation<'a>, WordFault<'
 {
     let volume = volume_in(given)?;
     let graded = flag_in(given, "status");
+    let form = form_in(given);
     Ok(Invocation::Look {
         volume,
-        look: Look::Check { graded },
+        look: Look::Check { graded, form },
     })
 }
 

@@ -4,6 +4,7 @@ pub mod block;
 pub mod export;
 pub mod import;
 pub mod free;
+pub mod sums;
 pub mod touch;
 
 pub const ABOUT: &str = "Works on disk images of Sixth and Seventh Edition Unix.";
@@ -294,11 +295,16 @@ pub const CHECK_MORE: &str = "\
 Example:
   unixvol check 7 disk.img
   unixvol check --status 7 disk.img
+  unixvol check --json 7 disk.img | jq '.rules[] | select(.holds != true)'
 
 Each rule has a line: what it requires, and whether it holds. If it doesn't, the line says what breaks it first,
 with the i-number, the block, or the directory and its slot. A rule is not checked if it needs another rule that
 doesn't hold; its line says so. If rule 1 or 2 fails and the image could be of the other edition, a last line says
 so. Nothing is changed.
+
+With --json, one object is printed on one line: \"edition\", \"other edition\" (the one that fits instead, or null),
+\"sound\", and \"rules\", an object for each rule: \"rule\", \"requires\", \"holds\" (null if it isn't checked), \"finding\"
+(what breaks it first) and \"at\" (its place).
 
 Status:
   0  all rules hold: the volume is sound

@@ -5,8 +5,8 @@ ghost use Rattle.command_words.specs.Verbs.{IsNoCommand, argument_of, arguments_
 use crate::parameters::{
     BLOCK_WORDS, CAT_WORDS, CHECK_WORDS, CHECKER_WORDS, CHMOD_WORDS, CHOWN_WORDS, EXPORT_WORDS, FREE_WORDS, GET_WORDS,
     IMPORT_WORDS, INODE_WORDS, LS_WORDS, MAP_WORDS, MIGRATE_WORDS, MKDIR_WORDS, MKFS_WORDS,
-    NAMES_WORDS, PLAY_WORDS, PUT_WORDS, Parameter, RM_WORDS, RMDIR_WORDS, SERVE_WORDS, SUPER_WORDS,
-    TOUCH_WORDS, VOLUME_WORDS,
+    NAMES_WORDS, PLAY_WORDS, PUT_WORDS, Parameter, RM_WORDS, RMDIR_WORDS, SERVE_WORDS, SUMS_WORDS,
+    SUPER_WORDS, TOUCH_WORDS, VOLUME_WORDS,
 };
 use crate::texts;
 
@@ -17,6 +17,7 @@ pub enum Verb {
     Ls,
     Get,
     Export,
+    Sums,
     Inode,
     Super,
     Free,
@@ -44,11 +45,12 @@ pub enum Verb {
 }
 
 /// All commands, in the order in which the help lists them.
-pub static VERBS: [Verb; 28] = [
+pub static VERBS: [Verb; 29] = [
     Verb::Cat,
     Verb::Ls,
     Verb::Get,
     Verb::Export,
+    Verb::Sums,
     Verb::Inode,
     Verb::Super,
     Verb::Free,
@@ -85,6 +87,7 @@ impl Verb {
             Verb::Ls => "ls",
             Verb::Get => "get",
             Verb::Export => "export",
+            Verb::Sums => "sums",
             Verb::Inode => "inode",
             Verb::Super => "super",
             Verb::Free => "free",
@@ -129,6 +132,7 @@ impl Verb {
             Verb::Ls => &LS_WORDS,
             Verb::Get => &GET_WORDS,
             Verb::Export => &EXPORT_WORDS,
+            Verb::Sums => &SUMS_WORDS,
             Verb::Inode => &INODE_WORDS,
             Verb::Super => &SUPER_WORDS,
             Verb::Free => &FREE_WORDS,
@@ -178,6 +182,7 @@ impl Verb {
             Verb::Ls => texts::LS_ABOUT,
             Verb::Get => texts::GET_ABOUT,
             Verb::Export => texts::export::ABOUT,
+            Verb::Sums => texts::sums::ABOUT,
             Verb::Inode => texts::INODE_ABOUT,
             Verb::Super => texts::SUPER_ABOUT,
             Verb::Free => texts::free::ABOUT,
@@ -212,6 +217,7 @@ impl Verb {
             Verb::Ls => texts::LS_MORE,
             Verb::Get => texts::GET_MORE,
             Verb::Export => texts::export::MORE,
+            Verb::Sums => texts::sums::MORE,
             Verb::Inode => texts::INODE_MORE,
             Verb::Super => texts::SUPER_MORE,
             Verb::Free => texts::free::MORE,

@@ -20,6 +20,7 @@ use Rattle.command_reads.specs.Inode.{ShowsFound, number_of}
 use Rattle.command_reads.specs.Look.{Looks}
 use Rattle.command_reads.specs.declared.looks.OutputForm.{OutputForm}
 use Rattle.command_reads.specs.Print.{IsBrokenOff, IsTold, PrintsOne, PrintsWith}
+use Rattle.command_reads.specs.Sums.{Sums}
 use Rattle.command_reads.specs.declared.looks.Look.{Look}
 use Rattle.command_reads.specs.declared.looks.Look.TheVariants as looks
 use Rattle.vol_listing.specs.declared.options.Screen.{Screen}
@@ -115,38 +116,47 @@ verdict_few true true false = omega arith
 verdict_few true false false = omega arith
 verdict_few false measured false = omega arith
 
-ends_checks : (edition : Edition) (image : List ℕ) (graded : Bool) (streams : Streams) (status : ℕ) → Checks edition image graded streams status
+ends_checks : (edition : Edition) (image : List ℕ) (graded : Bool) (form : OutputForm) (streams : Streams) (status : ℕ) → Checks edition image graded form streams status
     → IsEndWithin (if graded then 6 else 4) streams status
-ends_checks edition image graded streams status (inl found) =
+ends_checks edition image graded form streams status (inl found) =
     ends_prints (if graded then 6 else 4) (verdict_status graded (is_ok (geometry_read edition image)) found.sound) streams found.text status (most_few graded)
     (verdict_few graded (is_ok (geometry_read edition image)) found.sound) found.prints
-ends_checks edition image graded streams status (inr told) = ends_told (if graded then 6 else 4) streams no_memory status (most_few graded) told
+ends_checks edition image graded form streams status (inr told) = ends_told (if graded then 6 else 4) streams no_memory status (most_few graded) told
 
 ends_found : (edition : Edition) (image : List ℕ) (form : OutputForm) (streams : Streams) (status : ℕ) (found : Result ℕ Fault)
     → ShowsFound edition image form streams status found → IsEndWithin 4 streams status
 ends_found edition image form streams status (Ok number) shows = ends_one _ _ streams status shows
 ends_found edition image form streams status (Err fault) told = ends_told 4 streams fault status (omega arith) told
 
+ends_sums : (edition : Edition) (image path : List ℕ) (form : OutputForm) (streams : Streams) (status : ℕ) → Sums edition image path form streams status
+    → IsEndWithin 4 streams status
+ends_sums edition image path form streams status (inl (text, lines, is, inl printed)) =
+    ends_lines 4 1 streams status lines (omega arith) (omega arith) printed.working printed.said printed.status
+ends_sums edition image path form streams status (inl (text, lines, is, inr cut)) = ends_broken 4 streams text status (omega arith) cut
+ends_sums edition image path form streams status (inr (fault, is, told)) = ends_told 4 streams fault status (omega arith) told
+
 ends_looks : (edition : Edition) (image : List ℕ) (screen : Screen) (streams : Streams) (status : ℕ) (look : Look)
     → Looks edition image screen streams status look → IsEndWithin (highest_status look) streams status
 ends_looks edition image screen streams status (looks.Export path options) shows = ends_from edition image options screen streams status (start_of edition image path.now) shows
+ends_looks edition image screen streams status (looks.Sums path form) shows = ends_sums edition image path.now form streams status shows
 ends_looks edition image screen streams status (looks.Inode node form) shows = ends_found edition image form streams status (number_of edition image node) shows
 ends_looks edition image screen streams status (looks.Super form) shows = ends_one _ _ streams status shows
 ends_looks edition image screen streams status (looks.Free form) shows = ends_one _ _ streams status shows
 ends_looks edition image screen streams status (looks.Block block) shows = ends_one _ _ streams status shows
 ends_looks edition image screen streams status (looks.Map picture) shows = ends_one _ _ streams status shows
-ends_looks edition image screen streams status (looks.Check graded) shows = ends_checks edition image graded streams status shows
+ends_looks edition image screen streams status (looks.Check graded form) shows = ends_checks edition image graded form streams status shows
 ends_looks edition image screen streams status (looks.List path listing) shows = ends_one _ _ streams status shows
 
 -- the highest status of a command is at least 4
 highest_few : (look : Look) → 4 ≤ highest_status look
 highest_few (looks.Export path options) = most_few options.graded
+highest_few (looks.Sums path form) = omega arith
 highest_few (looks.Inode node form) = omega arith
 highest_few (looks.Super form) = omega arith
 highest_few (looks.Free form) = omega arith
 highest_few (looks.Block block) = omega arith
 highest_few (looks.Map picture) = omega arith
-highest_few (looks.Check graded) = most_few graded
+highest_few (looks.Check graded form) = most_few graded
 highest_few (looks.List path listing) = omega arith
 
 ends_unread : {F : Type 0} (remaining : F → Option (List ℕ)) (most : ℕ) (streams : Streams) (status : ℕ) → 4 ≤ most → IsUnread remaining status

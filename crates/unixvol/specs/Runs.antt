@@ -184,9 +184,10 @@ IsShownBy false screens.Stream = Unit {0}
 
 -- the image to show; `check` may see the whole file, since it also looks at the sizes of the other edition (this project)
 abbrev pub IsSeen : HostFiles → Edition → Look → List ℕ → Type 0
-IsSeen files edition (looks.Check graded) image = files.checked edition image
+IsSeen files edition (looks.Check graded form) image = files.checked edition image
 IsSeen files edition (looks.List path listing) image = files.shown edition image
 IsSeen files edition (looks.Export path options) image = files.shown edition image
+IsSeen files edition (looks.Sums path form) image = files.shown edition image
 IsSeen files edition (looks.Inode node form) image = files.shown edition image
 IsSeen files edition (looks.Super form) image = files.shown edition image
 IsSeen files edition (looks.Free form) image = files.shown edition image
@@ -306,7 +307,8 @@ IsEnd streams status = IsEndWithin 4 streams status
 -- the highest status of a command that shows part of an image: 6 if it is graded, else 4 (this project)
 abbrev pub highest_status : Look → ℕ
 highest_status (looks.Export path options) = if options.graded then 6 else 4
-highest_status (looks.Check graded) = if graded then 6 else 4
+highest_status (looks.Check graded form) = if graded then 6 else 4
+highest_status (looks.Sums path form) = 4
 highest_status (looks.Inode node form) = 4
 highest_status (looks.Super form) = 4
 highest_status (looks.Free form) = 4

@@ -130,6 +130,7 @@ fn read_seen<R: ImageFiles + Eprint + AllocGlobal>(
         Look::Check { .. } => read_checked(host, volume),
         Look::List { .. }
         | Look::Export { .. }
+        | Look::Sums { .. }
         | Look::Inode { .. }
         | Look::Super { .. }
         | Look::Free { .. }

@@ -96,6 +96,7 @@ impl<'a> Subject<'a> {
     pub fn of_look(volume: VolumeFile<'a>, look: Look<'a>) -> Subject<'a> {
         let (verb, about) = match look {
             Look::Export { path, .. } => (Verb::Export, About::Path(path)),
+            Look::Sums { path, .. } => (Verb::Sums, About::Path(path)),
             Look::Inode {
                 node: NodeName::Number(number),
                 ..

@@ -18,6 +18,10 @@ pub returns-in-Export-clause-refused : goal.returns-in-Export-clause-refused
 returns-in-Export-clause-refused g c =
     rw c.in-Export.is (refuses_value c.args.clock verbs.Export (g.G.Given.words c.args.given.now) c.read_export.result c.read_export.ensures.refused)
 
+pub returns-in-Sums-clause-refused : goal.returns-in-Sums-clause-refused
+returns-in-Sums-clause-refused g c =
+    rw c.in-Sums.is (refuses_value c.args.clock verbs.Sums (g.G.Given.words c.args.given.now) c.read_sums.result c.read_sums.ensures.refused)
+
 pub returns-in-Inode-clause-refused : goal.returns-in-Inode-clause-refused
 returns-in-Inode-clause-refused g c =
     rw c.in-Inode.is (refuses_value c.args.clock verbs.Inode (g.G.Given.words c.args.given.now) c.read_inode.result c.read_inode.ensures.refused)

@@ -1,0 +1,106 @@
+//! `sums`: a manifest of everything below a directory, with the SHA-256 of each file.
+ghost use Rattle.std.specs.Prelude.{◌≡◌, IfErr, IfOk};
+ghost use Rattle.vol_dir.specs.Tree.{tree};
+ghost use Rattle.vol_layout.specs.Geometry.{Fits};
+ghost use Rattle.command_faults.specs.Streams.{ErrorStream, Hears, streams};
+ghost use Rattle.command_reads.specs.Sums.{IsManifest, IsManifestFault, PrintsManifest, Sums, sums_in};
+
+use crate::export::{ending_with, unstarted};
+use crate::looks::{ExportOptions, OutputForm};
+use crate::remarks::{Remarks, tell_all};
+use command_faults::{Ending, Fault};
+use pdp_words::{Image, Sink, write_all};
+use std::alloc::{AllocError, Global};
+use vol_archive::{MetEntry, start_of, walk};
+use vol_layout::{Edition, Geometry};
+use vol_listing::{sums_json, sums_text};
+
+/// The options of the export whose entries a manifest has, and whose remarks are reported.
+const PLAIN: ExportOptions = ExportOptions {
+    lost: false,
+    graded: false,
+};
+
+/// A manifest, and the remarks on it.
+#[derive(Drop)]
+struct Manifest {
+    /// The text.
+    text: Vec<u8>,
+    /// The remarks, as an export has them.
+    remarks: Remarks,
+}
+
+/// Prints a manifest of everything below the directory at a path: each node in the order of an archive, with its path, its
+/// attributes, and the SHA-256 of a regular file's bytes. The image must keep rules 1 and 2, and may be any bytes otherwise. The
+/// status is 0 for a sound image whose entries are all in the manifest; 1 if the image isn't sound, an entry is left out or the
+/// path leads to no directory; 3 if `output` failed, 4 if memory ran out. The fault has the lines of an export's. Nothing is
+/// printed before all is known.
+///
+/// Costs the walk, [`vol_judge::judge`], for an unsound image also [`vol_inspect::lost_inodes`], and the bytes of the files.
+/// Takes memory for all paths and for the text.
+pub(crate) fn sums<O: Sink>(
+    alloc: Global,
+    edition: Edition,
+    image: Vec<u8>,
+    path: &str,
+    form: OutputForm,
+    output: &mut O,
+) -> Ending
+    ensures { (errors : ErrorStream) → Hears errors result.fault
+        → Sums edition image.items path.now form (streams O.contents O.failed output.old output.new errors) result.status }
+{
+    let image = Image::from_bytes(image);
+    match make_manifest(alloc, edition, &image, path, form) {
+        Ok(manifest) => print_manifest(manifest, output),
+        Err(fault) => Ending::from(fault),
+    }
+}
+
+/// Makes the manifest of everything below the directory at a path.
+fn make_manifest(
+    alloc: Global,
+    edition: Edition,
+    image: &Image,
+    path: &str,
+    form: OutputForm,
+) -> Result<Manifest, Fault>
+    ensures made { IfOk result (λ made. IsManifest edition image.now path.now form made.text.items made.remarks.lines.items) }
+    ensures fault { IfErr result (IsManifestFault edition image.now path.now) }
+{
+    let start = match start_of(edition, image, path.as_bytes()) {
+        Ok(start) => start,
+        Err(fault) => return Err(unstarted(fault)),
+    };
+    let founds = walk(alloc, image, &start.geometry, start.inode)?;
+    let remarks = tell_all(alloc, edition, image, &start.geometry, &founds, PLAIN)?;
+    let text = sums_in(alloc, image, &start.geometry, &founds, form)?;
+    Ok(Manifest { text, remarks })
+}
+
+/// Returns the text of a manifest in some form.
+fn sums_in(
+    alloc: Global,
+    image: &Image,
+    geometry: &Geometry,
+    founds: &[MetEntry],
+    form: OutputForm,
+) -> Result<Vec<u8>, AllocError>
+    requires { Fits geometry.now image.now }
+    ensures { IfOk result (λ text. text.items ≡ sums_in (tree geometry.now image.now) founds.now form) }
+{
+    match form {
+        OutputForm::Text => sums_text(alloc, image, geometry, founds),
+        OutputForm::Json => Ok(sums_json(alloc, image, geometry, founds)?.into_bytes()),
+    }
+}
+
+/// Prints a manifest, and returns its remarks as a fault.
+fn print_manifest<O: Sink>(manifest: Manifest, output: &mut O) -> Ending
+    ensures { (errors : ErrorStream) → Hears errors result.fault
+        → PrintsManifest (streams O.contents O.failed output.old output.new errors) manifest.text.items manifest.remarks.lines.items result.status }
+{
+    match write_all(output, &manifest.text) {
+        Ok(()) => ending_with(false, manifest.remarks),
+        Err(_) => Ending::from(Fault::Output),
+    }
+}

@@ -1,0 +1,38 @@
+//! The texts of `sums`.
+
+pub const ABOUT: &str =
+    "Prints a manifest of everything below a directory, with the SHA-256 of each file.";
+
+pub const MORE: &str = "\
+Example:
+  unixvol sums 7 disk.img > disk.sums
+  unixvol sums 7 disk.img | grep -v '^-' | cut -c 1-65,119- > SHA256SUMS
+  unixvol sums --json 7 disk.img /usr | jq -r '.[].path'
+
+Each file, directory and special file has a line, in the order of `unixvol export`: the SHA-256 of a regular file's
+bytes, or a dash; the mode, owner, group, size and time of modification, as `unixvol ls -l` shows them; and the path,
+which starts at PATH. Each name of a file has a line. In a path, a byte that isn't printable ASCII is shown as a
+backslash and three octal digits, and a backslash is doubled.
+
+The second example makes a list that `sha256sum -c` reads, in the folder where an archive of `unixvol export` was
+extracted.
+
+With --json, one array is printed on one line, with an object for each node: that of `unixvol ls --json`, and
+\"sha256\", which is null if the node isn't a regular file.
+
+The volume need not be sound. Only rules 1 and 2 are checked: the image's size, and the sizes in its super-block.
+Anything left out, and anything wrong with the volume, has a line on standard error, as with `unixvol export`, and
+the status is then 1. Nothing is printed before everything is known.
+
+Status:
+  0  everything is in the manifest, and the volume is sound
+  1  everything that entries lead to is in the manifest, except what standard error says; or nothing was printed:
+     `unixvol: unsound, rule 1`: the image is shorter than its super-block says
+     `unixvol: unsound, rule 2`: the sizes in the super-block contradict one another
+     `unixvol: 2 NoEntry`: there is no such file or directory
+     `unixvol: 20 NotDirectory`: PATH isn't a directory, or leads through something that isn't one
+  2  the command line is wrong
+  3  `unixvol: cannot read IMAGE`, or `unixvol: cannot write -`: standard output failed
+  4  `unixvol: 12 NoMemory`";
+
+pub const BELOW: &str = "The directory's path in the volume; by default, the root";

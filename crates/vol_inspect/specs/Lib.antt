@@ -11,6 +11,7 @@ pub mod Lost
 pub mod Texts
 pub mod PlaceCounts
 pub mod SharedBlocks
+pub mod Space
 pub mod FreeListStatus
 pub mod FreeChain
 pub mod Owners

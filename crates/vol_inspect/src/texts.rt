@@ -219,7 +219,10 @@ pub(crate) fn push_where(text: &mut String, block: u32) -> Result<(), AllocError
 }
 
 /// Appends the line of the fault that ended the walk over the free list.
-fn push_fault(text: &mut String, fault: Option<(FreeFault, u32)>) -> Result<(), AllocError>
+pub(crate) fn push_fault(
+    text: &mut String,
+    fault: Option<(FreeFault, u32)>,
+) -> Result<(), AllocError>
     ensures { OnOk result (string_bytes text.new ≡ string_bytes text.old ++ free_fault_line fault) }
 {
     let Some((fault, number)) = fault else {

@@ -15,6 +15,7 @@ mod rows;
 pub mod sums;
 
 pub use lines::push_shown;
-pub use listing::list;
+pub use listing::{list, shown_path};
 pub use options::{Depth, Lines, ListOptions, Screen};
+pub use places::joined;
 pub use sums::{sums_json, sums_text};

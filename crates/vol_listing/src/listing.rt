@@ -38,7 +38,7 @@ pub fn list(
 }
 
 /// Returns the path at the top of a listing.
-fn shown_path(alloc: Global, path: &[u8]) -> Result<Vec<u8>, AllocError>
+pub fn shown_path(alloc: Global, path: &[u8]) -> Result<Vec<u8>, AllocError>
     ensures { IfOk result (λ shown. shown.items ≡ shown_path path.now) }
 {
     if path.is_empty() {

@@ -126,7 +126,7 @@ fn place_of(alloc: Global, path: &[u8], name: &[u8], inode: u16) -> Result<Liste
 }
 
 /// Returns the path of a name in the directory at a path, with a slash between.
-pub(crate) fn joined(alloc: Global, path: &[u8], name: &[u8]) -> Result<Vec<u8>, AllocError>
+pub fn joined(alloc: Global, path: &[u8], name: &[u8]) -> Result<Vec<u8>, AllocError>
     ensures { IfOk result (λ bytes. bytes.items ≡ joined path.now name.now) }
 {
     let mut bytes = Vec::from_slice(alloc, path)?;

@@ -117,7 +117,7 @@ refuses 3 'unixvol: cannot read missing' sums 7 missing
 "$program" export 7 "$linux" > /dev/full 2> error
 has 'export to a full device' '3 unixvol: cannot write -' "$? $(cat error)"
 head -c 600 "$linux" > short
-for command in export super free map; do refuses 1 'unixvol: unsound, rule 1' "$command" 7 short; done
+for command in export super df free find map; do refuses 1 'unixvol: unsound, rule 1' "$command" 7 short; done
 refuses 1 'unixvol: unsound, rule 1' inode 7 short 2
 refuses 1 'unixvol: unsound, rule 1' inode 7 short /
 refuses 1 'unixvol: unsound, rule 1' sums 7 short
@@ -321,6 +321,26 @@ has 'what sha256sum tells of a manifest' '' "$(cat error)"
 # Rules of soundness, listings, reports and the map, from the lines of a file.
 follows "$data/rows"
 
+# Paths whose last name is like a pattern.
+# finds PATTERN PATH..: these are the paths below the root of `tree.v7`
+finds() {
+    printf '%s\n' "${@:2}" | grep . > wanted
+    prints wanted find 7 tree.v7 / --name "$1"
+}
+finds '*' /a /b /d /d/e $'/d/e/tab\there' /d/l
+finds '?' /a /b /d /d/e /d/l
+finds e /d/e
+finds '*e' /d/e $'/d/e/tab\there'
+finds 't*?h**re' $'/d/e/tab\there'
+finds 't*b' ''
+finds 'd/e' ''
+finds '' ''
+finds "$(head -c 5000 /dev/zero | tr '\0' '*')z" ''
+"$program" find 7 "$linux" > output
+tar -tf linux.tar 2> /dev/null | sed 's,/$,,; s,^,/,' | cmp -s - output
+has 'what find finds is what an archive has' 0 $?
+misread "error: unexpected argument '-n'" find 7 tree.v7 -name e
+
 # The output on a terminal: names escaped; colours, and as many cells in a row as it is wide; no archive.
 # on_terminal COLUMNS WORD..: leaves the program's output on a terminal in `output`, its lines on standard error in `error`, and its status in
 # `status`
@@ -330,6 +350,9 @@ on_terminal() {
 on_terminal 80 ls 6 tree.v6 /d/e
 printf '%s\n' '   29 .' '   30 ..' '   28 tab\011here' > wanted
 wants 'ls of an odd name on a terminal' 0 wanted none
+on_terminal 80 find 6 tree.v6 d/e
+printf '%s\n' 'd/e/tab\011here' > wanted
+wants 'find of an odd name on a terminal' 0 wanted none
 on_terminal 8 map 6 letter.v6
 printf '20 blocks, 1 in each cell\n\n\033[100mB\033[0m' > wanted
 has 'the beginning of a map on a terminal' same "$(head -c "$(wc -c < wanted)" output | cmp -s - wanted && echo same)"
@@ -339,7 +362,7 @@ echo 'unixvol: cannot write -' > line
 wants 'export to a terminal' 3 none line
 
 # A full device, whatever command prints.
-for command in 'check 6 directory.v6' 'check --json 6 directory.v6' 'sums 6 tree.v6' 'sums --json 6 tree.v6' 'ls -l 6 special.v6' 'ls -R --json 6 tree.v6' 'inode 6 three.v6 32' 'super --json 6 bare.v6' 'free 6 bare.v6' 'block 6 three.v6 8' 'map 6 three.v6' 'map --svg 6 three.v6'; do
+for command in 'check 6 directory.v6' 'check --json 6 directory.v6' 'sums 6 tree.v6' 'sums --json 6 tree.v6' 'ls -l 6 special.v6' 'ls -R --json 6 tree.v6' 'inode 6 three.v6 32' 'super --json 6 bare.v6' 'df 6 bare.v6' 'free 6 bare.v6' 'block 6 three.v6 8' 'find 6 tree.v6' 'map 6 three.v6' 'map --svg 6 three.v6'; do
     read -r -a words <<< "$command"
     "$program" "${words[@]}" > /dev/full 2> error < /dev/null
     echo $? > status

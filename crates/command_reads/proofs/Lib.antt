@@ -1,6 +1,7 @@
 pub mod Asked
 pub mod Checked
 pub mod Exported
+pub mod Found
 pub mod Got
 pub mod InOrder
 pub mod Mapped

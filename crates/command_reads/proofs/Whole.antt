@@ -25,7 +25,9 @@ use Rattle.vol_layout.specs.Geometry.{geometry_read}
 use Rattle.vol_layout.specs.declared.edition.Edition.{Edition}
 use Rattle.command_reads.specs.CheckJson.{finding_data, held_data, other_data, place_data, report_data, rule_data, spot_data}
 use Rattle.command_reads.specs.Json.{count_or_null, extent_data}
-use Rattle.command_reads.specs.SuperBlock.{fault_data, super_data}
+use Rattle.command_reads.specs.SuperBlock.{fault_data, part_data, space_data, super_data}
+use Rattle.command_reads.specs.declared.super_block.SuperPart.{SuperPart}
+use Rattle.command_reads.specs.declared.super_block.SuperPart.TheVariants as parts
 use Rattle.command_reads.specs.Inode.{inode_data}
 
 -- none of a list of numbers
@@ -55,7 +57,7 @@ inode_whole report =
     rw (counts_whole (take (address_count report.edition) report.node.addresses), optional_whole report.node.changed, extents_whole report.extents.items) refl
 
 -- nor one of the super-block
-pub super_whole : (report : SuperReport) → has_float (super_data report) ≡ false
+super_whole : (report : SuperReport) → has_float (super_data report) ≡ false
 unfolding super_data
 super_whole report = rw (fault_whole report.fault, counts_whole report.free.items, counts_whole report.cache.items) refl
 
@@ -67,6 +69,7 @@ links_whole (l ∷ ls) = rw (counts_whole l.numbers.items) (links_whole ls)
 -- nor one of the chain of the free list
 pub chain_whole : (report : ChainReport) → has_float (chain_data report) ≡ false
 chain_whole report = rw (fault_whole report.fault, links_whole report.links.items) refl
+
 -- nor one of a rule
 spot_whole : (spot : Spot) → has_float (spot_data spot) ≡ false
 spot_whole spots.Image = refl
@@ -101,3 +104,13 @@ other_whole edition image = either (not (is_ok (geometry_read edition image)) &&
 -- nor one of a report on the rules
 pub report_whole : (edition : Edition) (image : List ℕ) (lines : List RuleLine) → has_float (report_data edition image lines) ≡ false
 report_whole edition image lines = rw (other_whole edition image, rules_whole lines) refl
+
+-- nor one of the space of a volume
+space_whole : (report : SuperReport) → has_float (space_data report) ≡ false
+unfolding space_data
+space_whole report = rw (fault_whole report.fault) refl
+
+-- nor one of part of the report on the super-block
+pub part_whole : (part : SuperPart) (report : SuperReport) → has_float (part_data part report) ≡ false
+part_whole parts.Fields report = super_whole report
+part_whole parts.Space report = space_whole report

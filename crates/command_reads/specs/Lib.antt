@@ -17,6 +17,7 @@ pub mod Checkers
 pub mod Export
 pub mod Faults
 pub mod Free
+pub mod Find
 pub mod Get
 pub mod GetFiles
 pub mod Inode

@@ -1,4 +1,4 @@
--- The command that shows the super-block.
+-- The commands that show the super-block, and the space of the volume.
 use Rattle.std.specs.Prelude.{ℕ, ◌-◌, List, ◌++◌, codes, Option, None, Some, slice_index, ◌≡◌, Ok, Err}
 use Rattle.serde_json.specs.Data.{Data, null, string, object, member, no_members, Members, put}
 use Rattle.serde_json.specs.Written.{compact_text}
@@ -8,6 +8,7 @@ use Rattle.vol_inspect.specs.declared.super_report.SuperReport.{SuperReport}
 use Rattle.vol_listing.specs.Json.{count}
 use Rattle.command_reads.specs.Json.{counts}
 use Rattle.vol_inspect.specs.Inspect.{InspectsSuper}
+use Rattle.vol_inspect.specs.Space.{in_use, space_text}
 use Rattle.vol_inspect.specs.Texts.{super_text}
 use Rattle.vol_inspect.specs.declared.fault.InspectFault.{InspectFault}
 use Rattle.vol_layout.specs.declared.edition.Edition.{Edition}
@@ -17,6 +18,8 @@ use Rattle.command_reads.specs.Faults.{uninspected}
 use Rattle.command_reads.specs.Print.{PrintsOne}
 use Rattle.command_reads.specs.declared.looks.OutputForm.{OutputForm}
 use Rattle.command_reads.specs.declared.looks.OutputForm.TheVariants as forms
+use Rattle.command_reads.specs.declared.super_block.SuperPart.{SuperPart}
+use Rattle.command_reads.specs.declared.super_block.SuperPart.TheVariants as parts
 
 -- the fault that ended the walk over the free list, with its count or number (icheck)
 abbrev pub fault_data : Option (FreeFault × ℕ) → Data
@@ -43,9 +46,29 @@ super_data report =
     (member (codes "ronly") (count (slice_index report.flags 3))
     (member (codes "time") (count report.time) no_members))))))))))))))))
 
--- the super-block as JSON, on one line (RFC 8259)
-abbrev pub super_json : SuperReport → List ℕ
-super_json report = compact_text (super_data report) ++ codes "\n"
+-- the space of a volume: the numbers of blocks, of data blocks and of i-nodes, how many are free, how many are used, and the fault of the free list (df)
+unfoldable pub space_data : SuperReport → Data
+space_data report =
+    let data_blocks = report.geometry.zone_end - report.geometry.zone_start in
+    object (member (codes "blocks") (count report.geometry.zone_end)
+    (member (codes "data blocks") (count data_blocks)
+    (member (codes "fault") (fault_data report.fault)
+    (member (codes "free blocks") (count report.free_blocks)
+    (member (codes "free i-nodes") (count report.free_inodes)
+    (member (codes "i-nodes") (count report.geometry.last_inode)
+    (member (codes "used blocks") (count (in_use report.geometry.zone_end report.free_blocks))
+    (member (codes "used data blocks") (count (in_use data_blocks report.free_blocks))
+    (member (codes "used i-nodes") (count (in_use report.geometry.last_inode report.free_inodes)) no_members)))))))))
+
+-- part of the report on the super-block, as data (this project)
+abbrev pub part_data : SuperPart → SuperReport → Data
+part_data parts.Fields report = super_data report
+part_data parts.Space report = space_data report
+
+-- part of the report on the super-block, as text (this project)
+abbrev pub part_text : SuperPart → SuperReport → List ℕ
+part_text parts.Fields report = super_text report
+part_text parts.Space report = space_text report
 
 -- members with the sizes of a volume, and its time (this project)
 unfoldable pub with_sizes : SuperReport → Members → Members
@@ -79,19 +102,19 @@ with_cache report members =
     (put (codes "inode") (counts report.cache.items)
     (put (codes "ninode") (count report.cache_count) members))
 
--- a report on the super-block in some form (this project)
-abbrev pub super_in : SuperReport → OutputForm → List ℕ
-super_in report forms.Text = super_text report
-super_in report forms.Json = super_json report
+-- part of the report on the super-block in some form: JSON is on one line (RFC 8259)
+abbrev pub super_in : SuperReport → SuperPart → OutputForm → List ℕ
+super_in report part forms.Text = part_text part report
+super_in report part forms.Json = compact_text (part_data part report) ++ codes "\n"
 
--- the text of the report on the super-block of an image, in some form (this project)
-abbrev pub IsSuperText : Edition → List ℕ → OutputForm → List ℕ → Type 0
-IsSuperText edition image form text = (report : SuperReport) × InspectsSuper edition image (Ok report) × (text ≡ super_in report form)
+-- the text of part of the report on the super-block of an image, in some form (this project)
+abbrev pub IsSuperText : Edition → List ℕ → SuperPart → OutputForm → List ℕ → Type 0
+IsSuperText edition image part form text = (report : SuperReport) × InspectsSuper edition image (Ok report) × (text ≡ super_in report part form)
 
 -- the reason why the super-block of an image isn't shown (this project)
 abbrev pub IsSuperFault : Edition → List ℕ → Fault → Type 0
 IsSuperFault edition image fault = (why : InspectFault) × InspectsSuper edition image (Err why) × (fault ≡ uninspected why)
 
--- the super-block is shown, or the reason why not is reported (this project)
-abbrev pub ShowsSuper : Edition → List ℕ → OutputForm → Streams → ℕ → Type 0
-ShowsSuper edition image form streams status = PrintsOne (IsSuperText edition image form) (IsSuperFault edition image) streams status
+-- part of the report on the super-block is shown, or the reason why not is reported (this project)
+abbrev pub ShowsSuper : Edition → List ℕ → SuperPart → OutputForm → Streams → ℕ → Type 0
+ShowsSuper edition image part form streams status = PrintsOne (IsSuperText edition image part form) (IsSuperFault edition image) streams status

@@ -9,6 +9,7 @@ pub mod checkers;
 mod export;
 mod faults;
 mod free;
+mod find;
 pub mod get;
 mod inode;
 mod json;

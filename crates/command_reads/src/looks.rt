@@ -15,6 +15,11 @@ pub enum Look<'a> {
         path: &'a str,
         form: OutputForm,
     },
+    /// The path of everything below a directory, with a `name` only if its last name is like that pattern.
+    Find {
+        path: &'a str,
+        name: Option<&'a str>,
+    },
     /// An i-node.
     Inode {
         node: NodeName<'a>,
@@ -30,6 +35,10 @@ pub enum Look<'a> {
     },
     /// The chain of the free list.
     Free {
+        form: OutputForm,
+    },
+    /// The space of the volume: how much of it is used.
+    Df {
         form: OutputForm,
     },
     /// The use of each block.

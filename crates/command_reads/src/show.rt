@@ -6,12 +6,13 @@ use crate::block::show_block;
 use crate::check::check;
 use crate::export::export;
 use crate::free::show_free;
+use crate::find::find;
 use crate::inode::show_inode;
 use crate::looks::Look;
 use crate::ls::list;
 use crate::map::draw_map;
 use crate::sums::sums;
-use crate::super_block::show_super;
+use crate::super_block::{SuperPart, show_super};
 use command_faults::Ending;
 use command_faults::answer::tell;
 use pdp_words::Sink;
@@ -55,10 +56,14 @@ pub fn perform<O: Sink>(
             export(alloc, edition, image, path, options, screen, output)
         }
         Look::Sums { path, form } => sums(alloc, edition, image, path, form, output),
-        Look::Inode { node, form } => show_inode(alloc, edition, image, node, form, output),
-        Look::Super { form } => show_super(alloc, edition, image, form, output),
         Look::Block { block } => show_block(alloc, edition, image, block, output),
         Look::Free { form } => show_free(alloc, edition, image, form, output),
+        Look::Find { path, name } => find(alloc, edition, image, path, name, screen, output),
+        Look::Inode { node, form } => show_inode(alloc, edition, image, node, form, output),
+        Look::Super { form } => {
+            show_super(alloc, edition, image, SuperPart::Fields, form, output)
+        }
+        Look::Df { form } => show_super(alloc, edition, image, SuperPart::Space, form, output),
         Look::Map { picture } => draw_map(alloc, edition, image, picture, screen, output),
         Look::Check { graded, form } => check(alloc, edition, image, graded, form, output),
         Look::List { path, listing } => list(alloc, edition, image, path, listing, screen, output),

@@ -1,8 +1,8 @@
-//! `super`: shows the super-block.
-ghost use Rattle.std.specs.Prelude.{◌≡◌, ◌≤◌, IfErr, IfOk, OnOk, string_bytes};
+//! `super` and `df`: show the super-block, or the space of the volume.
+ghost use Rattle.std.specs.Prelude.{◌≡◌, ◌≤◌, ◌++◌, IfErr, IfOk, OnOk, string_bytes};
 ghost use Rattle.serde_json.specs.View.{members_view, view};
 ghost use Rattle.command_faults.specs.Streams.{streams, ErrorStream, Hears};
-ghost use Rattle.command_reads.specs.SuperBlock.{fault_data, super_data, super_json, super_in, with_sizes, with_flags, with_free, with_cache, IsSuperText, IsSuperFault, ShowsSuper};
+ghost use Rattle.command_reads.specs.SuperBlock.{fault_data, part_data, part_text, space_data, super_data, super_in, with_sizes, with_flags, with_free, with_cache, IsSuperText, IsSuperFault, ShowsSuper};
 
 use crate::faults::uninspected;
 use crate::json::list;
@@ -13,11 +13,20 @@ use pdp_words::{Image, Sink};
 use serde_json::{Map, Value, json, put};
 use std::alloc::{AllocError, Global};
 use vol_free::FreeFault;
-use vol_inspect::{SuperReport, inspect_super};
+use vol_inspect::{SuperReport, in_use, inspect_super};
 use vol_layout::Edition;
 use vol_listing::json::{line, put_count};
 
-/// Shows the super-block of an image in which rules 1 and 2 hold, as [`show_inode`](crate::inode::show_inode) shows an
+/// The part of the report on a super-block that a command shows.
+#[derive(Clone, Copy)]
+pub(crate) enum SuperPart {
+    /// The fields, and the totals.
+    Fields,
+    /// The space of the volume.
+    Space,
+}
+
+/// Shows part of the report on the super-block of an image in which rules 1 and 2 hold, as [`show_inode`](crate::inode::show_inode) shows an
 /// i-node.
 ///
 /// Takes the memory of [`inspect_super`], and for the text.
@@ -25,55 +34,106 @@ pub(crate) fn show_super<O: Sink>(
     alloc: Global,
     edition: Edition,
     image: Vec<u8>,
+    part: SuperPart,
     form: OutputForm,
     output: &mut O,
 ) -> Ending
     ensures { (errors : ErrorStream) → Hears errors result.fault
-        → ShowsSuper edition image.items form (streams O.contents O.failed output.old output.new errors) result.status }
+        → ShowsSuper edition image.items part form (streams O.contents O.failed output.old output.new errors) result.status }
 {
     let image = Image::from_bytes(image);
-    let text = super_text(alloc, edition, &image, form);
+    let text = super_text(alloc, edition, &image, part, form);
     finish(text, output)
 }
 
-/// Returns the text of the super-block.
+/// Returns the text of part of the report on the super-block.
 fn super_text(
     alloc: Global,
     edition: Edition,
     image: &Image,
+    part: SuperPart,
     form: OutputForm,
 ) -> Result<String, Fault>
-    ensures text { IfOk result (λ text. IsSuperText edition image.now form (string_bytes text)) }
+    ensures text { IfOk result (λ text. IsSuperText edition image.now part form (string_bytes text)) }
     ensures fault { IfErr result (λ fault. IsSuperFault edition image.now fault) }
 {
     match inspect_super(alloc, edition, image) {
-        Ok(report) => Ok(super_in(alloc, &report, form)?),
+        Ok(report) => Ok(super_in(alloc, &report, part, form)?),
         Err(fault) => Err(uninspected(fault)),
     }
 }
 
-/// Returns the report on the super-block in some form.
-fn super_in(alloc: Global, report: &SuperReport, form: OutputForm) -> Result<String, AllocError>
+/// Returns part of the report on the super-block in some form.
+fn super_in(
+    alloc: Global,
+    report: &SuperReport,
+    part: SuperPart,
+    form: OutputForm,
+) -> Result<String, AllocError>
     requires { report.now.geometry.zone_start ≤ report.now.geometry.zone_end }
-    ensures { IfOk result (λ text. string_bytes text ≡ super_in report.now form) }
+    ensures { IfOk result (λ text. string_bytes text ≡ super_in report.now part form) }
 {
     match form {
-        OutputForm::Json => super_json(alloc, report),
+        OutputForm::Json => {
+            let value = part_value(alloc, report, part)?;
+            line(alloc, &value)
+        }
         OutputForm::Text => {
             let mut text = String::new(alloc);
-            report.push_text(&mut text)?;
+            push_part(report, part, &mut text)?;
             Ok(text)
         }
     }
 }
 
-/// Returns the super-block as JSON, on one line.
-fn super_json(alloc: Global, report: &SuperReport) -> Result<String, AllocError>
+/// Appends the text of part of the report on the super-block.
+fn push_part(report: &SuperReport, part: SuperPart, text: &mut String) -> Result<(), AllocError>
     requires { report.now.geometry.zone_start ≤ report.now.geometry.zone_end }
-    ensures { IfOk result (λ text. string_bytes text ≡ super_json report.now) }
+    ensures { OnOk result (string_bytes text.new ≡ string_bytes text.old ++ part_text part report.now) }
 {
-    let value = super_value(alloc, report)?;
-    line(alloc, &value)
+    match part {
+        SuperPart::Fields => report.push_text(text),
+        SuperPart::Space => report.push_space(text),
+    }
+}
+
+/// Returns part of the report on the super-block as a JSON value.
+fn part_value(alloc: Global, report: &SuperReport, part: SuperPart) -> Result<Value, AllocError>
+    requires { report.now.geometry.zone_start ≤ report.now.geometry.zone_end }
+    ensures { IfOk result (λ value. view value ≡ part_data part report.now) }
+{
+    match part {
+        SuperPart::Fields => super_value(alloc, report),
+        SuperPart::Space => space_value(alloc, report),
+    }
+}
+
+/// Returns the space of the volume as a JSON value.
+#[tactic(auto, unfolding(crate::specs::SuperBlock::space_data))]
+fn space_value(alloc: Global, report: &SuperReport) -> Result<Value, AllocError>
+    requires { report.now.geometry.zone_start ≤ report.now.geometry.zone_end }
+    ensures { IfOk result (λ value. view value ≡ space_data report.now) }
+{
+    let fault = fault_value(alloc, report.fault)?;
+    let blocks = report.geometry.zone_end as u64;
+    let data_blocks = (report.geometry.zone_end - report.geometry.zone_start) as u64;
+    let free_blocks = report.free_blocks as u64;
+    let inodes = report.geometry.last_inode as u64;
+    let free_inodes = report.free_inodes as u64;
+    let used_blocks = in_use(blocks, free_blocks);
+    let used_data_blocks = in_use(data_blocks, free_blocks);
+    let used_inodes = in_use(inodes, free_inodes);
+    json!(in alloc; {
+        "blocks": blocks,
+        "data blocks": data_blocks,
+        "fault": fault,
+        "free blocks": free_blocks,
+        "free i-nodes": free_inodes,
+        "i-nodes": inodes,
+        "used blocks": used_blocks,
+        "used data blocks": used_data_blocks,
+        "used i-nodes": used_inodes
+    })
 }
 
 /// Returns the super-block as a JSON value.

@@ -11,12 +11,14 @@ named text =
     cond (bytes_eq text (codes "cat")) verbs.Cat
     (cond (bytes_eq text (codes "ls")) verbs.Ls
     (cond (bytes_eq text (codes "get")) verbs.Get
+    (cond (bytes_eq text (codes "find")) verbs.Find
     (cond (bytes_eq text (codes "export")) verbs.Export
     (cond (bytes_eq text (codes "sums")) verbs.Sums
     (cond (bytes_eq text (codes "inode")) verbs.Inode
     (cond (bytes_eq text (codes "super")) verbs.Super
     (cond (bytes_eq text (codes "free")) verbs.Free
     (cond (bytes_eq text (codes "block")) verbs.Block
+    (cond (bytes_eq text (codes "df")) verbs.Df
     (cond (bytes_eq text (codes "map")) verbs.Map
     (cond (bytes_eq text (codes "check")) verbs.Check
     (cond (bytes_eq text (codes "icheck")) verbs.Icheck
@@ -35,19 +37,21 @@ named text =
     (cond (bytes_eq text (codes "touch")) verbs.Touch
     (cond (bytes_eq text (codes "salvage")) verbs.Salvage
     (cond (bytes_eq text (codes "play")) verbs.Play
-    (cond (bytes_eq text (codes "migrate")) verbs.Migrate verbs.Serve)))))))))))))))))))))))))))
+    (cond (bytes_eq text (codes "migrate")) verbs.Migrate verbs.Serve)))))))))))))))))))))))))))))
 
 -- a command is found by its name
 named_by_its_name : (verb : Verb) → named (verb_name verb) ≡ verb
 named_by_its_name verbs.Cat = refl
 named_by_its_name verbs.Ls = refl
 named_by_its_name verbs.Get = refl
+named_by_its_name verbs.Find = refl
 named_by_its_name verbs.Export = refl
 named_by_its_name verbs.Sums = refl
 named_by_its_name verbs.Inode = refl
 named_by_its_name verbs.Super = refl
 named_by_its_name verbs.Free = refl
 named_by_its_name verbs.Block = refl
+named_by_its_name verbs.Df = refl
 named_by_its_name verbs.Map = refl
 named_by_its_name verbs.Check = refl
 named_by_its_name verbs.Icheck = refl

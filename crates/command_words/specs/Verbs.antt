@@ -83,12 +83,14 @@ abbrev pub verb_name : Verb → List ℕ
 verb_name verbs.Cat = codes "cat"
 verb_name verbs.Ls = codes "ls"
 verb_name verbs.Get = codes "get"
+verb_name verbs.Find = codes "find"
 verb_name verbs.Export = codes "export"
 verb_name verbs.Sums = codes "sums"
 verb_name verbs.Inode = codes "inode"
 verb_name verbs.Super = codes "super"
 verb_name verbs.Free = codes "free"
 verb_name verbs.Block = codes "block"
+verb_name verbs.Df = codes "df"
 verb_name verbs.Map = codes "map"
 verb_name verbs.Check = codes "check"
 verb_name verbs.Icheck = codes "icheck"
@@ -116,12 +118,14 @@ arguments_of verbs.Cat = on_volume (number (codes "INO") ∷ [])
 arguments_of verbs.Ls = on_volume (maybe_path ∷ lettered (codes "long") 108 ∷ lettered (codes "recursive") 82
     ∷ lettered (codes "directory") 100 ∷ option (codes "json") ∷ [])
 arguments_of verbs.Get = on_volume (word (codes "PATH") ∷ more_words ∷ valued (codes "output") 111 values.Folder ∷ [])
+arguments_of verbs.Find = on_volume (maybe_path ∷ valued (codes "name") 103 values.Pattern ∷ [])
 arguments_of verbs.Export = on_volume (maybe_path ∷ option (codes "lost") ∷ option (codes "status") ∷ [])
 arguments_of verbs.Sums = on_volume (maybe_path ∷ option (codes "json") ∷ [])
 arguments_of verbs.Inode = on_volume ((codes "INO", kinds.Node, needs.Once) ∷ option (codes "json") ∷ [])
 arguments_of verbs.Super = on_volume (option (codes "json") ∷ [])
 arguments_of verbs.Free = on_volume (option (codes "json") ∷ [])
 arguments_of verbs.Block = on_volume (long_number (codes "BLOCK") ∷ [])
+arguments_of verbs.Df = on_volume (option (codes "json") ∷ [])
 arguments_of verbs.Map = on_volume (option (codes "svg") ∷ [])
 arguments_of verbs.Check = on_volume (option (codes "status") ∷ option (codes "json") ∷ [])
 arguments_of verbs.Icheck = of_checker
@@ -151,9 +155,10 @@ arguments_of verbs.Serve = on_volume (option (codes "read-only") ∷ option (cod
 -- all commands, in the order in which the help lists them (this project)
 abbrev pub all_verbs : List Verb
 all_verbs =
-    verbs.Cat ∷ verbs.Ls ∷ verbs.Get ∷ verbs.Export ∷ verbs.Sums ∷ verbs.Inode ∷ verbs.Super ∷ verbs.Free ∷ verbs.Block ∷ verbs.Map
-    ∷ verbs.Check ∷ verbs.Icheck ∷ verbs.Dcheck ∷ verbs.Ncheck ∷ verbs.Mkfs ∷ verbs.Put ∷ verbs.Import ∷ verbs.Rm ∷ verbs.Rmdir ∷ verbs.Mkdir
-    ∷ verbs.Ln ∷ verbs.Mv ∷ verbs.Chmod ∷ verbs.Chown ∷ verbs.Touch ∷ verbs.Salvage ∷ verbs.Play ∷ verbs.Migrate ∷ verbs.Serve ∷ []
+    verbs.Cat ∷ verbs.Ls ∷ verbs.Get ∷ verbs.Find ∷ verbs.Export ∷ verbs.Sums ∷ verbs.Inode ∷ verbs.Super ∷ verbs.Free ∷ verbs.Block
+    ∷ verbs.Df ∷ verbs.Map ∷ verbs.Check ∷ verbs.Icheck ∷ verbs.Dcheck ∷ verbs.Ncheck ∷ verbs.Mkfs ∷ verbs.Put ∷ verbs.Import ∷ verbs.Rm
+    ∷ verbs.Rmdir ∷ verbs.Mkdir ∷ verbs.Ln ∷ verbs.Mv ∷ verbs.Chmod ∷ verbs.Chown ∷ verbs.Touch ∷ verbs.Salvage ∷ verbs.Play ∷ verbs.Migrate
+    ∷ verbs.Serve ∷ []
 
 -- no command has this name (this project)
 abbrev pub IsNoCommand : List ℕ → Type 0

@@ -60,6 +60,8 @@ pub enum ValueName {
     Folder,
     /// A user and a group.
     Owner,
+    /// A pattern for names.
+    Pattern,
 }
 
 impl ValueName {
@@ -69,6 +71,7 @@ impl ValueName {
             ValueName::Directory => "DIR",
             ValueName::Folder => "FOLDER",
             ValueName::Owner => "UID:GID",
+            ValueName::Pattern => "GLOB",
         }
     }
 }
@@ -383,6 +386,20 @@ const OWNER: Parameter = Parameter {
     help: texts::import::OWNER,
 };
 
+const SEARCHED: Parameter = Parameter {
+    name: "PATH",
+    kind: WordKind::Text,
+    need: Need::Maybe,
+    help: texts::find::SEARCHED,
+};
+
+const NAME: Parameter = Parameter {
+    name: "name",
+    kind: WordKind::Text,
+    need: Need::Value('g', ValueName::Pattern),
+    help: texts::find::NAME,
+};
+
 const LONG: Parameter = Parameter {
     name: "long",
     kind: WordKind::Flag,
@@ -483,6 +500,9 @@ pub static LS_WORDS: [Parameter; 7] = [EDITION, IMAGE, LISTED, LONG, ALL_BELOW, 
 /// The words of `get`.
 pub static GET_WORDS: [Parameter; 5] = [EDITION, IMAGE, REGULAR, MORE_GOT, OUTPUT];
 
+/// The words of `find`.
+pub static FIND_WORDS: [Parameter; 4] = [EDITION, IMAGE, SEARCHED, NAME];
+
 /// The words of a checker.
 pub static CHECKER_WORDS: [Parameter; 3] = [EDITION, IMAGE, WORKERS];
 
@@ -559,10 +579,7 @@ pub static INODE_WORDS: [Parameter; 4] = [EDITION, IMAGE, NODE, JSON];
 /// The words of `block`.
 pub static BLOCK_WORDS: [Parameter; 3] = [EDITION, IMAGE, BLOCK];
 
-/// The words of `free`.
-pub static FREE_WORDS: [Parameter; 3] = [EDITION, IMAGE, JSON];
-
-/// The words of `super`.
+/// The words of `super`, `free` and `df`.
 pub static SUPER_WORDS: [Parameter; 3] = [EDITION, IMAGE, JSON];
 
 /// The words of `map`.

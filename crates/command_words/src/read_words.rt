@@ -40,12 +40,14 @@ pub fn read<'a, G: Given<'a>>(
         Verb::Cat => read_cat(given),
         Verb::Ls => read_ls(given),
         Verb::Get => read_get(alloc, given),
+        Verb::Find => read_find(given),
         Verb::Export => read_export(given),
         Verb::Sums => read_sums(given),
         Verb::Inode => read_inode(given),
         Verb::Super => read_super(given),
         Verb::Free => read_free(given),
         Verb::Block => read_block(given),
+        Verb::Df => read_df(given),
         Verb::Map => read_map(given),
         Verb::Check => read_check(given),
         Verb::Icheck => read_checker(given, Checker::Blocks),
@@ -143,6 +145,20 @@ fn read_get<'a, G: Given<'a>>(alloc: Global, given: &G) -> Result<Invocation<'a>
     }
 }
 
+/// Reads the words of `find`.
+fn read_find<'a, G: Given<'a>>(given: &G) -> Result<Invocation<'a>, WordFault<'a>>
+    ensures read { IfOk result (AsksFor None verbs.Find (G.words given.now)) }
+    ensures refused { IfErr result (TellsOf (IsOneWrong None (G.words given.now) (arguments_of verbs.Find))) }
+{
+    let volume = volume_in(given)?;
+    let path = text_in(given, "PATH");
+    let name = given.first("name");
+    Ok(Invocation::Look {
+        volume,
+        look: Look::Find { path, name },
+    })
+}
+
 /// Reads the words of `export`.
 fn read_export<'a, G: Given<'a>>(given: &G) -> Result<Invocation<'a>, WordFault<'a>>
     ensures read { IfOk result (AsksFor None verbs.Export (G.words given.now)) }
@@ -198,6 +214,19 @@ fn read_super<'a, G: Given<'a>>(given: &G) -> Result<Invocation<'a>, WordFault<'
     Ok(Invocation::Look {
         volume,
         look: Look::Super { form },
+    })
+}
+
+/// Reads the words of `df`.
+fn read_df<'a, G: Given<'a>>(given: &G) -> Result<Invocation<'a>, WordFault<'a>>
+    ensures read { IfOk result (AsksFor None verbs.Df (G.words given.now)) }
+    ensures refused { IfErr result (TellsOf (IsOneWrong None (G.words given.now) (arguments_of verbs.Df))) }
+{
+    let volume = volume_in(given)?;
+    let form = form_in(given);
+    Ok(Invocation::Look {
+        volume,
+        look: Look::Df { form },
     })
 }
 

@@ -1,9 +1,11 @@
 //! The texts of the help.
 
 pub mod block;
+pub mod df;
 pub mod export;
-pub mod import;
+pub mod find;
 pub mod free;
+pub mod import;
 pub mod sums;
 pub mod touch;
 

@@ -192,6 +192,8 @@ IsSeen files edition (looks.Inode node form) image = files.shown edition image
 IsSeen files edition (looks.Super form) image = files.shown edition image
 IsSeen files edition (looks.Free form) image = files.shown edition image
 IsSeen files edition (looks.Block block) image = files.shown edition image
+IsSeen files edition (looks.Df form) image = files.shown edition image
+IsSeen files edition (looks.Find path name) image = files.shown edition image
 IsSeen files edition (looks.Map picture) image = files.shown edition image
 
 -- part of an image is shown: nothing is done; or it is shown from an image that a file gave (this project)
@@ -313,6 +315,8 @@ highest_status (looks.Inode node form) = 4
 highest_status (looks.Super form) = 4
 highest_status (looks.Free form) = 4
 highest_status (looks.Block block) = 4
+highest_status (looks.Df form) = 4
+highest_status (looks.Find path name) = 4
 highest_status (looks.Map picture) = 4
 highest_status (looks.List path listing) = 4
 

@@ -135,6 +135,8 @@ fn read_seen<R: ImageFiles + Eprint + AllocGlobal>(
         | Look::Super { .. }
         | Look::Free { .. }
         | Look::Block { .. }
+        | Look::Df { .. }
+        | Look::Find { .. }
         | Look::Map { .. } => read_volume(host, volume),
     }
 }

@@ -108,6 +108,8 @@ impl<'a> Subject<'a> {
             Look::Super { .. } => (Verb::Super, About::Image),
             Look::Free { .. } => (Verb::Free, About::Image),
             Look::Block { .. } => (Verb::Block, About::Image),
+            Look::Df { .. } => (Verb::Df, About::Image),
+            Look::Find { path, .. } => (Verb::Find, About::Path(path)),
             Look::Map { .. } => (Verb::Map, About::Image),
             Look::Check { .. } => (Verb::Check, About::Image),
             Look::List { path, .. } => (Verb::Ls, About::Path(path)),

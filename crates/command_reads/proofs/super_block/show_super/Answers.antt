@@ -8,10 +8,11 @@ use Rattle.command_reads.proofs.super_block.show_super.Goals as goal
 pub returns : goal.returns
 returns g c errors hears =
     let edition = c.args.edition in
+    let part = c.args.part in
     let form = c.args.form in
     let text = c.super_text-text in
     let both : Streams = streams g.O.Sink.contents g.O.Sink.failed c.args.output.now c.finish.new.output errors in
-    one_of (IsSuperText edition c.args.image.items form) (IsSuperFault edition c.args.image.items) both c.finish.result.status text.result
-    (subst (λ (image : List ℕ). IfOk text.result (λ t. IsSuperText edition image form (string_bytes t))) c.from_bytes-image.ensures text.ensures.text)
+    one_of (IsSuperText edition c.args.image.items part form) (IsSuperFault edition c.args.image.items) both c.finish.result.status text.result
+    (subst (λ (image : List ℕ). IfOk text.result (λ t. IsSuperText edition image part form (string_bytes t))) c.from_bytes-image.ensures text.ensures.text)
     (subst (λ (image : List ℕ). IfErr text.result (IsSuperFault edition image)) c.from_bytes-image.ensures text.ensures.fault)
     (c.finish.ensures.printed errors hears) (c.finish.ensures.told errors hears)

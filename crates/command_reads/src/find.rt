@@ -1,0 +1,111 @@
+//! The command that prints the paths of everything below a directory.
+ghost use Rattle.std.specs.Prelude.{◌≡◌, ◌++◌, IfErr, IfOk, OnOk, option_map};
+ghost use Rattle.std.specs.List.{flat_map};
+ghost use Rattle.vol_dir.specs.Entries.{IsDirectory};
+ghost use Rattle.vol_layout.specs.Geometry.{Fits};
+ghost use Rattle.vol_archive.specs.Walk.{IsWalk};
+ghost use Rattle.vol_listing.specs.Listings.{shown_path};
+ghost use Rattle.command_faults.specs.Streams.{ErrorStream, Hears, streams};
+ghost use Rattle.command_reads.specs.Find.{AreFound, Finds, IsFindFault, found_line, is_wanted};
+
+use crate::export::unstarted;
+use crate::print::finish_bytes;
+use command_faults::{Ending, Fault};
+use name_patterns::{is_like, last_name};
+use pdp_words::{Image, Sink};
+use std::alloc::{AllocError, Global};
+use vol_archive::{MetEntry, start_of, walk};
+use vol_layout::Edition;
+use vol_listing::{Screen, joined, push_shown, shown_path};
+
+/// Prints the path of everything below the directory at a path, each on a line, in the order of an export; with a `pattern`
+/// only those whose last name is like it. The image must keep rules 1 and 2, and may be any bytes otherwise. The status is 0;
+/// 1 if the image breaks one of these rules or the path leads to no directory, 3 if `output` failed, 4 if memory ran out.
+/// Nothing is printed before all is known.
+///
+/// Costs the walk, and takes memory for all paths and for the text.
+pub(crate) fn find<O: Sink>(
+    alloc: Global,
+    edition: Edition,
+    image: Vec<u8>,
+    path: &str,
+    pattern: Option<&str>,
+    screen: Screen,
+    output: &mut O,
+) -> Ending
+    ensures { (errors : ErrorStream) → Hears errors result.fault
+        → Finds edition image.items path.now (option_map (λ word. word.now) pattern.entry) screen (streams O.contents O.failed output.old output.new errors) result.status }
+{
+    let image = Image::from_bytes(image);
+    let text = find_text(alloc, edition, &image, path.as_bytes(), pattern, screen);
+    finish_bytes(text, output)
+}
+
+/// Returns the paths of everything below the directory at a path, each on a line.
+fn find_text(
+    alloc: Global,
+    edition: Edition,
+    image: &Image,
+    path: &[u8],
+    pattern: Option<&str>,
+    screen: Screen,
+) -> Result<Vec<u8>, Fault>
+    ensures text { IfOk result (λ text. AreFound edition image.now path.now (option_map (λ word. word.now) pattern.entry) screen text.items) }
+    ensures fault { IfErr result (λ fault. IsFindFault edition image.now path.now fault) }
+{
+    match start_of(edition, image, path) {
+        Ok(start) => {
+            let founds = walk(alloc, image, &start.geometry, start.inode)?;
+            Ok(found_lines(alloc, path, &founds, pattern, screen)?)
+        }
+        Err(fault) => Err(unstarted(fault)),
+    }
+}
+
+/// Returns the lines of the entries met below the directory at a path.
+fn found_lines(
+    alloc: Global,
+    path: &[u8],
+    founds: &[MetEntry],
+    pattern: Option<&str>,
+    screen: Screen,
+) -> Result<Vec<u8>, AllocError>
+    ensures { IfOk result (λ text. text.items ≡ flat_map (found_line screen (option_map (λ word. word.now) pattern.entry) (shown_path path.now)) founds.now) }
+{
+    let top = shown_path(alloc, path)?;
+    let mut text = Vec::new(alloc);
+    'founds: for found in founds {
+        push_found(alloc, &top, found, pattern, screen, &mut text)?;
+    }
+    Ok(text)
+}
+
+/// Appends the line of an entry met below the directory at path `top`, if it is wanted.
+#[tactic(auto, unfolding(crate::specs::Find::found_line))]
+fn push_found(
+    alloc: Global,
+    top: &[u8],
+    found: &MetEntry,
+    pattern: Option<&str>,
+    screen: Screen,
+    text: &mut Vec<u8>,
+) -> Result<(), AllocError>
+    ensures { OnOk result (text.new.items ≡ text.old.items ++ found_line screen (option_map (λ word. word.now) pattern.entry) top.now found.now) }
+{
+    if is_wanted(pattern, found.path.as_slice()) {
+        let path = joined(alloc, top, found.path.as_slice())?;
+        push_shown(screen, &path, text)?;
+        text.push(b'\n')?;
+    }
+    Ok(())
+}
+
+/// True if the last name of a path is like a pattern, if there is one.
+fn is_wanted(pattern: Option<&str>, path: &[u8]) -> bool
+    ensures { result ≡ is_wanted (option_map (λ word. word.now) pattern.entry) path.now }
+{
+    match pattern {
+        None => true,
+        Some(pattern) => is_like(pattern.as_bytes(), last_name(path)),
+    }
+}

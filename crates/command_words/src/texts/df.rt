@@ -1,0 +1,21 @@
+//! The texts of `df`.
+
+pub const ABOUT: &str = "Shows how much of a volume is used, and how much is free.";
+
+pub const MORE: &str = "\
+Example:
+  unixvol df 7 disk.img
+
+All blocks of the volume, its data blocks and its i-nodes each have a line: how many there are, how many of them
+are used, and how many are free. A block is free if the free list has it. If the list has a fault, a last line
+reports it as `icheck` does, and blocks after the fault count as used. With --json, the same is one JSON object.
+
+The volume need not be sound. Only rules 1 and 2 are checked: the image's size, and the sizes in its super-block.
+
+Status:
+  0  the numbers were printed
+  1  `unixvol: unsound, rule 1`: the image is shorter than its super-block says
+     `unixvol: unsound, rule 2`: the sizes in the super-block contradict one another
+  2  the command line is wrong
+  3  `unixvol: cannot read IMAGE`, or `unixvol: cannot write -`: standard output failed
+  4  `unixvol: 12 NoMemory`";

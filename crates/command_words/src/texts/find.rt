@@ -1,0 +1,32 @@
+//! The texts of `find`.
+
+pub const ABOUT: &str = "Prints the path of everything below a directory of a volume.";
+
+pub const SEARCHED: &str = "A directory of the volume; the root if it is left out";
+
+pub const NAME: &str = "Print only paths whose last name is like this pattern";
+
+pub const MORE: &str = "\
+Example:
+  unixvol find 7 disk.img /usr
+  unixvol find 7 disk.img --name '*.c'
+
+Each entry of the directory and of all directories below has a line, except `.` and `..`, in ascending order of
+the names' bytes, and a directory before what is in it. Each path begins with PATH. With --name, only paths whose
+last name is like GLOB are printed: in GLOB a * stands for any bytes or none, a ? for one byte, and every other
+byte for itself.
+
+Entries without an i-node are printed too. What is below a directory isn't printed again if the directory was
+printed before, nor if its path is too long for an archive of `export`, some 250 bytes. On a terminal, bytes that
+aren't printable ASCII are shown as a backslash and three octal digits.
+
+The volume need not be sound. Only rules 1 and 2 are checked: the image's size, and the sizes in its super-block.
+
+Status:
+  0  the paths were printed; with --name there may be none
+  1  `unixvol: unsound, rule 1`: the image is shorter than its super-block says
+     `unixvol: unsound, rule 2`: the sizes in the super-block contradict one another
+     `unixvol: 2 NoEntry`, `unixvol: 20 NotDirectory`: PATH doesn't lead to a directory
+  2  the command line is wrong
+  3  `unixvol: cannot read IMAGE`, or `unixvol: cannot write -`: standard output failed
+  4  `unixvol: 12 NoMemory`";

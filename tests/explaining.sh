@@ -128,10 +128,36 @@ explains 1 'unixvol: 28 NoSpace' 'unixvol: new.img: the files need more blocks t
 explains 1 'unixvol: 103 NoInode' 'unixvol: new.img: the i-list of the new volume has no room for the highest i-number' migrate disk.v6 new.img 400 1
 has 'no volume was made' '' "$(ls new.img 2> error)"
 
-# Scripts: the file and the line.
+# Scripts: the file, the line, and its first word that can't be read.
 printf '5 0 0 create /a 644\n' > first
-printf '5 0 0 create /b 644\nnonsense\n' > second
-explains 2 'unixvol: script 2 line 2' 'unixvol: second: line 2 is no call or query; `unixvol play --help` has their forms' play 6 "$image" first second
+# unread LINE SECOND: a script with this text as its second line
+unread() {
+    printf '5 0 0 create /b 644\n%b' "$1" > second
+    explains 2 'unixvol: script 2 line 2' "unixvol: second: line 2$2" play 6 "$image" first second
+}
+unread 'nonsense\n' ": the word \`nonsense\` at column 1 isn't a number up to 4294967295"
+unread '\n' ": the empty word at column 1 isn't a number up to 4294967295"
+unread '4294967296 0 0 cut\n' ": the word \`4294967296\` at column 1 isn't a number up to 4294967295"
+unread '5 65536 0 cut\n' ": the word \`65536\` at column 3 isn't a number up to 65535"
+unread '5 0 -1 cut\n' ": the word \`-1\` at column 5 isn't a number up to 65535"
+unread '5 0  cut\n' ": the empty word at column 5 isn't a number up to 65535"
+unread '5 0 0\n' ' ends where a call, a query or `cut` is wanted'
+unread '5 0 0 remove /a\n' ": the word \`remove\` at column 7 isn't a call, a query or \`cut\`"
+unread '5 0 0 chmod\n' ' ends where a path is wanted'
+unread '5 0 0 chmod /a perm\n' ": the word \`perm\` at column 16 isn't an octal number up to 7777"
+unread '5 0 0 chmod /a 10000\n' ": the word \`10000\` at column 16 isn't an octal number up to 7777"
+unread '5 0 0 chmod /a 644 \n' ': the empty word at column 20 is one too many'
+unread '5 0 0 chown /a 0\n' ' ends where a number up to 65535 is wanted'
+unread '5 0 0 write /a 0 abc\n' ": the word \`abc\` at column 18 isn't two hexadecimal digits for each byte, or \`-\`"
+unread '5 0 0 write /a x 61\n' ": the word \`x\` at column 16 isn't a number up to 4294967295"
+unread '5 0 0 cut /a\n' ': the word `/a` at column 11 is one too many'
+unread '5 0 0 \033[31m\n' ": the word \`\\033[31m\` at column 7 isn't a call, a query or \`cut\`"
+unread '5 0 0 unlink /a' ' has no newline at its end'
+unread "5 0 0 $(printf '%041d' 0)\\n" ": the word \`$(printf '%040d' 0)..\` at column 7 isn't a call, a query or \`cut\`"
+printf 'view\n5 0 0 unlink /a\n' > second
+explains 2 'unixvol: script 2 line 2' "unixvol: second: line 2: the word \`unlink\` at column 7 isn't a query, and a script for a view has no others" play 6 "$image" first second
+printf 'view\n' > seen
+explains 2 'unixvol: script 17 line 1' 'unixvol: seen: it is the seventeenth script for a view, and there can be 16' play 6 "$image" seen seen seen seen seen seen seen seen seen seen seen seen seen seen seen seen seen
 
 # Files that can't be read or written, with the system's reason.
 explains 3 'unixvol: cannot read none.img' 'unixvol: none.img: No such file or directory (os error 2)' ls 6 none.img

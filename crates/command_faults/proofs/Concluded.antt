@@ -42,7 +42,7 @@ fault_few (faults.Refused refusal) = few_of (refusal_status refusal) (refusal_fe
 fault_few (faults.RefusedAt refusal line) = few_of (refusal_status refusal) (refusal_few refusal)
 fault_few faults.Bounds = (omega arith, omega arith)
 fault_few faults.HasDevice = (omega arith, omega arith)
-fault_few (faults.BadLine script number line) = (omega arith, omega arith)
+fault_few (faults.BadLine script number line flaw) = (omega arith, omega arith)
 fault_few (faults.Worded rule lines) = (omega arith, omega arith)
 fault_few faults.Output = (omega arith, omega arith)
 

@@ -22,7 +22,7 @@ fault_status (faults.Refused refusal) = refusal_status refusal
 fault_status (faults.RefusedAt refusal line) = refusal_status refusal
 fault_status faults.Bounds = 1
 fault_status faults.HasDevice = 1
-fault_status (faults.BadLine script number line) = 2
+fault_status (faults.BadLine script number line flaw) = 2
 fault_status (faults.Worded rule lines) = 1
 fault_status faults.Output = 3
 
@@ -60,7 +60,7 @@ fault_line (faults.Refused refusal) = line_of_refusal refusal
 fault_line (faults.RefusedAt refusal line) = line.items
 fault_line faults.Bounds = codes "unixvol: bounds\n"
 fault_line faults.HasDevice = codes "unixvol: 105 HasDevice\n"
-fault_line (faults.BadLine script number line) = line.items
+fault_line (faults.BadLine script number line flaw) = line.items
 fault_line (faults.Worded rule lines) = lines.items
 fault_line faults.Output = codes "unixvol: cannot write -\n"
 

@@ -2,6 +2,7 @@
 ghost use Rattle.std.specs.Prelude.{◌≡◌};
 ghost use Rattle.command_faults.specs.Faults.{fault_status, fault_line, line_of_rule, line_of_refusal, no_memory, refusal_status, unmounted};
 
+use crate::line_flaw::LineFlaw;
 use crate::status::{BAD_COMMAND_LINE, BAD_FILE, NO_MEMORY, REFUSED};
 use std::alloc::AllocError;
 use vol_dir::Refusal;
@@ -31,6 +32,7 @@ pub enum Fault {
         script: u64,
         number: u64,
         line: Vec<u8>,
+        flaw: Option<LineFlaw>,
     },
     /// The lines describe the fault in words. If the last one names a broken rule, `rule` is its number.
     Worded {

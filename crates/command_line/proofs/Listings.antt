@@ -187,7 +187,7 @@ asks_listing clock given edition image path (invocations.Copy volume (copies.Get
 asks_listing clock given edition image path (invocations.Work volume (works.Check checkers.Blocks workers)) test e_is i_is p_is none is = absurd (true≢false (sym test))
 asks_listing clock given edition image path (invocations.Work volume (works.Check checkers.Entries workers)) test e_is i_is p_is none is = absurd (true≢false (sym test))
 asks_listing clock given edition image path (invocations.Work volume (works.Check checkers.Names workers)) test e_is i_is p_is none is = absurd (true≢false (sym test))
-asks_listing clock given edition image path (invocations.Work volume (works.Play scripts)) test e_is i_is p_is none is = absurd (true≢false (sym test))
+asks_listing clock given edition image path (invocations.Work volume (works.Play scripts journal)) test e_is i_is p_is none is = absurd (true≢false (sym test))
 
 -- no option was given, by the words that were found
 no_options_by : (met : List ℕ × List Row) (edition : Edition) (image path : List ℕ) → seen (Some met) ≡ words_of edition image path

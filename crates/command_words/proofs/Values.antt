@@ -105,8 +105,8 @@ values_given clock given (invocations.Copy volume (copies.Get folder paths)) is 
 values_given clock given (invocations.Work volume (works.Check checkers.Blocks workers)) is = (edition_value volume.edition _ is.0.0, (tt, (is.1.0, tt)))
 values_given clock given (invocations.Work volume (works.Check checkers.Entries workers)) is = (edition_value volume.edition _ is.0.0, (tt, (is.1.0, tt)))
 values_given clock given (invocations.Work volume (works.Check checkers.Names workers)) is = (edition_value volume.edition _ is.0.0, (tt, (is.1.0, tt)))
-values_given clock given (invocations.Work volume (works.Play scripts)) is =
-    (edition_value volume.edition _ is.0.0, (tt, (scripts_value scripts.items _ is.1.0 is.1.1 is.1.2, tt)))
+values_given clock given (invocations.Work volume (works.Play scripts journal)) is =
+    (edition_value volume.edition _ is.0.0, (tt, (scripts_value scripts.items _ is.1.0 is.1.1 is.1.2, (tt, tt))))
 values_given clock given (invocations.Serve volume serving) is = (edition_value volume.edition _ is.0.0, (tt, (tt, (tt, tt))))
 
 -- words that are all valid have none that isn't

@@ -153,7 +153,7 @@ checker_verb checkers.Names = verbs.Ncheck
 -- the command for work with several threads (this project)
 abbrev pub work_verb : Work → Verb
 work_verb (works.Check checker workers) = checker_verb checker
-work_verb (works.Play scripts) = verbs.Play
+work_verb (works.Play scripts journal) = verbs.Play
 
 -- the command for a change (this project)
 abbrev pub change_verb : Change → Verb
@@ -358,8 +358,9 @@ IsCopyGiven clock given (copies.Get folder paths) = IsNonEmptyWord given (codes 
 -- the words describe this work with several threads (this project)
 abbrev pub IsWorkGiven : Words → Work → Type 0
 IsWorkGiven given (works.Check checker workers) = IsThreadsGiven (the_word given (codes "WORKERS")) workers
-IsWorkGiven given (works.Play scripts) =
+IsWorkGiven given (works.Play scripts journal) =
     (map (λ script. script.now) scripts.items ≡ given (codes "SCRIPT")) × (1 ≤ length scripts.items) × (length scripts.items ≤ 64)
+    × (journal ≡ is_set (given (codes "journal")))
 
 -- the words choose this way of serving: read-only if that option is given (this project)
 abbrev pub IsServingGiven : Words → Serving → Type 0
@@ -405,4 +406,4 @@ IsWrong (faults.Wrong word) = Unit {0}
 -- the number of threads, or of scripts, is 1 to 64 (this project)
 abbrev pub IsWorkable : Work → Type 0
 IsWorkable (works.Check checker workers) = (1 ≤ workers) × (workers ≤ 64)
-IsWorkable (works.Play scripts) = (1 ≤ length scripts.items) × (length scripts.items ≤ 64)
+IsWorkable (works.Play scripts journal) = (1 ≤ length scripts.items) × (length scripts.items ≤ 64)

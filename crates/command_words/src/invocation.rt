@@ -27,9 +27,15 @@ pub struct MadeFile<'a> {
 #[derive(Debug, PartialEq, Eq, Drop)]
 pub enum Work<'a> {
     /// Print a checker's findings, with 1 to 64 threads.
-    Check { checker: Checker, workers: usize },
-    /// Play the scripts in these files, 1 to 64, each in a thread of its own.
-    Play { scripts: Vec<&'a str> },
+    Check {
+        checker: Checker,
+        workers: usize,
+    },
+    /// Play the scripts in these files, 1 to 64, each in a thread of its own; if `journal`, print the journal at the end.
+    Play {
+        scripts: Vec<&'a str>,
+        journal: bool,
+    },
 }
 
 /// A time, and the word it was read from.

@@ -477,6 +477,13 @@ const SCRIPT: Parameter = Parameter {
     help: texts::SCRIPT,
 };
 
+const JOURNAL: Parameter = Parameter {
+    name: "journal",
+    kind: WordKind::Flag,
+    need: Need::Flag(None),
+    help: texts::JOURNAL,
+};
+
 const OLD: Parameter = Parameter {
     name: "OLD",
     kind: WordKind::Text,
@@ -549,7 +556,7 @@ pub static CHECK_WORDS: [Parameter; 4] = [EDITION, IMAGE, CHECK_GRADED, JSON];
 pub static VOLUME_WORDS: [Parameter; 2] = [EDITION, IMAGE];
 
 /// The words of `play`.
-pub static PLAY_WORDS: [Parameter; 3] = [EDITION, IMAGE, SCRIPT];
+pub static PLAY_WORDS: [Parameter; 4] = [EDITION, IMAGE, SCRIPT, JOURNAL];
 
 /// The words of `migrate`.
 pub static MIGRATE_WORDS: [Parameter; 6] = [OLD, NEW, BLOCKS, LIST_BLOCKS, MIGRATED, UNREPLACED];
@@ -558,14 +565,7 @@ pub static MIGRATE_WORDS: [Parameter; 6] = [OLD, NEW, BLOCKS, LIST_BLOCKS, MIGRA
 pub static SERVE_WORDS: [Parameter; 4] = [EDITION, IMAGE, READ_ONLY, MINE];
 
 /// The words of `import`.
-pub static IMPORT_WORDS: [Parameter; 6] = [
-    EDITION,
-    IMAGE,
-    IMPORTED,
-    CALL_NOW,
-    SKIP_SPECIAL,
-    OWNER,
-];
+pub static IMPORT_WORDS: [Parameter; 6] = [EDITION, IMAGE, IMPORTED, CALL_NOW, SKIP_SPECIAL, OWNER];
 
 /// The words of `export`.
 pub static EXPORT_WORDS: [Parameter; 5] = [EDITION, IMAGE, BELOW, LOST, EXPORT_GRADED];

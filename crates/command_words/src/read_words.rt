@@ -594,7 +594,8 @@ fn read_play<'a, G: Given<'a>>(alloc: Global, given: &G) -> Result<Invocation<'a
 {
     let volume = volume_in(given)?;
     let scripts = scripts_in(alloc, given)?;
-    let work = Work::Play { scripts };
+    let journal = flag_in(given, "journal");
+    let work = Work::Play { scripts, journal };
     Ok(Invocation::Work { volume, work })
 }
 

@@ -582,8 +582,9 @@ Status:
 pub const PLAY_ABOUT: &str = "Plays scripts of calls on a volume, each in its own thread.";
 
 pub const PLAY_MORE: &str = "\
-Example:
+Examples:
   unixvol play 7 disk.img first.txt second.txt
+  unixvol play --journal 7 disk.img first.txt second.txt
 
 Each line of a script is NOW UID GID followed by one of these, with single spaces between all words:
   create PATH PERM        mkdir PATH PERM        link FROM TO          unlink PATH        rmdir PATH
@@ -601,6 +602,9 @@ after cuts, `gone N`, the number of receipts that are older.
 
 The volume is saved even if lines were refused: a new file is written beside IMAGE and then takes its place.
 
+With --journal the calls in the journal follow, in the order in which they were made: all accepted ones, or those since
+the last cut. Each is a line of a script. Played on the volume as it was before them, they make the same volume.
+
 Status:
   0  all lines were played, and the volume was saved
   1  a line was refused; or
@@ -609,6 +613,8 @@ Status:
   3  `unixvol: cannot read FILE`, `unixvol: cannot write IMAGE`, or
      `unixvol: cannot write -`: standard output failed
   4  `unixvol: 12 NoMemory`, or memory ran out for a line, or a view's line was not answered (`NotEntered`)";
+
+pub const JOURNAL: &str = "Print the journal at the end, as the lines of a script";
 
 pub const SCRIPT: &str = "The script files, 1 to 64";
 

@@ -1,4 +1,4 @@
-//! Disk images of Sixth and Seventh Edition Unix: all that a program needs to work with them, in one crate.
+//! Disk images of Sixth and Seventh Edition Unix: everything that a program needs to work with them, in one crate.
 //!
 //! This crate has no code of its own. It re-exports other crates of the repository, so that a program names only this one in its
 //! line of `crates.txt`. `example_volume` is such a program.
@@ -42,9 +42,7 @@ pub use vol_check::{
 };
 pub use vol_dir::{Cred, Refusal};
 pub use vol_findings as rules;
-pub use vol_import::{
-    ArchiveFault, ImportFault, ImportOptions, Imported, import, import_with,
-};
+pub use vol_import::{ArchiveFault, ImportFault, ImportOptions, Imported, import, import_with};
 pub use vol_layout::{Edition, Geometry, GeometryFault, Kind};
 pub use vol_migrate::{MigrateFault, migrate};
 pub use vol_mkfs::mkfs::mkfs;

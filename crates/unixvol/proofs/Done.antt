@@ -30,7 +30,7 @@ kept_by edition image query streams status (faults.Refused refusal) printed othe
 kept_by edition image query streams status (faults.RefusedAt refusal line) printed other is = printed.2
 kept_by edition image query streams status faults.Bounds printed other is = printed.2
 kept_by edition image query streams status faults.HasDevice printed other is = printed.2
-kept_by edition image query streams status (faults.BadLine script number line) printed other is = printed.2
+kept_by edition image query streams status (faults.BadLine script number line flaw) printed other is = printed.2
 kept_by edition image query streams status (faults.Worded rule lines) printed other is = printed.2
 kept_by edition image query streams status faults.Output printed other is = absurd (other (is refl))
 

@@ -1,5 +1,5 @@
 -- The end of a play's run.
-use Rattle.std.proofs.Common.{◌≡◌, ◌∙◌, ℕ, ◌≤◌, List, [], ◌∷◌, map, fold, max, Option, Some, None, inl, inr, sym, subst, arith}
+use Rattle.std.proofs.Common.{◌≡◌, ◌∙◌, ℕ, ◌≤◌, Bool, List, [], ◌∷◌, map, fold, max, Option, Some, None, inl, inr, sym, subst, arith}
 use Rattle.std.specs.Global.{Vec}
 use Rattle.command_faults.proofs.Concluded.{fault_few}
 use Rattle.command_faults.specs.Faults.{fault_status}
@@ -57,13 +57,13 @@ answered_fault : (streams : Streams) (answer : Answer) (status : ℕ) → answer
 answered_fault streams answer status is least most = record { within = subst (λ n. n ≤ 4) (sym is) most; whole = λ e. absurd (omega (arith, is, e, least)) }
 
 answered_unread : (streams : Streams) (answer : Answer) (fault : ScriptsFault) → AnswersFault fault streams.said answer → Answered streams answer
-answered_unread streams answer (unread.Line script line) (inl refused) = answered_fault streams answer 2 refused.ends (omega arith) (omega arith)
-answered_unread streams answer (unread.Line script line) (inr refused) = answered_fault streams answer 4 refused.ends (omega arith) (omega arith)
+answered_unread streams answer (unread.Line script line flaw) (inl refused) = answered_fault streams answer 2 refused.0.ends (omega arith) (omega arith)
+answered_unread streams answer (unread.Line script line flaw) (inr refused) = answered_fault streams answer 4 refused.ends (omega arith) (omega arith)
 answered_unread streams answer unread.NoMemory refused = answered_fault streams answer 4 refused.ends (omega arith) (omega arith)
 
-answered_finished : (streams : Streams) (answer : Answer) (last : Mounted) (cuts : _) (scripts : List (Vec Played))
-    → Finishes last cuts scripts (PrintsPlay last cuts scripts streams.old streams.new streams.had_failed streams.failed) streams.said answer → Answered streams answer
-answered_finished streams answer last cuts scripts finishes = elim finishes.ended [
+answered_finished : (streams : Streams) (answer : Answer) (last : Mounted) (cuts journal : _) (scripts : List (Vec Played))
+    → Finishes last cuts scripts (PrintsPlay last cuts journal scripts streams.old streams.new streams.had_failed streams.failed) streams.said answer → Answered streams answer
+answered_finished streams answer last cuts journal scripts finishes = elim finishes.ended [
   | inl printed ↦ record {
     within = subst (λ n. n ≤ 4) (sym printed.0.1.3.1) (printed_few scripts printed.0.1.0);
     whole = λ e. (printed.0.0, printed.1);
@@ -71,12 +71,12 @@ answered_finished streams answer last cuts scripts finishes = elim finishes.ende
   | inr failed ↦ answered_fault streams answer (fault_status failed.0) failed.2 (fault_few failed.0).0 (fault_few failed.0).1
 ]
 
-answered : (edition : Edition) (image : List ℕ) (scripts : List (Vec ℕ)) (streams : Streams) (answer : Answer) → PlaysVolume edition image scripts streams answer
+answered : (edition : Edition) (image : List ℕ) (journal : _) (scripts : List (Vec ℕ)) (streams : Streams) (answer : Answer) → PlaysVolume edition image journal scripts streams answer
     → Answered streams answer
-answered edition image scripts streams answer (inl (silent, (fault, reads, answers))) = answered_unread streams answer fault answers
-answered edition image scripts streams answer (inr (read, is, inl (silent, (fault, why, refused)))) =
+answered edition image journal scripts streams answer (inl (silent, (fault, reads, answers))) = answered_unread streams answer fault answers
+answered edition image journal scripts streams answer (inr (read, is, inl (silent, (fault, why, refused)))) =
     answered_fault streams answer (fault_status fault) refused.ends (fault_few fault).0 (fault_few fault).1
-answered edition image scripts streams answer (inr (read, is, inr (last, came, plays, finishes))) = answered_finished streams answer last _ came finishes
+answered edition image journal scripts streams answer (inr (read, is, inr (last, came, plays, finishes))) = answered_finished streams answer last _ _ came finishes
 
 ends_saved : (streams : Streams) (taken : List ℕ → Type 0) (answer : Answer) (status : ℕ) → Answered streams answer → EndsSaved taken answer status → IsEnd streams status
 ends_saved streams taken answer status ends (inl own) = record {
@@ -94,7 +94,7 @@ ends_unread remaining streams status (inr memory) = record { within = omega (ari
 
 -- a play's run ends with a status of at most 4, and with 0 only if all was printed and no fault was reported
 pub ends_played : {F : Type 0} (remaining contents : F → Option (List ℕ)) (had : F → Stamp → Type 0) (stood : Stamp → Type 0) (streams : Streams)
-    (edition : Edition) (count status : ℕ) → RunsPlay streams (host_files remaining contents had stood) edition count status → IsEnd streams status
-ends_played remaining contents had stood streams edition count status (inl nothing) = ends_unread remaining streams status nothing.0
-ends_played remaining contents had stood streams edition count status (inr (image, stamp, scripts, answer, opened, given, same, plays, saved)) =
-    ends_saved streams _ answer status (answered edition image scripts streams answer plays) saved.0
+    (edition : Edition) (count : ℕ) (journal : Bool) (status : ℕ) → RunsPlay streams (host_files remaining contents had stood) edition count journal status → IsEnd streams status
+ends_played remaining contents had stood streams edition count journal status (inl nothing) = ends_unread remaining streams status nothing.0
+ends_played remaining contents had stood streams edition count journal status (inr (image, stamp, scripts, answer, opened, given, same, plays, saved)) =
+    ends_saved streams _ answer status (answered edition image journal scripts streams answer plays) saved.0

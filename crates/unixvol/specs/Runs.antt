@@ -163,17 +163,17 @@ RunsCheck streams files screen edition checker status =
     RunsNothing streams files status ⊎ ((image : List ℕ) × files.shown edition image × Checks checker edition image screen streams status)
 
 -- `count` scripts are played: nothing is done; or files gave them, they are played on an image that may be changed and that a file gave, and the volume is saved if the system reported that some file had the stamp of the one that was read (this project)
-abbrev pub RunsPlay : Streams → HostFiles → Edition → ℕ → ℕ → Type 0
-RunsPlay streams files edition count status =
+abbrev pub RunsPlay : Streams → HostFiles → Edition → ℕ → Bool → ℕ → Type 0
+RunsPlay streams files edition count journal status =
     RunsNothing streams files status
     ⊎ ((image : List ℕ) × (stamp : Stamp) × (scripts : List (Vec ℕ)) × (answer : Answer) × files.opened edition image stamp
     × All (λ script. files.given script.items) scripts × (length scripts ≡ count)
-    × PlaysVolume edition image scripts streams answer × EndsPlayed (λ saved. files.taken saved × files.stood stamp) answer status)
+    × PlaysVolume edition image journal scripts streams answer × EndsPlayed (λ saved. files.taken saved × files.stood stamp) answer status)
 
 -- work with several threads runs (this project)
 abbrev pub RunsWork : Streams → HostFiles → Screen → Edition → Work → ℕ → Type 0
 RunsWork streams files screen edition (works.Check checker workers) status = RunsCheck streams files screen edition checker status
-RunsWork streams files screen edition (works.Play scripts) status = RunsPlay streams files edition (length scripts.items) status
+RunsWork streams files screen edition (works.Play scripts journal) status = RunsPlay streams files edition (length scripts.items) journal status
 
 -- the screen is a terminal with at least one column if the system says that standard output is a terminal, and otherwise none (this project)
 abbrev pub IsShownBy : Bool → Screen → Type 0

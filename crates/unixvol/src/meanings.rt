@@ -1,8 +1,9 @@
 //! The meanings of faults, in words.
 
+use crate::line_meanings::line_meaning;
 use crate::sizes::Sizes;
 use crate::subject::{About, Subject};
-use command_faults::Fault;
+use command_faults::{Fault, LineFlaw};
 use command_words::Verb;
 use escaped_text::push_escaped;
 use std::alloc::{AllocError, Global};
@@ -47,7 +48,12 @@ pub fn meaning_of(
         Fault::Unsound(rule) => rule_meaning(alloc, Some(*rule), subject, sizes),
         Fault::Worded { rule: None, .. } => packed_meaning(alloc, subject),
         Fault::Worded { rule, .. } => rule_meaning(alloc, *rule, subject, sizes),
-        Fault::BadLine { script, number, .. } => script_meaning(alloc, *script, *number, subject),
+        Fault::BadLine {
+            script,
+            number,
+            flaw,
+            ..
+        } => script_meaning(alloc, *script, *number, flaw, subject),
         Fault::Refused(refusal) => refusal_meaning(alloc, *refusal, subject),
         Fault::RefusedAt { refusal, .. } => named_meaning(alloc, *refusal, subject),
         Fault::Bounds => {
@@ -143,6 +149,7 @@ fn script_meaning(
     alloc: Global,
     script: u64,
     line: u64,
+    flaw: &Option<LineFlaw>,
     subject: Subject<'_>,
 ) -> Result<Option<String>, AllocError> {
     let script = match subject.about {
@@ -153,10 +160,8 @@ fn script_meaning(
         return Ok(None);
     };
     let script = shown(alloc, script)?;
-    let text = format!(in alloc;
-        "{script}: line {line} is no call or query; `unixvol play --help` has their forms"
-    )?;
-    Ok(Some(text))
+    let text = line_meaning(alloc, line, flaw)?;
+    Ok(Some(format!(in alloc; "{script}: {text}")?))
 }
 
 /// Returns the script with a number, counted from 1.

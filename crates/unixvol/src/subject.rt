@@ -155,7 +155,7 @@ impl<'a> Subject<'a> {
     pub fn of_work(volume: VolumeFile<'a>, work: &'a Work<'a>) -> Subject<'a> {
         let (verb, about) = match work {
             Work::Check { checker, .. } => (verb_of(*checker), About::Image),
-            Work::Play { scripts } => (Verb::Play, About::Scripts(scripts)),
+            Work::Play { scripts, .. } => (Verb::Play, About::Scripts(scripts)),
         };
         Subject::new(volume, verb, about)
     }

@@ -74,7 +74,7 @@ fn run<R: ImageFiles + Clock + Eprint + AllocGlobal + Threads + Wait + Sync, O: 
         Work::Check { checker, workers } => {
             run_check(host, screen, output, volume, *checker, *workers)
         }
-        Work::Play { scripts } => run_play(host, output, volume, scripts),
+        Work::Play { scripts, journal } => run_play(host, output, volume, scripts, *journal),
     }
 }
 
@@ -120,11 +120,12 @@ fn run_play<R: ImageFiles + Clock + Eprint + AllocGlobal + Threads + Wait + Sync
     output: &mut O,
     volume: VolumeFile<'_>,
     scripts: &[&str],
+    journal: bool,
 ) -> Ending
     requires first { 1 ≤ length scripts.now }
     requires last { length scripts.now ≤ 64 }
     ensures { (errors : ErrorStream) → Hears errors result.fault
-        → RunsPlay (streams O.contents O.failed output.old output.new errors) (host_files R.File.remaining R.File.contents R.had R.stood) volume.entry.edition (length scripts.now) result.status }
+        → RunsPlay (streams O.contents O.failed output.old output.new errors) (host_files R.File.remaining R.File.contents R.had R.stood) volume.entry.edition (length scripts.now) journal result.status }
 {
     let read = ||
         ensures given { IfOk result (λ files. All (λ file. GaveBytes R.File.remaining file.items) files.items) }
@@ -153,6 +154,7 @@ fn run_play<R: ImageFiles + Clock + Eprint + AllocGlobal + Threads + Wait + Sync
         volume.edition,
         image,
         &files,
+        journal,
         &Open,
         output,
     );

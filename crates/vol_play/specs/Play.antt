@@ -74,12 +74,12 @@ abbrev pub StopsUnplayed : Edition → List ℕ → Streams → Answer → Type 
 StopsUnplayed edition image streams answer =
     IsSilent streams × ((fault : Fault) × IsUnplayed edition image fault × SavesNothing answer (fault_status fault) (streams.said (fault_line fault)))
 
--- scripts are played, and the results of their steps are printed (this project)
-abbrev pub PlaysAll : Edition → List ℕ → List Script → Streams → Answer → Type 0
-PlaysAll edition image scripts streams answer = (last : Mounted) × (played : List (Vec Played Global)) × IsPlayed edition image scripts last played
-    × Finishes last (any_cut scripts) played (PrintsPlay last (any_cut scripts) played streams.old streams.new streams.had_failed streams.failed) streams.said answer
+-- scripts are played, and the results of their steps are printed, with the journal if that is wanted (this project)
+abbrev pub PlaysAll : Edition → List ℕ → Bool → List Script → Streams → Answer → Type 0
+PlaysAll edition image journal scripts streams answer = (last : Mounted) × (played : List (Vec Played Global)) × IsPlayed edition image scripts last played
+    × Finishes last (any_cut scripts) played (PrintsPlay last (any_cut scripts) journal played streams.old streams.new streams.had_failed streams.failed) streams.said answer
 
 -- the result of `play`: a line of a script can't be read; or all can, and no step is played; or all scripts are played (this project)
-abbrev pub PlaysVolume : Edition → List ℕ → List (Vec ℕ Global) → Streams → Answer → Type 0
-PlaysVolume edition image scripts streams answer = StopsUnread scripts streams answer
-    ⊎ ((read : List Script) × (scripts_in scripts ≡ Ok read) × (StopsUnplayed edition image streams answer ⊎ PlaysAll edition image read streams answer))
+abbrev pub PlaysVolume : Edition → List ℕ → Bool → List (Vec ℕ Global) → Streams → Answer → Type 0
+PlaysVolume edition image journal scripts streams answer = StopsUnread scripts streams answer
+    ⊎ ((read : List Script) × (scripts_in scripts ≡ Ok read) × (StopsUnplayed edition image streams answer ⊎ PlaysAll edition image journal read streams answer))

@@ -25,15 +25,16 @@ pub fn play<R: Threads + Wait + Sync, G: Gate, O: Sink, E: Sink>(
     edition: Edition,
     image: Vec<u8>,
     scripts: &[Vec<u8>],
+    journal: bool,
     gate: &G,
     output: &mut O,
     errors: &mut E,
 ) -> Answer
     requires first { 1 ≤ length scripts.now }
     requires last { length scripts.now ≤ MOST_SESSIONS }
-    ensures { PlaysVolume edition image.items scripts.now (streams O.contents O.failed output.old output.new (heard E.contents E.failed errors.old errors.new)) result }
+    ensures { PlaysVolume edition image.items journal scripts.now (streams O.contents O.failed output.old output.new (heard E.contents E.failed errors.old errors.new)) result }
 {
-    let answer = perform(rt, alloc, edition, image, scripts, gate, output);
+    let answer = perform(rt, alloc, edition, image, scripts, journal, gate, output);
     tell(&answer.fault, errors);
     answer
 }
@@ -45,7 +46,7 @@ pub fn play<R: Threads + Wait + Sync, G: Gate, O: Sink, E: Sink>(
 /// All scripts are read before the first call. If a line can't be read, the volume isn't sound or memory runs out
 /// before the first call, nothing is saved and that is the fault; the status is 2 for a line, 1 for an image that
 /// isn't sound, 4 for memory. Otherwise the scripts are played, and the play ends as [`finish`] says: a line for each
-/// step on `output`, and the bytes of the volume to save, whatever the status.
+/// step on `output`, then the journal if it is wanted, and the bytes of the volume to save, whatever the status.
 ///
 /// Takes memory for the scripts, for [`Volume::mount`], for each step and call, and for [`finish`].
 pub fn perform<R: Threads + Wait + Sync, G: Gate, O: Sink>(
@@ -54,13 +55,14 @@ pub fn perform<R: Threads + Wait + Sync, G: Gate, O: Sink>(
     edition: Edition,
     image: Vec<u8>,
     scripts: &[Vec<u8>],
+    journal: bool,
     gate: &G,
     output: &mut O,
 ) -> Answer
     requires first { 1 ≤ length scripts.now }
     requires last { length scripts.now ≤ MOST_SESSIONS }
     ensures { (errors : ErrorStream) → Hears errors result.fault
-        → PlaysVolume edition image.items scripts.now (streams O.contents O.failed output.old output.new errors) result }
+        → PlaysVolume edition image.items journal scripts.now (streams O.contents O.failed output.old output.new errors) result }
 {
     let scripts = match read_scripts(alloc, scripts) {
         Ok(scripts) => scripts,
@@ -68,7 +70,7 @@ pub fn perform<R: Threads + Wait + Sync, G: Gate, O: Sink>(
     };
     let cuts = any_cut(&scripts);
     match play_image(rt, alloc, edition, image, scripts, gate) {
-        Ok((volume, played)) => finish(alloc, volume, cuts, played, output),
+        Ok((volume, played)) => finish(alloc, volume, cuts, journal, played, output),
         Err(fault) => report(Err(fault)),
     }
 }

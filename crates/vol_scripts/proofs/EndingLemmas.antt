@@ -1,5 +1,5 @@
 -- The end of a play.
-use Rattle.std.proofs.Common.{◌≡◌, ◌⊎◌, ℕ, List, [], Option, Some, None, Result, Ok, Err, IfOk, IfErr, inl, inr, sym, subst}
+use Rattle.std.proofs.Common.{◌≡◌, ◌⊎◌, ℕ, [], Option, Some, None, Result, Ok, Err, IfOk, IfErr, inl, inr, sym, subst}
 use Rattle.command_faults.specs.Streams.{ErrorStream, Hears, says}
 use Rattle.command_faults.specs.Faults.{fault_line, fault_status}
 use Rattle.command_faults.specs.declared.fault.Fault.{Fault}

@@ -3,3 +3,4 @@ pub mod PieceLemmas
 pub mod ReadingLemmas
 pub mod TextLemmas
 pub mod EndingLemmas
+pub mod FlawLemmas

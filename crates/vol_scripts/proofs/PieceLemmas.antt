@@ -1,5 +1,5 @@
 -- The first piece, and the pieces after it.
-use Rattle.std.proofs.Common.{◌≡◌, ◌==◌, ℕ, ◌+◌, ◌-◌, ◌<◌, ◌≤◌, ◌∙◌, Bool, true, false, cond, not, ltb, List, [], ◌∷◌, length, take, drop, Option, Some, None, is_none, refl, sym, ap, arith, length-drop}
+use Rattle.std.proofs.Common.{◌≡◌, ◌≢◌, ◌==◌, ℕ, ◌+◌, ◌-◌, ◌<◌, ◌≤◌, ◌∙◌, Bool, true, false, cond, not, ltb, List, [], ◌∷◌, length, take, drop, Option, Some, None, is_none, refl, sym, ap, arith, length-drop}
 use Rattle.std.proofs.lemmas.Bool.{ltb-true, ltb-false}
 use Rattle.std.proofs.lemmas.List.{take_all}
 use Rattle.std.proofs.lemmas.List.Splits.{slice_split_first, length-slice_split}
@@ -57,3 +57,26 @@ some_piece separator (Some rest) is =
 pub no_piece : (separator : ℕ) (rest : Option (Bor (List ℕ))) → is_none rest ≡ true → pieces_left separator rest ≡ []
 no_piece separator None is = refl
 no_piece separator (Some rest) is = absurd (cc)
+
+-- the bytes of some pieces, with one more for each
+abbrev pub space : List (List ℕ) → ℕ
+space [] = 0
+space (piece ∷ pieces) = length piece + 1 + space pieces
+
+-- a byte more in the first piece
+space_first : (x : ℕ) (pieces : List (List ℕ)) → 1 ≤ space pieces → space (onto_first x pieces) ≡ space pieces + 1
+space_first x [] some = absurd (omega (arith, some))
+space_first x (piece ∷ pieces) some = omega arith
+
+-- bytes that are split have their separators between the pieces
+pub space_split : (p : ℕ → Bool) (xs : List ℕ) → space (slice_split p xs) ≡ length xs + 1
+space_split p [] = refl
+space_split p (x ∷ xs) = elim (p x) as (λ b. space (cond b ([] ∷ slice_split p xs) (onto_first x (slice_split p xs))) ≡ length (x ∷ xs) + 1) [
+  | true ↦ omega (arith, space_split p xs)
+  | false ↦ omega (arith, space_split p xs, space_first x (slice_split p xs) (omega (arith, space_split p xs)))
+]
+
+-- a piece and others have at least a byte each
+pub space_some : (pieces : List (List ℕ)) → pieces ≢ [] → 1 ≤ space pieces
+space_some [] some = absurd (some refl)
+space_some (piece ∷ pieces) some = omega arith

@@ -2,79 +2,82 @@
 use Rattle.std.proofs.Common.{◌≡◌, ◌≢◌, ℕ, ◌+◌, ◌∙◌, ◌==◌, false, List, [], ◌∷◌, ◌++◌, length, Option, Some, None, Result, Ok, Err, refl, sym, ap, append-nil, append_assoc, arith, length-append, drop, drop-cons, suc, ◌<◌, get_or, add-one}
 use Rattle.std.specs.Global.{Global}
 use Rattle.std.specs.Prelude.{Vec}
-use Rattle.vol_scripts.specs.Scripts.{asked_from, before, before_scripts, script_after, scripts_from, views_after}
+use Rattle.command_faults.specs.declared.line_flaw.LineFlaw.TheVariants as flaws
+use Rattle.command_faults.specs.declared.line_flaw.WordForm.{WordForm}
+use Rattle.vol_scripts.specs.Flaws.{flaw_in}
+use Rattle.vol_scripts.specs.Scripts.{BadLine, asked_from, before, before_scripts, script_after, scripts_from, views_after}
 use Rattle.vol_scripts.specs.declared.steps.Script.{Script}
 
 -- the steps read before, and those that follow, unless a line can't be read
-abbrev pub after : {T : Type 0} → List T → Result (List T) ℕ → Result (List T) ℕ
+abbrev pub after : {T : Type 0} → List T → Result (List T) BadLine → Result (List T) BadLine
 after front (Ok others) = Ok (front ++ others)
-after front (Err number) = Err number
+after front (Err bad) = Err bad
 
-module _ {T : Type 0} (written : List ℕ → Option T) where
+module _ {T : Type 0} (written : List ℕ → Option T) (command : WordForm) where
   -- if nothing was read before
-  pub after_nothing : (read : Result (List T) ℕ) → read ≡ after [] read
+  pub after_nothing : (read : Result (List T) BadLine) → read ≡ after [] read
   after_nothing (Ok others) = refl
-  after_nothing (Err number) = refl
+  after_nothing (Err bad) = refl
 
   -- nothing follows the last newline
-  pub ends_well : (front : List T) (number : ℕ) (rest : List ℕ) → length rest ≡ 0 → after front (asked_from written number (rest ∷ [])) ≡ Ok front
+  pub ends_well : (front : List T) (number : ℕ) (rest : List ℕ) → length rest ≡ 0 → after front (asked_from written command number (rest ∷ [])) ≡ Ok front
   ends_well front number rest none = rw (none, append-nil) refl
 
   -- something follows the last newline
-  pub ends_badly : (front : List T) (number : ℕ) (rest : List ℕ) → (length rest == 0) ≡ false → after front (asked_from written number (rest ∷ [])) ≡ Err number
+  pub ends_badly : (front : List T) (number : ℕ) (rest : List ℕ) → (length rest == 0) ≡ false → after front (asked_from written command number (rest ∷ [])) ≡ Err (number, Some flaws.Unended)
   ends_badly front number rest some = rw some refl
 
   -- no piece is left
-  pub ends : (front : List T) (number : ℕ) → after front (asked_from written number []) ≡ Ok front
+  pub ends : (front : List T) (number : ℕ) → after front (asked_from written command number []) ≡ Ok front
   ends front number = rw append-nil refl
 
   -- a line can't be read
   pub stops : (front : List T) (number : ℕ) (line : List ℕ) (lines : List (List ℕ)) → lines ≢ [] → written line ≡ None
-      → after front (asked_from written number (line ∷ lines)) ≡ Err number
+      → after front (asked_from written command number (line ∷ lines)) ≡ Err (number, flaw_in command line)
   stops front number line [] more none = absurd (more refl)
   stops front number line (next ∷ lines) more none = rw none refl
 
   -- the step of a line, and the result for the lines after it
-  before_after : (front : List T) (asked : T) (number : ℕ) (others : Result (List T) ℕ)
-      → after front (before (Some asked) number others) ≡ after (front ++ asked ∷ []) others
-  before_after front asked number (Ok others) = ap Ok (sym (append_assoc front (asked ∷ []) others))
-  before_after front asked number (Err later) = refl
+  before_after : (front : List T) (asked : T) (bad : BadLine) (others : Result (List T) BadLine)
+      → after front (before (Some asked) bad others) ≡ after (front ++ asked ∷ []) others
+  before_after front asked bad (Ok others) = ap Ok (sym (append_assoc front (asked ∷ []) others))
+  before_after front asked bad (Err later) = refl
 
   -- a line is read
   pub goes_on : (front : List T) (number : ℕ) (line : List ℕ) (lines : List (List ℕ)) (asked : T) → lines ≢ [] → written line ≡ Some asked
-      → after front (asked_from written number (line ∷ lines)) ≡ after (front ++ asked ∷ []) (asked_from written (number + 1) lines)
+      → after front (asked_from written command number (line ∷ lines)) ≡ after (front ++ asked ∷ []) (asked_from written command (number + 1) lines)
   goes_on front number line [] asked more read = absurd (more refl)
   goes_on front number line (next ∷ lines) asked more read =
-      ap (λ s. after front (before s number (asked_from written (number + 1) (next ∷ lines)))) read
-      ∙ before_after front asked number (asked_from written (number + 1) (next ∷ lines))
+      ap (λ s. after front (before s (number, flaw_in command line) (asked_from written command (number + 1) (next ∷ lines)))) read
+      ∙ before_after front asked (number, flaw_in command line) (asked_from written command (number + 1) (next ∷ lines))
 
   -- one more line was read
   pub pushed : (first : ℕ) (front now : List T) (asked : T) (lines : List (List ℕ)) → now ≡ front ++ asked ∷ []
-      → after (front ++ asked ∷ []) (asked_from written (length front + first + 1) lines) ≡ after now (asked_from written (length now + first) lines)
+      → after (front ++ asked ∷ []) (asked_from written command (length front + first + 1) lines) ≡ after now (asked_from written command (length now + first) lines)
   pushed first front now asked lines is =
       let one : length front + first + 1 ≡ length now + first = omega (arith, length-append front (asked ∷ []), ap length is) in
-      ap (λ n. after (front ++ asked ∷ []) (asked_from written n lines)) one ∙ ap (λ all. after all (asked_from written (length now + first) lines)) (sym is)
+      ap (λ n. after (front ++ asked ∷ []) (asked_from written command n lines)) one ∙ ap (λ all. after all (asked_from written command (length now + first) lines)) (sym is)
 
 -- the scripts read before, and those that follow, unless a line can't be read
-abbrev pub after_scripts : List Script → Result (List Script) (ℕ × ℕ) → Result (List Script) (ℕ × ℕ)
+abbrev pub after_scripts : List Script → Result (List Script) (ℕ × BadLine) → Result (List Script) (ℕ × BadLine)
 after_scripts front (Ok others) = Ok (front ++ others)
 after_scripts front (Err fault) = Err fault
 
 -- if no script was read before
-pub after_no_scripts : (read : Result (List Script) (ℕ × ℕ)) → read ≡ after_scripts [] read
+pub after_no_scripts : (read : Result (List Script) (ℕ × BadLine)) → read ≡ after_scripts [] read
 after_no_scripts (Ok others) = refl
 after_no_scripts (Err fault) = refl
 
 -- a script, and the result for the scripts after it
-before_after_scripts : (front : List Script) (script : Script) (number : ℕ) (others : Result (List Script) (ℕ × ℕ))
+before_after_scripts : (front : List Script) (script : Script) (number : ℕ) (others : Result (List Script) (ℕ × BadLine))
     → after_scripts front (before_scripts (Ok script) number others) ≡ after_scripts (front ++ script ∷ []) others
 before_after_scripts front script number (Ok others) = ap Ok (sym (append_assoc front (script ∷ []) others))
 before_after_scripts front script number (Err later) = refl
 
-module _ (all : Result (List Script) (ℕ × ℕ)) (front : List Script) (views : ℕ) (scripts : List (Vec ℕ Global)) (at : ℕ) (script : Vec ℕ Global) (within : at < length scripts)
+module _ (all : Result (List Script) (ℕ × BadLine)) (front : List Script) (views : ℕ) (scripts : List (Vec ℕ Global)) (at : ℕ) (script : Vec ℕ Global) (within : at < length scripts)
     (here : get_or scripts at script ≡ script) (so_far : all ≡ after_scripts front (scripts_from (length front + 1) views (drop at scripts))) where
   -- the scripts after this one
-  abbrev others : Result (List Script) (ℕ × ℕ)
+  abbrev others : Result (List Script) (ℕ × BadLine)
   others = scripts_from (length front + 1 + 1) (views_after views script.items) (drop (at + 1) scripts)
 
   -- the scripts from here on
@@ -90,7 +93,7 @@ module _ (all : Result (List Script) (ℕ × ℕ)) (front : List Script) (views 
       (sym (add-one at))
 
   -- a script can't be read
-  pub script_stops : (line : ℕ) → script_after views script.items ≡ Err line → all ≡ Err (length front + 1, line)
+  pub script_stops : (line : BadLine) → script_after views script.items ≡ Err line → all ≡ Err (length front + 1, line)
   script_stops line bad = opened ∙ ap (λ s. after_scripts front (before_scripts s (length front + 1) others)) bad
 
   -- a script is read

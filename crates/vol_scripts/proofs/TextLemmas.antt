@@ -2,6 +2,8 @@
 use Rattle.std.proofs.Common.{◌≡◌, ℕ, ◌+◌, ◌/◌, ◌%◌, ◌++◌, List, [], ◌∷◌, codes, refl, arith, append_assoc}
 use Rattle.std.proofs.lemmas.Fmt.{decimal_digit}
 use Rattle.std.specs.Fmt.{decimal}
+use Rattle.vol_dir.specs.declared.cred.Cred.{Cred}
+use Rattle.vol_scripts.specs.Journal.{words_before}
 use Rattle.vol_scripts.specs.Refuse.{unread_text}
 use Rattle.vol_scripts.specs.Texts.{kind_text, node_text, permissions_text, stat_text}
 use Rattle.vol_volume.specs.declared.queries.Stat.{Stat}
@@ -29,3 +31,17 @@ stat_pieces stat node n = rw n (simp append_assoc)
 -- the message for a line that can't be read, piece by piece
 pub unread_pieces : (script line : ℕ) → codes "unixvol: script " ++ (decimal script ++ (codes " line " ++ (decimal line ++ codes "\n"))) ≡ unread_text script line
 unread_pieces script line = simp append_assoc
+
+-- the words before a call's path, piece by piece
+pub before_pieces : (now : ℕ) (cred : Cred) (command : List ℕ)
+    → decimal now ++ (codes " " ++ (decimal cred.uid ++ (codes " " ++ (decimal cred.gid ++ (codes " " ++ (command ++ codes " ")))))) ≡ words_before now cred command
+before_pieces now cred command = simp append_assoc
+
+-- two words, each after a space, piece by piece
+pub pair_pieces : (first second : List ℕ) → codes " " ++ (first ++ (codes " " ++ second)) ≡ codes " " ++ first ++ codes " " ++ second
+pair_pieces first second = simp append_assoc
+
+-- the line of a call is appended, piece by piece
+pub call_pieces : (text one two three four before path after : List ℕ) → one ≡ text ++ before → two ≡ one ++ path → three ≡ two ++ after → four ≡ three ++ codes "\n"
+    → four ≡ text ++ (before ++ path ++ after ++ codes "\n")
+call_pieces text one two three four before path after first second third last = rw (last, third, second, first) (simp append_assoc)

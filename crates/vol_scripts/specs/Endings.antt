@@ -13,6 +13,7 @@ use Rattle.vol_receipts.specs.declared.confirm_many.Confirmed.{Confirmed}
 use Rattle.vol_receipts.specs.declared.receipts.Outcome.{Outcome}
 use Rattle.vol_receipts.specs.declared.receipts.Outcome.TheVariants as outcomes
 use Rattle.vol_receipts.specs.declared.receipts.Receipt.{Receipt}
+use Rattle.vol_scripts.specs.Journal.{journal_if}
 use Rattle.vol_scripts.specs.Report.{lines_text, totals_text}
 use Rattle.vol_scripts.specs.declared.played.Played.{Played}
 use Rattle.vol_scripts.specs.declared.played.Played.TheVariants as played
@@ -63,10 +64,10 @@ all_receipts (script ∷ scripts) = receipts_in script.items ++ all_receipts scr
 abbrev pub gone_of : Mounted → Bool → List Receipt → Option ℕ
 gone_of volume cuts receipts = if cuts then Some (count_by (λ receipt. nat_lt receipt.at volume.first) receipts) else None
 
--- the whole report, given the number of receipts that agree with the journal (this project)
-abbrev pub play_text : Mounted → Bool → List (Vec Played Global) → ℕ → List ℕ
-play_text volume cuts scripts agree =
-    scripts_text 1 scripts ++ totals_text (length volume.journal) agree (gone_of volume cuts (all_receipts scripts))
+-- the whole report, given the number of receipts that agree with the journal; it ends with the journal, if that is wanted (this project)
+abbrev pub play_text : Mounted → Bool → Bool → List (Vec Played Global) → ℕ → List ℕ
+play_text volume cuts journal scripts agree =
+    scripts_text 1 scripts ++ totals_text (length volume.journal) agree (gone_of volume cuts (all_receipts scripts)) ++ journal_if journal volume.journal
 
 -- `agree` receipts agree with the journal; none if memory ran out (this project)
 abbrev pub AreConfirmed : Mounted → List Receipt → Option Confirmed → ℕ → Type 0
@@ -79,17 +80,17 @@ printed_status scripts (Some confirmed) = scripts_status scripts
 printed_status scripts None = 4
 
 -- the report of a play, whatever was confirmed, satisfies `goes_out` (this project)
-abbrev pub Reports : Mounted → Bool → List (Vec Played Global) → (List ℕ → Option Confirmed → Type 0) → Type 0
-Reports volume cuts scripts goes_out = (confirmed : Option Confirmed) × (agree : ℕ) × AreConfirmed volume (all_receipts scripts) confirmed agree
-    × goes_out (play_text volume cuts scripts agree) confirmed
+abbrev pub Reports : Mounted → Bool → Bool → List (Vec Played Global) → (List ℕ → Option Confirmed → Type 0) → Type 0
+Reports volume cuts journal scripts goes_out = (confirmed : Option Confirmed) × (agree : ℕ) × AreConfirmed volume (all_receipts scripts) confirmed agree
+    × goes_out (play_text volume cuts journal scripts agree) confirmed
 
 -- the bytes that standard output gets: the report; or, if it failed, a prefix of it; or nothing, if memory ran out (this project)
-abbrev pub PrintsPlay : Mounted → Bool → List (Vec Played Global) → Option (List ℕ) → Option (List ℕ) → Bool → Bool → Result ℕ Fault → Type 0
-PrintsPlay volume cuts scripts old new had_failed failed (Ok status) = (failed ≡ had_failed)
-    × Reports volume cuts scripts (λ text confirmed. Appends old new text × (status ≡ printed_status scripts confirmed))
-PrintsPlay volume cuts scripts old new had_failed failed (Err faults.Output) =
-    (failed ≡ true) × Reports volume cuts scripts (λ text confirmed. (count : ℕ) × AppendsFront old new text count)
-PrintsPlay volume cuts scripts old new had_failed failed (Err fault) =
+abbrev pub PrintsPlay : Mounted → Bool → Bool → List (Vec Played Global) → Option (List ℕ) → Option (List ℕ) → Bool → Bool → Result ℕ Fault → Type 0
+PrintsPlay volume cuts journal scripts old new had_failed failed (Ok status) = (failed ≡ had_failed)
+    × Reports volume cuts journal scripts (λ text confirmed. Appends old new text × (status ≡ printed_status scripts confirmed))
+PrintsPlay volume cuts journal scripts old new had_failed failed (Err faults.Output) =
+    (failed ≡ true) × Reports volume cuts journal scripts (λ text confirmed. (count : ℕ) × AppendsFront old new text count)
+PrintsPlay volume cuts journal scripts old new had_failed failed (Err fault) =
     (fault ≡ no_memory) × (failed ≡ had_failed) × Keeps old new
 
 -- the result of a play: the bytes of the volume are to be saved; the report is printed without a line on standard error, or there is a fault, with its status and its line (this project)

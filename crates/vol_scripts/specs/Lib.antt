@@ -1,7 +1,9 @@
 pub use Rattle.command_faults.specs.Faults
 pub use Rattle.command_faults.specs.Streams
 pub mod Endings
+pub mod Flaws
 pub mod Grammar
+pub mod Journal
 pub mod Numbers
 pub mod Pieces
 pub mod Scripts

@@ -1,7 +1,10 @@
 -- The result of a play whose scripts can't be read.
-use Rattle.std.specs.Prelude.{◌≡◌, ◌⊎◌, ℕ, ◌++◌, List, None, codes, decimal}
+use Rattle.std.specs.Prelude.{◌≡◌, ◌⊎◌, ℕ, ◌++◌, List, Option, None, Some, Vec, codes, decimal}
+use Rattle.std.specs.Global.{Global}
 use Rattle.command_faults.specs.Faults.{fault_line, no_memory}
 use Rattle.command_faults.specs.declared.answer.Answer.{Answer}
+use Rattle.command_faults.specs.declared.fault.Fault.TheVariants as command_faults
+use Rattle.command_faults.specs.declared.line_flaw.LineFlaw.{LineFlaw}
 use Rattle.vol_scripts.specs.declared.read.ScriptsFault.{ScriptsFault}
 use Rattle.vol_scripts.specs.declared.read.ScriptsFault.TheVariants as faults
 
@@ -15,8 +18,12 @@ pub record SavesNothing (answer : Answer) (status : ℕ) (said : Type 0) : Type 
   pub ends : answer.status ≡ status
   pub line : said
 
--- the result for a fault: the line that can't be read, with status 2; or out of memory, with status 4, also when making that message (this project)
+-- the fault of a result is this line, with this flaw (this project)
+abbrev pub Blames : Answer → ℕ → ℕ → Option LineFlaw → Type 0
+Blames answer script line flaw = (text : Vec ℕ Global) × (answer.fault ≡ Some (command_faults.BadLine script line text flaw))
+
+-- the result for a fault: the line that can't be read and its flaw, with status 2; or out of memory, with status 4, also when making that message (this project)
 abbrev pub AnswersFault : ScriptsFault → (List ℕ → Type 0) → Answer → Type 0
-AnswersFault (faults.Line script line) said answer =
-    SavesNothing answer 2 (said (unread_text script line)) ⊎ SavesNothing answer 4 (said (fault_line no_memory))
+AnswersFault (faults.Line script line flaw) said answer =
+    SavesNothing answer 2 (said (unread_text script line)) × Blames answer script line flaw ⊎ SavesNothing answer 4 (said (fault_line no_memory))
 AnswersFault faults.NoMemory said answer = SavesNothing answer 4 (said (fault_line no_memory))

@@ -41,7 +41,7 @@ static COMMANDS: [Command; 14] = [
 
 impl Command {
     /// Returns the word of the command.
-    fn name(self) -> &'static str
+    pub(crate) fn name(self) -> &'static str
         ensures { result.now ≡ command_word self }
     {
         match self {

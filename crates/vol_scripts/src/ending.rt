@@ -5,6 +5,7 @@ ghost use Rattle.command_faults.specs.Faults.{fault_status};
 ghost use Rattle.command_faults.specs.Streams.{says, ErrorStream, Hears};
 ghost use Rattle.vol_scripts.specs.Endings.{AreConfirmed, Finishes, PrintsPlay, Reports, all_receipts, receipts_in, script_status, scripts_status, scripts_text, step_status};
 
+use crate::journal::push_journal;
 use crate::played::Played;
 use crate::report::{push_lines, push_totals};
 use command_faults::status::{DONE, NO_MEMORY, REFUSED};
@@ -16,7 +17,8 @@ use vol_volume::Volume;
 
 /// Ends a play. Prints a line for each step of each script, in order, then the number of records in the
 /// journal and the number of receipts that agree with it; if a script cuts the journal, also the number of
-/// receipts whose records were cut. The volume's bytes are to be saved in any case.
+/// receipts whose records were cut; and, if the journal is wanted, a line for each of its records, as a script has it.
+/// The volume's bytes are to be saved in any case.
 ///
 /// The status is 3 if `output` failed; else 4 if a step, this report or confirming the receipts ran out of
 /// memory (no receipt then counts as confirmed), or if a view couldn't read the published version; else 1 if
@@ -28,14 +30,15 @@ pub fn finish<O: Sink>(
     alloc: Global,
     volume: Volume,
     cuts: bool,
+    journal: bool,
     scripts: Vec<Vec<Played>>,
     output: &mut O,
 ) -> Answer
     ensures { (errors : ErrorStream) → Hears errors result.fault → Finishes volume cuts scripts.items
-        (PrintsPlay volume cuts scripts.items (O.contents output.old) (O.contents output.new) (O.failed output.old) (O.failed output.new))
+        (PrintsPlay volume cuts journal scripts.items (O.contents output.old) (O.contents output.new) (O.failed output.old) (O.failed output.new))
         (says errors) result }
 {
-    let printed = print_report(alloc, &volume, cuts, scripts, output);
+    let printed = print_report(alloc, &volume, cuts, journal, scripts, output);
     let Ending { status, fault } = ending_of(printed);
     Answer {
         status,
@@ -63,19 +66,20 @@ fn print_report<O: Sink>(
     alloc: Global,
     volume: &Volume,
     cuts: bool,
+    journal: bool,
     scripts: Vec<Vec<Played>>,
     output: &mut O,
 ) -> Result<u8, Fault>
-    ensures { PrintsPlay volume.now cuts scripts.items (O.contents output.old) (O.contents output.new)
+    ensures { PrintsPlay volume.now cuts journal scripts.items (O.contents output.old) (O.contents output.new)
         (O.failed output.old) (O.failed output.new) result }
 {
     let worst = scripts_status(&scripts);
-    let (text, confirmed) = report_of(alloc, volume, cuts, scripts)?;
+    let (text, confirmed) = report_of(alloc, volume, cuts, journal, scripts)?;
     let status = match confirmed {
         Some(_) => worst,
         None => NO_MEMORY,
     };
-    match write_all(output, text.as_bytes()) {
+    match write_all(output, &text) {
         Ok(()) => Ok(status),
         Err(_) => Err(Fault::Output),
     }
@@ -87,10 +91,11 @@ fn report_of(
     alloc: Global,
     volume: &Volume,
     cuts: bool,
+    journal: bool,
     scripts: Vec<Vec<Played>>,
-) -> Result<(String, Option<Confirmed>), AllocError>
-    ensures { IfOk result (λ made. Reports volume.now cuts scripts.items
-        (λ text confirmed. (confirmed ≡ made.1) × (string_bytes made.0 ≡ text))) }
+) -> Result<(Vec<u8>, Option<Confirmed>), AllocError>
+    ensures { IfOk result (λ made. Reports volume.now cuts journal scripts.items
+        (λ text confirmed. (confirmed ≡ made.1) × (made.0.items ≡ text))) }
 {
     let mut text = lines_of(alloc, &scripts)?;
     let receipts = receipts_of(alloc, scripts)?;
@@ -98,6 +103,8 @@ fn report_of(
     let (confirmed, agree) = confirm(alloc, volume, &receipts);
     let records = volume.journal().len() as u64;
     push_totals(&mut text, records, agree, gone)?;
+    let mut text = text.into_bytes();
+    push_journal(alloc, &mut text, journal, volume.journal())?;
     Ok((text, confirmed))
 }
 

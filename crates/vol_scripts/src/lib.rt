@@ -4,6 +4,8 @@
 mod arguments;
 mod commands;
 pub mod ending;
+mod flaws;
+mod journal;
 mod lines;
 mod numbers;
 mod pieces;

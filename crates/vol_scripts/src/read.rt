@@ -2,17 +2,24 @@
 ghost use Rattle.std.specs.Prelude.{◌≡◌, ◌≤◌, ◌∷◌, ◌++◌, [], OnOk, IfErr};
 ghost use Rattle.vol_scripts.specs.Scripts.{ReadsScript, ReadsScripts, asked_in, script_after, script_in, views_after};
 
+use crate::flaws::flaw_in;
 use crate::lines::{FromLine, LineFault};
 use crate::pieces::Pieces;
 use crate::steps::{Script, Sequence};
+use command_faults::{LineFlaw, WordForm};
 use std::alloc::{AllocError, Global};
 use vol_views::MOST_VIEWS;
 
 /// Why a script couldn't be read.
-#[derive(Clone, Copy, Debug, PartialEq, Eq)]
+#[derive(Debug, PartialEq, Eq, Drop)]
 pub enum ScriptFault {
-    /// The number of the first line that can't be read, from 1.
-    Line(u64),
+    /// The first line that can't be read.
+    Line {
+        /// Its number, from 1.
+        number: u64,
+        /// Its first flaw.
+        flaw: Option<LineFlaw>,
+    },
     /// An allocation was refused.
     NoMemory,
 }
@@ -38,19 +45,20 @@ pub fn read_script(alloc: Global, script: &[u8]) -> Result<Script, ScriptFault>
     ensures { ReadsScript (script_in script.now) result }
 {
     match script.strip_prefix(VIEW_LINE) {
-        Some(queries) => Ok(Script::View(read_lines(alloc, queries, 2)?)),
-        None => Ok(Script::Session(read_lines(alloc, script, 1)?)),
+        Some(queries) => Ok(Script::View(read_lines(alloc, queries, WordForm::Query, 2)?)),
+        None => Ok(Script::Session(read_lines(alloc, script, WordForm::Command, 1)?)),
     }
 }
 
-/// Reads the steps of lines, the first of which has number `first`.
+/// Reads the steps of lines, the first of which has number `first`; their commands must be of this form.
 fn read_lines<A: FromLine>(
     alloc: Global,
     text: &[u8],
+    command: WordForm,
     first: u64,
 ) -> Result<Sequence<A>, ScriptFault>
     requires { first ≤ 2 }
-    ensures { ReadsScript (asked_in A.written first text.now) result }
+    ensures { ReadsScript (asked_in A.written command first text.now) result }
 {
     let mut asked = Vec::new(alloc);
     let mut lines = Pieces::of(b'\n', text);
@@ -61,12 +69,18 @@ fn read_lines<A: FromLine>(
             return if line.is_empty() {
                 Ok(Sequence::from_vec(asked))
             } else {
-                Err(ScriptFault::Line(number))
+                Err(ScriptFault::Line {
+                    number,
+                    flaw: Some(LineFlaw::Unended),
+                })
             };
         }
         match A::from_line(alloc, line) {
             Ok(item) => push_item(&mut asked, item)?,
-            Err(LineFault::Unreadable) => return Err(ScriptFault::Line(number)),
+            Err(LineFault::Unreadable) => {
+                let flaw = flaw_in(alloc, command, line)?;
+                return Err(ScriptFault::Line { number, flaw });
+            }
             Err(LineFault::NoMemory) => return Err(ScriptFault::NoMemory),
         }
     }
@@ -82,7 +96,7 @@ fn push_item<T: Drop>(items: &mut Vec<T>, item: T) -> Result<(), ScriptFault>
 }
 
 /// Why several scripts couldn't be read.
-#[derive(Clone, Copy, Debug, PartialEq, Eq)]
+#[derive(Debug, PartialEq, Eq, Drop)]
 pub enum ScriptsFault {
     /// The first line that can't be read, by script and line, both numbered from 1.
     Line {
@@ -90,6 +104,8 @@ pub enum ScriptsFault {
         script: u64,
         /// The line's number in it.
         line: u64,
+        /// The line's first flaw.
+        flaw: Option<LineFlaw>,
     },
     /// An allocation was refused.
     NoMemory,
@@ -105,9 +121,13 @@ pub fn read_scripts(alloc: Global, scripts: &[Vec<u8>]) -> Result<Vec<Script>, S
     'scripts: for script in scripts {
         match read_next(alloc, &mut views, script) {
             Ok(script) => push_script(&mut read, script)?,
-            Err(ScriptFault::Line(line)) => {
+            Err(ScriptFault::Line { number, flaw }) => {
                 let script = read.len() as u64 + 1;
-                return Err(ScriptsFault::Line { script, line });
+                return Err(ScriptsFault::Line {
+                    script,
+                    line: number,
+                    flaw,
+                });
             }
             Err(ScriptFault::NoMemory) => return Err(ScriptsFault::NoMemory),
         }
@@ -124,7 +144,10 @@ fn read_next(alloc: Global, views: &mut u64, script: &[u8]) -> Result<Script, Sc
 {
     if script.starts_with(VIEW_LINE) {
         if *views == MOST_VIEWS as u64 {
-            return Err(ScriptFault::Line(1));
+            return Err(ScriptFault::Line {
+                number: 1,
+                flaw: Some(LineFlaw::TooManyViews),
+            });
         }
         *views += 1;
     }

@@ -16,11 +16,12 @@ pub fn refuse(alloc: Global, fault: ScriptsFault) -> Answer
     ensures { (errors : ErrorStream) → Hears errors result.fault → AnswersFault fault (says errors) result }
 {
     match fault {
-        ScriptsFault::Line { script, line } => match unread_text(alloc, script, line) {
+        ScriptsFault::Line { script, line, flaw } => match unread_text(alloc, script, line) {
             Ok(text) => report(Err(Fault::BadLine {
                 script,
                 number: line,
                 line: text.into_bytes(),
+                flaw,
             })),
             Err(_) => report(Err(Fault::Refused(Refusal::NoMemory))),
         },

@@ -38,7 +38,7 @@ pub(crate) fn reply_text(alloc: Global, reply: &Reply) -> Result<String, AllocEr
 }
 
 /// Returns bytes as hexadecimal digits, or a hyphen for none.
-fn bytes_text(alloc: Global, bytes: &[u8]) -> Result<String, AllocError>
+pub(crate) fn bytes_text(alloc: Global, bytes: &[u8]) -> Result<String, AllocError>
     ensures { IfOk result (λ text. string_bytes text ≡ bytes_text bytes.now) }
 {
     if bytes.is_empty() {
@@ -86,7 +86,7 @@ fn kind_text(kind: Kind) -> &'static str
 }
 
 /// Returns permissions as four octal digits.
-fn permissions_text(alloc: Global, bits: u16) -> Result<String, AllocError>
+pub(crate) fn permissions_text(alloc: Global, bits: u16) -> Result<String, AllocError>
     ensures { IfOk result (λ text. string_bytes text ≡ permissions_text bits) }
 {
     let digits = [bits / 512 % 8, bits / 64 % 8, bits / 8 % 8, bits % 8];

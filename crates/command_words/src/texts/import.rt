@@ -43,8 +43,7 @@ Status:
      failed, is a terminal, or has an archive larger than 64 MiB plus 64 times the size of IMAGE
   4  `unixvol: 12 NoMemory`";
 
-pub const BELOW: &str =
-    "The directory of the volume to make the members in; by default, the root";
+pub const BELOW: &str = "The directory of the volume to make the members in; by default, the root";
 
 pub const SKIP_SPECIAL: &str = "Leave out special files, and list them on standard error";
 

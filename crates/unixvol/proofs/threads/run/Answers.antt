@@ -9,5 +9,5 @@ returns-in-Check-clause-ends g c errors hears =
 
 pub returns-in-Play-clause-ends : goal.returns-in-Play-clause-ends
 returns-in-Play-clause-ends g c errors hears =
-    ends_played g.R.File.Read.remaining g.R.File.Write.contents g.R.ImageFiles.had g.R.ImageFiles.stood _ c.args.volume.edition _ c.run_play.result.status
+    ends_played g.R.File.Read.remaining g.R.File.Write.contents g.R.ImageFiles.had g.R.ImageFiles.stood _ c.args.volume.edition _ _ c.run_play.result.status
     (c.run_play.ensures errors hears)

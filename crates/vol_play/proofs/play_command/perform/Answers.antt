@@ -1,4 +1,5 @@
-use Rattle.std.proofs.Common.{◌∙◌, Bool, arith, ap, inr, subst}
+use Rattle.std.proofs.Common.{◌∙◌, Bool, arith, ap, inl, inr, refl, subst}
+use Rattle.std.proofs.KnownBytes.{Keeps-refl}
 use Rattle.command_faults.specs.Streams.{says}
 use Rattle.vol_scripts.specs.Endings.{Finishes, PrintsPlay}
 use Rattle.vol_play.specs.Play.{any_cut}
@@ -25,8 +26,11 @@ returns-in-Ok-play_image g c errors hears =
     subst
     (λ (cuts : Bool).
     Finishes last cuts played
-    (PrintsPlay last cuts played (g.O.Sink.contents c.args.output.now) (g.O.Sink.contents c.finish.new.output) (g.O.Sink.failed c.args.output.now) (g.O.Sink.failed c.finish.new.output))
+    (PrintsPlay last cuts c.args.journal played (g.O.Sink.contents c.args.output.now) (g.O.Sink.contents c.finish.new.output) (g.O.Sink.failed c.args.output.now) (g.O.Sink.failed c.finish.new.output))
     (says errors) c.finish.result)
     (c.any_cut-cuts.ensures ∙ ap any_cut c.deref.ensures.value) (c.finish.ensures errors hears)
     in
     inr (c.in-Ok.scripts.items, c.in-Ok.ensures, inr (last, played, c.in-Ok-play_image.ensures.played, ends))
+
+pub returns-in-Err : goal.returns-in-Err
+returns-in-Err g c errors hears = inl ((Keeps-refl (g.O.Sink.contents c.args.output.now), refl), (c.in-Err.fault, c.in-Err.ensures, c.refuse.ensures errors hears))

@@ -13,7 +13,7 @@ returns g c =
         made.2,
         (
           written,
-          subst (λ (text : List ℕ). AppendsFront (g.O.Sink.contents c.args.output.now) (g.O.Sink.contents c.write_all.new.sink) text written) (c.as_bytes.ensures.value ∙ made.3.1) c.in-Err.ensures.part,
+          subst (λ (text : List ℕ). AppendsFront (g.O.Sink.contents c.args.output.now) (g.O.Sink.contents c.write_all.new.sink) text written) (c.deref-2.ensures.value ∙ made.3.1) c.in-Err.ensures.part,
         ),
       ),
     )

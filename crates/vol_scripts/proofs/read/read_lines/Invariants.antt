@@ -5,7 +5,7 @@ use Rattle.vol_scripts.proofs.read.read_lines.Given as goal
 
 -- the text has the steps read so far, followed by those of the lines that are left
 abbrev pub invariant-lines : goal.invariant-lines
-invariant-lines g l = asked_in g.A.FromLine.written l.first l.text ≡ after l.asked.items (asked_from g.A.FromLine.written (length l.asked.items + l.first) l.lines)
+invariant-lines g l = asked_in g.A.FromLine.written l.command l.first l.text ≡ after l.asked.items (asked_from g.A.FromLine.written l.command (length l.asked.items + l.first) l.lines)
 
 abbrev pub decreases-lines : goal.decreases-lines
 decreases-lines g l = length l.lines

@@ -26,8 +26,8 @@ returns-in-Err-Line c =
     let same : length c.scripts.read.items ≡ c.len.result = omega (arith, c.len.ensures, c.scripts.read.ok.0) in
     rw c.in-Err-Line.field-0-is
     (script_stops (scripts_in c.args.scripts.now) c.scripts.read.items c.scripts.views c.args.scripts.now c.scripts.script-index c.script-item.result c.scripts-test.true
-    (sym c.script-item.is) c.scripts.invariant.all c.in-Err-Line.line (ap (script_after c.scripts.views) (sym c.deref.ensures.value) ∙ bad)
-    ∙ ap (λ n. Err (n + 1, c.in-Err-Line.line)) same)
+    (sym c.script-item.is) c.scripts.invariant.all (c.in-Err-Line.number, c.in-Err-Line.flaw) (ap (script_after c.scripts.views) (sym c.deref.ensures.value) ∙ bad)
+    ∙ ap (λ n. Err (n + 1, (c.in-Err-Line.number, c.in-Err-Line.flaw))) same)
 
 pub returns : goal.returns
 returns c =

@@ -1,0 +1,14 @@
+use Rattle.std.proofs.Common.{◌≡◌, ◌+◌, length}
+use Rattle.vol_scripts.specs.Flaws.{flaw_from, flaw_in}
+use Rattle.vol_scripts.proofs.PieceLemmas.{space}
+use Rattle.vol_scripts.proofs.flaws.flaw_in.Given as goal
+
+-- the line has the flaw of the words that are left, and they end where it does
+abbrev pub invariant-words : goal.invariant-words
+invariant-words l = record {
+  flaw : flaw_in l.fn.command l.line ≡ flaw_from l.at l.wanted l.words;
+  within : l.at + space l.words ≡ length l.line + 1;
+}
+
+abbrev pub decreases-words : goal.decreases-words
+decreases-words l = length l.words

@@ -1,0 +1,122 @@
+//! Finds the first flaw of a line that can't be read.
+ghost use Rattle.std.specs.Prelude.{◌≡◌, [], IfOk};
+ghost use Rattle.vol_scripts.specs.Flaws.{flaw_from, flaw_in, forms_after, has_form, names_query, wanted_after};
+
+use crate::commands::Command;
+use crate::lines::LineFault;
+use crate::numbers::{bytes_in, long_in, permissions_in, short_in};
+use crate::pieces::Pieces;
+use command_faults::{LineFlaw, WordForm};
+use pdp_words::Bytes;
+use std::alloc::{AllocError, Global};
+
+/// Returns the first flaw of a line whose command must be of this form, or `None` if its words are all as they must be.
+/// Takes memory for the flawed word, or for bytes before it.
+pub(crate) fn flaw_in(
+    alloc: Global,
+    command: WordForm,
+    line: &[u8],
+) -> Result<Option<LineFlaw>, AllocError>
+    ensures { IfOk result (λ flaw. flaw ≡ flaw_in command line.now) }
+{
+    let head = [WordForm::Number, WordForm::Id, WordForm::Id, command];
+    let mut wanted = head.as_slice();
+    let mut words = Pieces::of(b' ', line);
+    let mut at = 0;
+    'words: while let Some(word) = words.take_next() {
+        let Some((form, others)) = wanted.split_first() else {
+            let word = Bytes::from_slice(alloc, word)?;
+            return Ok(Some(LineFlaw::Extra { at, word }));
+        };
+        let wanted_form = *form;
+        if !has_form(alloc, wanted_form, word)? {
+            let word = Bytes::from_slice(alloc, word)?;
+            return Ok(Some(LineFlaw::Word {
+                at,
+                word,
+                wanted: wanted_form,
+            }));
+        }
+        wanted = wanted_after(wanted_form, word, others);
+        if words.is_empty() {
+            return Ok(missing(wanted));
+        }
+        at += word.len() as u64 + 1;
+    }
+    Ok(missing(wanted))
+}
+
+/// Returns the flaw of a line that ends before words of these forms, if there are any.
+fn missing(wanted: &[WordForm]) -> Option<LineFlaw>
+    ensures { result ≡ flaw_from 0 wanted.now [] }
+{
+    let form = wanted.first()?;
+    Some(LineFlaw::Ends(*form))
+}
+
+/// Returns the forms of the words after a word of this form, if `others` were wanted after it: those of the command,
+/// if it is one.
+fn wanted_after<'a>(form: WordForm, word: &[u8], others: &'a [WordForm]) -> &'a [WordForm]
+    ensures { result.now ≡ wanted_after form word.now others.now }
+{
+    match form {
+        WordForm::Command | WordForm::Query => match Command::named(word) {
+            Some(command) => forms_after(command),
+            None => &[],
+        },
+        _ => others,
+    }
+}
+
+/// True if a word is of a form. Takes memory for bytes.
+fn has_form(alloc: Global, form: WordForm, word: &[u8]) -> Result<bool, AllocError>
+    ensures { IfOk result (λ has. has ≡ has_form form word.now) }
+{
+    let has = match form {
+        WordForm::Number => long_in(word).is_some(),
+        WordForm::Id => short_in(word).is_some(),
+        WordForm::Command => Command::named(word).is_some(),
+        WordForm::Query => names_query(Command::named(word)),
+        WordForm::Path => true,
+        WordForm::Permissions => permissions_in(word).is_some(),
+        WordForm::Bytes => return has_bytes(alloc, word),
+    };
+    Ok(has)
+}
+
+/// True if a word has bytes.
+fn has_bytes(alloc: Global, word: &[u8]) -> Result<bool, AllocError>
+    ensures { IfOk result (λ has. has ≡ has_form WordForm.Bytes word.now) }
+{
+    match bytes_in(alloc, word) {
+        Ok(_) => Ok(true),
+        Err(LineFault::Unreadable) => Ok(false),
+        Err(LineFault::NoMemory) => Err(AllocError),
+    }
+}
+
+/// True if there is a command, and it is a query.
+fn names_query(command: Option<Command>) -> bool
+    ensures { result ≡ names_query command }
+{
+    matches!(command, Some(Command::Stat | Command::Read | Command::List))
+}
+
+/// Returns the forms of the words after a command.
+fn forms_after(command: Command) -> &'static [WordForm]
+    ensures { result.now ≡ forms_after command }
+{
+    match command {
+        Command::Create | Command::Mkdir | Command::Chmod => &[
+            WordForm::Path,
+            WordForm::Permissions,
+        ],
+        Command::Link => &[WordForm::Path, WordForm::Path],
+        Command::Unlink | Command::Rmdir | Command::Stat | Command::List => &[WordForm::Path],
+        Command::Write => &[WordForm::Path, WordForm::Number, WordForm::Bytes],
+        Command::Truncate => &[WordForm::Path, WordForm::Number],
+        Command::Chown => &[WordForm::Path, WordForm::Id, WordForm::Id],
+        Command::Times | Command::Read => &[WordForm::Path, WordForm::Number, WordForm::Number],
+        Command::Cut => &[],
+    }
+}

@@ -107,6 +107,37 @@ runs inode 7 played 16
 has 'the times of a file that was played' '4294967295 4294967295 4294967295' "$(awk '/time/ { print $2 }' output | paste -s -d ' ' -)"
 { head -c 7 /dev/zero; printf 'J\xff'; } > bytes
 prints bytes get 7 played /a
+# The journal: a line for each accepted call since the last cut, and played on a new volume they make the same one.
+cat > calls << END
+5 0 0 mkdir /d 755
+6 0 0 create /d/f 644
+7 0 0 write /d/f 3 4a4B
+8 0 0 link /d/f /g
+9 0 0 chmod /g 7
+10 0 0 chown /d 1 2
+11 0 0 times /g 4 5
+12 0 0 truncate /g 4
+13 0 0 unlink /g
+14 0 0 mkdir //e 0
+15 0 0 rmdir //e
+16 0 0 write d/f 0 -
+17 0 0 unlink /none
+18 0 0 stat /d
+END
+head -n 12 calls | sed 's/ 755$/ 0755/; s/ 644$/ 0644/; s/ 7$/ 0007/; s/ 4a4B$/ 4a4b/; s/e 0$/e 0000/' > journal
+cp made.7 played
+runs play --journal 7 played calls
+has 'the status of a play with its journal' 1 "$(cat status)"
+has 'the lines before a journal' 'records 12|confirmed 14' "$(tail -n 14 output | head -n 2 | paste -s -d '|' -)"
+tail -n 12 output > lines
+has 'the journal of a play' '' "$(diff journal lines)"
+cp made.7 again
+"$program" play 7 again journal > output
+saves 'the volume that a journal makes' again played
+printf '%s\n' '5 0 0 create /a 644' '6 0 0 cut' '7 0 0 create /b 644' > cutting
+printf '%s\n' '1.1 ok 16' '1.2 cut 1' '1.3 ok 15' 'records 1' 'confirmed 1' 'gone 1' '7 0 0 create /b 0644' > lines
+cp made.7 played
+prints lines play 7 played cutting --journal
 # Each query, for a view.
 printf '%s\n' view '1 1 65535 stat /' '2 1 65535 read /a 1 2' '3 1 65535 list /d' > queries
 sed 's/65535/32767/' queries > asking

@@ -107,7 +107,7 @@ pub stopped_reason : (old new : Mounted) (calls : List Call) (refusal : Refusal)
 stopped_reason old new calls refusal call sound stopped =
     refused_reason old.edition old.image calls refusal sound (are_refused old new calls refusal call stopped)
 
--- what holds of all bytes that a command makes holds of those to save
+-- a property of all bytes that a command makes is one of those to save
 pub saved_leaves : (makes leaves : List ℕ → Type 0) (is_reason : Fault → Type 0) (said : List ℕ → Type 0) (answer : Answer)
     → ((bytes : List ℕ) → makes bytes → leaves bytes) → Concludes makes is_reason said answer → IfSome answer.image (λ saved. leaves saved.items)
 saved_leaves makes leaves is_reason said answer all does = by answer.image does.made

@@ -1,4 +1,4 @@
--- A file is missing exactly if the call that empties it is refused so.
+-- A file is missing exactly if the call that empties it is refused for that reason.
 use Rattle.std.proofs.Common.{◌≡◌, ◌≢◌, ◌⊎◌, inl, inr, ap, ℕ, Bool, true, false, not, nat_lt, if◌then◌else◌, List, [], ◌∷◌, Option, Some, None, Result, Ok, Err, IfErr, OnOk, refl, sym, subst}
 use Rattle.vol_change.specs.Nodes.{node_at}
 use Rattle.vol_dir.specs.Access.{grants, may_write, user}
@@ -92,7 +92,7 @@ missing state now path refuses =
     missing_by _ _ (walk state.tree user path) _ _ now path
     (λ i. tests_told (is_directory (node_at state.tree i)) (is_device (node_at state.tree i).content) (not (grants may_write user (node_at state.tree i))) (nat_lt (node_at state.tree i).size 0)) refuses
 
--- if that call isn't refused so, `put` empties the file
+-- if that call isn't refused for that reason, `put` empties the file
 there : (state : State) (now : ℕ) (path : List ℕ) → verdict state (calls.Truncate user now path 0) ≢ Some refusals.NoEntry
     → emptying_by (answer state.tree (queries.Stat user path)) now path ≡ calls.Truncate user now path 0
 unfolding verdict query_refusal reply_of
@@ -136,13 +136,13 @@ pub emptied : (old new : Mounted) (now : ℕ) (path : List ℕ) (done : Done) �
 emptied old new now path done accepts =
     subst (λ call. Accepts old new call done) (sym (accepted (reads_as old.edition old.image) now path accepts.accepted)) accepts
 
--- it refused that call for another reason than a missing file, and so the first call of `put`
+-- it refused that call for a reason other than a missing file, and so the first call of `put`
 pub not_emptied : (old : Mounted) (now : ℕ) (path : List ℕ) (refusal : Refusal) → refusal ≢ refusals.NoEntry
     → Refuses (reads_as old.edition old.image) (calls.Truncate user now path 0) refusal → Refuses (reads_as old.edition old.image) (first_call old now path) refusal
 not_emptied old now path refusal other refuses =
     subst (λ call. Refuses (reads_as old.edition old.image) call refusal) (sym (refused (reads_as old.edition old.image) now path refusal refuses other)) refuses
 
--- it refused that call since the file is missing, and accepted the one that makes the file, which is then the first call of `put`
+-- it refused that call because the file is missing, and accepted the one that makes the file, which is then the first call of `put`
 pub made : {E : Type 0} (result : Result (Unit {0}) E) (old mid new : Mounted) (now : ℕ) (path given : List ℕ) → mid ≡ old → given ≡ path
     → Refuses (reads_as old.edition old.image) (calls.Truncate user now path 0) refusals.NoEntry
     → OnOk result ((done : Done) × Accepts mid new (calls.Create user now given 0o644) done)

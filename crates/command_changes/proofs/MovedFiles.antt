@@ -35,7 +35,7 @@ use Rattle.vol_removal.proofs.FreedNumbers.{is_map, searched_is, walk_joined}
 use Rattle.vol_removal.proofs.GoneTrees.{unlinked, without, root_stays}
 use Rattle.command_changes.specs.Mv.{LeadsOn}
 
--- a walk ends at a node that is no directory
+-- a walk ends at a node that isn't a directory
 stuck : (tree : Tree) (i e : ℕ) (words : List (List ℕ)) → is_directory (node_at tree i) ≡ false → walk_from tree user i words ≡ Ok e → i ≡ e
 stuck tree i e [] plain is = cc
 stuck tree i e (word ∷ words) plain is = by (find_in tree user i word) refl is
@@ -95,13 +95,13 @@ found_name (Some node) name i is = by node.content is
     by (Directory names) is = got (get names name) is
     by (Device type addresses) is = absurd (cc)
 
--- a node that is no directory differs from one that is searched
+-- a node that isn't a directory differs from one that is searched
 apart : (nodes : ℕ → Option Node) (d i : ℕ) (names : Names) → searched (nodes d) ≡ Ok names → is_map (nodes i) ≡ false → d ≢ i
 apart nodes d i names held plain same =
     let both : true ≡ false = sym (searched_is (nodes d) names held) ∙ (ap (λ x. is_map (nodes x)) same ∙ plain) in
     absurd (cc)
 
--- the nodes after node i got a further name, in directory d
+-- the nodes after node i got another name, in directory d
 record HasLink (old new : ℕ → Option Node) (now d i : ℕ) (name : List ℕ) : Type 0 where
   pub kept : KeepsNames old new
   pub named : found (new d) name ≡ Ok i
@@ -232,7 +232,7 @@ is_linked state now from to accepted =
     passed false true others is = absurd (cc)
     passed false false others is = (refl, is)
 
--- the entry of the old path, in the tree before and in the one with the further name; it isn't the further one
+-- the entry of the old path, in the tree before and in the one with the new name; it isn't the new one
 record IsEntry (old mid : Tree) (d e i : ℕ) (name last : List ℕ) : Type 0 where
   pub number : number_of_name mid e last ≡ i
   pub led : find_in mid user e last ≡ Ok i

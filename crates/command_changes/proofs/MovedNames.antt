@@ -18,7 +18,7 @@ use Rattle.vol_volume.specs.declared.calls.Call.{Call}
 use Rattle.vol_volume.specs.declared.calls.Call.TheVariants as calls
 use Rattle.vol_volume.specs.declared.calls.Record.{Record}
 
--- the second of its calls removes the path, and the first made the new one
+-- the second of its calls removes the path, and the first makes the new one
 moved_by : (edition : Edition) (image bytes from to : List ℕ) (now : ℕ) (journal : List Record)
     → map (λ (entry : Record). entry.call) journal ≡ move_calls (reads_as edition image).tree now from to → IsLegal (reads_as edition image) journal
     → AreLeft (geometry_of edition image) image journal bytes → HasMoved (reads_as edition image).tree now from to (after (reads_as edition image) journal).tree

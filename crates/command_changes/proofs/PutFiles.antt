@@ -1,4 +1,4 @@
--- Putting files into a directory by calls: their result, and their choice, file by file.
+-- Putting files into a directory by calls: their result, and how the calls are chosen, file by file.
 use Rattle.std.proofs.Common.{◌≡◌, ◌∙◌, ℕ, List, [], ◌∷◌, ◌++◌, Ok, Err, sym, ap, subst}
 use Rattle.std.specs.Prelude.{Result, reverse}
 use Rattle.std.proofs.lemmas.List.{reverse-append}

@@ -6,7 +6,7 @@ use Rattle.vol_removal.specs.declared.faults.RemovalFault.{RemovalFault}
 use Rattle.command_faults.specs.declared.fault.Fault.{Fault}
 use Rattle.command_changes.specs.Rm.{fault_of, IsCause}
 
--- a fault by a reason
+-- the fault for a reason
 pub caused : (edition : Edition) (image path : List ℕ) (now : ℕ) (why : RemovalFault) (fault : Fault) → IsReason edition image path now why → fault ≡ fault_of why
     → IsCause edition image path now fault
 caused edition image path now why fault reason is = record { why = why; is = is; reason = reason }

@@ -45,7 +45,7 @@ abbrev pub Salvages : Edition → List ℕ → Streams → Answer → Type 0
 Salvages edition image streams answer =
     SalvagesVolume edition image streams.said answer × Keeps streams.old streams.new × (streams.failed ≡ streams.had_failed)
 
--- an archive is imported below a path, each member that the options leave out has a line, and standard output is as it was; the tree to save has the other members, and keeps all that the image's had (this project)
+-- an archive is imported below a path, each member that the options leave out has a line, and standard output is as it was; the tree to save has the other members, and keeps everything that the image's tree had (this project)
 abbrev pub ImportsBelow : Edition → List ℕ → List ℕ → Streams → Answer → List ℕ → ImportOptions → ℕ → Type 0
 ImportsBelow edition image archive streams answer path options now =
     ImportsArchive edition image (calls_with options (reads_as edition image).tree archive path now) (left_lines (left_out options (members archive)))
@@ -55,7 +55,7 @@ ImportsBelow edition image archive streams answer path options now =
     × IfSome answer.image (λ saved.
     HasArchive (reads_as edition image).tree (reads_as edition saved.items).tree path now (chosen_members options (members archive)))
 
--- the file or directory at a path is removed, with all that is below it, and standard output is as it was (this project)
+-- the file or directory at a path is removed, with everything below it, and standard output is as it was (this project)
 abbrev pub RemovesBelow : Edition → List ℕ → Streams → Answer → List ℕ → ℕ → Type 0
 RemovesBelow edition image streams answer path now =
     RemovesTree edition image path now streams.said answer × Keeps streams.old streams.new × (streams.failed ≡ streams.had_failed)

@@ -25,7 +25,7 @@ target_of Nothing from to = to
 abbrev pub target_in : Tree → List ℕ → List ℕ → List ℕ
 target_in tree from to = target_of (found_by (answer tree (queries.Stat user to))) from to
 
--- the calls that give a file another name: one adds a further name, and one removes the old one (mv)
+-- the calls that rename a file: one adds the new name, and one removes the old one (mv)
 abbrev pub move_calls : Tree → ℕ → List ℕ → List ℕ → List Call
 move_calls tree now from to = calls.Link user now from (target_in tree from to) ∷ calls.Unlink user now from ∷ []
 

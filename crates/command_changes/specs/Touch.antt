@@ -10,7 +10,7 @@ use Rattle.command_changes.specs.Lookup.{found_by}
 use Rattle.command_changes.specs.declared.lookup.PathKind.{PathKind}
 use Rattle.command_changes.specs.declared.lookup.PathKind.TheVariants.{Directory, File, Nothing}
 
--- the call for a path that leads to this: a file or directory gets the moment as both its times; if the path leads nowhere, an empty file is made, with permissions 0644 (touch)
+-- the call for a path that leads to this: a file or directory gets the time of the call as both its times; if the path leads nowhere, an empty file is made, with permissions 0644 (touch)
 abbrev pub touch_found : ℕ → List ℕ → PathKind → Call
 touch_found now path Nothing = calls.Create user now path 0o644
 touch_found now path Directory = calls.Times user now path now now

@@ -23,7 +23,7 @@ pub enum Change<'a> {
         path: &'a str,
         now: u32,
     },
-    /// Remove the file or directory at a path, with all that is below it.
+    /// Remove the file or directory at a path, with everything below it.
     RmAll {
         path: &'a str,
         now: u32,
@@ -43,7 +43,7 @@ pub enum Change<'a> {
         path: &'a str,
         now: u32,
     },
-    /// Give a file a further name.
+    /// Give a file another name.
     Ln {
         from: &'a str,
         to: &'a str,
@@ -68,7 +68,7 @@ pub enum Change<'a> {
         gid: u16,
         now: u32,
     },
-    /// Give a file or directory the moment as its times, or make an empty file.
+    /// Set the times of a file or directory to the time of the call, or make an empty file.
     Touch {
         path: &'a str,
         now: u32,

@@ -1,4 +1,4 @@
-//! `ln` gives a file a further name.
+//! `ln` gives a file another name.
 ghost use Rattle.std.specs.Prelude.{◌≡◌, IfOk};
 ghost use Rattle.vol_dir.specs.Access.{user};
 ghost use Rattle.vol_volume.specs.declared.calls.Call.TheVariants as asked;

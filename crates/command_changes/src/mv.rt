@@ -19,7 +19,7 @@ use vol_dir::Cred;
 use vol_layout::Edition;
 use vol_volume::{Bytes, Call, Volume};
 
-/// Gives a file a further name, and removes the one that it had, for `mv`. If `to` is a directory, the new name is the last
+/// Adds a name to a file, and removes the one that it had, for `mv`. If `to` is a directory, the new name is the last
 /// of `from` in it. A directory isn't moved, but refused as `IsDirectory`; a name that exists, even one of the same file, is
 /// refused as `Exists`.
 pub(crate) fn mv(

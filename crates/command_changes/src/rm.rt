@@ -1,4 +1,4 @@
-//! `rm` removes a name; `rm -r` removes a file or directory with all that is below it.
+//! `rm` removes a name; `rm -r` removes a file or directory with everything below it.
 ghost use Rattle.std.specs.Prelude.{◌≡◌, IfOk, IfErr};
 ghost use Rattle.vol_dir.specs.Access.{user};
 ghost use Rattle.vol_volume.specs.declared.calls.Call.TheVariants as asked;
@@ -25,7 +25,7 @@ pub(crate) fn unlink_call(alloc: Global, path: &str, now: u32) -> Result<Call, A
     })
 }
 
-/// Removes the file or directory at a path, with all that is below it, for `rm -r`. All of it is removed, or nothing is
+/// Removes the file or directory at a path, with everything below it, for `rm -r`. All of it is removed, or nothing is
 /// saved: if the image isn't sound, the path leads nowhere, or a call is refused. The last call is refused for the root and
 /// for a path whose last name is `.` (`Invalid`) or `..` (`NoEntry`, since the directory before it is already removed).
 ///
@@ -43,7 +43,7 @@ pub(crate) fn rm_all(
     conclude(remove(alloc, edition, image, path, now))
 }
 
-/// Removes the file or directory at a path, with all that is below it.
+/// Removes the file or directory at a path, with everything below it.
 fn remove(
     alloc: Global,
     edition: Edition,

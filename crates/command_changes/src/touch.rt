@@ -16,7 +16,7 @@ use vol_dir::Cred;
 use vol_layout::Edition;
 use vol_volume::{Bytes, Call, Volume};
 
-/// Sets the times of the last reading and the last change of a file or directory to `now`. If the path leads nowhere,
+/// Sets the times of last access and last modification of a file or directory to `now`. If the path leads nowhere,
 /// makes an empty file there, with permissions 0644.
 ///
 /// Takes the memory of [`Volume::mount`], and for two copies of the path. Walks the path twice.

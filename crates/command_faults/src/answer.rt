@@ -14,7 +14,7 @@ pub struct Answer {
     pub status: u8,
     /// The bytes to save, if any.
     pub image: Option<Vec<u8>>,
-    /// Why the command failed, if it did.
+    /// The reason why the command failed, if it did.
     pub fault: Option<Fault>,
 }
 
@@ -23,7 +23,7 @@ pub struct Answer {
 pub struct Ending {
     /// The exit status.
     pub status: u8,
-    /// Why the command failed, if it did.
+    /// The reason why the command failed, if it did.
     pub fault: Option<Fault>,
 }
 

@@ -11,7 +11,7 @@ use vol_volume::MountFault;
 /// The line for standard output that can't be written.
 pub const CANNOT_WRITE: &str = "unixvol: cannot write -\n";
 
-/// Why a command failed.
+/// The reason why a command failed.
 #[derive(Debug, Drop)]
 pub enum Fault {
     /// The image isn't sound. The number is the first of the twelve rules that it breaks.

@@ -34,7 +34,7 @@ word_of V7 = codes "7"
 abbrev names_at : ℕ × ℕ → ℕ × ℕ → ℕ × ℕ → Bor (List (Bor (List ℕ)))
 names_at p q r = record { ref_ptr = p; now = record { ref_ptr = q; now = codes "6" } ∷ record { ref_ptr = r; now = codes "7" } ∷ [] }
 
--- what holds for any references holds for all names of the editions
+-- a property of any references is one of all names of the editions
 at_names : (P : Bor (List (Bor (List ℕ))) → Type 0) → ((p q r : ℕ × ℕ) → P (names_at p q r)) → (editions : Bor (List (Bor (List ℕ)))) → AreEditions editions → P editions
 at_names P holds editions are = go editions.ref_ptr editions.now are
   where

@@ -79,7 +79,7 @@ asked clock matches values name (Ok (Some invocation)) named rows_are asks = ask
 asked clock matches values name (Ok None) named rows_are asks = tt
 asked clock matches values name (Err e) named rows_are asks = tt
 
--- they are no invocation if no command has the name that was found
+-- they aren't an invocation if no command has the name that was found
 pub missed : {E : Type 0} (clock : Option ℕ) (matches values : ArgMatches) (name : List ℕ) (result : Result (Option Invocation) E) → Some name ≡ subcommand_name_of matches
     → Some (rows_of (found_of values)) ≡ option_map (λ p. p.1) (subcommand_rows_of matches)
     → IfOk result (λ found. found ≡ None → IsNoCommand name) → IfOk result (λ found. found ≡ None → AsksNothing clock (subcommand_rows_of matches))
@@ -88,7 +88,7 @@ missed clock matches values name (Ok found) named rows_are none = λ is invocati
     no_command clock name (words_of values) (none is) invocation (asked_by_rows clock matches values name invocation (sym named) (sym rows_are) asks)
 missed clock matches values name (Err e) named rows_are none = tt
 
--- they are no invocation if the command that was found has none
+-- they aren't an invocation if the command that was found has none
 pub refused : {T : Type 0} (clock : Option ℕ) (matches values : ArgMatches) (name : List ℕ) (result : Result T Error) → Some name ≡ subcommand_name_of matches
     → Some (rows_of (found_of values)) ≡ option_map (λ p. p.1) (subcommand_rows_of matches)
     → IfErr result (TellsOf (NameAsksForNothing clock name (words_of values))) → IfErr result (TellsOf (AsksNothing clock (subcommand_rows_of matches)))
@@ -100,7 +100,7 @@ refused clock matches values name (Err e) named rows_are (inr (kind, none)) = in
   λ invocation asks. none invocation (asked_by_rows clock matches values name invocation (sym named) (sym rows_are) asks),
 )
 
--- a parse without a command is no invocation
+-- a parse without a command isn't an invocation
 pub none_met : (clock : Option ℕ) (matches : ArgMatches) → has_subcommand matches ≡ false → AsksNothing clock (subcommand_rows_of matches)
 unfolding AsksNothing
 none_met clock matches none = go (out-ArgMatches matches).subcommand none
@@ -142,7 +142,7 @@ pub refuses : (clock : Option ℕ) (editions : Bor (List (Bor (List ℕ)))) (wor
 unfolding IsRefused
 refuses clock editions words error are kind = (editions, are, inl kind)
 
--- the command line accepts the words, but they are no invocation
+-- the command line accepts the words, but they aren't an invocation
 pub asks_nothing : (clock : Option ℕ) (editions : Bor (List (Bor (List ℕ)))) (words : List (List ℕ)) (matches : ArgMatches) (error : Error) → AreEditions editions
     → faults_of (unixvol_app editions) words ≡ [] → subcommand_rows_of matches ≡ command_in (unixvol_app editions) words
     → HasKind (kinds.ValueValidation ∷ kinds.MissingSubcommand ∷ []) error → AsksNothing clock (subcommand_rows_of matches) → IsRefused clock words error
@@ -156,7 +156,7 @@ pub tells_of : (clock : Option ℕ) (editions : Bor (List (Bor (List ℕ)))) (wo
 tells_of clock editions words matches error are taken is (inl memory) = refuses clock editions words error are (inl memory)
 tells_of clock editions words matches error are taken is (inr (kind, none)) = asks_nothing clock editions words matches error are taken is (inr (inl kind)) none
 
--- a fact of an error is one of an outcome that hands it on
+-- a fact of an error is one of an outcome that passes it on
 pub handed_on : {T : Type 0} (result : Result T Error) (error : Error) (P : Error → Type 0) → IsErrAnd result (λ e. e ≡ error) → P error → IfErr result P
 handed_on (Ok value) error P is holds = tt
 handed_on (Err e) error P is holds = rw is holds

@@ -17,7 +17,7 @@ words_of values name = unwrap_or (option_map raw_values (matched_of (found_of va
 abbrev pub words_by : List Row → Words
 words_by rows name = unwrap_or (all_of name rows) []
 
--- the command with this name and the words for its arguments are no invocation (this project)
+-- the command with this name and the words for its arguments aren't an invocation (this project)
 unfoldable pub NameAsksForNothing : Option ℕ → List ℕ → Words → Type 0
 NameAsksForNothing clock name given = (invocation : Invocation) → NameAsksFor clock name given invocation → ⊥
 
@@ -30,7 +30,7 @@ abbrev pub MetAsks : Option ℕ → Option (List ℕ × List Row) → Invocation
 MetAsks clock None invocation = ⊥
 MetAsks clock (Some met) invocation = NameAsksFor clock met.0 (words_by met.1) invocation
 
--- the command that was found, if any, is no invocation (this project)
+-- the command that was found, if any, isn't an invocation (this project)
 unfoldable pub AsksNothing : Option ℕ → Option (List ℕ × List Row) → Type 0
 AsksNothing clock met = (invocation : Invocation) → MetAsks clock met invocation → ⊥
 
@@ -38,7 +38,7 @@ AsksNothing clock met = (invocation : Invocation) → MetAsks clock met invocati
 abbrev pub IsReadBy : App → Option ℕ → List (List ℕ) → Invocation → Type 0
 IsReadBy app clock words invocation = (faults_of app words ≡ []) × MetAsks clock (command_in app words) invocation
 
--- memory ran out, or this is the command line's refusal of the words, or it accepts them but they are no invocation (this project)
+-- memory ran out, or this is the command line's refusal of the words, or it accepts them but they aren't an invocation (this project)
 abbrev pub IsRefusedBy : App → Option ℕ → List (List ℕ) → Error → Type 0
 IsRefusedBy app clock words error = HasKind (faults_of app words) error
     ⊎ ((faults_of app words ≡ []) × HasKind (kinds.ValueValidation ∷ kinds.MissingSubcommand ∷ []) error × AsksNothing clock (command_in app words))
@@ -47,6 +47,6 @@ IsRefusedBy app clock words error = HasKind (faults_of app words) error
 unfoldable pub IsRead : Option ℕ → List (List ℕ) → Invocation → Type 0
 IsRead clock words invocation = (editions : Bor (List (Bor (List ℕ)))) × AreEditions editions × IsReadBy (unixvol_app editions) clock words invocation
 
--- memory ran out, or the command line of `unixvol` refuses the words, or they are no invocation (this project)
+-- memory ran out, or the command line of `unixvol` refuses the words, or they aren't an invocation (this project)
 unfoldable pub IsRefused : Option ℕ → List (List ℕ) → Error → Type 0
 IsRefused clock words error = (editions : Bor (List (Bor (List ℕ)))) × AreEditions editions × IsRefusedBy (unixvol_app editions) clock words error

@@ -114,7 +114,7 @@ pub(crate) fn whole_name(alloc: Global, verb: Verb) -> Result<String, AllocError
     format!(in alloc; "unixvol {}", verb.name())
 }
 
-/// Returns the text for a word that is no time, and that may have been meant as a further path.
+/// Returns the text for a word that isn't a time, and that may have been meant as another path.
 fn more_text(
     alloc: Global,
     verb: Verb,

@@ -15,7 +15,7 @@ const ERROR: &str = "error: ";
 /// The beginning of clap's list of an argument's possible values.
 const VALUES: &str = "\n  [possible values: ";
 
-/// The beginning of clap's tip on an unknown option. The tip is to pass it as a value, where it would mostly replace
+/// The beginning of clap's tip on an unknown option. The tip is to pass it as a value, where it would usually replace
 /// another word.
 const VALUE_TIP: &str = "\n  tip: to pass '";
 

@@ -79,7 +79,7 @@ list_refused tree path refusal is =
     refused_by (is_bad_id tree.geometry.edition 0 0) (list_any has_zero (path ∷ [])) (walk tree user path) (λ i. first_of (list_tests tree user i))
     (λ i. replies.Stat (stat_of i (node_at tree i))) (λ i. replies.Names (names_at tree i)) refusal is
 
--- a node with other content is no directory
+-- a node with other content isn't a directory
 no_directory : (content : Content) → kind_of_content content ≢ kinds.Directory → is_some (map_of content) ≡ false
 no_directory (Body bytes) other = refl
 no_directory (Directory names) other = absurd (other refl)

@@ -1,4 +1,4 @@
--- The result of an export, from what was written.
+-- The result of an export, from the bytes that were written.
 use Rattle.std.proofs.Common.{◌≡◌, ◌⊎◌, ℕ, Bool, true, List, Option, Result, Ok, Err, inl, inr, refl, ap, subst, ◌∙◌}
 use Rattle.std.proofs.KnownBytes.{Keeps-refl}
 use Rattle.std.specs.Prelude.{IsErrAnd}

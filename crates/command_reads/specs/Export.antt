@@ -45,7 +45,7 @@ abbrev pub unwritten : WriteFault → Fault
 unwritten writes.NoMemory = no_memory
 unwritten writes.Output = faults.Output
 
--- the entries to export: those below a directory, and then, if they are wanted, the i-nodes that no entry names, with what is below them (fsck; this project)
+-- the entries to export: those below a directory, and then, if they are wanted, the i-nodes that no entry names, with everything below them (fsck; this project)
 abbrev pub AreFound : Bool → Geometry → List ℕ → ℕ → List MetEntry → Type 0
 AreFound false geometry image start founds = IsWalk geometry image start founds
 AreFound true geometry image start founds = (lost : List ℕ) × AreLost geometry image lost × IsLostWalk geometry image start lost founds

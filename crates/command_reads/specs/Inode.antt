@@ -78,12 +78,12 @@ with_places report members =
     put (codes "extents") (array (items_of (map extent_data report.extents.items)))
     (put (codes "addr") (counts (take (address_count report.edition) report.node.addresses)) members)
 
--- a report on an i-node in some form (this project)
+-- a report on an i-node in some format (this project)
 abbrev pub inode_in : InodeReport → OutputForm → List ℕ
 inode_in report forms.Text = inode_text report
 inode_in report forms.Json = inode_json report
 
--- the text of the report on an i-node of an image, in some form (this project)
+-- the text of the report on an i-node of an image, in some format (this project)
 abbrev pub IsInodeText : Edition → List ℕ → ℕ → OutputForm → List ℕ → Type 0
 IsInodeText edition image number form text =
     (report : InodeReport) × InspectsInode edition image number (Ok report) × (text ≡ inode_in report form)

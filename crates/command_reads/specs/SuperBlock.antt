@@ -102,12 +102,12 @@ with_cache report members =
     (put (codes "inode") (counts report.cache.items)
     (put (codes "ninode") (count report.cache_count) members))
 
--- part of the report on the super-block in some form: JSON is on one line (RFC 8259)
+-- part of the report on the super-block in some format: JSON is on one line (RFC 8259)
 abbrev pub super_in : SuperReport → SuperPart → OutputForm → List ℕ
 super_in report part forms.Text = part_text part report
 super_in report part forms.Json = compact_text (part_data part report) ++ codes "\n"
 
--- the text of part of the report on the super-block of an image, in some form (this project)
+-- the text of part of the report on the super-block of an image, in some format (this project)
 abbrev pub IsSuperText : Edition → List ℕ → SuperPart → OutputForm → List ℕ → Type 0
 IsSuperText edition image part form text = (report : SuperReport) × InspectsSuper edition image (Ok report) × (text ≡ super_in report part form)
 

@@ -16,7 +16,7 @@ use vol_file::read;
 use vol_layout::i_list::kind;
 use vol_layout::{Edition, Geometry, GeometryFault, Kind};
 
-/// Why `cat` didn't print a file.
+/// The reason why `cat` didn't print a file.
 #[derive(Clone, Copy, Debug, PartialEq, Eq)]
 pub enum CatFault {
     /// The image can't be read.

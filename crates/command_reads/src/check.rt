@@ -16,7 +16,7 @@ use vol_layout::{Edition, Geometry};
 
 /// Prints for each rule of soundness whether an image keeps it, what breaks it first, or that it can't be checked. The
 /// status is 0 if all twelve hold, else 1, but graded 6 if rule 1 or 2 doesn't; 3 if `output` failed, 4 if memory ran out. The image may be any bytes. Nothing is
-/// printed before all is known.
+/// printed until everything is known.
 ///
 /// Takes the time and memory of [`make_report`].
 pub(crate) fn check<O: Sink>(

@@ -22,9 +22,9 @@ use vol_inspect::lost_inodes;
 use vol_layout::{Edition, Geometry};
 use vol_listing::Screen;
 
-/// Writes an archive of everything below the directory at a path; as an option also of the i-nodes that no entry names, and
-/// what is below them, under `lost+found`. The image must keep rules 1 and 2, and may be any bytes otherwise. The status is
-/// 0 for a sound image whose entries are all in the archive; 1 if the image isn't sound, an entry is left out or the path
+/// Writes an archive of everything below the directory at a path; as an option also of the i-nodes that no entry names, with
+/// everything below them, under `lost+found`. The image must keep rules 1 and 2, and may be any bytes otherwise. The status
+/// is 0 for a sound image whose entries are all in the archive; 1 if the image isn't sound, an entry is left out or the path
 /// leads to no directory, but graded 5 if an entry or an i-node isn't exported, and 6 if the image breaks rule 1 or 2; 3 if
 /// `output` failed, 4 if memory ran out. The fault has a line for each entry that is left out, with unprintable bytes
 /// escaped, for each i-node that no entry names, and for what is wrong with the image. An archive is never written to a
@@ -118,7 +118,7 @@ fn write_below<O: Sink>(
     }
 }
 
-/// Returns everything below a directory, and with `lost` also the i-nodes that no entry names and what is below them.
+/// Returns everything below a directory, and with `lost` also the i-nodes that no entry names and everything below them.
 fn find(
     alloc: Global,
     image: &Image,

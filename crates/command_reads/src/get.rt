@@ -22,7 +22,7 @@ use vol_dir::{Cred, Refusal};
 use vol_layout::Edition;
 use vol_volume::{Bytes, Query, Reply, Volume, ask};
 
-/// Why several files weren't read.
+/// The reason why several files weren't read.
 #[derive(Debug, Drop)]
 pub enum GetFault<'a> {
     /// The image isn't sound, or an allocation was refused.
@@ -76,7 +76,7 @@ pub fn get<O: Sink, E: Sink>(
 }
 
 /// Prints the bytes of a regular file, for `get`. The status is 0, or 1 if the image is unsound or the query is refused, 3
-/// if `output` failed, 4 if memory ran out. Nothing is printed before all is known.
+/// if `output` failed, 4 if memory ran out. Nothing is printed until everything is known.
 ///
 /// Takes the memory of [`vol_volume::ask`].
 pub fn show_file<O: Sink>(

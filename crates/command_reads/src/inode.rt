@@ -20,7 +20,7 @@ use vol_listing::json::{line, put_count};
 
 /// Shows an i-node of an image. The image must keep rules 1 and 2, and may be any bytes otherwise. The status is 0; 1 if the
 /// image breaks one of these rules, has no i-node of this number, or the path leads to none; 3 if `output` failed, 4 if memory ran out. Nothing is
-/// printed before all is known.
+/// printed until everything is known.
 ///
 /// Takes the memory of [`inspect_inode`], and for the text.
 pub(crate) fn show_inode<O: Sink>(
@@ -98,7 +98,7 @@ fn inode_text(
     }
 }
 
-/// Returns the report on an i-node in some form.
+/// Returns the report on an i-node in this format.
 fn inode_in(alloc: Global, report: &InodeReport, form: OutputForm) -> Result<String, AllocError>
     ensures { IfOk result (λ text. string_bytes text ≡ inode_in report.now form) }
 {

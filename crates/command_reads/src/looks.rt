@@ -75,7 +75,7 @@ pub enum NodeName<'a> {
     Path(&'a str),
 }
 
-/// The form of a report.
+/// The format of a report.
 #[derive(Clone, Copy, Debug, PartialEq, Eq)]
 pub enum OutputForm {
     /// Lines of text.
@@ -84,7 +84,7 @@ pub enum OutputForm {
     Json,
 }
 
-/// The form of a block map.
+/// The format of a picture of the blocks.
 #[derive(Clone, Copy, Debug, PartialEq, Eq)]
 pub enum Picture {
     /// Rows of letters.

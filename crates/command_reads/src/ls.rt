@@ -27,7 +27,7 @@ use vol_volume::{Bytes, Query, Reply, Stat, ask_image};
 /// on a line with its i-number and, if `listing` says so, its i-node's attributes; then, if `listing` says so, the names of
 /// each directory below. A file has one line, unless the listing is bare. Or the same as JSON, with names escaped as on a
 /// terminal. The status is 0; 1 if the image isn't sound, the path leads nowhere, or a bare listing's path leads to no
-/// directory; 3 if `output` failed, 4 if memory ran out. Nothing is printed before all is known.
+/// directory; 3 if `output` failed, 4 if memory ran out. Nothing is printed until everything is known.
 ///
 /// Costs [`examine`], reading each i-node whose attributes are shown, and for each directory walking its path and sorting
 /// its names. Takes memory for these and for the text.
@@ -118,7 +118,7 @@ fn find(
     }
 }
 
-/// Returns the i-number of a node to list, or `NotDirectory` if the listing is bare and the node is no directory.
+/// Returns the i-number of a node to list, or `NotDirectory` if the listing is bare and the node isn't a directory.
 fn number_of(stat: Stat, listing: ListOptions) -> Result<u16, Fault>
     ensures number { IfOk result (λ i. i ≡ stat.number) }
     ensures opened { OnOk result (is_bare listing ≡ true → stat.kind ≡ kinds.Directory) }

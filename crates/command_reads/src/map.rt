@@ -24,7 +24,7 @@ const WIDTH: usize = 64;
 const SQUARES: usize = 128;
 
 /// Draws the use of each block of an image. The image must keep rules 1 and 2, and may be any bytes otherwise. The status is
-/// 0; 1 if the image breaks one of these rules, 3 if `output` failed, 4 if memory ran out. Nothing is printed before all is
+/// 0; 1 if the image breaks one of these rules, 3 if `output` failed, 4 if memory ran out. Nothing is printed until all is
 /// known. Rows are as wide as the terminal; colours are used only on a terminal that wants them. There are at most 32 rows
 /// of letters, or 128 rows of 128 squares, so that a cell represents several blocks of a large volume.
 ///

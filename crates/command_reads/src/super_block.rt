@@ -63,7 +63,7 @@ fn super_text(
     }
 }
 
-/// Returns part of the report on the super-block in some form.
+/// Returns part of the report on the super-block in this format.
 fn super_in(
     alloc: Global,
     report: &SuperReport,

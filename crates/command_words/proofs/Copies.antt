@@ -121,7 +121,7 @@ both first word some none = absurd (cc)
 one_word : (first : Option (List ℕ)) (one other : List ℕ) → first ≡ Some one → first ≡ Some other → one ≡ other
 one_word first one other is other_is = cc
 
--- if the option is given and the words are no files with a time, `put` has no invocation
+-- if the option is given and the words aren't files with a time, `put` has no invocation
 pub no_files : (clock : Option ℕ) (given : Words) (directory : List ℕ) → IsFirstWord given (codes "target-directory") directory
     → ((files : List (List ℕ)) (now : ℕ) (word : Option (List ℕ)) → AreFilesGiven clock (put_words given) files now word → ⊥)
     → AsksForNothing clock verbs.Put given
@@ -140,7 +140,7 @@ empty_target clock given directory is empty = no_put clock given go
     go (inl one) = both _ directory is one.5
     go (inr several) = several.4.1 (one_word _ several.0 directory several.4.0 is ∙ empty)
 
--- if the option isn't given and no one file is put, `put` has no invocation
+-- if the option isn't given and a single file isn't put, `put` has no invocation
 no_one : (clock : Option ℕ) (given : Words) → IsLeftOut given (codes "target-directory")
     → ((file : List ℕ) (now : ℕ) → IsFirstWord given (codes "FILE") file → IsMomentGiven clock (given (codes "NOW")) now → IsLeftOut given (codes "MORE") → ⊥)
     → AsksForNothing clock verbs.Put given
@@ -154,7 +154,7 @@ no_one clock given left none = no_put clock given go
 pub no_file : (clock : Option ℕ) (given : Words) → IsLeftOut given (codes "target-directory") → IsLeftOut given (codes "FILE") → AsksForNothing clock verbs.Put given
 no_file clock given left none = no_one clock given left (λ file now first moment more. both _ file first none)
 
--- if the option isn't given but further words are, `put` has no invocation
+-- if the option isn't given but more words are, `put` has no invocation
 pub too_many_put : (clock : Option ℕ) (given : Words) → IsLeftOut given (codes "target-directory") → (IsLeftOut given (codes "MORE") → ⊥)
     → AsksForNothing clock verbs.Put given
 too_many_put clock given left many = no_one clock given left (λ file now first moment more. many more)
@@ -164,7 +164,7 @@ pub no_moment : (clock : Option ℕ) (given : Words) → IsLeftOut given (codes 
     → AsksForNothing clock verbs.Put given
 no_moment clock given left none = no_one clock given left (λ file now first moment more. none (now, moment))
 
--- if the option is given and the words are no paths, `get` has no invocation
+-- if the option is given and the words aren't paths, `get` has no invocation
 pub no_paths : (clock : Option ℕ) (given : Words) (folder : List ℕ) → IsFirstWord given (codes "output") folder
     → ((paths : List (List ℕ)) → ArePathsGiven (get_words given) paths → ⊥) → AsksForNothing clock verbs.Get given
 no_paths clock given folder is none = no_get clock given go
@@ -182,7 +182,7 @@ empty_output clock given folder is empty = no_get clock given go
     go (inl one) = both _ folder is one.1
     go (inr several) = several.2.1 (one_word _ several.0 folder several.2.0 is ∙ empty)
 
--- if the option isn't given but further words are, `get` has no invocation
+-- if the option isn't given but more words are, `get` has no invocation
 pub too_many_got : (clock : Option ℕ) (given : Words) → IsLeftOut given (codes "output") → (IsLeftOut given (codes "MORE") → ⊥)
     → AsksForNothing clock verbs.Get given
 too_many_got clock given left many = no_get clock given go

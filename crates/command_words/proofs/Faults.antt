@@ -1,15 +1,15 @@
--- Faults that are handed on.
+-- Faults that are passed on.
 use Rattle.std.proofs.Common.{◌≡◌, Result, Ok, Err, IfErr, IsErrAnd, sym, subst}
 use Rattle.command_words.specs.Invocations.{TellsOf}
 use Rattle.command_words.specs.declared.fault.WordFault.{WordFault}
 use Rattle.command_words.specs.declared.fault.WordFault.TheVariants as faults
 
--- a fault that means one thing means whatever follows from it
+-- whatever follows from the meaning of a fault is a meaning of it too
 tells_more : (one other : Type 0) (fault : WordFault) → (one → other) → TellsOf one fault → TellsOf other fault
 tells_more one other faults.NoMemory leads tells = tt
 tells_more one other (faults.Wrong word) leads tells = leads tells
 
--- an outcome that hands on a fault means whatever follows from it
+-- the same for an outcome that passes on a fault
 pub hands_on : {T : Type 0} (result : Result T WordFault) (error : WordFault) (one other : Type 0) → IsErrAnd result (λ e. e ≡ error) → TellsOf one error → (one → other)
     → IfErr result (TellsOf other)
 hands_on (Ok value) error one other is tells leads = tt

@@ -127,7 +127,7 @@ same_both_ways one other =
       ]
     ]
 
--- whether a name is the one that was put into a set, or was there
+-- true if a name was put into a set, or was in it already
 put_or_there : (is_it was : Bool) → cond is_it true was ≡ (was || (is_it || false))
 put_or_there true true = refl
 put_or_there true false = refl
@@ -183,7 +183,7 @@ last_text words other some =
     ap (λ (n : ℕ). get_or (texts words) (n - 1) []) (length-map words (λ (word : Bor (List ℕ)). word.now))
     ∙ get_or-map (λ (word : Bor (List ℕ)). word.now) words (length words - 1) other [] (omega arith)
 
--- all words are files if the last is no time
+-- all words are files if the last isn't a time
 pub all_files : (clock : Option ℕ) (passed words : List (Bor (List ℕ))) (now : ℕ) → passed ≡ words
     → ((moment : ℕ) → EndsInMoment (texts passed) moment → ⊥) → clock ≡ Some now → IsMomentAfter clock (texts words) (texts words) now None
 all_files clock passed words now same none told =
@@ -212,7 +212,7 @@ files_before clock passed words files now count word same counted ends before la
 untold : (clock : Option ℕ) (now : ℕ) → clock ≡ None → clock ≡ Some now → ⊥
 untold clock now none told = absurd (cc)
 
--- if the last word is no time and the clock has none, there are no files
+-- if the last word isn't a time and the clock has none, there are no files
 pub none_told : (clock : Option ℕ) (passed words : List (Bor (List ℕ))) → passed ≡ words → ((moment : ℕ) → EndsInMoment (texts passed) moment → ⊥)
     → clock ≡ None → (files : List (List ℕ)) (now : ℕ) (word : Option (List ℕ)) → IsMomentAfter clock (texts words) files now word → ⊥
 none_told clock passed words same none is files now word (inl ends) =

@@ -24,7 +24,7 @@ pub tells : (wrong : Type 0) (fault : WordFault) → wrong → TellsOf wrong fau
 tells wrong faults.NoMemory is = tt
 tells wrong (faults.Wrong word) is = is
 
--- if a word is no time, the fault names it
+-- if a word isn't a time, the fault names it
 pub refused : (wrong : Type 0) (moment : Option ℕ) (result : Result ℕ WordFault) (fault : WordFault) → result ≡ ok_or moment fault → (moment ≡ None → wrong)
     → IfErr result (TellsOf wrong)
 refused wrong None result fault same none = subst (λ (r : Result ℕ WordFault). IfErr r (TellsOf wrong)) (sym same) (tells wrong fault (none refl))

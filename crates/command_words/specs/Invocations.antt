@@ -264,17 +264,17 @@ IsChangeGiven clock given (changes.Touch path now) =
     IsPathGiven (given (codes "PATH")) path.now × IsMomentGiven clock (given (codes "NOW")) now
 IsChangeGiven clock given changes.Salvage = Unit {0}
 
--- the words choose this form of a report: JSON if its option is given (this project)
+-- the words choose this format of a report: JSON if its option is given (this project)
 abbrev pub IsFormGiven : Words → OutputForm → Type 0
 IsFormGiven given forms.Text = is_set (given (codes "json")) ≡ false
 IsFormGiven given forms.Json = is_set (given (codes "json")) ≡ true
 
--- the words choose this form of a block map: SVG if its option is given (this project)
+-- the words choose this format of a picture of the blocks: SVG if its option is given (this project)
 abbrev pub IsPictureGiven : Words → Picture → Type 0
 IsPictureGiven given pictures.Cells = is_set (given (codes "svg")) ≡ false
 IsPictureGiven given pictures.Svg = is_set (given (codes "svg")) ≡ true
 
--- the words choose this form of lines: JSON if its option is given, else long ones if theirs is (this project)
+-- the words choose this format of lines: JSON if its option is given, else long ones if theirs is (this project)
 abbrev pub AreLinesGiven : Words → Lines → Type 0
 AreLinesGiven given lines.Plain = (is_set (given (codes "json")) ≡ false) × (is_set (given (codes "long")) ≡ false)
 AreLinesGiven given lines.Long = (is_set (given (codes "json")) ≡ false) × (is_set (given (codes "long")) ≡ true)
@@ -362,7 +362,7 @@ IsWorkGiven given (works.Play scripts journal) =
     (map (λ script. script.now) scripts.items ≡ given (codes "SCRIPT")) × (1 ≤ length scripts.items) × (length scripts.items ≤ 64)
     × (journal ≡ is_set (given (codes "journal")))
 
--- the words choose this way of serving: read-only if that option is given (this project)
+-- the words choose how the volume is served: read-only if that option is given (this project)
 abbrev pub IsServingGiven : Words → Serving → Type 0
 IsServingGiven given servings.ReadOnly = is_set (given (codes "read-only")) ≡ true
 IsServingGiven given (servings.Changes is_mine) =
@@ -385,7 +385,7 @@ IsGiven clock given (invocations.Serve volume serving) = IsVolumeGiven given vol
 abbrev pub AsksFor : Option ℕ → Verb → Words → Invocation → Type 0
 AsksFor clock verb given invocation = (verb ≡ verb_of invocation) × IsGiven clock given invocation
 
--- the command and the words for its arguments are no invocation (this project)
+-- the command and the words for its arguments aren't an invocation (this project)
 unfoldable pub AsksForNothing : Option ℕ → Verb → Words → Type 0
 AsksForNothing clock verb given = (invocation : Invocation) → AsksFor clock verb given invocation → ⊥
 

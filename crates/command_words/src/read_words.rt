@@ -98,7 +98,7 @@ fn read_ls<'a, G: Given<'a>>(given: &G) -> Result<Invocation<'a>, WordFault<'a>>
     })
 }
 
-/// Reads the form of the lines.
+/// Reads the format of the lines.
 fn lines_in<'a, G: Given<'a>>(given: &G) -> Lines
     ensures { AreLinesGiven (G.words given.now) result }
 {
@@ -283,7 +283,7 @@ fn read_check<'a, G: Given<'a>>(given: &G) -> Result<Invocation<'a>, WordFault<'
     })
 }
 
-/// Reads the form of a report.
+/// Reads the format of a report.
 fn form_in<'a, G: Given<'a>>(given: &G) -> OutputForm
     ensures { IsFormGiven (G.words given.now) result }
 {
@@ -294,7 +294,7 @@ fn form_in<'a, G: Given<'a>>(given: &G) -> OutputForm
     }
 }
 
-/// Reads the form of a block map.
+/// Reads the format of a picture of the blocks.
 fn picture_in<'a, G: Given<'a>>(given: &G) -> Picture
     ensures { IsPictureGiven (G.words given.now) result }
 {

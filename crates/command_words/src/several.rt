@@ -31,7 +31,7 @@ pub(crate) fn file_in<'a, G: Given<'a>>(given: &G) -> Result<&'a str, WordFault<
     }
 }
 
-/// Succeeds if there is no further word; otherwise `wanted` names the option that is missing.
+/// Succeeds if there are no more words; otherwise `wanted` names the option that is missing.
 pub(crate) fn no_more<'a, G: Given<'a>>(given: &G, wanted: &'a str) -> Result<(), WordFault<'a>>
     ensures none { IfOk result (λ _. IsLeftOut (G.words given.now) (codes "MORE")) }
     ensures refused { IfErr result (TellsOf (IsLeftOut (G.words given.now) (codes "MORE") → ⊥)) }

@@ -66,7 +66,7 @@ unfolding below
 below_ones zero = refl
 below_ones (suc n) = let h = below_ones n in omega arith
 
--- a lesser weight sums to less
+-- smaller weights have a smaller sum
 pub total_le : {A : Type 0} (f g : A → ℕ) (xs : List A) → ((x : A) → f x ≤ g x) → total f xs ≤ total g xs
 unfolding total
 total_le f g [] le = omega arith

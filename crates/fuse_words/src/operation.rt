@@ -177,7 +177,7 @@ fn struct_size(opcode: u32) -> usize
     }
 }
 
-/// Reads the operation from the body, after the header. Returns `None` if the body is too short or hasn't the names that it needs, or
+/// Reads the operation from the body, after the header. Returns `None` if the body is too short or lacks the names that it needs, or
 /// if WRITE has fewer or more bytes than it says.
 #[tactic(auto, unfolding(crate::specs::Requests::operation_of))]
 pub(crate) fn read_operation(opcode: u32, body: &[u8]) -> Option<Operation<'_>>

@@ -40,7 +40,7 @@ pub struct Request<'a> {
     pub operation: Operation<'a>,
 }
 
-/// Why bytes aren't a request.
+/// The reason why bytes aren't a request.
 #[derive(Clone, Copy, PartialEq, Eq)]
 pub enum RequestFault {
     /// There are fewer bytes than in a header.

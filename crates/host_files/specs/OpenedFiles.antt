@@ -7,7 +7,7 @@ use Rattle.host_files.specs.declared.image_file.Stamp.{Stamp}
 use Rattle.host_files.specs.declared.image_file.Try.{Try}
 use Rattle.host_files.specs.declared.image_file.Try.TheVariants.{Open}
 
--- the system reported this stamp for an open file, and it is no pipe, socket or terminal (this project)
+-- the system reported this stamp for an open file, and it isn't a pipe, socket or terminal (this project)
 abbrev pub OpensTo : {F : Type 0} → (F → Stamp → Type 0) → F → Stamp → Type 0
 OpensTo had file stamp = had file stamp × (stamp.kind ≢ kinds.Stream)
 

@@ -179,7 +179,7 @@ pub fn open_stamped<R: ImageFiles>(rt: &R, path: &str) -> io::Result<(R::File, S
     Ok((file, stamp))
 }
 
-/// Why the file of an image can't be changed, with the reason in words.
+/// The reason why the file of an image can't be changed, with an error that describes it.
 #[derive(Clone, Copy)]
 pub enum OpenFault {
     /// It can't be opened.

@@ -202,7 +202,7 @@ fn expect_there<R: ImageFiles>(rt: &R, path: &str, old: Option<&Replaced>) -> io
     }
 }
 
-/// Follows the symbolic links from `path` to a file or to nothing, and returns that path; `path` itself if it is no link.
+/// Follows the symbolic links from `path` to a file or to nothing, and returns that path; `path` itself if it isn't a link.
 fn end_of_links<R: Files + AllocGlobal>(rt: &R, path: &str) -> io::Result<PathBuf> {
     let mut place = PathBuf::from_str(rt.alloc(), path)?;
     for _ in 0..=MOST_LINKS {
@@ -234,7 +234,7 @@ fn is_end(error: io::Error) -> bool {
     kind == ErrorKind::InvalidInput || kind == ErrorKind::NotFound
 }
 
-/// Replaces `path`, which is no symbolic link and must still have the stamp `read`, if one is given, by a new file with this content.
+/// Replaces `path`, which isn't a symbolic link and must still have the stamp `read`, if one is given, by a new file with this content.
 /// Returns the new file, locked.
 fn replace<R: ImageFiles + AllocGlobal>(
     rt: &R,

@@ -34,7 +34,7 @@ impl UpTo {
     }
 }
 
-/// Why a file wasn't read.
+/// The reason why a file wasn't read.
 #[derive(Clone, Copy)]
 pub enum FrontFault {
     /// The source failed.

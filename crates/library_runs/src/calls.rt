@@ -3,7 +3,7 @@
 //! calls DIRECTORIES NAMES create|write [image]
 //!
 //! Makes a volume of the seventh edition of 16,000 blocks, with DIRECTORIES directories and NAMES empty files in each. With
-//! `write` it then writes one byte into each file. Prints the number of accepted calls or, with a further word, the bytes of
+//! `write` it then writes one byte into each file. Prints the number of accepted calls or, with another word, the bytes of
 //! the volume.
 use crate::number;
 use crate::queries::new_volume;

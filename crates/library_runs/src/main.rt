@@ -5,7 +5,7 @@
 //! library_runs views lock|view|views|calls COUNT VIEWS BLOCKS BYTES
 //! library_runs refused volume|sessions|views
 //!
-//! Further tasks may follow, each after the word `+`. Prints a line for each. Ends with status 1 if a word can't be read, a
+//! More tasks may follow, each after the word `+`. Prints a line for each. Ends with status 1 if a word can't be read, a
 //! line can't be printed, or, but for `refused`, memory ran out or a call was refused.
 #![tactic(auto)]
 

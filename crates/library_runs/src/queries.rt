@@ -96,7 +96,7 @@ pub(crate) fn call_session<R: Wait>(
     Some(count)
 }
 
-/// Writes `length` bytes of the file with a session until it is told to stop. Returns `None` if memory ran out or a call was
+/// Writes `length` bytes of the file with a session until it is stopped. Returns `None` if memory ran out or a call was
 /// refused.
 pub(crate) fn write_on<R: Wait>(
     rt: &R,

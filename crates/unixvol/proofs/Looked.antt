@@ -56,7 +56,7 @@ most_few : (graded : Bool) → 4 ≤ (if graded then 6 else 4)
 most_few true = omega arith
 most_few false = omega arith
 
--- the statuses of what is told lie between
+-- the bounds of the status of an export with remarks
 told_few : (graded short : Bool) → (1 ≤ told_status graded short) × (told_status graded short ≤ (if graded then 6 else 4))
 told_few true true = (omega arith, omega arith)
 told_few true false = (omega arith, omega arith)
@@ -93,7 +93,7 @@ ends_to edition image start options streams status screens.Stream exports = ends
 ends_to edition image start options streams status (screens.Terminal columns colours) told =
     ends_told (most_of options) streams _ status (most_few options.graded) told
 
--- the statuses of an export that can't start lie between
+-- the bounds of the status of an export that can't start
 unstarted_few : (graded : Bool) (fault : StartFault) → (1 ≤ unstarted_status graded fault) × (unstarted_status graded fault ≤ (if graded then 6 else 4))
 unstarted_few true (starts.Unsound fault) = (omega arith, omega arith)
 unstarted_few false (starts.Unsound fault) = (omega arith, omega arith)

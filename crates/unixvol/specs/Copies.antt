@@ -33,7 +33,7 @@ AreGiven given names news =
 abbrev pub Standing : Type 1
 Standing = List ℕ → Bool → Type 0
 
--- the word that was read as the time, if any, is no file's path: the system reported that nothing exists there (this project)
+-- the word that was read as the time, if any, isn't a file's path: the system reported that nothing exists there (this project)
 abbrev pub IsMomentAlone : Standing → Moment → Type 0
 IsMomentAlone stands now = IfSome now.word (λ word. stands word.now false)
 

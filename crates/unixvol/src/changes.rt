@@ -26,7 +26,7 @@ const TERMINAL: &str = "it is a terminal, which gives no archive";
 /// The number of blocks that an archive may have for an image of any size: 64 MiB.
 const LEAST_ROOM: u32 = 131_072;
 
-/// The number of further blocks that an archive may have for each block of the image: a member may have some blocks of headers, and
+/// The number of blocks that it may also have for each block of the image: a member may have some blocks of headers, and
 /// take an i-node and a name.
 const ROOM: u32 = 64;
 

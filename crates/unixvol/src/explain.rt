@@ -128,7 +128,7 @@ pub fn tell_fault<R: ImageFiles + Eprint + AllocGlobal, E: Sink>(
 }
 
 /// Prints the second line of a run, if it is wanted: the system's error if standard output failed, else the meaning of the fault. A
-/// fault in words has no second line; without memory for it, it is left out.
+/// fault in words has no second line; if memory for it runs out, it is left out.
 fn explain<R: ImageFiles + Eprint + AllocGlobal>(
     host: &Surroundings<'_, R>,
     fault: &Option<Fault>,

@@ -1,6 +1,6 @@
 //! The system, and the user's wishes for messages.
 
-/// The system that the program runs on, and the user's wishes for messages.
+/// The system that the program runs on, and the user's preferences for messages.
 #[derive(Clone, Copy)]
 pub struct Surroundings<'a, R> {
     /// The system.

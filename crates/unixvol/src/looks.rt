@@ -54,7 +54,7 @@ pub fn is_variable<R: Env + AllocGlobal>(rt: &R, name: &str, value: &str) -> boo
     }
 }
 
-/// Returns the width of the terminal in the variable COLUMNS; 80 if it is no number, or 0.
+/// Returns the width of the terminal in the variable COLUMNS; 80 if it isn't a number, or 0.
 fn terminal_width<R: Env + AllocGlobal>(rt: &R) -> u16
     ensures { 1 ≤ result }
 {

@@ -96,7 +96,7 @@ pub fn run<R: ImageFiles + Clock + Eprint + AllocGlobal, Q: Requests, P: Replies
     result_of(served, saver.ran_out)
 }
 
-/// Returns the user and the group of the program, if all nodes are shown as theirs. If the system doesn't tell them, prints the fault
+/// Returns the user and the group of the program, if all nodes are shown as theirs. If the system doesn't report them, prints the fault
 /// and returns the status.
 fn owner<R: ImageFiles + Eprint + AllocGlobal>(
     host: &Surroundings<'_, R>,

@@ -143,7 +143,7 @@ pub struct Begun<F, G> {
 }
 
 /// Begins a command that changes the volume in a file: reads the other bytes that it needs, with `read_given`, which may wait, and
-/// only then locks the image and reads it. Before all that it checks that the image can be opened. If something can't be read, or the
+/// only then locks the image and reads it. First it checks that the image can be opened. If something can't be read, or the
 /// image may not be changed, prints the fault and returns the status.
 pub fn begin<
     R: ImageFiles + Clock + Eprint + AllocGlobal,

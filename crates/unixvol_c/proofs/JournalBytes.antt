@@ -8,7 +8,7 @@ use Rattle.vol_volume.specs.declared.calls.Done.{Done}
 use Rattle.vol_volume.specs.declared.calls.Record.{Record}
 use Rattle.unixvol_c.specs.Opened.{CanCut, HasGrowth, IsCounted, call_bytes, journal_bytes}
 
--- a journal with one more record has its bytes more
+-- a journal with one more record has that record's bytes in addition
 more_bytes : (old new : Mounted) (call : Call) (done : Done) → Accepts old new call done
     → journal_bytes new.journal ≡ journal_bytes old.journal + call_bytes call
 more_bytes old new call done accepts =

@@ -13,7 +13,7 @@ use Rattle.vol_volume.specs.declared.queries.Reply.{Reply}
 use Rattle.vol_volume.specs.declared.queries.Reply.TheVariants as replies
 use Rattle.unixvol_c.specs.Calls.{Replies}
 
--- an outcome does so if it is a reply
+-- so is an outcome that is a reply
 abbrev pub RepliesIfOk : Query → Result Reply Refusal → Type 0
 RepliesIfOk query (Ok reply) = Replies query reply
 RepliesIfOk query (Err refusal) = Unit {0}

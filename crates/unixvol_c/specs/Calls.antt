@@ -22,7 +22,7 @@ use Rattle.unixvol_c.specs.declared.TheConstants.{DONE, NO_MEMORY, CLOSED}
 abbrev pub edition_of : ℕ → Edition
 edition_of n = if nat_eq n 6 then V6 else V7
 
--- the number is no edition's (this project)
+-- the number isn't an edition's (this project)
 abbrev pub IsNoEdition : ℕ → Type 0
 IsNoEdition n = (n ≢ 6) × (n ≢ 7)
 

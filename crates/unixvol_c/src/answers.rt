@@ -1,4 +1,4 @@
-//! Answers whose length isn't known in advance: they are kept in the handle, and copied out.
+//! Answers of unknown length: they are kept in the handle, and copied out.
 ghost use Rattle.std.specs.Prelude.{◌≡◌, ◌≢◌, ◌↔◌, ◌⊎◌, ◌-◌, pos, None, IsSomeAnd, IfSome, IfOk, length, min, take, drop};
 ghost use Rattle.vol_layout.specs.Geometry.{Fits};
 ghost use Rattle.vol_dir.specs.Entries.{IsDirectory};

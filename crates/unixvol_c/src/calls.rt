@@ -69,7 +69,7 @@ pub extern "C" fn unixvol_mkdir(
     make_node(alloc, handle, call, inode)
 }
 
-/// Gives a node other than a directory a further name.
+/// Gives a node other than a directory another name.
 #[unsafe(no_mangle)]
 pub extern "C" fn unixvol_link(
     alloc: Global,

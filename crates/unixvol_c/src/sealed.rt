@@ -1,4 +1,4 @@
-//! An open volume behind a pointer that is opaque to C.
+//! An open volume, as a pointer that is opaque to C.
 ghost use Rattle.std.specs.Prelude.{◌≡◌, None, Some, Option, is_some, true};
 ghost use Rattle.unixvol_c.specs.Held.{held_owns, held_coded};
 ghost use Rattle.unixvol_c.specs.contracts.open_volume.OpenVolume.{the_row};

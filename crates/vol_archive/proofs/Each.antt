@@ -25,12 +25,12 @@ pub pairs_append : {X : Type 0} (R : X → X → Type 0) (xs ys : List X) → Pa
 pairs_append R [] ys h k across = k
 pairs_append R (x ∷ xs) ys h k across = (each_append (R x) xs ys h.0 across.0, pairs_append R xs ys h.1 k across.1)
 
--- what holds of the first item and all others holds of all
+-- a property of the first item and all others is one of all
 pub all_first : {X : Type 0} (P : X → Type 0) (x : X) (xs : List X) → P x → All P xs → All P (x ∷ xs)
 all_first P x xs here rest zero d below = here
 all_first P x xs here rest (suc k) d below = rest k d (omega arith)
 
--- what holds of each item that passes a test holds of all that the test keeps
+-- a property of each item that passes a test is one of all that the test keeps
 pub all_kept : {X : Type 0} (p : X → Bool) (P : X → Type 0) (xs : List X) → Each (λ x. p x ≡ true → P x) xs → All P (filter p xs)
 all_kept p P [] h = λ k d below. absurd (omega arith)
 all_kept p P (x ∷ xs) h =
@@ -59,7 +59,7 @@ pub each_all : {X : Type 0} (P : X → Type 0) (xs : List X) → Each P xs → A
 each_all P [] h = λ k d within. absurd (omega arith)
 each_all P (x ∷ xs) h = all_first P x xs h.0 (each_all P xs h.1)
 
--- what holds of the items of two lists holds of those of the first
+-- a property of the items of two lists is one of those of the first
 pub each_front : {X : Type 0} (P : X → Type 0) (xs ys : List X) → Each P (xs ++ ys) → Each P xs
 each_front P [] ys h = tt
 each_front P (x ∷ xs) ys h = (h.0, each_front P xs ys h.1)
@@ -121,7 +121,7 @@ has_kept p P (x ∷ xs) (inr h) =
       | false ↦ has_kept p P xs h
     ]
 
--- what holds of all holds of each
+-- a property of all is one of each
 pub each_of_all : {X : Type 0} (P : X → Type 0) (xs : List X) → All P xs → Each P xs
 each_of_all P [] h = tt
 each_of_all P (x ∷ xs) h = (h 0 x (omega arith), each_of_all P xs (λ k d within. h (suc k) d (omega arith)))

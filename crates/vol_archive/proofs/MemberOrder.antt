@@ -23,7 +23,7 @@ use Rattle.vol_archive.proofs.EntryLists.{IsShort, IsNamed, component_below, dir
 use Rattle.vol_archive.proofs.NameOrder.{order, order_total, Clears, before_inside, before_below, clear_before, clear_below, clear_beside}
 use Rattle.vol_archive.proofs.TreeMembers.{member_plain, rest_of, walk_is}
 
--- an entry, and all below it, are before another, if both have plain names
+-- an entry, and everything below it, are before another, if both have plain names
 abbrev pub Precedes : Pending → Pending → Type 0
 Precedes entry other = entry.is_plain ≡ true → other.is_plain ≡ true → Clears (components entry.path) (components other.path)
 
@@ -75,7 +75,7 @@ entries_beside g image path d = beside path (names_of (slots g image d)) (sorted
 abbrev pub IsAfter : List (List ℕ) → Pending → Type 0
 IsAfter names entry = entry.is_plain ≡ true → order names (components entry.path) ≡ Less
 
--- what holds of each entry of a directory that was met holds of each below the entry met
+-- a property of each entry of a directory that was met is one of each below the entry met
 pub each_inside : (P : Pending → Type 0) (g : Geometry) (image : List ℕ) (found : MetEntry) (role : Role)
     → (role ≡ roles.Directory → Each P (entries_below g image found.path found.inode)) → Each P (below g image found role)
 each_inside P g image found roles.Directory h = h refl
@@ -135,7 +135,7 @@ inside_before g image entry rest plain h =
     ∙ clear_below (components entry.path) (components other.path) (named inner_plain).name (clears plain other_plain) more) rest h)
     (entries_below g image entry.path entry.inode) (entries_named g image entry.path entry.inode)
 
--- a member is before all that is pending after it
+-- a member is before everything pending after it
 pub met_before : (g : Geometry) (image : List ℕ) (start : ℕ) (founds : List MetEntry) (entry : Pending) (rest : List Pending) → Each (Precedes entry) rest
     → is_kept (met g image start founds entry).role ≡ true
     → Each (IsAfter (components entry.path)) (below g image (met g image start founds entry) (met g image start founds entry).role ++ rest)

@@ -261,7 +261,7 @@ next_once g image start founds entry rest tree directory h is =
         let less = (known.1 (first_kept f.role first.1)).0 plain in
         never (sym (tied_itself order_total (components entry.path)) ∙ (ap (λ path. order (components path) (components entry.path)) (sym same) ∙ less))
 
--- nor is all that is met from there on
+-- nor is everything met from there on
 rest_once : {g : Geometry} {image : List ℕ} {start : ℕ} {founds : List MetEntry} {pending : List Pending} {all : List MetEntry} → IsTree g image → IsDirectory g image start
     → (walks : Walks g image start founds pending all) → Goes g image start founds pending
     → Each (λ (found : MetEntry). found.role ≢ roles.Left reasons.Again) (rest_of walks)

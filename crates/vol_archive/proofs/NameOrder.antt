@@ -16,7 +16,7 @@ order names others = slice_cmp (slice_cmp nat_cmp) names others
 pub order_total : IsTotalOrder order
 order_total = lists_total nat_list_cmp_total
 
--- the same names first don't matter
+-- equal names at the front don't matter
 pub same_first : (names xs ys : List (List ℕ)) → order (names ++ xs) (names ++ ys) ≡ order xs ys
 same_first [] xs ys = refl
 same_first (name ∷ names) xs ys =
@@ -30,7 +30,7 @@ before_inside names name more = ap (λ xs. order xs (names ++ name ∷ more)) (s
 pub before_below : (xs names : List (List ℕ)) (name : List ℕ) → order xs names ≡ Less → order xs (names ++ name ∷ []) ≡ Less
 before_below xs names name h = order_total.trans xs names (names ++ name ∷ []) h (before_inside names name [])
 
--- some names, and all below them, are before others
+-- some names, and everything below them, are before others
 abbrev pub Clears : List (List ℕ) → List (List ℕ) → Type 0
 Clears names others = (more : List (List ℕ)) → order (names ++ more) others ≡ Less
 

@@ -75,7 +75,7 @@ entries_have g image path d entries directory =
     (each_both (λ (e : List ℕ × ℕ). is_plain e.0 ≡ true) (λ (e : List ℕ × ℕ). get (names_of (slots g image d)) e.0 ≡ Some e.1)
     (names_of (slots g image d)) (names_plain g image d entries directory) (directory_found g image d))
 
--- an entry, if it is left out, is so for its path, or as a directory that was met
+-- an entry that is left out is left out for its path, or as a directory that was met
 abbrev IsFit : Role → Type 0
 IsFit role = (role ≢ roles.Left reasons.BadName) × (role ≢ roles.Left reasons.NoNode)
 
@@ -118,7 +118,7 @@ fits_role g image start first founds entry known node =
     kinded kinds.Special free odd = filed roles.Special (λ e. cc, λ e. cc)
     kinded kinds.Directory free odd = either _ _
 
--- if all that is pending has a node, all that is met has
+-- if everything pending has a node, everything met has
 rest_fits : {g : Geometry} {image : List ℕ} {start : ℕ} {founds : List MetEntry} {pending : List Pending} {all : List MetEntry}
     → HasKinds g image → HasEntries g image → (walks : Walks g image start founds pending all) → Each (IsForNode g image) pending
     → Each (λ (found : MetEntry). IsFit found.role) (rest_of walks)
@@ -133,7 +133,7 @@ rest_fits {g = g} {image = image} {start = start} known entries (Walks.meets fou
           (λ is. entries_have g image entry.path entry.inode entries (met_directory g image start first founds entry is))) h.1),
     )
 
--- all that is met has a name and an i-node
+-- everything met has a name and an i-node
 pub entries_have_nodes : EntriesHaveNodes
 entries_have_nodes g image start founds known entries directory walks =
     each_all (λ (found : MetEntry). (found.role ≢ roles.Left reasons.BadName) × (found.role ≢ roles.Left reasons.NoNode)) founds

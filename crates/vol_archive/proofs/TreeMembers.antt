@@ -126,7 +126,7 @@ entries_lead g image start d path directory leads =
     ∙ leads_on g image start d entry.inode (components path) (named plain).name directory leads (named plain).found)
     (entries_below g image path d) (entries_named g image path d)
 
--- the entries below one that is met, whatever it is
+-- the entries below an entry that is met, of any kind
 below_lead : (g : Geometry) (image : List ℕ) (start : ℕ) (found : MetEntry) (role : Role)
     → (role ≡ roles.Directory → IsDirectory g image found.inode × WalksTo g image start (components found.path) found.inode)
     → Each (PendingWalksTo g image start) (below g image found role)
@@ -136,7 +136,7 @@ below_lead g image start found roles.Special h = tt
 below_lead g image start found (roles.Link k) h = tt
 below_lead g image start found (roles.Left reason) h = tt
 
--- if all that is pending leads there, all members that are met do
+-- if everything pending leads there, all members that are met do
 rest_leads : {g : Geometry} {image : List ℕ} {start : ℕ} {founds : List MetEntry} {pending : List Pending} {all : List MetEntry}
     → (walks : Walks g image start founds pending all) → Each (PendingWalksTo g image start) pending
     → Each (λ (found : MetEntry). is_kept found.role ≡ true → WalksTo g image start (components found.path) found.inode) (rest_of walks)
@@ -152,7 +152,7 @@ rest_leads {g = g} {image = image} {start = start} (Walks.meets founds entry res
           (below_lead g image start found found.role (λ is. (met_directory g image start first founds entry is, here (ap is_kept is)))) h.1),
     )
 
--- all that a walk meets
+-- everything that a walk meets
 pub walk_is : {g : Geometry} {image : List ℕ} {start : ℕ} {all : List MetEntry} → (walks : IsWalk g image start all) → rest_of walks ≡ all
 walk_is walks = sym (rest_is walks)
 

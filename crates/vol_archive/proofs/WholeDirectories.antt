@@ -1,4 +1,4 @@
--- All names of the directories that a walk goes below are met.
+-- All names of the directories that a walk enters are met.
 use Rattle.std.proofs.Common.{◌≡◌, ℕ, inl, inr, true, false, cond, List, [], ◌∷◌, ◌++◌, Some, refl, ap, sym, subst, ◌∙◌}
 use Rattle.std.specs.Cmp.Lexicographic.{slice_cmp}
 use Rattle.std.specs.Ordering.{nat_cmp, eq_by_cmp}
@@ -25,7 +25,7 @@ IsMetAmong founds entry = Has (λ (found : MetEntry). (found.path ≡ entry.path
 meets_more : (first : MetEntry) (founds : List MetEntry) (entries : List Pending) → Each (IsMetAmong founds) entries → Each (IsMetAmong (first ∷ founds)) entries
 meets_more first founds entries h = each_map (IsMetAmong founds) (IsMetAmong (first ∷ founds)) (λ entry m. inr m) entries h
 
--- all that is pending is met
+-- everything pending is met
 pending_met : {g : Geometry} {image : List ℕ} {start : ℕ} {founds : List MetEntry} {pending : List Pending} {all : List MetEntry}
     → (walks : Walks g image start founds pending all) → Each (IsMetAmong (rest_of walks)) pending
 unfolding rest_of
@@ -85,7 +85,7 @@ names_met g image founds path d h name i found dots =
     (λ f same. (same.0 ∙ at.0, same.1 ∙ at.1)) founds meets))
     (entries_below g image path d) (has_entry path (names_of (slots g image d)) name i found dots) h
 
--- all names of each directory that the walk goes below are met
+-- all names of each directory that the walk enters are met
 pub directories_whole : DirectoriesAreWhole
 directories_whole g image start founds walks = (
   names_met g image founds [] start (subst (λ all. Each (IsMetAmong all) (entries_below g image [] start)) (walk_is walks) (pending_met walks)),

@@ -105,7 +105,7 @@ walked_directory g image d i name names leads = numbered (is_number g d) refl
     numbered true number = record { first = grind (arith, nat_tests); last = grind (arith, nat_tests); kind = kinded (kind_at g image d) refl number }
     numbered false number = nowhere (search-outside g image user d number)
 
--- the facts about each entry that is met: it is a member, and so are all below it if it is a directory
+-- the facts about each entry that is met: it is a member, and so is everything below it if it is a directory
 abbrev IsKnown : Geometry → List ℕ → List MetEntry → MetEntry → Type 0
 IsKnown g image founds found =
     (is_kept found.role ≡ true) × IsMetAsItIs g image found × (found.role ≡ roles.Directory → HasMetAllOf g image founds found.path found.inode)

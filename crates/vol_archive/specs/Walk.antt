@@ -124,7 +124,7 @@ lost_found = codes "lost+found"
 unfoldable pub lost_entry : ℕ → Pending
 lost_entry i = record { path = codes "lost+found/#" ++ decimal i; inode = i; is_plain = true }
 
--- whether something that was met has this path (this project)
+-- true if something that was met has this path (this project)
 abbrev pub has_path : List ℕ → List MetEntry → Bool
 has_path path founds = list_any (λ (found : MetEntry). bytes_eq found.path path) founds
 
@@ -132,12 +132,12 @@ has_path path founds = list_any (λ (found : MetEntry). bytes_eq found.path path
 abbrev pub lost_directory : ℕ → MetEntry
 lost_directory start = record { path = lost_found; inode = start; role = roles.Directory }
 
--- what was met below directory `start`, and the directory of lost i-nodes if there are any and nothing has its path (this project)
+-- the entries met below directory `start`, and the directory of lost i-nodes if there are any and nothing has its path (this project)
 abbrev pub with_lost_directory : ℕ → List ℕ → List MetEntry → List MetEntry
 with_lost_directory start lost founds =
     if not (is_nil lost) && not (has_path lost_found founds) then founds ++ lost_directory start ∷ [] else founds
 
--- all that is met below directory `start`, and then these i-nodes, each by its number in a directory of their own, with what is below them (this project)
+-- everything met below directory `start`, and then these i-nodes, each by its number in a directory of their own, with everything below them (this project)
 abbrev pub IsLostWalk : Geometry → List ℕ → ℕ → List ℕ → List MetEntry → Type 0
 IsLostWalk geometry image start lost all =
     (founds : List MetEntry) × IsWalk geometry image start founds

@@ -27,7 +27,7 @@ pub fn directories_are_whole()
     ensures { DirectoriesAreWhole }
 {}
 
-/// In an image where each i-node has a kind, and each entry a name and an i-node, no entry is left out for lack of these.
+/// In an image where each i-node has a kind, and each entry a name and an i-node, no entry is left out because one is missing.
 pub fn entries_have_nodes()
     ensures { EntriesHaveNodes }
 {}

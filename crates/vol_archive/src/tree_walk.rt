@@ -19,9 +19,9 @@ use vol_layout::{Geometry, Kind};
 /// The state of a walk.
 #[derive(Drop)]
 struct Walked {
-    /// All that was met, in its order.
+    /// Everything that was met, in its order.
     founds: Vec<MetEntry>,
-    /// By i-number, the place of what was met first for it.
+    /// For each i-number, the place of the first entry that was met for it.
     firsts: Vec<Option<usize>>,
 }
 
@@ -29,7 +29,7 @@ struct Walked {
 /// names, and after a directory the entries below it. Entries that can't be members are met and returned too, but nothing below
 /// them.
 ///
-/// Goes below each directory once, so it ends on every image. Costs sorting the names of each directory, and memory for all
+/// Enters each directory once, so it ends on every image. Costs sorting the names of each directory, and memory for all
 /// paths.
 pub fn walk(
     alloc: Global,
@@ -44,8 +44,8 @@ pub fn walk(
     Ok(walk_tree(alloc, image, geometry, start)?.founds)
 }
 
-/// Returns everything that [`walk`] meets below directory `start`, then the i-nodes that no entry names, and what is below those that
-/// are directories. Their paths are `lost+found/#` and the i-number. Before the first comes a directory `lost+found` with the
+/// Returns everything that [`walk`] meets below directory `start`, then the i-nodes that no entry names, and everything below those
+/// that are directories. Their paths are `lost+found/#` and the i-number. Before the first comes a directory `lost+found` with the
 /// permissions, the owner and the times of `start`, unless an entry has that path.
 ///
 /// Costs what [`walk`] does.

@@ -22,7 +22,7 @@ use Rattle.vol_change.proofs.OneNode.{only_file}
 use Rattle.vol_change.proofs.UnusedBytes.{file_unused}
 use Rattle.vol_change.proofs.WrittenStates.{IsKind, written_state, writes_keeps, written_kind, truncated_state, truncates_keeps, truncated_kind}
 
--- the rest that such a change keeps: the graph, and the unused bytes
+-- everything else that such a change keeps: the graph, and the unused bytes
 pub record Beside (geometry : Geometry) (old new : List ℕ) (i : ℕ) : Type 0 where
   pub kind : kind_at geometry new i ≢ kinds.Free
   pub graph : IsSameGraph (graph_of geometry old) (graph_of geometry new)

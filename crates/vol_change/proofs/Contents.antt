@@ -54,7 +54,7 @@ pub large_by : (edition : Edition) (mode other : ℕ) → mode / 4096 ≡ other 
 large_by V6 mode other same = ap (λ n. n % 2 == 1) same
 large_by V7 mode other same = refl
 
--- and the same form, if they are of the same kind
+-- and the same block map, if they are of the same kind
 pub form_by : (edition : Edition) (mode other : ℕ) → kind_of edition mode ≡ kind_of edition other → mode / 4096 ≡ other / 4096
     → form_of edition mode ≡ form_of edition other
 form_by V6 mode other kind same =
@@ -62,7 +62,7 @@ form_by V6 mode other kind same =
     ∙ ap (λ large. if has_places (kind_of V6 other) then (if large then Large else Small) else Bare) (large_by V6 mode other same)
 form_by V7 mode other kind same = ap (λ k. if has_places k then Deep else Bare) kind
 
--- the form stays
+-- the block map stays
 pub form_reads : (geometry : Geometry) (old new : List ℕ) (i : ℕ) → KeepsReading geometry old new i → form_at geometry new i ≡ form_at geometry old i
 form_reads geometry old new i kept = form_by geometry.edition (mode_of geometry new i) (mode_of geometry old i) kept.kind kept.type
 
@@ -113,7 +113,7 @@ content_reads geometry old new i kept first last =
     ap (content_of geometry new i) kept.kind
     ∙ content_by geometry old new i (kind_at geometry old i) kept first last refl
 
--- which places name something stays
+-- the same places still name something
 names_same : (geometry : Geometry) (old new : List ℕ) (i : ℕ) → KeepsReading geometry old new i → IsFile geometry old i
     → is_named_place geometry new i ≡ is_named_place geometry old i
 names_same geometry old new i kept file =

@@ -144,7 +144,7 @@ pub second_slot : (geometry : Geometry) (image : List ℕ) (i : ℕ) → HasDot 
 second_slot geometry image i dotted =
     ap new_slot (slots_held geometry image i 16 (insert [] dot i) (shape_with_entry geometry.edition no_shape dot) dotted.is dotted.has)
 
--- `..` isn't there
+-- `..` doesn't exist yet
 pub dot_dot_new : (geometry : Geometry) (image : List ℕ) (i : ℕ) → HasDot geometry image i → get (names_of (slots geometry image i)) dot_dot ≡ None
 dot_dot_new geometry image i dotted =
     ap (λ names. get names dot_dot) (names_held geometry image i 16 (insert [] dot i) (shape_with_entry geometry.edition no_shape dot) dotted.is dotted.has)

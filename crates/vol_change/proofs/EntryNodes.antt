@@ -58,7 +58,7 @@ named_used geometry image name d i ready is named =
 pub used_first : (geometry : Geometry) (image : List ℕ) (i : ℕ) → IsInUse geometry image i → 1 ≤ i
 used_first geometry image i used = let root = root_first geometry.edition in omega (arith, root, used.first)
 
--- an i-number in use that is no directory is above the root's
+-- an i-number in use that isn't a directory is above the root's
 pub file_above : (geometry : Geometry) (image : List ℕ) (i : ℕ) → Rules1To12 geometry image → IsInUse geometry image i
     → kind_at geometry image i ≢ kinds.Directory → (constants geometry.edition).root < i
 file_above geometry image i ready used other = elim (cases_eq i (constants geometry.edition).root) [

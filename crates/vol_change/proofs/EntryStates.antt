@@ -169,7 +169,7 @@ names_once geometry image d entries is = record {
       entries.once d s t one.0 two.0 name (record { directory = is; entry = one.1 }) (record { directory = is; entry = two.1 });
 }
 
--- the slot that holds a name, which is there
+-- the slot that holds a name, which exists
 pub record HoldsName (geometry : Geometry) (image name : List ℕ) (d s : ℕ) : Type 0 where
   pub within : s < slot_count geometry image d
   pub held : holds name (entry_at geometry image d s) ≡ true

@@ -40,7 +40,7 @@ is_regular kinds.Free = false
 is_regular kinds.Special = false
 is_regular kinds.Odd = false
 
--- a regular file is no directory
+-- a regular file isn't a directory
 not_regular : (geometry : Geometry) (image : List ℕ) (i x : ℕ) → kind_at geometry image i ≡ kinds.Regular → IsDirectory geometry image x → x ≢ i
 not_regular geometry image i x regular is same =
     let both : kinds.Regular ≡ kinds.Directory = sym regular ∙ (ap (kind_at geometry image) (sym same) ∙ is.kind) in

@@ -98,18 +98,18 @@ cut_mode V6 (suc n) mode file =
     rw some (record { kind = refl; permissions = refl; flag = sym (all_passes (is_large V6 mode)) })
 cut_mode V7 size mode file = record { kind = refl; permissions = refl; flag = refl }
 
--- a file's form, by its flag
+-- a file's block map, by its flag
 pub form_flag : (edition : Edition) (old new : ℕ) (large : Bool) → has_places (kind_of edition old) ≡ true → KeepsMode edition old new large
     → has_places (kind_of edition new) ≡ true
 form_flag edition old new large file keeps = ap has_places keeps.kind ∙ file
 
--- the form by the flag
+-- the block map by the flag
 touched_flag : (large : Bool) (blocks : List ℕ)
     → (if large || grows_large (if large then Large else Small) blocks then Large else Small) ≡ fit_form (if large then Large else Small) blocks
 touched_flag true blocks = refl
 touched_flag false blocks = refl
 
--- the form of a file after blocks are touched
+-- the block map of a file after blocks are touched
 pub touched_form : (edition : Edition) (old new : ℕ) (blocks : List ℕ) → has_places (kind_of edition old) ≡ true
     → KeepsMode edition old new (is_large edition old || grows_large (form_of edition old) blocks)
     → form_of edition new ≡ fit_form (form_of edition old) blocks

@@ -29,7 +29,7 @@ use Rattle.vol_dir.proofs.PlaceTests.{place_test}
 use Rattle.vol_change.proofs.FreeLists.{one_list}
 use Rattle.vol_change.proofs.WrittenStates.{IsKind}
 
--- the way of the first block is its place alone
+-- the path of the first block is its place alone
 on_first : (p : List ℕ) → ((bytes_eq p (0 ∷ []) || false) || false) ≡ true → p ≡ 0 ∷ []
 on_first p test = same_bytes p (0 ∷ []) (sym (or-false (bytes_eq p (0 ∷ []) || false) ∙ or-false (bytes_eq p (0 ∷ []))) ∙ test)
 

@@ -92,7 +92,7 @@ free_after_mkdir geometry image owner now perm made d name free is =
     omega (arith, less, need) in
     entry_takes geometry mid d name is.first is.last ∙ taken
 
--- a further name takes the blocks that its entry needs
+-- another name takes the blocks that its entry needs
 pub free_after_link : (geometry : Geometry) (image : List ℕ) (now i d : ℕ) (name : List ℕ) → IsDirectory geometry image d
     → free_in (at_time now (after_link (state geometry image) now i d name)) ≡ free_in (state geometry image) - entry_need (state geometry image) d
 unfolding tree
@@ -191,7 +191,7 @@ free_after_write geometry image now offset i (byte ∷ bytes) first last =
     free_less geometry old i (stored_shape geometry.edition (old i) blocks) (need_in geometry.edition (old i) blocks) first last
     (stored_count geometry.edition (old i) blocks)
 
--- a file that loses bytes gives back the blocks that no way of the others needs
+-- a file that loses bytes gives back the blocks that no path of the others needs
 pub free_after_truncate : (geometry : Geometry) (image : List ℕ) (now size i : ℕ) → Rules1To12 geometry image → 1 ≤ i → i ≤ geometry.last_inode
     → free_in (at_time now (after_truncate (state geometry image) now size i))
     ≡ free_in (state geometry image) + cut_count geometry.edition ((state geometry image).shapes i) size

@@ -101,13 +101,13 @@ blocks_length geometry image i (p ∷ ps) =
           omega (arith, rest, step, one, here)
     ]
 
--- a test counted over the places alone gives the same as over all places of a form
+-- a test counted over the places alone gives the same as over all places of a block map
 test_places : (form : BlockMap) (names : List ℕ → Bool) → count_by (λ p. is_place form p && names p) (places form) ≡ count_by names (places form)
 test_places form names =
     count_among (λ p. is_place form p && names p) names (places form) (λ p among.
     let place : is_place form p ≡ true = place_test form p (among_places form p among) in ap (λ t. t && names p) place)
 
--- the form of a file is that of its shape
+-- the block map of a file is that of its shape
 pub form_shape : (edition : Edition) (mode : ℕ) → has_places (kind_of edition mode) ≡ true → form_in edition (is_large edition mode) ≡ form_of edition mode
 form_shape V6 mode file = sym (ap (λ t. if t then file_form V6 mode else Bare) file)
 form_shape V7 mode file = sym (ap (λ t. if t then file_form V7 mode else Bare) file)
@@ -153,7 +153,7 @@ count_number geometry image i first last =
     ap (λ t. place_count geometry.edition (if t then shape_of geometry image i (kind_of geometry.edition (mode_of geometry image i)) else no_shape)) inside
     ∙ count_shape geometry image i (kind_at geometry image i) refl
 
--- an i-node that is no file has no blocks
+-- an i-node that isn't a file has no blocks
 pub count_none_bare : (geometry : Geometry) (image : List ℕ) (i : ℕ) → 1 ≤ i → i ≤ geometry.last_inode → has_places (kind_at geometry image i) ≡ false
     → place_count geometry.edition (shapes geometry image i) ≡ 0
 count_none_bare geometry image i first last bare =

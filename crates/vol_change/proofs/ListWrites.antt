@@ -33,7 +33,7 @@ use Rattle.vol_change.proofs.States.{makes_node, makes_time}
 use Rattle.vol_layout.proofs.EditionLaws.{super_order}
 use Rattle.vol_change.proofs.WholeLaws.{whole_kept, whole_reading, around_list, zone_behind, place_before}
 
--- the places stay if the form and the addresses do
+-- the places stay if the block map and the addresses do
 places_by : (geometry : Geometry) (old new : List ℕ) (i : ℕ) → form_at geometry new i ≡ form_at geometry old i
     → (inode_of geometry.edition new i).addresses ≡ (inode_of geometry.edition old i).addresses → KeepsPlaces geometry old new i
 places_by geometry old new i form addresses = record {

@@ -107,7 +107,7 @@ module _ (geometry : Geometry) (old new : List ℕ) (i : ℕ) (node : Inode) (ru
   pub made_unused : (j : ℕ) → 1 ≤ j → j ≢ i → KeepsUnused geometry old new j
   made_unused j low other = other_unused geometry old new i j first low other makes.same
 
-  -- it is of no size
+  -- its size is 0
   no_size : min (size_of geometry new i) (constants geometry.edition).greatest ≡ 0
   no_size = omega (arith, size_new)
 
@@ -138,7 +138,7 @@ module _ (geometry : Geometry) (old new : List ℕ) (i : ℕ) (node : Inode) (ru
       ] refl in
       λ k p. each p k
 
-  -- so its shape is that of nothing
+  -- so its shape is empty
   shape_by : (kind : Kind) → has_places kind ≡ true → shape_of geometry new i kind ≡ no_shape
   shape_by kinds.Free has = refl
   shape_by kinds.Special has = refl

@@ -1,4 +1,4 @@
--- The i-node of a new node reads as the node described.
+-- The i-node of a new node reads as the described node.
 use Rattle.std.proofs.Common.{◌≡◌, ◌∙◌, refl, ℕ, ◌+◌, ◌%◌, ◌<◌, ◌≤◌, true, false, List, slice_index, arith}
 use Rattle.pdp_words.specs.Words.{SameOutside}
 use Rattle.pdp_words.proofs.Outside.{join}

@@ -109,7 +109,7 @@ entry_over state d i name node shape =
     ∙ (ap (λ (x : Shape). edit d (Some (with_entry name i x node)) (shape_with_entry edition x name) put) (set_here state.shapes d shape)
     ∙ edit_over state d (Some node) (Some (with_entry name i shape node)) shape (shape_with_entry edition shape name))
 
--- a new entry of another node than the one that was put
+-- a new entry of a node other than the one that was put
 pub entry_apart : (state : State) (now d i made : ℕ) (name : List ℕ) (node : Option Node) (shape : Shape) → made ≢ d
     → add_entry now d name i (edit made node shape state) ≡ edit made node shape (add_entry now d name i state)
 entry_apart state now d i made name node shape apart =

@@ -197,7 +197,7 @@ only_graph geometry old new i only =
     (λ x is other too. (only.others x is.first is.last other).content.size)
     (λ x t is other too. entry_stays geometry old new x t (only.others x is.first is.last other).content is)
 
--- and the link counts of all that isn't free
+-- and the link counts of everything that isn't free
 pub only_links : (geometry : Geometry) (old new : List ℕ) (i x : ℕ) → ChangesOnly geometry old new i → x ≢ i
     → (graph_of geometry old).kind x ≢ kinds.Free → (graph_of geometry new).links x ≡ (graph_of geometry old).links x
 only_links geometry old new i x only other used =

@@ -171,7 +171,7 @@ count_filled form names blocks =
     let fitted : count_by before (places fit) ≡ count_by names (places form) + (if grows_large form blocks then 1 else 0) = count_fit form names blocks in
     omega (arith, both, fitted)
 
--- the form of a file once blocks are stored
+-- the block map of a file once blocks are stored
 form_stored : (edition : Edition) (large : Bool) (blocks : List ℕ)
     → form_in edition (large || grows_large (form_in edition large) blocks) ≡ fit_form (form_in edition large) blocks
 form_stored V6 true blocks = refl

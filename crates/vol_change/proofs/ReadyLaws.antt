@@ -82,7 +82,7 @@ whole_kept edition old new same len rules =
     ∙ (ap (λ m. nat_le 1024 (length old) && nat_le (512 * m) (length old)) count ∙ rules)
 
 -- an image is sound if rules 1 and 2 hold, and, for the geometry that is its own, the geometry fits, rules 3 to 8 hold,
--- and so do the rules that speak of the graph
+-- and so do the rules about the graph
 pub sound_by : (edition : Edition) (geometry : Geometry) (new : List ℕ) → geometry_of edition new ≡ geometry → is_whole edition new ≡ true
     → is_bounded edition new ≡ true → Rules3To8 geometry new
     → HasEntries geometry new × HasDots geometry new × IsTree geometry new × HasLinks geometry new → IsSound edition new

@@ -96,7 +96,7 @@ front_passed p (j ∷ q) h = elim (cases_Bool (bytes_eq p (j ∷ q))) [
   | inr other ↦ inr (front_passed p q (sym (ap (λ t. t || list_any (bytes_eq p) (fronts q)) other) ∙ h))
 ]
 
--- a list of indexes on the way of a block is a place
+-- a list of indexes on the path of a block is a place
 way_place : (form : BlockMap) (b : ℕ) (p : List ℕ) → list_any (bytes_eq p) (way form b) ≡ true → IsPlace form p
 way_place form b p h =
     elim (last_place form b) as (λ o. last_place form b ≡ o → list_any (bytes_eq p) (option_map_or fronts o []) ≡ true → IsPlace form p) [
@@ -104,7 +104,7 @@ way_place form b p h =
       | Some q ↦ λ e passes. place_front form q p (last_leaf form b q e).place (front_passed p q passes)
     ] refl h
 
--- a list of indexes on the ways of blocks is a place
+-- a list of indexes on the paths of blocks is a place
 pub ways_place : (form : BlockMap) (blocks p : List ℕ) → is_on_ways form blocks p ≡ true → IsPlace form p
 ways_place form [] p h = absurd (true≢false (sym h))
 ways_place form (b ∷ blocks) p h = elim (cases_Bool (list_any (bytes_eq p) (way form b))) [

@@ -106,7 +106,7 @@ makes_node geometry old new i node changes =
       | inr other ↦ ap (λ t. if t then shape_at geometry old i else shapes geometry old j) (ne_eqb j i other)
     ])
 
--- if all nodes and shapes stay, only the time is another
+-- if all nodes and shapes stay, only the time changes
 pub makes_time : (geometry : Geometry) (old new : List ℕ) (now : ℕ) → long new (time_place geometry.edition) ≡ now
     → ((j : ℕ) → 1 ≤ j → j ≤ geometry.last_inode
     → (node_of geometry new j ≡ node_of geometry old j) × (shape_at geometry new j ≡ shape_at geometry old j))

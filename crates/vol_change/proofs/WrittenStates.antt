@@ -124,7 +124,7 @@ passes_then : (s t u : Bool) → (s && (t && u)) ≡ ((s && t) && u)
 passes_then true t u = refl
 passes_then false t u = refl
 
--- the places on the ways of bytes that stay are places of the file as it was
+-- the places on the paths of bytes that stay are places of the file as it was
 cut_places : (edition : Edition) (size old new : ℕ) (names : Bool) (p : List ℕ) → new ≡ truncated_mode edition size old
     → (is_place (form_of edition new) p && (names && is_kept (form_of edition old) size p))
     ≡ (is_place (form_of edition old) p && (names && is_kept (form_of edition old) size p))
@@ -140,7 +140,7 @@ cut_places V6 (suc n) old new names p cut =
 cut_places V7 size old new names p cut =
     ap (λ mode. is_place (form_of V7 mode) p && (names && is_kept (form_of V7 old) size p)) cut
 
--- which places name something after a truncation
+-- the places that name something after a truncation
 cut_names : (geometry : Geometry) (old new free : List ℕ) (i size : ℕ) → IsFile geometry new i → has_places (kind_at geometry old i) ≡ true
     → Truncates geometry old new i size free → (p : List ℕ) → is_named_place geometry new i p
     ≡ (is_named_place geometry old i p && is_kept (form_in geometry.edition (is_large geometry.edition (mode_of geometry old i))) size p)

@@ -13,7 +13,7 @@ pub record HoldsNames (state : State) (i : ℕ) (entries : Names) (bytes : ℕ) 
   pub size : node.size ≡ bytes
   pub shape : state.shapes i ≡ places
 
--- directory i gets `.` and `..` in its first two slots, and they are all that it has (mkdir)
+-- directory i gets `.` and `..` in its first two slots, and has no other entries (mkdir)
 pub record AddsDots (old new : Graph) (i d : ℕ) : Type 0 where
   pub beside : StaysBeside old new i
   pub size : new.size i ≡ 32

@@ -33,14 +33,14 @@ abbrev pub after_rmdir : State → ℕ → ℕ → List ℕ → State
 after_rmdir state now d name =
     remove_node (number_of_name state.tree d name) (drop_link now d (remove_entry now d name state))
 
--- node i gets other permission bits (chmod, section 2 of the manual)
+-- node i gets new permission bits (chmod, section 2 of the manual)
 abbrev pub after_chmod : State → ℕ → ℕ → ℕ → State
 after_chmod state now perm i = change_node i (with_permission_bits now perm) state
 
--- node i gets another user and group (chown, section 2 of the manual)
+-- node i gets a new user and group (chown, section 2 of the manual)
 abbrev pub after_chown : State → ℕ → ℕ → ℕ → ℕ → State
 after_chown state now uid gid i = change_node i (with_owner now uid gid) state
 
--- node i gets other times of its last access and last modification (utime, section 2 of the manual)
+-- node i gets new times of last access and last modification (utime, section 2 of the manual)
 abbrev pub after_utime : State → ℕ → ℕ → ℕ → ℕ → State
 after_utime state now accessed modified i = change_node i (with_times now accessed modified) state

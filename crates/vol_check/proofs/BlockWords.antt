@@ -27,7 +27,7 @@ on_here weight v w a e = ap (λ t. if t then weight (mark v a) else 0) (eq-eqb v
 pub on_else : (weight : Mark → ℕ) (v w a : ℕ) → v ≢ w → on w weight (mark v a) ≡ 0
 on_else weight v w a ne = ap (λ t. if t then weight (mark v a) else 0) (ne_eqb v w ne)
 
--- a test isn't both
+-- a test isn't both true and false
 clash : {x y : Bool} → x ≡ y → y ≡ true → x ≡ false → ⊥
 clash same up down = let e : ◌≡◌ {A = ℕ} 1 0 = ap one_if (sym up ∙ (sym same ∙ down)) in omega (arith, e)
 
@@ -48,7 +48,7 @@ module _ (g : Geometry) (weight : Mark → ℕ) where
         place_outside g (on (place_word g b) weight) i k outside ∙ omega (arith, a, c, z)
   ]
 
-  -- its marks on a word past those of the places that is none of i-node i's own two
+  -- its marks on a word past those of the places, other than the two words of i-node i
   pub place_past : (w i k : ℕ) → 1 + zone_len g ≤ w → w ≢ bad_word g i → w ≢ least_word g i → place_weight g (on w weight) i k ≡ 0
   place_past w i k past bad least = elim (cases_Bool (in_zone g k)) [
     | inl inside ↦ let at = zone_bounds g k inside in
@@ -86,7 +86,7 @@ module _ (g : Geometry) (weight : Mark → ℕ) where
         place_outside g (on (least_word g i) weight) i k outside ∙ omega (arith, a, c, o)
   ]
 
-  -- a kind adds nothing to a word that is none of the kinds'
+  -- a kind adds nothing to a word other than those of the kinds
   pub kind_else : (w : ℕ) (kind : Kind) → ((c : ℕ) → c ≤ 3 → kind_word g c ≢ w) → kind_weight g (on w weight) kind ≡ 0
   kind_else w kinds.Free other = refl
   kind_else w kinds.Regular other = on_else weight (kind_word g 0) w 1 (other 0 (omega arith))
@@ -94,7 +94,7 @@ module _ (g : Geometry) (weight : Mark → ℕ) where
   kind_else w kinds.Special other = on_else weight (kind_word g 2) w 1 (other 2 (omega arith))
   kind_else w kinds.Odd other = on_else weight (kind_word g 3) w 1 (other 3 (omega arith))
 
-  -- the free list adds nothing to a word that is none of its own
+  -- the free list adds nothing to a word other than its own
   pub free_else : (w : ℕ) (met : List ℕ) → ((b : ℕ) → in_zone g b ≡ true → free_word g b ≢ w) → list_all (in_zone g) met ≡ true
       → total (λ b. on w weight (mark (free_word g b) 1)) met ≡ 0
   free_else w [] other all = total_nil (λ b. on w weight (mark (free_word g b) 1))

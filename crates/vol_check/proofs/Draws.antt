@@ -17,7 +17,7 @@ use Rattle.vol_check.specs.Notes.{Stays}
 use Rattle.vol_check.specs.Steps.{Works}
 use Rattle.vol_check.proofs.PastPieces.{IsPast, kept_next}
 
--- a flag isn't both
+-- a flag isn't both true and false
 pub clash : {A : Type 0} (b : Bool) → b ≡ true → b ≡ false → A
 clash b up down = let e : ◌≡◌ {A = ℕ} 1 0 = ap one_if (sym up ∙ down) in absurd (omega (arith, e))
 
@@ -115,7 +115,7 @@ module _ (tally : Tally) (checker : Checker) (layout : Layout) (image : List ℕ
     last = λ end. clash new.ended end (stays.ended ∙ (ended ∙ early));
   }
 
--- a seat that found no memory says nothing
+-- nothing is claimed of a seat that ran out of memory
 pub spoiled_knows : (checker : Checker) (layout : Layout) (image : List ℕ) (s : CheckSeat) → s.spoiled ≡ true → IsOf checker layout image s
 spoiled_knows checker layout image s spoiled = record { marks = λ fine. absurd (clash fine); fault = λ fine. absurd (clash fine); entries = λ fine. absurd (clash fine) }
   where

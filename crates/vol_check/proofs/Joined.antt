@@ -33,7 +33,7 @@ neither : (x y : Bool) → (x || y) ≡ false → (x ≡ false) × (y ≡ false)
 neither false y none = (refl, none)
 neither true y none = absurd (let e : ◌≡◌ {A = ℕ} 1 0 = ap one_if none in omega (arith, e))
 
--- a value that is kept by one of two seats at least is kept by both
+-- a value that at least one of two seats keeps is kept by both
 either_kept : {A : Type 0} (value : Option A) (a b c : ℕ) → c ≡ a + b
     → option_or (if a == 0 then None else value) (if b == 0 then None else value) ≡ (if c == 0 then None else value)
 either_kept value a b c sum = elim (cases_eq a 0) [

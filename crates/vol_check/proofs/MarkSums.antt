@@ -34,7 +34,7 @@ use Rattle.vol_check.proofs.Weights.{weigh_file, weigh_zero, weigh_leaf, weigh_b
 use Rattle.vol_check.proofs.Drawn.{total_by, total_same, over_inodes, below_at_most, below_alone}
 use Rattle.vol_check.proofs.BlockWords.{on, on_here, on_else, place_at, place_past, place_bad, place_least, kind_else, free_else, total_kept, least_is}
 
--- whichever way a test turns out
+-- whatever the result of a test
 pub either_way : {A : Type 0} (P : A → Type 0) (t : Bool) (a b : A) → P a → (t ≡ false → P b) → P (if t then a else b)
 either_way P true a b yes-case no-case = yes-case
 either_way P false a b yes-case no-case = no-case refl

@@ -172,7 +172,7 @@ module _ (g : Geometry) (image : List ℕ) (d : ℕ) where
         let none = over_blank (32 * b + few) (32 - few) (λ s from-there before. entry_past s (let h = short (omega arith) in omega arith)) in
         omega arith
 
-  -- a block that is none of the data zone's has no entries
+  -- a block outside the data zone has no entries
   pub block_hole : (b k s : ℕ) → stored g image d (form_at g image d) b ≡ k → in_zone g k ≡ false → 32 * b ≤ s → s < 32 * b + 32 → entry_at g image d s ≡ None
   block_hole b k s is outside low high = elim (cases_lt s (slot_count g image d)) [
     | inr past ↦ entry_past s past
@@ -194,7 +194,7 @@ none_in kinds.Regular n other = refl
 none_in kinds.Special n other = refl
 none_in kinds.Odd n other = refl
 
--- and over one of an i-number that is no directory's
+-- and over one of an i-number that isn't a directory's
 pub part_none : (g : Geometry) (image : List ℕ) (weight : SlotWeight) (d k : ℕ) → kind_at g image d ≢ kinds.Directory → part_sum g image weight d k ≡ 0
 unfolding part_sum
 part_none g image weight d k other = none_in (kind_at g image d) (below (λ t. weight d (2048 * k + t) (entry_at g image d (2048 * k + t))) 2048) other

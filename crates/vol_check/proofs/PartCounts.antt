@@ -26,12 +26,12 @@ some_of kinds.Special blocks = omega arith
 some_of kinds.Odd blocks = omega arith
 
 module _ (g : Geometry) (image : List ℕ) (i : ℕ) where
-  -- an i-number that is no directory's has one piece
+  -- an i-number that isn't a directory's has one piece
   pub one_part : kind_at g image i ≢ kinds.Directory → part_count g image i ≡ 1
   unfolding part_count
   one_part other = one_of (kind_at g image i) (whole_blocks (body_size g image i)) other
 
-  -- a directory has one for each 64 logical blocks begun
+  -- a directory has one for each 64 logical blocks, and one for those that are left
   pub directory_parts : kind_at g image i ≡ kinds.Directory → part_count g image i ≡ max 1 ((whole_blocks (body_size g image i) + 63) / 64)
   unfolding part_count
   directory_parts is = ap (λ k. parts_of k (whole_blocks (body_size g image i))) is

@@ -133,7 +133,7 @@ remade_around geometry old new used fits keeps =
       behind = keeps.above;
     }
 
--- block 0 is no data block
+-- block 0 isn't a data block
 behind_zero : (geometry : Geometry) (image : List ℕ) → Fits geometry image → 1 ≤ geometry.zone_start
 behind_zero geometry image fits = omega (arith, fits.i_list)
 
@@ -205,7 +205,7 @@ remade_whole geometry old new used fits after marked keeps free kinds sizes zone
       ];
     }
 
--- the rules that speak of directories hold
+-- the rules about directories hold
 remade_graph : (geometry : Geometry) (old new : List ℕ) (used : List Bool) → Fits geometry old → AreNamed geometry old used
     → KeepsUsed geometry used old new → IsZoned geometry old → HasSizes geometry old → HasSizes geometry new
     → HasEntries geometry old → HasDots geometry old → IsTree geometry old → HasLinks geometry old

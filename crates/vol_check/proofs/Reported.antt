@@ -39,7 +39,7 @@ use Rattle.vol_check.proofs.MarkSums.{AllMarked, either_way, few_blocks, places_
 pub exact : (w n : ℕ) → w ≡ n % 2 ^ 64 → n < 2 ^ 64 → w ≡ n
 exact w n is small = omega arith
 
--- the walk over the free list meets a block at most for each step
+-- the walk over the free list meets at most one block in each step
 walk_short : (g : Geometry) (image : List ℕ) (fuel head count : ℕ) (met : List ℕ)
     → length (walk_rest g image fuel head count met).met ≤ length met + fuel
 unfolding walk_rest

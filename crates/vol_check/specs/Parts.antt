@@ -1,4 +1,4 @@
--- The pieces of a sweep over directories: one for each i-number, and one for each 64 logical blocks begun of a large directory.
+-- The pieces of a sweep over directories: one for each i-number; a large directory has one for each 64 logical blocks, the last for those that are left.
 use Rattle.std.specs.Prelude.{◌≡◌, ℕ, zero, suc, ◌+◌, ◌-◌, ◌/◌, ◌<◌, ◌≤◌, max, nat_lt, if◌then◌else◌, List, length, slice_index}
 use Rattle.vol_layout.specs.Body.{body_size}
 use Rattle.vol_layout.specs.declared.geometry.Geometry.{Geometry}

@@ -16,7 +16,7 @@ use Rattle.count_table.specs.Tallies.{IsSeatAt}
 use Rattle.vol_reports.specs.Words.{place_word, free_word, bad_word, kind_word, least_word}
 use Rattle.vol_free.specs.FreeWalk.{free_walk}
 
--- a place of i-node i that names number k marks the block's word, or i's own two words if k is no data block (icheck)
+-- a place of i-node i that names number k marks the block's word, or i's own two words if k isn't a data block (icheck)
 abbrev pub place_weight : Geometry → (Mark → ℕ) → ℕ → ℕ → ℕ
 place_weight g weight i k =
     if in_zone g k then weight (mark (place_word g k) 1)

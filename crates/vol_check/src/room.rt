@@ -135,7 +135,7 @@ fn count_below(
     Ok(count)
 }
 
-/// Adds the entries of an indirect block, each as many times as places name the block. Adds nothing if it is no data block.
+/// Adds the entries of an indirect block, each as many times as places name the block. Adds nothing if it isn't a data block.
 fn push_entries(
     image: &Image,
     geometry: &Geometry,
@@ -155,7 +155,7 @@ fn push_entries(
     Ok(())
 }
 
-/// Returns the number of entries in block `k`, except `.` and `..`; 0 if it is no data block.
+/// Returns the number of entries in block `k`, except `.` and `..`; 0 if it isn't a data block.
 fn entries_in(image: &Image, geometry: &Geometry, k: u32) -> u64
     requires fits { Fits geometry.now image.now }
 {

@@ -122,7 +122,7 @@ pub record Begins (path named : List ℕ) (k n : ℕ) : Type 0 where
   pub full : 0 < length named
   pub stop : n ≡ position_or_len (λ c. eqb c 47) named
 
--- it begins at the first byte that is no slash, and ends at the next slash
+-- it begins at the first byte that isn't a slash, and ends at the next slash
 pub begins : (path named : List ℕ) (k n : ℕ) (slash : Option ℕ) → Some k ≡ position (λ c. not (eqb c 47)) path → named ≡ drop k path
     → slash ≡ position (λ c. eqb c 47) named → n ≡ unwrap_or slash (length named) → Begins path named k n
 begins path named k n slash start is found stop = record {

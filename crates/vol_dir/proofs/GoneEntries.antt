@@ -46,7 +46,7 @@ fronts_named geometry image i p (j ∷ (a ∷ q)) fits some on = elim (or_cases 
       (λ e. some (named_stops geometry image i j a q (ap (in_zone geometry) e ∙ zero_out geometry image fits))) above
 ]
 
--- a file doesn't become large at a block that has a way
+-- a file doesn't become large at a block that has a block path
 grows_not : (form : BlockMap) (b : ℕ) (p : List ℕ) → last_place form b ≡ Some p → grows_large form (b ∷ []) ≡ false
 grows_not Small b p e = elim (cases_lt b 8) [
   | inl low ↦ ap (λ t. t || false) (lt-leb 8 b low)
@@ -64,12 +64,12 @@ count_none {X} test (x ∷ xs) none =
     let first : ◌≡◌ {A = ℕ} (cond (test x) 1 0) 0 = ap (λ b. cond b 1 0) (none x) in
     let split = sum_by-cons {X = X} (λ y. cond (test y) 1 0) x xs in omega (arith, rest, split, first)
 
--- a place on the way that names a block isn't missing
+-- a place on the block path that names a block isn't missing
 passes_not : (on : Bool) (k : ℕ) → (on ≡ true → k ≢ 0) → ((on || false) && not (not (k == 0))) ≡ false
 passes_not true k some = ap (λ b. not (not b)) (ne_eqb k 0 (some refl))
 passes_not false k some = refl
 
--- nothing is missing on the way of a block whose last place names something
+-- nothing is missing on the block path of a block whose last place names something
 none_missing : (geometry : Geometry) (image : List ℕ) (i b : ℕ) (form : BlockMap) (q : List ℕ) → Fits geometry image → last_place form b ≡ Some q
     → named geometry image i q ≢ 0 → missing_count form (is_named geometry image i) (b ∷ []) ≡ 0
 unfolding missing_count

@@ -244,7 +244,7 @@ collected_next geometry image d from s slot name old new before after collected 
           (passes_more (by_bytes old) (name_of slot.name) slot.inode geometry image (below geometry image (constants geometry.edition).pointers m n c) part (marked m n mark c part low));
     }
 
--- if no further slot has another name, all names of the directory are collected
+-- if no later slot has another name, all names of the directory are collected
 pub collected_all : (geometry : Geometry) (image : List ℕ) (d from : ℕ) (entries : List (Vec ℕ × ℕ)) (marks : List Bool)
     → HasCollected geometry image d from entries marks
     → PassSlots (is_met (by_bytes entries)) geometry image d from (slot_count geometry image d)
@@ -259,7 +259,7 @@ lookup_listed : (name : List ℕ) (entries : List (Vec ℕ × ℕ)) → lookup (
 lookup_listed name [] = refl
 lookup_listed name (e ∷ es) = ap (cond (is_eq (slice_cmp nat_cmp name e.0.items)) (Some e.1)) (lookup_listed name es)
 
--- a name that isn't there is put among entries
+-- a new name is put among entries
 pub listed_put : (entries new : List (Vec ℕ × ℕ)) (key : Vec ℕ) (name : List ℕ) (i : ℕ)
     → is_some (lookup (λ k. is_eq (slice_cmp nat_cmp name k.items)) entries) ≡ false
     → new ≡ insert_entry (λ x y. slice_cmp nat_cmp x.items y.items) entries key i → key.items ≡ name → by_bytes new ≡ put_first (by_bytes entries) name i
@@ -269,7 +269,7 @@ listed_put entries new key name i missing put is =
     ∙ sym (ap (λ found. cond (is_some found) (by_bytes entries) (insert (by_bytes entries) name i)) (sym (lookup_listed name entries))
     ∙ ap (λ b. cond b (by_bytes entries) (insert (by_bytes entries) name i)) missing)))
 
--- a name that is there already changes nothing
+-- adding a name that exists changes nothing
 pub listed_kept : (entries : List (Vec ℕ × ℕ)) (name : List ℕ) (i : ℕ)
     → is_some (lookup (λ k. is_eq (slice_cmp nat_cmp name k.items)) entries) ≡ true → by_bytes entries ≡ put_first (by_bytes entries) name i
 unfolding put_first

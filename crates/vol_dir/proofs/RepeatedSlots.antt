@@ -49,7 +49,7 @@ block_passes test geometry image d b part fits within passes = elim (cases_lt pa
   | inr many ↦ ap (λ z. if z then test (entry_in_block geometry image (stored geometry image d (form_at geometry image d) b) part) else true) (le-ltb part 32 many)
 ]
 
--- no slot of a number that is no data block's fails a test that an empty one passes
+-- no slot of a number outside the data blocks fails a test that an empty one passes
 pub out_passes : (test : Option (List ℕ × ℕ) → Bool) (geometry : Geometry) (image : List ℕ) (m part : ℕ) → in_zone geometry m ≡ false → test None ≡ true
     → passes_in test geometry image m part ≡ true
 out_passes test geometry image m part out none = elim (nat_lt part 32) as (λ z. (if z then test (entry_in_block geometry image m part) else true) ≡ true) [

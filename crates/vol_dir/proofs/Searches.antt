@@ -115,7 +115,7 @@ none_any : {X : Type 0} (test : X → Bool) (xs : List X) (d : X) → ((t : ℕ)
 none_any test [] d none = refl
 none_any test (x ∷ xs) d none = or_from (test x) (list_any test xs) (none zero (omega arith)) (none_any test xs d (λ t h. none (suc t) (omega arith)))
 
--- the map has another name than `.` and `..` if a search for one finds a slot
+-- the map has a name other than `.` and `..` if a search for one finds a slot
 pub others_are : (geometry : Geometry) (image : List ℕ) (d : ℕ) (r : Option (ℕ × Slot))
     → Searches Other (entry_at geometry image d) 0 (slot_count geometry image d) r
     → list_any (λ (entry : List ℕ × ℕ). not (is_dots entry.0)) (names_of (slots geometry image d)) ≡ is_some r
@@ -208,7 +208,7 @@ module _ (geometry : Geometry) (image name : List ℕ) (d : ℕ) where
         ap (λ n. holds name (entry_at geometry image d n)) same ∙ not_held_empty name (entry_at geometry image d s) empty
   ]
 
-  -- the first slot that is empty or has the name is empty, and the search for the name went on after it
+  -- the first slot that is empty or has the name is empty, and the search for the name continued after it
   pub looked_on : (s : ℕ) (found : Option Entry) → s < slot_count geometry image d → is_none (entry_at geometry image d s) ≡ true
       → ((t : ℕ) → t < s → (is_none (entry_at geometry image d t) || holds name (entry_at geometry image d t)) ≡ false)
       → Finds name (entry_at geometry image d) (s + 1) (slot_count geometry image d) found → IsLookedUp geometry image d name (ok_or found s)

@@ -106,7 +106,7 @@ searched_other geometry image cred i kinds.Directory h = absurd (h refl)
 searched_other geometry image cred i kinds.Special h = refl
 searched_other geometry image cred i kinds.Odd h = refl
 
--- a node that is no directory isn't searched
+-- a node that isn't a directory isn't searched
 pub search-other : (geometry : Geometry) (image : List ℕ) (cred : Cred) (i : ℕ) → 1 ≤ i → i ≤ geometry.last_inode
     → kind_at geometry image i ≢ kinds.Directory → search (tree geometry image) cred i ≡ Err refusals.NotDirectory
 search-other geometry image cred i low high h =

@@ -8,7 +8,7 @@ use Rattle.vol_layout.specs.declared.slot.Slot.{Slot}
 use Rattle.vol_file.specs.Repeats.{MarksPassed}
 use Rattle.vol_dir.specs.Entries.{entry_in, entry_at, slot_count}
 
--- the entry in slot s of block m; None if m is no data block (manual section 5, directories)
+-- the entry in slot s of block m; None if m isn't a data block (manual section 5, directories)
 abbrev pub entry_in_block : Geometry → List ℕ → ℕ → ℕ → Option (List ℕ × ℕ)
 entry_in_block geometry image m s = if in_zone geometry m then entry_in (slot_at image (512 * m + 16 * s)) else None
 

@@ -61,12 +61,12 @@ pub record State : Type 0 where
   pub tree : Tree
   pub shapes : ℕ → Shape
 
--- the form of a file, large or not (manual section 5, file system)
+-- the block map of a file, large or not (manual section 5, file system)
 abbrev pub form_in : Edition → Bool → BlockMap
 form_in V6 large = if large then Large else Small
 form_in V7 large = Deep
 
--- true if a list of indexes is a place of the form (Lions on bmap; ino.h)
+-- true if a list of indexes is a place of the block map (Lions on bmap; ino.h)
 abbrev pub is_place : BlockMap → List ℕ → Bool
 is_place form [] = false
 is_place form (k ∷ []) = nat_lt k (first_count form)

@@ -34,7 +34,7 @@ pub fn names_are_those_of_slots()
     ensures ascending { AscendsByName }
 {}
 
-/// Exactly the places of a form pass the test for places, with which the shape of a file is computed.
+/// Exactly the places of a block map pass the test for places, with which the shape of a file is computed.
 pub fn places_pass_their_test()
     ensures { TestsPlaces }
 {}

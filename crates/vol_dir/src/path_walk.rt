@@ -17,9 +17,9 @@ use vol_layout::i_list::kind;
 use vol_layout::{Geometry, Kind};
 
 /// Returns the i-number to which a path leads from the root, as a user walks it; the empty path leads to the root. Each
-/// component is refused if the i-node so far is no directory (NotDirectory), doesn't grant execute (Access) or doesn't have
-/// the name (NoEntry), in this order (Lions on namei). In an unsound image, an entry may have a number outside the volume,
-/// which counts as no directory.
+/// component is refused if the i-node so far isn't a directory (NotDirectory), doesn't grant execute (Access) or doesn't
+/// have the name (NoEntry), in this order (Lions on namei). In an unsound image, an entry may have a number outside the
+/// volume, which doesn't count as a directory.
 ///
 /// Costs what [`find`] does for each component.
 pub fn walk(image: &Image, geometry: &Geometry, cred: Cred, path: &[u8]) -> Result<u16, Refusal>
@@ -39,7 +39,7 @@ pub fn walk(image: &Image, geometry: &Geometry, cred: Cred, path: &[u8]) -> Resu
 
 /// Returns the parent directory to which a path leads, and the path's last component, cut to 14 bytes, or `None` for a
 /// path without components. The walk over all components but the last is refused as that of [`walk`] is; then also if the
-/// parent is no directory (NotDirectory) or doesn't grant execute (Access) (Lions on namei).
+/// parent isn't a directory (NotDirectory) or doesn't grant execute (Access) (Lions on namei).
 ///
 /// Costs what [`find`] does for each component but the last.
 pub fn walk_parent<'a>(

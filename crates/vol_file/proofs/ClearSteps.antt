@@ -255,7 +255,7 @@ below_named geometry old new i past b q given blocks is s = record {
   some = is.some;
 }
 
--- nothing below a place is named once all below it is cleared
+-- nothing below a place is named once everything below it is cleared
 pub below_empty : (geometry : Geometry) (old new : List ℕ) (i : ℕ) (past : List ℕ → Bool) (q given blocks : List ℕ)
     → ((p : List ℕ) → IsUnder q 0 p → past p ≡ true) → Clears geometry old new i (IsPastUnder past q 0) given blocks → IsEmptyUnder geometry new i q
 below_empty geometry old new i past q given blocks all s p place under =

@@ -181,7 +181,7 @@ kinds_put geometry old mid new i fits zero first directory second regular from a
           inl (free 1 (omega arith) (omega arith) (λ same. let f : 1 ≡ i = same in omega arith) (λ same. let f : 1 ≡ root = same in omega arith));
     }
 
--- a volume of zeros with a free list is sound once it has got a root and a file
+-- a volume of zeros with a free list is sound once it has a root and a file
 pub volume_sound : (geometry : Geometry) (old mid new blocks : List ℕ) (i directory regular : ℕ) → Fits geometry old → IsFree geometry old blocks
     → ((k : ℕ) → 1024 ≤ k → k < 512 * geometry.zone_start → get_or old k 0 ≡ 0)
     → SameOutside old mid (inode_place geometry.edition (constants geometry.edition).root) (inode_place geometry.edition (constants geometry.edition).root + 2)

@@ -1,4 +1,4 @@
--- All places on the ways of the touched blocks named: how many blocks that takes, and the form that the file has then.
+-- All places on the block paths of the touched blocks named: how many blocks that takes, and the file's block map then.
 use Rattle.std.proofs.Common.{◌≡◌, ℕ, zero, suc, ◌+◌, ◌*◌, ◌<◌, ◌≤◌, ◌∙◌, sym, ap, subst, List, [], ◌∷◌, ◌++◌, length, map, refl, arith, inl, inr, true, false, Bool, if◌then◌else◌, leb}
 use Rattle.std.specs.Prelude.{◌&&◌, ◌||◌, not}
 use Rattle.std.specs.List.{count_by, list_any, range_with_len}
@@ -47,7 +47,7 @@ lacking_none geometry old new i wanted file mode names =
     ap (λ t. wanted p && not t) (names p (record { file = file; place = place })) ∙ and_gone (wanted p) (is_named geometry old i p))
     ∙ count_none (λ p. false) (places (form_at geometry new i)) (λ p. refl)
 
--- the places lacking on some ways are those missing there
+-- the places that some paths lack are those missing there
 lacking_missing : (geometry : Geometry) (image : List ℕ) (i : ℕ) (form : BlockMap) (names : List ℕ → Bool) (touches : List ℕ)
     → form_at geometry image i ≡ form → ((p : List ℕ) → IsPlace form p → is_named geometry image i p ≡ names p)
     → lacking geometry image i (is_on_ways form touches) ≡ missing_count form names touches
@@ -71,7 +71,7 @@ grows_few Large last e small = absurd (cc)
 grows_few Deep last e small = absurd (cc)
 grows_few Bare last e small = absurd (cc)
 
--- the need if the file keeps its form
+-- the need if the file keeps its block map
 need_plain : (form : BlockMap) (names : List ℕ → Bool) (touches : List ℕ) → grows_large form touches ≡ false
     → need_of form names touches ≡ missing_count form names touches
 unfolding need_of
@@ -84,7 +84,7 @@ need_large : (form : BlockMap) (names : List ℕ → Bool) (touches : List ℕ) 
 unfolding need_of
 need_large form names touches grows = rw grows refl
 
--- the ways are wanted, if the file keeps its form and the need is met
+-- the paths are wanted, if the file keeps its block map and the need is met
 pub wants_plain : (geometry : Geometry) (image : List ℕ) (i from n : ℕ) (blocks : List ℕ) → IsFile geometry image i → Rules3To7With geometry image blocks
     → grows_large (form_at geometry image i) (range_with_len from n) ≡ false
     → need_of (form_at geometry image i) (is_named geometry image i) (range_with_len from n) ≤ length blocks
@@ -105,7 +105,7 @@ wants_plain geometry image i from n blocks file sound grows room limit =
 taken_count : (blocks taken rest : List ℕ) → blocks ≡ taken ++ rest → length blocks ≡ length taken + length rest
 taken_count blocks taken rest e = ap length e ∙ length-append taken rest
 
--- the places for which blocks are taken if the file keeps its form
+-- the places for which blocks are taken if the file keeps its block map
 taken_plain : (form : BlockMap) (names : List ℕ → Bool) (touches : List ℕ) → grows_large form touches ≡ false
     → places_taken form names touches ≡ missing_places form names touches
 taken_plain form names touches grows =
@@ -117,7 +117,7 @@ taken_large : (form : BlockMap) (names : List ℕ → Bool) (touches : List ℕ)
 taken_large form names touches grows =
     ap (λ t. (if t then (0 ∷ []) ∷ [] else []) ++ missing_places (if t then Large else form) (if t then moved_down names else names) touches) grows
 
--- all ways are named, if the file keeps its form
+-- all paths are named, if the file keeps its block map
 pub fills_plain : (geometry : Geometry) (old new : List ℕ) (i from n : ℕ) (blocks : List ℕ) → IsFile geometry old i
     → grows_large (form_at geometry old i) (range_with_len from n) ≡ false
     → NamesWays geometry old new i (is_on_ways (form_at geometry old i) (range_with_len from n)) from n blocks
@@ -156,7 +156,7 @@ fills_plain geometry old new i from n blocks file grows ways =
       unused = e.unused;
     }
 
--- the ways are wanted once the file is large
+-- the paths are wanted once the file is large
 pub wants_large : (geometry : Geometry) (old mid : List ℕ) (i from n : ℕ) (blocks : List ℕ) → IsFile geometry mid i
     → grows_large (form_at geometry old i) (range_with_len from n) ≡ true
     → need_of (form_at geometry old i) (is_named geometry old i) (range_with_len from n) ≤ length blocks
@@ -173,7 +173,7 @@ wants_large geometry old mid i from n blocks file grows room enlarged limit =
       want = λ p on. ap (λ f. is_on_ways f touches p) (sym enlarged.form) ∙ on;
     }
 
--- all ways are named once the file is large
+-- all paths are named once the file is large
 pub fills_large : (geometry : Geometry) (old mid new : List ℕ) (i from n : ℕ) (blocks : List ℕ) → Rules3To7With geometry old blocks → IsFile geometry old i
     → IsFile geometry mid i
     → grows_large (form_at geometry old i) (range_with_len from n) ≡ true → (enlarged : Enlarges geometry old mid i blocks)
@@ -275,7 +275,7 @@ pub limit_large : (edition : Edition) (to : ℕ) → edition ≡ V6 → 512 * to
 limit_large V6 to v6 h = omega arith
 limit_large V7 to v6 h = absurd (cc)
 
--- only files have the large form
+-- only files have the large block map
 large_kind : (edition : Edition) (mode : ℕ) → form_of edition mode ≡ Large → has_places (kind_of edition mode) ≡ true
 large_kind edition mode large =
     elim (has_places (kind_of edition mode)) as (λ t. (if t then file_form edition mode else Bare) ≡ Large → t ≡ true)

@@ -47,7 +47,7 @@ past_front form kept a p q on front =
 abbrev pub spread_of : BlockMap → List ℕ → ℕ
 spread_of form q = pointer_count form ^ levels_below form q
 
--- a form with a place has pointers
+-- a block map with a place has pointers
 pub some_pointers : (form : BlockMap) (p : List ℕ) → IsPlace form p → 1 ≤ pointer_count form
 some_pointers Small p place = omega arith
 some_pointers Large p place = omega arith

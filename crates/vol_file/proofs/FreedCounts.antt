@@ -21,7 +21,7 @@ free_same geometry image xs ys low first second = ap length (IsFree_unique low f
 pub zone_some : (geometry : Geometry) (image : List ℕ) → Fits geometry image → 1 ≤ geometry.zone_start
 zone_some geometry image fits = let behind = zone_behind fits in omega (arith, behind)
 
--- if nothing is done no block more is free
+-- if nothing is done, no more blocks are free
 pub gains_none : (geometry : Geometry) (image : List ℕ) → 1 ≤ geometry.zone_start → Gains geometry image image 0
 gains_none geometry image low before after first second = let same = free_same geometry image after before low second first in omega (arith, same)
 
@@ -39,7 +39,7 @@ gains_one geometry old new b blocks low from to before after first second =
     let early = free_same geometry old before blocks low first from in
     let late = free_same geometry new after (b ∷ blocks) low second to in omega (arith, early, late)
 
--- as many blocks were given as there are more free ones
+-- as many blocks were given as there are additional free ones
 pub gains_given : (geometry : Geometry) (old new given blocks : List ℕ) (count : ℕ) → Gains geometry old new count → IsFree geometry old blocks
     → IsFree geometry new (given ++ blocks) → count ≡ length given
 gains_given geometry old new given blocks count gains from to =
@@ -58,7 +58,7 @@ gains_few geometry image old new count fits from to gains =
     let few = free_within to.free in
     let limit = number_limit geometry.edition geometry.zone_end fits.limit in omega (arith, more, few, limit)
 
--- some blocks are free once all below a block is cleared
+-- some blocks are free once everything below a block is cleared
 pub below_stack : (geometry : Geometry) (old new : List ℕ) (b level kept : ℕ) → ClearsBelow geometry old new b level kept → IsNamedAtLevel geometry old b level
     → HasStack geometry new
 below_stack geometry old new b level kept cleared node =

@@ -1,4 +1,4 @@
--- The indexes on the way of a logical block, each within its bounds, and the numbers that they lead to.
+-- The indexes on the block path of a logical block, each within its bounds, and the numbers that they lead to.
 use Rattle.std.proofs.Common.{◌≡◌, ℕ, zero, suc, ◌+◌, ◌*◌, ◌<◌, ◌≤◌, sym, subst, List, slice_index, refl, arith, Some}
 use Rattle.vol_layout.specs.Edition.{constants}
 use Rattle.vol_layout.specs.Places.{first_count, pointer_count, last_place, place_to, end_of}
@@ -18,13 +18,13 @@ first_few Large = omega arith
 first_few Deep = omega arith
 first_few Bare = omega arith
 
--- the address on a way is one of an i-node
+-- the address on a path is one of an i-node
 pub way_address : (form : BlockMap) (b : ℕ) (way : BlockPath) → Some (end_of way) ≡ last_place form b → way.address < 13
 way_address form b way e =
     let place : way.address < first_count form = way_place form b way 0 e (omega arith) in
     omega (arith, place, first_few form)
 
--- an entry on a way is one of an indirect block
+-- an entry on a path is one of an indirect block
 pub way_entry : (geometry : Geometry) (image : List ℕ) (i : ℕ) (form : BlockMap) (b : ℕ) (way : BlockPath) (d : ℕ)
     → form ≡ form_at geometry image i → Some (end_of way) ≡ last_place form b → d < way.depth
     → (constants geometry.edition).number_bytes * (slice_index way.entries d + 1) ≤ 512
@@ -38,7 +38,7 @@ way_entry geometry image i form b way d same e h =
     ≡ (constants geometry.edition).number_bytes * slice_index way.entries d + (constants geometry.edition).number_bytes = grind arith in
     omega (arith, fit, more)
 
--- the name of the next entry of a way
+-- the name of the next entry of a path
 pub named_more : (geometry : Geometry) (image : List ℕ) (i k : ℕ) (entries : List ℕ) (d : ℕ)
     → named geometry image i (place_to k entries (d + 1)) ≡ pointer_in geometry image (named geometry image i (place_to k entries d)) (slice_index entries d)
 named_more geometry image i k entries zero = refl

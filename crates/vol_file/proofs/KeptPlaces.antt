@@ -1,4 +1,4 @@
--- The places on the ways of the first logical blocks are those that aren't past them.
+-- The places on the block paths of the first logical blocks are those that aren't past them.
 use Rattle.std.proofs.Common.{◌≡◌, ℕ, zero, suc, ◌+◌, ◌-◌, ◌*◌, ◌/◌, ◌%◌, ◌^◌, ◌<◌, ◌≤◌, ◌∙◌, Bool, true, false, sym, ap, List, [], ◌∷◌, length, filter, cond, refl, arith, inl, inr, None, Some}
 use Rattle.std.specs.Prelude.{◌||◌, not}
 use Rattle.std.specs.Option.{option_map_or}
@@ -107,7 +107,7 @@ first_leaf Deep (x ∷ (r ∷ (c ∷ (a ∷ (k ∷ p))))) place bottom =
 first_leaf Bare (k ∷ []) place bottom = refl
 first_leaf Bare (j ∷ (a ∷ p)) place bottom = absurd (omega (arith, place.0))
 
--- of a place with nothing below it, and a logical block that a file can have, the way of the block ends there
+-- the path of the logical block of a place with nothing below it ends there, if a file can have that block
 last_at : (form : BlockMap) (q : List ℕ) → IsPlace form q → levels_below form q ≡ 0 → leaf_block form q < block_limit form
     → last_place form (leaf_block form q) ≡ Some q
 last_at form [] place bottom low = absurd place
@@ -173,7 +173,7 @@ bottom_of form (suc d) a p place deep =
     let entry : IsPlace form (0 ∷ (a ∷ p)) = (omega (arith, some), omega (arith, deep), place) in
     bottom_above form a p (bottom_of form d 0 (a ∷ p) entry (omega (arith, deep)))
 
--- a place is on the way of its first logical block
+-- a place is on the path of its first logical block
 on_first : (form : BlockMap) (a : ℕ) (p : List ℕ) → IsPlace form (a ∷ p) → first_block form (a ∷ p) < block_limit form
     → list_any (bytes_eq (a ∷ p)) (way form (first_block form (a ∷ p))) ≡ true
 on_first form a p place low =
@@ -183,7 +183,7 @@ on_first form a p place low =
     ap (last_place form) (sym block) ∙ last_at form q.leaf q.place q.bottom (omega (arith, low, block)) in
     ap (list_any (bytes_eq (a ∷ p))) (way_is form (first_block form (a ∷ p)) q.leaf end) ∙ front_true q.leaf (a ∷ p) q.front
 
--- a place is on the way of no logical block before its first
+-- a place is on the path of no logical block before its first
 off_before : (form : BlockMap) (a : ℕ) (p : List ℕ) (b : ℕ) → b < first_block form (a ∷ p) → list_any (bytes_eq (a ∷ p)) (way form b) ≡ false
 off_before form a p b low =
     elim (last_place form b) as (λ o. last_place form b ≡ o → list_any (bytes_eq (a ∷ p)) (way form b) ≡ false) [
@@ -200,7 +200,7 @@ off_before form a p b low =
           ] refl
     ] refl
 
--- a place on the way of no block of a run is on no way of the run
+-- a place on the path of no block of a run is on no path of the run
 off_run : (form : BlockMap) (p : List ℕ) (a n : ℕ) → ((b : ℕ) → a ≤ b → b < a + n → list_any (bytes_eq p) (way form b) ≡ false)
     → is_on_ways form (range_with_len a n) p ≡ false
 off_run form p a zero off = refl
@@ -208,7 +208,7 @@ off_run form p a (suc n) off =
     ap (λ t. t || is_on_ways form (range_with_len (a + 1) n) p) (off a (omega arith) (omega arith))
     ∙ off_run form p (a + 1) n (λ b from low. off b (omega arith) (omega arith))
 
--- the places on the ways of the first blocks are those that aren't past them
+-- the places on the paths of the first blocks are those that aren't past them
 kept_first : (form : BlockMap) (kept a : ℕ) (p : List ℕ) → IsPlace form (a ∷ p) → kept ≤ block_limit form
     → is_on_ways form (range_with_len 0 kept) (a ∷ p) ≡ not (is_past form kept (a ∷ p))
 kept_first form kept a p place few =

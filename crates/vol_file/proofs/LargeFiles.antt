@@ -314,7 +314,7 @@ first_leaf c h =
     let rest : c % 256 ≡ c = omega arith in
     let none : c / 256 ≡ 0 = omega arith in ap (λ x. x ∷ ((c / 256) ∷ [])) rest ∙ ap (λ x. c ∷ (x ∷ [])) none
 
--- a last place but the first eight names nothing
+-- a last place other than the first eight names nothing
 leaf_none : (geometry : Geometry) (old new : List ℕ) (i b : ℕ) (rest : List ℕ) (c : ℕ) (p : List ℕ) → IsLeaf Large c p → 8 ≤ c
     → Origin geometry old new i b i p → named geometry new i p ≡ 0
 leaf_none geometry old new i b rest c p leaf high (Origin.fresh e f is) =

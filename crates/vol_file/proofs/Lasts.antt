@@ -27,15 +27,15 @@ front_true [] s front = absurd front
 front_true (j ∷ q) s (inl e) = ap (λ t. t || has_front q s) (bytes_same s (j ∷ q) e)
 front_true (j ∷ q) s (inr front) = ap (λ t. bytes_eq s (j ∷ q) || t) (front_true q s front) ∙ or_true (bytes_eq s (j ∷ q))
 
--- the way of a logical block is the fronts of its last place
+-- the path of a logical block is the fronts of its last place
 pub way_is : (form : BlockMap) (b : ℕ) (q : List ℕ) → last_place form b ≡ Some q → way form b ≡ fronts q
 way_is form b q e = ap (λ o. option_map_or fronts o []) e
 
--- the last place by the form of a file
+-- the last place by the block map of a file
 way_end : (form at : BlockMap) (b : ℕ) (way : BlockPath) → form ≡ at → Some (end_of way) ≡ last_place form b → last_place at b ≡ Some (end_of way)
 way_end form at b way is end = ap (λ f. last_place f b) (sym is) ∙ sym end
 
--- each place on the way is wanted
+-- each place on the path is wanted
 pub way_wanted : (geometry : Geometry) (image : List ℕ) (i : ℕ) (form : BlockMap) (wanted : List ℕ → Bool) (b : ℕ) (blocks : List ℕ) (way : BlockPath) (d : ℕ)
     → form ≡ form_at geometry image i → Some (end_of way) ≡ last_place form b → WantsWay geometry image i wanted b blocks → d ≤ way.depth
     → IsWanted geometry image i wanted (place_to way.address way.entries d) blocks
@@ -49,7 +49,7 @@ way_wanted geometry image i form wanted b blocks way d is end wants h =
           ∙ front_true (end_of way) (place_to way.address way.entries d) (front_to way.address way.entries d way.depth h));
     }
 
--- if all its entries are named the way is named
+-- if all its entries are named the path is named
 pub way_named : (geometry : Geometry) (old new : List ℕ) (i : ℕ) (form : BlockMap) (wanted : List ℕ → Bool) (b : ℕ) (blocks : List ℕ) (way : BlockPath) (d k : ℕ)
     → form ≡ form_at geometry old i → Some (end_of way) ≡ last_place form b → d ≡ way.depth
     → Reaches geometry old new i wanted (place_to way.address way.entries d) blocks k → NamesWay geometry old new i wanted b blocks
@@ -63,13 +63,13 @@ way_named geometry old new i form wanted b blocks way d k is end all reached =
           (sym (ap (unnamed_of (is_named geometry old i)) (way_is (form_at geometry old i) b (end_of way) e))) last.extends;
     }
 
--- the address of the way may be named
+-- the address of the path may be named
 pub may_first : (geometry : Geometry) (image : List ℕ) (i : ℕ) (form : BlockMap) (b : ℕ) (way : BlockPath) → form ≡ form_at geometry image i
     → Some (end_of way) ≡ last_place form b → MayNameWay geometry image i b → MayName geometry image i (way.address ∷ [])
 may_first geometry image i form b way is end may =
     record { wanted = may.wanted; blocks = may.blocks; is = way_wanted geometry image i form may.wanted b may.blocks way 0 is end may.is (omega arith) }
 
--- the next entry of the way may be named
+-- the next entry of the path may be named
 pub may_next : (geometry : Geometry) (old mid : List ℕ) (i : ℕ) (form : BlockMap) (b : ℕ) (way : BlockPath) (d m : ℕ) → form ≡ form_at geometry old i
     → Some (end_of way) ≡ last_place form b → (may : MayNameWay geometry old i b) → d < way.depth
     → Reaches geometry old mid i may.wanted (place_to way.address way.entries d) may.blocks m → MayNameEntry geometry mid m (slice_index way.entries d)

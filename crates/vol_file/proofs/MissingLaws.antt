@@ -73,14 +73,14 @@ yes_after : (x y : Bool) → y ≡ true → (x || y) ≡ true
 yes_after true y e = refl
 yes_after false y e = e
 
--- an answer that isn't yes is no
+-- an answer other than yes is no
 pub no_from : (x : Bool) → (x ≡ true → ⊥) → x ≡ false
 no_from true h = absurd (h refl)
 no_from false h = refl
 
--- The places that are new on a way
+-- The places that are new on a block path
 
--- true if q is a front of p that counts: any if the whole way counts, else one with no index after it but 0
+-- true if q is a front of p that counts: any if the whole path counts, else one with no index after it but 0
 abbrev pub is_new : Bool → List ℕ → List ℕ → Bool
 is_new whole [] q = false
 is_new whole (k ∷ []) q = bytes_eq q (k ∷ [])
@@ -96,7 +96,7 @@ new_front whole (j ∷ (a ∷ p)) q e =
       | inr (other, above) ↦ inr (new_front whole (a ∷ p) q (and_parts (whole || j == 0) (is_new whole (a ∷ p) q) above).1)
     ]
 
--- if the whole way counts, each front does
+-- if the whole path counts, each front does
 front_new : (p q : List ℕ) → IsFront q p → is_new true p q ≡ true
 front_new [] q front = absurd front
 front_new (k ∷ []) q (inl e) = bytes_same q (k ∷ []) e
@@ -106,7 +106,7 @@ front_new (j ∷ (a ∷ p)) q (inr deeper) =
     let above : is_new true (a ∷ p) q ≡ true = front_new (a ∷ p) q deeper in
     yes_after (bytes_eq q (j ∷ (a ∷ p))) (is_new true (a ∷ p) q) above
 
--- if the whole way counts, the fronts of a place are those that count
+-- if the whole path counts, the fronts of a place are those that count
 pub fronts_new : (p q : List ℕ) → list_any (bytes_eq q) (fronts p) ≡ is_new true p q
 fronts_new [] q = refl
 fronts_new (k ∷ []) q = or-false (bytes_eq q (k ∷ []))
@@ -128,13 +128,13 @@ count_at names p qs once =
           ] refl) ∙ once
     ] refl
 
--- if some more of the way counts only under a condition
+-- if some more of the path counts only under a condition
 count_if : (t : Bool) (s names : List ℕ → Bool) (qs : List (List ℕ)) (n : ℕ) → count_by (λ q. s q && not (names q)) qs ≡ n
     → count_by (λ q. (t && s q) && not (names q)) qs ≡ (if t then n else 0)
 count_if true s names qs n h = h
 count_if false s names qs n h = count_none (λ q. false) qs (λ q. refl)
 
--- of a form's places, those that count on the way to p and name nothing are as many as the recursion says
+-- of a block map's places, those that count on the way to p and name nothing are as many as the recursion says
 pub count_new : (form : BlockMap) (names : List ℕ → Bool) (whole : Bool) (p : List ℕ) → IsPlace form p
     → count_by (λ q. is_new whole p q && not (names q)) (places form) ≡ missing_to names whole p
 count_new form names whole [] place = absurd place
@@ -187,7 +187,7 @@ first_front form (j ∷ (a ∷ p)) q (inl e) =
 first_front form (j ∷ (a ∷ p)) q (inr deeper) =
     let above : first_through form q ≤ first_through form (a ∷ p) = first_front form (a ∷ p) q deeper in omega (arith, above)
 
--- a front that no earlier way has begins with the place
+-- a front that no earlier path has begins with the place
 first_new : (form : BlockMap) (p q : List ℕ) → is_new false p q ≡ true → first_through form q ≡ first_through form p
 first_new form [] q e = absurd (cc)
 first_new form (k ∷ []) q e = ap (first_through form) (same_bytes q (k ∷ []) e)
@@ -201,7 +201,7 @@ first_new form (j ∷ (a ∷ p)) q e =
           first_new form (a ∷ p) q parts.1 ∙ omega (arith, less)
     ]
 
--- The way of the block before
+-- The block path of the block before
 
 -- the front of a last place after its zeros and the first index that isn't 0
 abbrev above : List ℕ → List ℕ
@@ -232,11 +232,11 @@ above_cases j a p q front =
 front_same : (q p r : List ℕ) → p ≡ r → IsFront q p → IsFront q r
 front_same q p r e front = subst (IsFront q) e front
 
--- q is on the way of logical block b
+-- q is on the path of logical block b
 abbrev pub IsOnWay : BlockMap → ℕ → List ℕ → Type 0
 IsOnWay form b q = (p : List ℕ) × (last_place form b ≡ Some p) × IsFront q p
 
--- p is the last place of logical block b; b is the first block through it, and its fronts above the zeros are on the way of the block before
+-- p is the last place of logical block b; b is the first block through it, and its fronts above the zeros are on the path of the block before
 record IsLastOf (form : BlockMap) (b : ℕ) (p : List ℕ) : Type 0 where
   starts : first_through form p ≡ b
   shares : (q : List ℕ) → IsFront q (above p) → (1 ≤ b) × IsOnWay form (b - 1) q
@@ -368,7 +368,7 @@ of_triple b l h = record {
 one_place : (form : BlockMap) (b : ℕ) (p r : List ℕ) → last_place form b ≡ Some r → last_place form b ≡ Some p → IsLastOf form b r → IsLastOf form b p
 one_place form b p r e f last = let same : Some r ≡ Some p = sym e ∙ f in let place : r ≡ p = cc in subst (IsLastOf form b) place last
 
--- the form of the last place of each logical block
+-- the block map of the last place of each logical block
 last_of : (form : BlockMap) (b : ℕ) (p : List ℕ) → last_place form b ≡ Some p → IsLastOf form b p
 last_of Small b p e =
     one_place Small b p (b ∷ []) (last_small b (last_leaf Small b p e).limit) e (record { starts = refl; shares = λ q none. absurd none })
@@ -393,21 +393,21 @@ last_of Deep b p e =
     ]
 last_of Bare b p e = let limit : b < 0 = (last_leaf Bare b p e).limit in absurd (omega arith)
 
--- Ways
+-- Block paths
 
--- true if a place is on the way of logical block b
+-- true if a place is on the path of logical block b
 abbrev pub is_on_way : BlockMap → List ℕ → ℕ → Bool
 is_on_way form q b = list_any (bytes_eq q) (way form b)
 
--- a place is on no way if there is none
+-- a place is on no path if there is none
 way_none : (form : BlockMap) (q : List ℕ) (b : ℕ) → last_place form b ≡ None → is_on_way form q b ≡ false
 way_none form q b e = ap (λ o. list_any (bytes_eq q) (option_map_or fronts o [])) e
 
--- the places on a way are the fronts of its last place
+-- the places on a path are the fronts of its last place
 way_some : (form : BlockMap) (q : List ℕ) (b : ℕ) (p : List ℕ) → last_place form b ≡ Some p → is_on_way form q b ≡ is_new true p q
 way_some form q b p e = ap (λ o. list_any (bytes_eq q) (option_map_or fronts o [])) e ∙ fronts_new p q
 
--- the test of a place on a way
+-- the test of a place on a path
 pub on_way_from : (form : BlockMap) (q : List ℕ) (b : ℕ) → is_on_way form q b ≡ true → IsOnWay form b q
 on_way_from form q b passes =
     elim (last_place form b) as (λ o. last_place form b ≡ o → IsOnWay form b q) [
@@ -446,7 +446,7 @@ any_more t a (suc n) =
     ap (λ x. t a || x) (any_more t (a + 1) n)
     ∙ (sym (or_assoc (t a) (list_any t (range_with_len (a + 1) n)) (t (a + 1 + n))) ∙ ap (λ m. list_any t (range_with_len a (suc n)) || t m) same)
 
--- a new front of a way is on no earlier way
+-- a new front of a path is on no earlier path
 new_is_new : (form : BlockMap) (p q : List ℕ) (first n : ℕ) → last_place form (first + n) ≡ Some p → is_new false p q ≡ true
     → is_on_ways form (range_with_len first n) q ≡ true → ⊥
 new_is_new form p q first n e new passes =
@@ -458,7 +458,7 @@ new_is_new form p q first n e new passes =
     let same : first_through form q ≡ first_through form p = first_new form p q new in
     omega (arith, begin, low, here, same, found.2)
 
--- a front of a way that isn't new is on the way of the block before
+-- a front of a path that isn't new is on the path of the block before
 old_is_old : (form : BlockMap) (p q : List ℕ) (first n : ℕ) → last_place form (first + suc n) ≡ Some p → is_new true p q ≡ true
     → is_new false p q ≡ false → is_on_ways form (range_with_len first (suc n)) q ≡ true
 old_is_old form p q first n e on old =
@@ -469,7 +469,7 @@ old_is_old form p q first n e on old =
 new_on_way : (p q : List ℕ) → is_new false p q ≡ true → is_new true p q ≡ true
 new_on_way p q e = front_new p q (new_front false p q e)
 
--- with one more way, only its new fronts are added
+-- with one more path, only its new fronts are added
 more_or_new : (x w z : Bool) → (z ≡ true → w ≡ true) → (w ≡ true → z ≡ false → x ≡ true) → (x || w) ≡ (x || z)
 more_or_new true w z h k = refl
 more_or_new false true true h k = refl
@@ -477,16 +477,16 @@ more_or_new false true false h k = sym (k refl refl)
 more_or_new false false true h k = h refl
 more_or_new false false false h k = refl
 
--- the places missing on the way of a block that has a last place
+-- the places missing on the path of a block that has a last place
 missing_some : (form : BlockMap) (names : List ℕ → Bool) (whole : Bool) (b : ℕ) (p : List ℕ) → last_place form b ≡ Some p
     → missing_at form names whole b ≡ missing_to names whole p
 missing_some form names whole b p e = ap (λ o. option_map_or (missing_to names whole) o 0) e
 
--- nothing is missing if there is no way
+-- nothing is missing if there is no path
 missing_none : (form : BlockMap) (names : List ℕ → Bool) (whole : Bool) (b : ℕ) → last_place form b ≡ None → missing_at form names whole b ≡ 0
 missing_none form names whole b e = ap (λ o. option_map_or (missing_to names whole) o 0) e
 
--- the count with one more block, if it has a way and isn't the first
+-- the count with one more block, if it has a path and isn't the first
 count_later : (form : BlockMap) (names : List ℕ → Bool) (first n : ℕ) (p : List ℕ) → last_place form (first + suc n) ≡ Some p
     → missing_count form names (range_with_len first (suc n)) ≡ missing_from form names first (suc n)
     → count_by (λ q. (is_on_ways form (range_with_len first (suc n)) q || is_on_way form q (first + suc n)) && not (names q)) (places form)
@@ -508,7 +508,7 @@ count_later form names first n p e sofar =
     (and_parts (is_on_ways form (range_with_len first (suc n)) q) (not (names q)) passes).0))
     ∙ omega (arith, sofar, added, at))
 
--- the count with one more block, if it has a way
+-- the count with one more block, if it has a path
 count_way : (form : BlockMap) (names : List ℕ → Bool) (first n : ℕ) (p : List ℕ) → last_place form (first + n) ≡ Some p
     → missing_count form names (range_with_len first n) ≡ missing_from form names first n
     → count_by (λ q. (is_on_ways form (range_with_len first n) q || is_on_way form q (first + n)) && not (names q)) (places form)
@@ -558,7 +558,7 @@ count_blocks form names first (suc n) =
 
 -- Steps of the count
 
--- one more entry on a way
+-- one more entry on a path
 pub missing_to_more : (names : List ℕ → Bool) (whole : Bool) (k : ℕ) (entries : List ℕ) (d : ℕ)
     → missing_to names whole (place_to k entries (d + 1))
     ≡ (if names (place_to k entries (d + 1)) then 0 else 1)

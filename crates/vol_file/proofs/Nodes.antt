@@ -32,7 +32,7 @@ pub pointers_file : (geometry : Geometry) (image : List ℕ) (i : ℕ) → IsFil
 pointers_file geometry image i file =
     ap pointer_count (form_file geometry.edition (mode_of geometry image i) file.kind) ∙ pointers_in geometry.edition (mode_of geometry image i)
 
--- the places cleared below a place, by the form that the file had before
+-- the places cleared below a place, by the block map that the file had before
 below_form : (geometry : Geometry) (old mid low : List ℕ) (i bound n level : ℕ) (q others : List ℕ) → mode_of geometry mid i ≡ mode_of geometry old i
     → Clears geometry mid low i (IsPastUnder (is_past (form_at geometry mid i) bound) q 0)
     (past_at geometry mid i (is_past (form_at geometry mid i) bound) (places_below n q level)) others
@@ -150,7 +150,7 @@ entries_kept geometry old new m level kept (suc j) some few within cleared i a b
     (λ q place front. entry_kept (form_at geometry old i) n level j (suc j) a bound kept p q many deep left (omega arith) within place.place front)
     (cleared i a bound p blocks sound is deep left)) i a bound p blocks sound is deep left
 
--- once all entries but those are cleared, all below the block is
+-- once all entries but those are cleared, everything below the block is
 pub entries_end : (geometry : Geometry) (old new : List ℕ) (m level kept j : ℕ) → 1 ≤ level → j ≤ (constants geometry.edition).pointers
     → j ≤ kept / (constants geometry.edition).pointers ^ (level - 1)
     → ClearsEntries geometry old new m level kept j → ClearsBelow geometry old new m level kept

@@ -1,4 +1,4 @@
--- Laws of the lists of blocks that those places name that are past the kept blocks.
+-- Laws of the lists of blocks that are named by places past the kept blocks.
 use Rattle.std.proofs.Common.{◌≡◌, ℕ, zero, suc, ◌+◌, ◌<◌, ◌≤◌, ◌∙◌, Bool, true, false, sym, ap, List, [], ◌∷◌, ◌++◌, filter, cond, refl, arith, inl}
 use Rattle.std.proofs.lemmas.List.Elements.{filter-append}
 use Rattle.std.specs.List.{flat_map, range_with_len}
@@ -11,7 +11,7 @@ use Rattle.vol_layout.proofs.PlaceLaws.{front_above}
 use Rattle.vol_file.specs.Clears.{blocks_at, places_among, places_below}
 use Rattle.vol_file.proofs.BlockLists.{at_nil, at_append, at_zero, at_some, at_same}
 
--- the blocks that those of some places name that are past the kept blocks
+-- the blocks named by those of some places that are past the kept blocks
 abbrev pub past_at : Geometry → List ℕ → ℕ → (List ℕ → Bool) → List (List ℕ) → List ℕ
 past_at geometry image i past ps = blocks_at geometry image i (filter past ps)
 

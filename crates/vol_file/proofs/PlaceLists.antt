@@ -1,4 +1,4 @@
--- Laws of the list of all places of a form: it has each place once, and nothing else.
+-- Laws of the list of all places of a block map: it has each place once, and nothing else.
 use Rattle.std.proofs.Common.{◌≡◌, ◌≢◌, ℕ, zero, suc, ◌+◌, ◌<◌, ◌≤◌, ◌⊎◌, ◌∙◌, sym, ap, subst, List, [], ◌∷◌, ◌++◌, length, true, false, Bool, cond, refl, arith, inl, inr}
 use Rattle.std.specs.List.{count_by, sum_by, flat_map, range_with_len}
 use Rattle.std.specs.Str.{bytes_eq}
@@ -209,7 +209,7 @@ front_first form [] place = absurd place
 front_first form (k ∷ []) place = (k, place, inl refl)
 front_first form (j ∷ (a ∷ p)) place = let found = front_first form (a ∷ p) place.2 in (found.0, found.1, inr found.2)
 
--- each place of a form is in the list of its places once
+-- each place of a block map is in the list of its places once
 pub places_once : (form : BlockMap) (p : List ℕ) → IsPlace form p → count_by (bytes_eq p) (places form) ≡ 1
 unfolding places
 places_once form p place =
@@ -221,11 +221,11 @@ places_once form p place =
     (λ m other. counted_none p (f m) (λ among.
     other (fronts_same [] p m first.0 (from_front (pointer_count form) m [] (levels form m) p among) first.2)))
 
--- a place of a form is in the list of its places
+-- a place of a block map is in the list of its places
 pub places_among : (form : BlockMap) (p : List ℕ) → IsPlace form p → IsAmong p (places form)
 places_among form p place = let once : count_by (bytes_eq p) (places form) ≡ 1 = places_once form p place in among_counted p (places form) (omega (arith, once))
 
--- the list of a form's places has only its places
+-- the list of a block map's places has only its places
 pub among_places : (form : BlockMap) (p : List ℕ) → IsAmong p (places form) → IsPlace form p
 unfolding places
 among_places form p among =

@@ -61,7 +61,7 @@ size_elsewhere geometry old new blocks i sound file same =
       behind = λ x b. same.above x (omega (arith, within.1, within.2, room, sound.fits.zone, b));
     }
 
--- the size was put, and all else of the file stays
+-- the size was put, and everything else of the file stays
 pub record Resized (geometry : Geometry) (old new : List ℕ) (i s : ℕ) (blocks : List ℕ) : Type 0 where
   pub alone : StaysElsewhere geometry old new i
   pub sound : Rules3To7With geometry new blocks

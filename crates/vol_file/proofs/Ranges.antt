@@ -1,4 +1,4 @@
--- The places on the ways of a run of logical blocks.
+-- The places on the block paths of a run of logical blocks.
 use Rattle.std.proofs.Common.{◌≡◌, ℕ, zero, suc, ◌+◌, ◌<◌, ◌∙◌, sym, ap, subst, List, [], ◌∷◌, ◌++◌, filter, reverse, refl, arith, rules, true, false, Bool, None, Some, inl, inr}
 use Rattle.std.specs.Prelude.{◌||◌, not}
 use Rattle.std.specs.Option.{option_map_or}
@@ -21,7 +21,7 @@ use Rattle.vol_file.proofs.Lasts.{or_true}
 use Rattle.vol_file.proofs.PlaceLists.{among_append}
 use Rattle.vol_file.proofs.ReachedPlaces.{extends_as, extends_then, extends_none, ready_after}
 
--- a run with one logical block more
+-- a run with one more logical block
 is_on_suc : (form : BlockMap) (p : List ℕ) (a d : ℕ)
     → is_on_ways form (range_with_len a (suc d)) p ≡ (is_on_ways form (range_with_len a d) p || list_any (bytes_eq p) (way form (a + d)))
 is_on_suc form p a zero =
@@ -38,7 +38,7 @@ pub is_on_more : (form : BlockMap) (p : List ℕ) (a d : ℕ)
     → is_on_ways form (range_with_len a (d + 1)) p ≡ (is_on_ways form (range_with_len a d) p || list_any (bytes_eq p) (way form (a + d)))
 is_on_more form p a d = let next : d + 1 ≡ suc d = omega arith in ap (λ n. is_on_ways form (range_with_len a n) p) next ∙ is_on_suc form p a d
 
--- a place on the way of one block of a run is on the ways of the run
+-- a place on the path of one block of a run is on the paths of the run
 pub is_on_at : (form : BlockMap) (p : List ℕ) (a n d : ℕ) → d < n → list_any (bytes_eq p) (way form (a + d)) ≡ true
     → is_on_ways form (range_with_len a n) p ≡ true
 is_on_at form p a zero d h on = absurd (omega arith)
@@ -79,7 +79,7 @@ among_fronts p [] among = among
 among_fronts p (j ∷ q) (inl e) = inl e
 among_fronts p (j ∷ q) (inr above) = inr (among_fronts p q above)
 
--- each place on the way of a logical block is a place
+-- each place on the path of a logical block is a place
 pub way_places : (form : BlockMap) (b : ℕ) (p : List ℕ) → IsAmong p (way form b) → IsPlace form p
 way_places form b p among =
     elim (last_place form b) as (λ o. last_place form b ≡ o → IsAmong p (option_map_or fronts o []) → IsPlace form p) [
@@ -87,14 +87,14 @@ way_places form b p among =
       | Some q ↦ λ e on. place_front form q p (last_leaf form b q e).place (among_fronts p q on)
     ] refl among
 
--- the places missing on a way depend on which of its places name a block
+-- the places missing on a path depend on which of its places name a block
 pub missing_same : (form : BlockMap) (names same : List ℕ → Bool) (b : ℕ) → ((p : List ℕ) → IsPlace form p → names p ≡ same p)
     → missing_on_way form names b ≡ missing_on_way form same b
 missing_same form names same b equal =
     filter_same (λ p. not (names p)) (λ p. not (same p)) (reverse (way form b))
     (λ p among. ap not (equal p (way_places form b p (among_reverse p (way form b) among))))
 
--- the same of several ways
+-- the same of several paths
 pub missing_all_same : (form : BlockMap) (names same : List ℕ → Bool) (blocks : List ℕ) → ((p : List ℕ) → IsPlace form p → names p ≡ same p)
     → missing_places form names blocks ≡ missing_places form same blocks
 unfolding missing_places
@@ -106,7 +106,7 @@ missing_all_same form names same (b ∷ blocks) equal =
     (missing_all_same form more (λ p. same p || list_any (bytes_eq p) (way form b)) blocks
     (λ p place. ap (λ t. t || list_any (bytes_eq p) (way form b)) (equal p place)))
 
--- a run with one more logical block lacks the places that the last way lacks once the ways before are named
+-- a run with one more logical block lacks the places that the last path lacks once the paths before are named
 missing_suc : (form : BlockMap) (names : List ℕ → Bool) (a d : ℕ)
     → missing_places form names (range_with_len a (suc d))
     ≡ missing_places form names (range_with_len a d) ++ missing_on_way form (λ p. names p || is_on_ways form (range_with_len a d) p) (a + d)
@@ -134,7 +134,7 @@ missing_more : (form : BlockMap) (names : List ℕ → Bool) (a d : ℕ)
 missing_more form names a d =
     let next : d + 1 ≡ suc d = omega arith in ap (λ n. missing_places form names (range_with_len a n)) next ∙ missing_suc form names a d
 
--- no block's ways are named before the first
+-- no block's paths are named before the first
 pub ways_none : (geometry : Geometry) (image : List ℕ) (i : ℕ) (wanted : List ℕ → Bool) (from n d : ℕ) (blocks : List ℕ)
     → WantsWays geometry image i wanted from n blocks → d ≡ 0 → NamesWays geometry image image i wanted from d blocks
 ways_none geometry image i wanted from n d blocks wants none =
@@ -147,7 +147,7 @@ ways_none geometry image i wanted from n d blocks wants none =
           (λ p e. absurd (search (e, rules))));
     })
 
--- the next block's way is wanted
+-- the next block's path is wanted
 pub ways_next : (geometry : Geometry) (old mid : List ℕ) (i : ℕ) (wanted : List ℕ → Bool) (from n d b : ℕ) (blocks : List ℕ)
     → WantsWays geometry old i wanted from n blocks → (named : NamesWays geometry old mid i wanted from d blocks) → d < n → from + d ≡ b
     → WantsWay geometry mid i wanted b named.rest
@@ -161,7 +161,7 @@ ways_next geometry old mid i wanted from n d b blocks wants named h at =
           (ap (λ c. list_any (bytes_eq p) (way (form_at geometry old i) c)) at ∙ (ap (λ f. list_any (bytes_eq p) (way f b)) (sym form) ∙ on)));
     }
 
--- one more block's way is named
+-- one more block's path is named
 pub ways_more : (geometry : Geometry) (old mid new : List ℕ) (i : ℕ) (wanted : List ℕ → Bool) (from n d b e : ℕ) (blocks : List ℕ)
     → WantsWays geometry old i wanted from n blocks → (named : NamesWays geometry old mid i wanted from d blocks) → from + d ≡ b → d + 1 ≡ e
     → NamesWay geometry mid new i wanted b named.rest → NamesWays geometry old new i wanted from e blocks

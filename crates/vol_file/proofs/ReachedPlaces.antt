@@ -1,4 +1,4 @@
--- One more place of a way names something, after the way so far.
+-- One more place of a block path names something, after the path so far.
 use Rattle.std.proofs.Common.{◌≡◌, ◌≢◌, ℕ, ◌+◌, ◌*◌, ◌<◌, ◌≤◌, ◌∙◌, sym, ap, subst, List, [], ◌∷◌, ◌++◌, length, map, filter, reverse, refl, arith, rules, true, false, true≢false, Bool, None, Some, inl, inr}
 use Rattle.std.specs.Prelude.{◌&&◌, ◌||◌, not}
 use Rattle.std.specs.Str.{bytes_eq}
@@ -158,7 +158,7 @@ and_all : (x : Bool) → (x && true) ≡ x
 and_all true = refl
 and_all false = refl
 
--- a place that is wanted and names nothing is lacking
+-- a wanted place that names nothing is missing
 lacking_some : (geometry : Geometry) (image : List ℕ) (i : ℕ) (wanted : List ℕ → Bool) (q : List ℕ) → IsPlaceOf geometry image i q → wanted q ≡ true
     → named geometry image i q ≡ 0 → 1 ≤ lacking geometry image i wanted
 unfolding lacking
@@ -287,7 +287,7 @@ reaches_first geometry old new i wanted k blocks b steps = record {
 unnamed_same : (names same : List ℕ → Bool) (q : List ℕ) → names q ≡ same q → unnamed_of names (q ∷ []) ≡ unnamed_of same (q ∷ [])
 unnamed_same names same q e = rw e refl
 
--- a place is none of the fronts of a place above it
+-- a place is not a front of a place above it
 front_below : (j : ℕ) (p : List ℕ) → has_front p (j ∷ p) ≡ false
 front_below j p = false_from_ne_true (has_front p (j ∷ p)) (λ e. front_longer j p (has_front_is p (j ∷ p) e))
 

@@ -83,7 +83,7 @@ below_all_double geometry image i b t low high limit from within =
     stored_as geometry image i Deep t (((t - 138) % 128) ∷ (((t - 138) / 128) ∷ (11 ∷ []))) (last_double t (omega arith) (omega arith))
     ∙ pointers_as geometry image (named geometry image i (11 ∷ [])) ((t - 138) / 128) _ ((t - 138) % 128) _ (omega arith) (omega arith)
 
--- the place of the triply indirect block's way to block b, from its second level on
+-- the place of the triply indirect block's path to block b, from its second level on
 abbrev pub triple_place : ℕ → List ℕ
 triple_place b = ((b - 16522) % 128) ∷ (((b - 16522) / 128 % 128) ∷ (((b - 16522) / 16384) ∷ (12 ∷ [])))
 
@@ -118,7 +118,7 @@ as_place : (geometry : Geometry) (image : List ℕ) (i : ℕ) (form : BlockMap) 
     → IsBelow geometry image i form pointers n b q t → IsBelow geometry image i form pointers n b p t
 as_place geometry image i form pointers n b t p q same is = subst (λ r. IsBelow geometry image i form pointers n b r t) same is
 
--- the numbers below each place of a way, up to two levels above its end
+-- the numbers below each place of a path, up to two levels above its end
 falls : (geometry : Geometry) (image : List ℕ) (i : ℕ) (form : BlockMap) (n b t : ℕ) (p : List ℕ) → last_place form b ≡ Some p → n < length p → n < 3
     → IsBelow geometry image i form (pointer_count form) n b p t
 falls geometry image i form zero b t p e long few = below_itself geometry image i form (pointer_count form) b t p e
@@ -178,7 +178,7 @@ falls geometry image i Deep (suc (suc zero)) b t p e long few =
       ]
     ]
 
--- the number stored for a logical block, by the block that the first d entries of another's way name
+-- the number stored for a logical block, by the block that the first d entries of another's path name
 pub stored_below : (geometry : Geometry) (image : List ℕ) (i : ℕ) (form : BlockMap) (b d n t : ℕ) (way : BlockPath) → form ≡ form_at geometry image i
     → Some (end_of way) ≡ last_place form b → n + d ≡ way.depth → n < 3 → t < block_limit form
     → b + blocks_left (constants geometry.edition).pointers n (end_of way) ≤ t + (constants geometry.edition).pointers ^ n
@@ -211,7 +211,7 @@ some_pointers : (edition : Edition) → 1 ≤ (constants edition).pointers
 some_pointers V6 = omega arith
 some_pointers V7 = omega arith
 
--- if everything below the block to which the first d entries of a way lead passes a test, so do the numbers stored for the logical blocks there
+-- if everything below the block to which the first d entries of a path lead passes a test, so do the numbers stored for the logical blocks there
 pub stored_passes : (test : ℕ → ℕ → Bool) (geometry : Geometry) (image : List ℕ) (i : ℕ) (form : BlockMap) (b d n t part : ℕ) (way : BlockPath)
     → form ≡ form_at geometry image i → Some (end_of way) ≡ last_place form b → n + d ≡ way.depth → n < 3
     → PassesBelow test geometry image (named geometry image i (place_to way.address way.entries d)) n → ((part : ℕ) → test 0 part ≡ true)
@@ -225,7 +225,7 @@ stored_passes test geometry image i form b d n t part way is end whole few passe
   | inr past ↦ ap (λ k. test k part) (ap (λ o. option_map_or (named geometry image i) o 0) (has_no_way form t past)) ∙ out part
 ]
 
--- each of the blocks below the block that the first d entries of a way lead to is one that is stored, if none of them is past the last
+-- each of the blocks below the block that the first d entries of a path lead to is one that is stored, if none of them is past the last
 pub passes_stored : (test : ℕ → ℕ → Bool) (geometry : Geometry) (image : List ℕ) (i : ℕ) (form : BlockMap) (b d n from to : ℕ) (way : BlockPath)
     → form ≡ form_at geometry image i → Some (end_of way) ≡ last_place form b → n + d ≡ way.depth → n < 3
     → from + (constants geometry.edition).pointers ^ n ≤ b + blocks_left (constants geometry.edition).pointers n (end_of way)
@@ -242,7 +242,7 @@ passes_stored test geometry image i form b d n from to way is end whole few star
     ∙ sym (stored_below geometry image i form b d n t way is end whole few (omega arith) (omega arith) (omega arith)))
     ∙ passed t part (omega arith) (omega arith)
 
--- unset marks say nothing
+-- unset marks mean nothing
 pub clear_passes : (test : ℕ → ℕ → Bool) (geometry : Geometry) (image : List ℕ) (marks : List Bool)
     → ((k : ℕ) → slice_index_or marks k false ≡ false) → MarksPassed test geometry image marks
 clear_passes test geometry image marks clear = λ m n marked.

@@ -65,7 +65,7 @@ pub record IsFollowed (form : BlockMap) (b : ℕ) (p : List ℕ) : Type 0 where
   pub deep : 2 ≤ length p
   pub next : (t : ℕ) → head_of p + t < pointer_count form → last_place form (b + t) ≡ Some (moved t p)
 
--- by what the place is
+-- the same for an equal place
 followed_as : (form : BlockMap) (b : ℕ) (p q : List ℕ) → last_place form b ≡ Some p → last_place form b ≡ Some q → IsFollowed form b q → IsFollowed form b p
 followed_as form b p q e is followed = subst (IsFollowed form b) (some_is q p (sym is ∙ e)) followed
 
@@ -88,7 +88,7 @@ followed Deep b p behind e =
     ]
 followed Bare b p behind e = let limit : b < 0 = (last_leaf Bare b p e).limit in absurd (omega arith)
 
--- the way of a logical block after the direct ones has an indirect block
+-- the path of a logical block after the direct ones has an indirect block
 pub deep_way : (form : BlockMap) (b : ℕ) (way : BlockPath) → direct_count form ≤ b → Some (end_of way) ≡ last_place form b → 1 ≤ way.depth
 deep_way form b way behind e =
     let deep = (followed form b (end_of way) behind (sym e)).deep in

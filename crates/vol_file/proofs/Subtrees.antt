@@ -220,7 +220,7 @@ stored_none geometry image i n low high above (Some q) fits (x, top, from, to) n
     below_none geometry image i n q fits (long_enough n q x above top)
     (ap (named geometry image i) top ∙ none x from to)
 
--- the place that is left of a way's without its last n entries
+-- the place that is left of a path's last place without the last n entries
 pub drop_to : (k : ℕ) (entries : List ℕ) (n d : ℕ) → drop n (place_to k entries (n + d)) ≡ place_to k entries d
 drop_to k entries zero d = let e : zero + d ≡ d = omega arith in ap (place_to k entries) e
 drop_to k entries (suc n) d = let e : suc n + d ≡ suc (n + d) = omega arith in rw e (drop_to k entries n d)
@@ -230,7 +230,7 @@ pub length_to : (k : ℕ) (entries : List ℕ) (d : ℕ) → length (place_to k 
 length_to k entries zero = refl
 length_to k entries (suc d) = ap suc (length_to k entries d)
 
--- the pointers of an indirect block by the form of a file that has a way
+-- the pointers of an indirect block by the block map of a file that has a path
 pointers_by : (edition : Edition) (mode b : ℕ) (p : List ℕ) → last_place (form_of edition mode) b ≡ Some p
     → pointer_count (form_of edition mode) ≡ (constants edition).pointers
 pointers_by edition mode b p =
@@ -240,14 +240,14 @@ pointers_by edition mode b p =
       | false ↦ λ e. let none : b < 0 = (last_leaf Bare b p e).limit in absurd (omega arith)
     ]
 
--- the pointers of an indirect block, by the form of a file in which a logical block has a way
+-- the pointers of an indirect block, by the block map of a file in which a logical block has a path
 pub pointers_at : (geometry : Geometry) (image : List ℕ) (i : ℕ) (form : BlockMap) (b : ℕ) (way : BlockPath) → form ≡ form_at geometry image i
     → Some (end_of way) ≡ last_place form b → pointer_count form ≡ (constants geometry.edition).pointers
 pointers_at geometry image i form b way is end =
     ap pointer_count is
     ∙ pointers_by geometry.edition (mode_of geometry image i) b (end_of way) (ap (λ f. last_place f b) (sym is) ∙ sym end)
 
--- nothing is stored for the logical blocks that are left below the place of a way's first `d` entries, nor for those below the
+-- nothing is stored for the logical blocks that are left below the place of a path's first `d` entries, nor for those below the
 -- `k` pointers that follow it, if all of these are 0
 pub hole_below : (geometry : Geometry) (image : List ℕ) (i : ℕ) (form : BlockMap) (b d n k : ℕ) (way : BlockPath) → Fits geometry image
     → form ≡ form_at geometry image i → Some (end_of way) ≡ last_place form b → 1 ≤ way.depth → n + d ≡ way.depth
@@ -268,7 +268,7 @@ hole_below geometry image i form b d n k way fits is end deep whole more none = 
     stored_none geometry image i n (head_of (drop n p)) (head_of (drop n p) + k + 1) (tail_of (drop n p)) (last_place form t) fits lies
     (subst (λ q. (x : ℕ) → head_of q ≤ x → x < head_of q + k + 1 → named geometry image i (x ∷ tail_of q) ≡ 0) (sym front) none)
 
--- each entry on a way is one of an indirect block
+-- each entry on a path is one of an indirect block
 pub few_entries : (geometry : Geometry) (image : List ℕ) (i : ℕ) (form : BlockMap) (b : ℕ) (way : BlockPath) → form ≡ form_at geometry image i
     → Some (end_of way) ≡ last_place form b → (k : ℕ) → k < way.depth → slice_index way.entries k < (constants geometry.edition).pointers
 few_entries geometry image i form b way is end k h =
@@ -283,7 +283,7 @@ few_blocks Large = omega arith
 few_blocks Deep = omega arith
 few_blocks Bare = omega arith
 
--- a logical block that has a way
+-- a logical block that has a path
 pub low_block : (form : BlockMap) (b : ℕ) (p : List ℕ) → last_place form b ≡ Some p → b < 2113674
 low_block form b p e = let limit = (last_leaf form b p e).limit in let few = few_blocks form in omega arith
 
@@ -295,19 +295,19 @@ stored_direct geometry image i Large b low = absurd (omega arith)
 stored_direct geometry image i Deep b low = ap (λ o. option_map_or (named geometry image i) o 0) (last_direct b low)
 stored_direct geometry image i Bare b low = absurd (omega arith)
 
--- past the blocks that have a way nothing is stored
+-- past the blocks that have a path nothing is stored
 pub hole_past : (geometry : Geometry) (image : List ℕ) (i : ℕ) (form : BlockMap) (b end : ℕ) → last_place form b ≡ None → IsHole geometry image i form b end
 hole_past geometry image i form b end none = λ t from within.
     let past : block_limit form ≤ t = omega (arith, last_none form b none) in
     ap (λ o. option_map_or (named geometry image i) o 0) (has_no_way form t past)
 
--- the name of an entry of the block at the end of a front of a way
+-- the name of an entry of the block at the end of a front of a path
 pub named_under : (geometry : Geometry) (image : List ℕ) (i k : ℕ) (entries : List ℕ) (d x : ℕ)
     → named geometry image i (x ∷ place_to k entries d) ≡ pointer_in geometry image (named geometry image i (place_to k entries d)) x
 named_under geometry image i k entries zero x = refl
 named_under geometry image i k entries (suc d) x = refl
 
--- nothing is stored for the logical blocks that are left below an entry of a way, and below the entries that follow it, up to m of them,
+-- nothing is stored for the logical blocks that are left below an entry of a path, and below the entries that follow it, up to m of them,
 -- if all of these are 0
 pub hole_at_entries : (geometry : Geometry) (image : List ℕ) (i : ℕ) (form : BlockMap) (b d m : ℕ) (way : BlockPath) → Fits geometry image
     → form ≡ form_at geometry image i → Some (end_of way) ≡ last_place form b → d < way.depth → 1 ≤ m

@@ -71,12 +71,12 @@ among_second : (p : List ℕ) (ps qs : List (List ℕ)) → IsAmong p qs → IsA
 among_second p [] qs among = among
 among_second p (q ∷ ps) qs among = inr (among_second p ps qs among)
 
--- the answer whose contrary is yes
+-- the answer whose opposite is yes
 not_true : (x : Bool) → not x ≡ true → x ≡ false
 not_true true e = absurd (true≢false (sym e))
 not_true false e = refl
 
--- a missing place is on the ways and names nothing
+-- a missing place is on the paths and names nothing
 pub missing_unnamed : (form : BlockMap) (names : List ℕ → Bool) (blocks p : List ℕ) → IsAmong p (missing_places form names blocks)
     → (is_on_ways form blocks p ≡ true) × (names p ≡ false)
 unfolding missing_places
@@ -96,7 +96,7 @@ missing_unnamed form names (b ∷ blocks) p among =
           )
     ]
 
--- a place that is on the ways and names nothing is missing
+-- a place that is on the paths and names nothing is missing
 pub unnamed_missing : (form : BlockMap) (names : List ℕ → Bool) (blocks p : List ℕ) → (is_on_ways form blocks p ≡ true) × (names p ≡ false)
     → IsAmong p (missing_places form names blocks)
 unfolding missing_places
@@ -125,7 +125,7 @@ length_fronts names (j ∷ (a ∷ p)) =
     ap length (unnamed_step names (j ∷ (a ∷ p)) (fronts (a ∷ p)))
     ∙ (length-append (unnamed_of names (fronts (a ∷ p))) (unnamed_of names ((j ∷ (a ∷ p)) ∷ [])) ∙ omega (arith, rest, one))
 
--- the places missing on one way are as many as are counted among all places
+-- the places missing on one path are as many as are counted among all places
 length_way : (form : BlockMap) (names : List ℕ → Bool) (b : ℕ)
     → length (missing_on_way form names b) ≡ count_by (λ p. list_any (bytes_eq p) (way form b) && not (names p)) (places form)
 length_way form names b =
@@ -139,7 +139,7 @@ length_way form names b =
           (λ p. ap (λ t. t && not (names p)) (sym (fronts_new q p))))
     ] refl
 
--- the places on one of two ways that name nothing, split by the first way
+-- the places on one of two paths that name nothing, split by the first path
 parted : (x y n : Bool) → ((x || y) && not n) ≡ ((x && not n) || (y && not (n || x)))
 parted true true true = refl
 parted true true false = refl
@@ -157,7 +157,7 @@ parts_apart true true false e = refl
 parts_apart true false n e = refl
 parts_apart false y n e = absurd (true≢false (sym e))
 
--- the places missing on some ways are as many as are counted among all places
+-- the places missing on some paths are as many as are counted among all places
 length_missing : (form : BlockMap) (names : List ℕ → Bool) (blocks : List ℕ) → length (missing_places form names blocks) ≡ missing_count form names blocks
 unfolding missing_places missing_count
 length_missing form names [] = sym (count_none (λ p. false) (places form) (λ p. refl))

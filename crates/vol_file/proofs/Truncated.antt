@@ -49,7 +49,7 @@ pub addresses_file : (geometry : Geometry) (image : List ℕ) (i : ℕ) → IsFi
 addresses_file geometry image i file =
     ap first_count (form_file geometry.edition (mode_of geometry image i) file.kind) ∙ addresses_in geometry.edition (mode_of geometry image i)
 
--- the kept bytes of an i-node are none of its size
+-- the kept bytes of an i-node don't include its size
 kept_size : (edition : Edition) (old new : List ℕ) (i r : ℕ) → SameOutside old new (size_place edition i) (size_place edition i + size_bytes edition)
     → is_kept_byte edition r ≡ true → get_or new (inode_place edition i + r) 0 ≡ get_or old (inode_place edition i + r) 0
 kept_size edition old new i r same kept =
@@ -58,7 +58,7 @@ kept_size edition old new i r same kept =
       | inr more ↦ same.above (inode_place edition i + r) more
     ]
 
--- the kept bytes of an i-node of the sixth edition are none of its mode
+-- the kept bytes of an i-node of the sixth edition don't include its mode
 kept_mode : (old new : List ℕ) (i r : ℕ) → SameOutside old new (inode_place V6 i) (inode_place V6 i + 2)
     → is_kept_byte V6 r ≡ true → get_or new (inode_place V6 i + r) 0 ≡ get_or old (inode_place V6 i + r) 0
 kept_mode old new i r same kept = let high : 2 ≤ r = grind (arith, nat_tests) in same.above (inode_place V6 i + r) (omega arith)

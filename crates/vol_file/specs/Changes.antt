@@ -91,7 +91,7 @@ blocks_of geometry image i = filter (λ k. not (k == 0)) (map (named geometry im
 abbrev pub whole_blocks : ℕ → ℕ
 whole_blocks size = (size + 511) / 512
 
--- true if a place is on the way of one of the logical blocks that hold the first `size` bytes (this project)
+-- true if a place is on the path of one of the logical blocks that hold the first `size` bytes (this project)
 abbrev pub is_kept : BlockMap → ℕ → List ℕ → Bool
 is_kept form size p = is_on_ways form (range_with_len 0 (whole_blocks size)) p
 
@@ -106,7 +106,7 @@ abbrev pub truncated_mode : Edition → ℕ → ℕ → ℕ
 truncated_mode V6 size mode = if size == 0 then with_large mode false else mode
 truncated_mode V7 size mode = mode
 
--- a truncation of file i to its first `left` bytes, where `blocks` were free: the places on the ways of the logical blocks
+-- a truncation of file i to its first `left` bytes, where `blocks` were free: the places on the paths of the logical blocks
 -- that hold these bytes name what they did, and all others nothing; the blocks of the others are put before the free ones
 -- in the order of the places, since they are freed from the last place to the first, and the free blocks keep their bytes.
 -- The bytes stored in kept blocks stay, even past the size (Lions on itrunc; the size is this project's)

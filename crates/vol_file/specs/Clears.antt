@@ -117,7 +117,7 @@ abbrev pub IsPastUnder : (List ℕ → Bool) → List ℕ → ℕ → List ℕ �
 IsPastUnder past p j q = IsUnder p j q × (past q ≡ true)
 
 -- wherever a place with `level` levels below it named block b, the places below it no longer name blocks, except on the
--- ways of the first `kept` logical blocks below it, and the blocks named there are free (Lions on itrunc)
+-- paths of the first `kept` logical blocks below it, and the blocks named there are free (Lions on itrunc)
 abbrev pub ClearsBelow : Geometry → List ℕ → List ℕ → ℕ → ℕ → ℕ → Type 0
 ClearsBelow geometry old new b level kept = (i a bound : ℕ) (p blocks : List ℕ) → Rules3To7With geometry old blocks
     → IsNamedAt geometry old i (a ∷ p) b → levels_below (form_at geometry old i) (a ∷ p) ≡ level

@@ -15,16 +15,16 @@ abbrev pub IsAmong : List ℕ → List (List ℕ) → Type 0
 IsAmong p [] = ⊥
 IsAmong p (q ∷ qs) = (p ≡ q) ⊎ IsAmong p qs
 
--- the list of a form's places contains its places and nothing else (this project)
+-- the list of a block map's places contains its places and nothing else (this project)
 abbrev pub ListsPlaces : Type 0
 ListsPlaces = (form : BlockMap) (p : List ℕ) → IsAmong p (places form) ↔ IsPlace form p
 
--- the list of a form's places contains each of them once (this project)
+-- the list of a block map's places contains each of them once (this project)
 abbrev pub ListsPlacesOnce : Type 0
 ListsPlacesOnce = (form : BlockMap) (p : List ℕ) → IsPlace form p → count_by (bytes_eq p) (places form) ≡ 1
 
 -- the places missing for n logical blocks in a row, counted over the list of all places, are as many as those counted block
--- by block, where a place on the ways of two blocks is counted at the first (Lions on bmap)
+-- by block, where a place on the paths of two blocks is counted at the first (Lions on bmap)
 abbrev pub CountsBlockByBlock : Type 0
 CountsBlockByBlock = (form : BlockMap) (names : List ℕ → Bool) (first n : ℕ)
     → missing_count form names (range_with_len first n) ≡ missing_from form names first n
@@ -33,7 +33,7 @@ CountsBlockByBlock = (form : BlockMap) (names : List ℕ → Bool) (first n : �
 abbrev pub NeedsNothingForNothing : Type 0
 NeedsNothingForNothing = (geometry : Geometry) (image : List ℕ) (i offset : ℕ) → need geometry image i offset 0 ≡ 0
 
--- the missing places are exactly those on the ways of some logical blocks that name nothing (this project)
+-- the missing places are exactly those on the block paths of some logical blocks that name nothing (this project)
 abbrev pub MissesWhatIsUnnamed : Type 0
 MissesWhatIsUnnamed = (form : BlockMap) (names : List ℕ → Bool) (blocks p : List ℕ)
     → IsAmong p (missing_places form names blocks) ↔ ((is_on_ways form blocks p ≡ true) × (names p ≡ false))

@@ -8,7 +8,7 @@ use Rattle.vol_file.specs.Shape.{is_named, touched, is_on_ways, grows_large, fit
 use Rattle.vol_layout.specs.declared.geometry.Geometry.{Geometry}
 use Rattle.vol_layout.specs.declared.block_map.BlockMap.{BlockMap}
 
--- the number of places on the ways of these logical blocks that name nothing (Lions on bmap)
+-- the number of places on the paths of these logical blocks that name nothing (Lions on bmap)
 unfoldable pub missing_count : BlockMap → (List ℕ → Bool) → List ℕ → ℕ
 missing_count form names blocks = count_by (λ p. is_on_ways form blocks p && not (names p)) (places form)
 
@@ -22,12 +22,12 @@ need_of form names blocks =
 abbrev pub need : Geometry → List ℕ → ℕ → ℕ → ℕ → ℕ
 need geometry image i offset len = need_of (form_at geometry image i) (is_named geometry image i) (touched offset len)
 
--- the places on the way of a logical block that name nothing, from the i-node down (Lions on bmap)
+-- the places on the path of a logical block that name nothing, from the i-node down (Lions on bmap)
 abbrev pub missing_on_way : BlockMap → (List ℕ → Bool) → ℕ → List (List ℕ)
 missing_on_way form names b = filter (λ p. not (names p)) (reverse (way form b))
 
--- the places on the ways of these logical blocks that name nothing, block by block and from the i-node down, each at the
--- first block whose way it is on (Lions on bmap; the order is this project's)
+-- the places on the paths of these logical blocks that name nothing, block by block and from the i-node down, each at the
+-- first block whose path it is on (Lions on bmap; the order is this project's)
 unfoldable pub missing_places : BlockMap → (List ℕ → Bool) → List ℕ → List (List ℕ)
 missing_places form names [] = []
 missing_places form names (b ∷ blocks) =

@@ -4,7 +4,7 @@ use Rattle.vol_layout.specs.Edition.{constants}
 use Rattle.vol_layout.specs.Names.{pointer_in}
 use Rattle.vol_layout.specs.declared.geometry.Geometry.{Geometry}
 
--- the number of the c-th data block below block m, n levels of indirect blocks with `pointers` pointers each down (Lions on bmap)
+-- the number of the c-th data block below block m, n levels down, if each indirect block has `pointers` pointers (Lions on bmap)
 abbrev pub below : Geometry → List ℕ → ℕ → ℕ → ℕ → ℕ → ℕ
 below geometry image pointers m zero c = m
 below geometry image pointers m (suc n) c = pointer_in geometry image (below geometry image pointers m n (c / pointers)) (c % pointers)

@@ -17,7 +17,7 @@ abbrev pub touched : ℕ → ℕ → List ℕ
 touched offset zero = []
 touched offset (suc n) = range_with_len (offset / 512) ((offset + n) / 512 - offset / 512 + 1)
 
--- true if a place is on the way of one of these logical blocks (Lions on bmap)
+-- true if a place is on the block path of one of these logical blocks (Lions on bmap)
 abbrev pub is_on_ways : BlockMap → List ℕ → List ℕ → Bool
 is_on_ways form blocks p = list_any (λ b. list_any (bytes_eq p) (way form b)) blocks
 
@@ -36,14 +36,14 @@ moved_down names (k ∷ []) = k == 0
 moved_down names (k ∷ (a ∷ [])) = (a == 0) && (nat_lt k 8 && names (k ∷ []))
 moved_down names (j ∷ (k ∷ (a ∷ p))) = false
 
--- the form in which the ways of touched blocks are looked up (Lions on bmap)
+-- the block map in which the paths of touched blocks are looked up (Lions on bmap)
 abbrev pub fit_form : BlockMap → List ℕ → BlockMap
 fit_form form blocks = if grows_large form blocks then Large else form
 
--- the places that name a block in that form, before any is added (Lions on bmap)
+-- the places that name a block in that block map, before any block is added (Lions on bmap)
 abbrev pub fit_names : BlockMap → (List ℕ → Bool) → List ℕ → List ℕ → Bool
 fit_names form names blocks = if grows_large form blocks then moved_down names else names
 
--- the places that name a block once all on the ways of touched blocks do (Lions on bmap)
+-- the places that name a block once all on the paths of touched blocks do (Lions on bmap)
 abbrev pub filled : BlockMap → (List ℕ → Bool) → List ℕ → List ℕ → Bool
 filled form names blocks p = fit_names form names blocks p || is_on_ways (fit_form form blocks) blocks p

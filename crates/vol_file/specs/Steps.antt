@@ -91,39 +91,39 @@ pub record MayNameEntry (geometry : Geometry) (image : List ℕ) (m j : ℕ) : T
   pub blocks : List ℕ
   pub next : NamesNext geometry old image i wanted j a p blocks m
 
--- the rules hold with these free blocks, which are enough for the wanted places of file i, including those on the way of
+-- the rules hold with these free blocks, which are enough for the wanted places of file i, including those on the path of
 -- logical block b (this project)
 pub record WantsWay (geometry : Geometry) (image : List ℕ) (i : ℕ) (wanted : List ℕ → Bool) (b : ℕ) (blocks : List ℕ) : Type 0 where
   pub ready : IsReadyToName geometry image i wanted blocks
   pub limit : b < block_limit (form_at geometry image i)
   pub want : (p : List ℕ) → list_any (bytes_eq p) (way (form_at geometry image i) b) ≡ true → wanted p ≡ true
 
--- the places on the way of logical block b may be given blocks: enough are free (this project)
+-- the places on the path of logical block b may be given blocks: enough are free (this project)
 pub record MayNameWay (geometry : Geometry) (image : List ℕ) (i b : ℕ) : Type 0 where
   pub wanted : List ℕ → Bool
   pub blocks : List ℕ
   pub is : WantsWay geometry image i wanted b blocks
 
--- the places on the way of logical block b now name blocks (Lions on bmap)
+-- the places on the path of logical block b now name blocks (Lions on bmap)
 pub record NamesWay (geometry : Geometry) (old new : List ℕ) (i : ℕ) (wanted : List ℕ → Bool) (b : ℕ) (blocks : List ℕ) : Type 0 where
   pub rest : List ℕ
   pub extends : Extends geometry old new i wanted (λ p. list_any (bytes_eq p) (way (form_at geometry old i) b))
       (missing_on_way (form_at geometry old i) (is_named geometry old i) b) blocks rest
 
--- the rules hold with these free blocks, which are enough for the wanted places of file i, including those on the ways of n
+-- the rules hold with these free blocks, which are enough for the wanted places of file i, including those on the paths of n
 -- logical blocks from `from` on (this project)
 pub record WantsWays (geometry : Geometry) (image : List ℕ) (i : ℕ) (wanted : List ℕ → Bool) (from n : ℕ) (blocks : List ℕ) : Type 0 where
   pub ready : IsReadyToName geometry image i wanted blocks
   pub limit : from + n ≤ block_limit (form_at geometry image i)
   pub want : (p : List ℕ) → is_on_ways (form_at geometry image i) (range_with_len from n) p ≡ true → wanted p ≡ true
 
--- the places on the ways of n logical blocks may be given blocks: enough are free (this project)
+-- the places on the paths of n logical blocks may be given blocks: enough are free (this project)
 pub record MayNameWays (geometry : Geometry) (image : List ℕ) (i from n : ℕ) : Type 0 where
   pub wanted : List ℕ → Bool
   pub blocks : List ℕ
   pub is : WantsWays geometry image i wanted from n blocks
 
--- the places on the ways of n logical blocks now name blocks (Lions on bmap)
+-- the places on the paths of n logical blocks now name blocks (Lions on bmap)
 pub record NamesWays (geometry : Geometry) (old new : List ℕ) (i : ℕ) (wanted : List ℕ → Bool) (from n : ℕ) (blocks : List ℕ) : Type 0 where
   pub rest : List ℕ
   pub extends : Extends geometry old new i wanted (is_on_ways (form_at geometry old i) (range_with_len from n))
@@ -176,7 +176,7 @@ pub record MayEnlarge (geometry : Geometry) (image : List ℕ) (i : ℕ) : Type 
   pub sound : Rules3To7With geometry image blocks
   pub some : 1 ≤ length blocks
 
--- all places on the ways of these logical blocks now name blocks, and as many of the free blocks were taken as were needed (Lions on bmap)
+-- all places on the paths of these logical blocks now name blocks, and as many of the free blocks were taken as were needed (Lions on bmap)
 pub record Fills (geometry : Geometry) (old new : List ℕ) (i : ℕ) (touches blocks : List ℕ) : Type 0 where
   pub rest : List ℕ
   pub taken : List ℕ
@@ -199,12 +199,12 @@ pub record Fills (geometry : Geometry) (old new : List ℕ) (i : ℕ) (touches b
   pub order : taken ≡ map (named geometry new i) (places_taken (form_at geometry old i) (is_named geometry old i) touches)
   pub unused : KeepsBlocks old new rest
 
--- the rules hold with these free blocks, which are enough for the ways of the logical blocks `from..to` (this project)
+-- the rules hold with these free blocks, which are enough for the paths of the logical blocks `from..to` (this project)
 pub record HasRoom (geometry : Geometry) (image : List ℕ) (i from to : ℕ) (blocks : List ℕ) : Type 0 where
   pub sound : Rules3To7With geometry image blocks
   pub room : need_of (form_at geometry image i) (is_named geometry image i) (range_with_len from (to - from)) ≤ length blocks
 
--- the places on the ways of the logical blocks `from..to` may be given blocks (this project)
+-- the places on the paths of the logical blocks `from..to` may be given blocks (this project)
 pub record MayFill (geometry : Geometry) (image : List ℕ) (i from to : ℕ) : Type 0 where
   pub file : IsFile geometry image i
   pub blocks : List ℕ

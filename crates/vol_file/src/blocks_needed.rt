@@ -14,10 +14,10 @@ use vol_layout::{BlockMap, Geometry};
 /// The number of blocks up to which a file of the sixth edition is small.
 const SMALL_BLOCKS: u32 = 8;
 
-/// Returns the number of free blocks that a write of `len` bytes at byte `offset` of i-node `i`, from 1 to the last,
-/// takes: the data blocks and indirect blocks that are missing. A small file of the sixth edition that becomes large takes
-/// one more, for its old addresses. Bytes past the blocks that a file can have take none, nor do bytes of an i-node that is
-/// no regular file or directory.
+/// Returns the number of free blocks that a write of `len` bytes at byte `offset` of i-node `i`, from 1 to the last, takes:
+/// the data blocks and indirect blocks that are missing. A small file of the sixth edition that becomes large takes one
+/// more, for its old addresses. Bytes past the blocks that a file can have take none, nor do bytes of an i-node that isn't
+/// a regular file or directory.
 ///
 /// Costs one block-map lookup for each logical block.
 pub fn need(image: &Image, geometry: &Geometry, i: u16, offset: u32, len: u32) -> u32
@@ -37,7 +37,7 @@ pub fn need(image: &Image, geometry: &Geometry, i: u16, offset: u32, len: u32) -
     missing + u32::from(grows)
 }
 
-/// True if a file of some form becomes large when `last` is the last block touched.
+/// True if a file with some block map becomes large when `last` is the last block touched.
 pub(crate) fn grows_large(form: BlockMap, last: u32) -> bool
     ensures { result ≡ grows_at form last }
 {
@@ -47,7 +47,7 @@ pub(crate) fn grows_large(form: BlockMap, last: u32) -> bool
     }
 }
 
-/// Returns the number of places on the ways of the logical blocks `first..end` that name nothing. The file
+/// Returns the number of places on the paths of the logical blocks `first..end` that name nothing. The file
 /// becomes large first if it `grows`.
 fn missing_in_range(
     image: &Image,
@@ -76,15 +76,15 @@ fn missing_in_range(
     missing
 }
 
-/// Returns the form of a file, after it has become large if it `grows`.
+/// Returns the block map of a file, after it has become large if it `grows`.
 fn grown_form(form: BlockMap, grows: bool) -> BlockMap
     ensures { result ≡ grown_form form grows }
 {
     if grows { BlockMap::Large } else { form }
 }
 
-/// Returns the number of places on the way of logical block `b` that name nothing: of the `whole` way, or only of the
-/// part that is not on the way of an earlier block.
+/// Returns the number of places on the path of logical block `b` that name nothing: of the `whole` path, or only of the
+/// part that is not on the path of an earlier block.
 fn missing_at(
     image: &Image,
     geometry: &Geometry,
@@ -110,7 +110,7 @@ fn missing_at(
     }
 }
 
-/// Returns the count of [`missing_at`] in a file that keeps its form.
+/// Returns the count of [`missing_at`] in a file that keeps its block map.
 #[tactic(auto, using(crate::proofs::Indexes::way_address, crate::proofs::Indexes::way_entry, crate::proofs::Indexes::named_more, crate::proofs::MissingLaws::missing_to_more))]
 fn missing_on_way(
     image: &Image,
@@ -168,7 +168,7 @@ fn absent(named: bool) -> u32
 }
 
 /// Returns 1 if entry `j` of an indirect block names nothing, plus the places missing `above` it, if these count: on a
-/// whole way, or if `j` is 0, so that no earlier block uses the same indirect block.
+/// whole path, or if `j` is 0, so that no earlier block uses the same indirect block.
 fn absent_with(named: bool, whole: bool, j: u32, above: u32) -> u32
     requires { above ≤ 3 }
     ensures { result ≡ (if named then 0 else 1) + (if whole || j == 0 then above else 0) }

@@ -29,7 +29,7 @@ pub fn next_block(image: &Image, geometry: &Geometry, i: u16, from: u32, end: u3
     next_stored(image, geometry, i, form, from, end)
 }
 
-/// Does what [`next_block`] does, in a file of some form.
+/// Does what [`next_block`] does, in a file with some block map.
 pub(crate) fn next_stored(
     image: &Image,
     geometry: &Geometry,
@@ -135,8 +135,8 @@ pub(crate) fn blocks_below(geometry: &Geometry, levels: usize) -> u32
     }
 }
 
-/// Returns the number of logical blocks, from the one with this way on, that are below the indirect block to which the
-/// first `d` entries of the way lead.
+/// Returns the number of logical blocks, from the one with this path on, that are below the indirect block to which the
+/// first `d` entries of the path lead.
 pub(crate) fn left_below(geometry: &Geometry, way: &BlockPath, d: usize) -> u32
     requires depth { way.now.depth ≤ 3 }
     requires above { d ≤ way.now.depth }

@@ -10,7 +10,7 @@ use vol_layout::i_list::size;
 
 /// Reads the bytes of i-node `i`, from 1 to the last, from byte `offset` on into `buffer`, as many as it has room for, and
 /// returns their number: 0 at the end and past it. The rest of `buffer` stays. Holes and numbers outside the data zone read
-/// as zeros, and so does an i-node that is no regular file or directory.
+/// as zeros, and so does an i-node that isn't a regular file or directory.
 ///
 /// Costs a copy of the bytes, and one block-map lookup for each indirect block; the other logical blocks cost one number each.
 pub fn read(image: &Image, geometry: &Geometry, i: u16, offset: u32, buffer: &mut [u8]) -> usize
@@ -67,7 +67,7 @@ fn read_whole(image: &Image, geometry: &Geometry, i: u16, offset: u32, buffer: &
     }
 }
 
-/// Fills `piece` with bytes of block `k` from its byte `start` on, or with zeros if `k` is no data block.
+/// Fills `piece` with bytes of block `k` from its byte `start` on, or with zeros if `k` isn't a data block.
 #[tactic(auto, unfolding(vol_layout::specs::Body::zone_byte))]
 fn read_piece(image: &Image, geometry: &Geometry, k: u32, start: usize, piece: &mut [u8])
     requires fits { Fits geometry.now image.now }

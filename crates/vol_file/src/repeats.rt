@@ -55,7 +55,7 @@ pub fn passed_end(image: &Image, geometry: &Geometry, i: u16, b: u32, marks: &[b
     if is_marked(marks, block, 0) { b + 1 } else { b }
 }
 
-/// Marks each block on the way of logical block `b` of i-node `i`, from 1 to the last, if all logical blocks below it are
+/// Marks each block on the path of logical block `b` of i-node `i`, from 1 to the last, if all logical blocks below it are
 /// in `from..to`. There are [`MARKS`] marks for each block; a block without marks in `marks` isn't marked.
 ///
 /// Costs one block-map lookup, or nothing if there are no marks.
@@ -94,7 +94,7 @@ pub fn mark_passed(
     }
 }
 
-/// True if at most two levels are below the block to which the first `d` entries of the way of logical block `b` lead, and
+/// True if at most two levels are below the block to which the first `d` entries of the path of logical block `b` lead, and
 /// all logical blocks below it are in `from..to`.
 fn is_between(geometry: &Geometry, way: &BlockPath, d: usize, b: u32, from: u32, to: u32) -> bool
     requires depth { way.now.depth ≤ 3 }

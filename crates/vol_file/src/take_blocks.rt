@@ -1,4 +1,4 @@
-//! Taking blocks for a write: each place on the way of a logical block that names no block gets one.
+//! Taking blocks for a write: each place on the path of a logical block that names no block gets one.
 ghost use Rattle.std.specs.Prelude.{◌≡◌, ℕ, ◌-◌, ◌*◌, ◌≤◌, Bool, List, [], ◌∷◌};
 ghost use Rattle.vol_layout.specs.Names.{form_at};
 ghost use Rattle.vol_file.specs.Steps.{
@@ -60,7 +60,7 @@ fn name_entry(image: &mut Image, geometry: &Geometry, m: u32, j: u32) -> u32
     }
 }
 
-/// Gives each place on the way of logical block `b` of file `i` that names no block a free one, from the i-node down.
+/// Gives each place on the path of logical block `b` of file `i` that names no block a free one, from the i-node down.
 fn name_way(image: &mut Image, geometry: &Geometry, i: u16, form: BlockMap, b: u32)
     requires form { form ≡ form_at geometry.now image.old i }
     requires may { MayNameWay geometry.now image.old i b }

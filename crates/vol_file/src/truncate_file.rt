@@ -15,11 +15,11 @@ use vol_layout::{
 };
 
 /// Truncates file `i` to its first `size` bytes, at most its size, and returns the number of blocks freed. The blocks on
-/// the ways of the logical blocks that hold these bytes are kept. All others are put on the free list, from the last place
+/// the paths of the logical blocks that hold these bytes are kept. All others are put on the free list, from the last place
 /// to the first, so that the next block to be taken is the one that the first of their places named. In the sixth edition
 /// the large flag is cleared if `size` is 0; the rest of the mode stays. Takes no memory.
 ///
-/// Costs one read for each entry of the file's indirect blocks after the kept ones, including those on the way of the last
+/// Costs one read for each entry of the file's indirect blocks after the kept ones, including those on the path of the last
 /// kept block, and two writes for each block freed.
 pub fn truncate(image: &mut Image, geometry: &Geometry, i: u16, size: u32) -> u32
     requires file { IsFile geometry.now image.old i }

@@ -11,7 +11,7 @@ use vol_layout::Geometry;
 
 /// Calls `visit` with the 512 bytes of each of `count` logical blocks of i-node `i`, from 1 to the last, in order from
 /// block `first` on. Holes, numbers outside the data zone and blocks past those that a file can have read as zeros, and so
-/// does an i-node that is no regular file or directory. Bytes stored past the size are visited too.
+/// does an i-node that isn't a regular file or directory. Bytes stored past the size are visited too.
 ///
 /// Takes no memory, and copies nothing. Costs one block-map lookup for each indirect block; the other blocks cost one number each.
 pub fn read_range<F: FnMut(&[u8])>(
@@ -37,7 +37,7 @@ pub fn read_range<F: FnMut(&[u8])>(
     }
 }
 
-/// Returns the bytes of block `k`, or `hole` if `k` is no data block.
+/// Returns the bytes of block `k`, or `hole` if `k` isn't a data block.
 #[tactic(auto, unfolding(vol_layout::specs::Body::zone_byte))]
 fn block_bytes<'a>(image: &'a Image, geometry: &Geometry, k: u32, hole: &'a [u8]) -> &'a [u8]
     requires fits { Fits geometry.now image.now }

@@ -40,7 +40,7 @@ fn make_large(image: &mut Image, geometry: &Geometry, i: u16)
     }
 }
 
-/// Gives each place on the ways of the logical blocks `from..to` of file `i` a block if it names none. A small file first
+/// Gives each place on the paths of the logical blocks `from..to` of file `i` a block if it names none. A small file first
 /// becomes large if one of them is its ninth or later.
 fn name_blocks(image: &mut Image, geometry: &Geometry, i: u16, from: u32, to: u32)
     requires order { from < to }
@@ -80,7 +80,7 @@ fn put_in_blocks(image: &mut Image, geometry: &Geometry, i: u16, offset: u32, te
 
 /// Writes `text` to file `i` from byte `offset` on, up to the edition's greatest size. Bytes between the old size and
 /// `offset` become zeros. Takes blocks from the front of the free list for the places that name none: in the sixth edition
-/// first the block that makes a small file large, then for each logical block in turn those that are missing on its way,
+/// first the block that makes a small file large, then for each logical block in turn those that are missing on its path,
 /// from the i-node down. The size grows if it must; a write of no bytes changes nothing.
 ///
 /// Costs a copy of `text`, two block-map lookups for each logical block that it touches, and one for each stored block

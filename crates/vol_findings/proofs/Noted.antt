@@ -5,7 +5,7 @@ use Rattle.vol_layout.specs.Geometry.{geometry_read}
 use Rattle.vol_layout.specs.declared.edition.Edition.{Edition}
 use Rattle.vol_findings.specs.Reports.{other_edition, edition_number, note_text}
 
--- a result that is an error is none that is right
+-- an error isn't a right result
 pub err_not_ok : {T E : Type 0} (r : Result T E) → is_err r ≡ true → is_ok r ≡ false
 err_not_ok (Ok x) is = absurd (cc)
 err_not_ok (Err e) is = refl

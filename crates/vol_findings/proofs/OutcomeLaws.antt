@@ -105,7 +105,7 @@ tells_short edition image e =
       links = λ has. fails has.0;
     }
 
--- if its sizes are no volume's
+-- if its sizes are not those of a volume
 pub tells_bounds : (edition : Edition) (image : List ℕ) → geometry_read edition image ≡ Err Bounds → Tells edition image (unread Holds (Broken BadSizes))
 unfolding geometry_read Rule
 tells_bounds edition image e =

@@ -44,7 +44,7 @@ twice_asked : (edition : Edition) (image : List ℕ) → HasGeometry edition ima
 twice_asked edition image read zoned listed (inl fails) = fails (read, zoned)
 twice_asked edition image read zoned listed (inr fails) = fails.1 listed
 
--- two tests that hold, and back
+-- two tests that hold, and the converse
 both_true : (a b : Bool) → (a && b) ≡ true → (a ≡ true) × (b ≡ true)
 both_true true b e = (refl, e)
 both_true false b e = absurd (cc)
@@ -57,7 +57,7 @@ none_held : (a : Bool) (answer : Option ℕ) (n : ℕ) → a ≡ true → answer
 none_held true answer n is none = none
 none_held false answer n is none = absurd (cc)
 
--- if all are said to hold, none is the first that isn't, and back
+-- if all are said to hold, no line is the first that doesn't, and conversely
 none_unheld : (lines : List RuleLine) → are_held lines ≡ true → first_unheld lines ≡ None
 none_unheld [] all = refl
 none_unheld (line ∷ lines) all =

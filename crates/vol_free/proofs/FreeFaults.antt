@@ -131,7 +131,7 @@ module _ (g : Geometry) (image : List ℕ) where
     once : Once blocks
     apart : (k : ℕ) → IsIn k met → IsIn k blocks → ⊥
 
-  -- from a head at which a walk of enough steps ends in no fault, there is one
+  -- if a walk of enough steps from a head ends without a fault, there is one
   abbrev Stacks : ℕ → Type 0
   Stacks fuel = (head count : ℕ) (met : List ℕ) → Once met → ((b : ℕ) → IsIn b met → in_zone g b ≡ true)
       → g.zone_end - g.zone_start < fuel + length met → (walk_rest g image fuel head count met).fault ≡ None
@@ -194,7 +194,7 @@ module _ (g : Geometry) (image : List ℕ) where
         ]
       ]
 
-  -- if a walk of enough steps ends in no fault, there is a stack
+  -- if a walk of enough steps ends without a fault, there is a stack
   stacks : (fuel : ℕ) → Stacks fuel
   unfolding IsStack
   stacks zero head count met once zoned room e =
@@ -221,7 +221,7 @@ module _ (g : Geometry) (image : List ℕ) where
       refutes (g.zone_end - g.zone_start + 1) (free_head g.edition) (word image (free_head g.edition)) [] fault e
       has.free.count has.blocks has.free.stack has.free.once (λ k i j. i)
 
-  -- if it ends in none, the blocks that it met are the free ones
+  -- if it ends without one, the blocks that it met are the free ones
   pub no_fault_free : (blocks : List ℕ) → (free_walk g image).fault ≡ None → reverse blocks ≡ (free_walk g image).met → IsFree g image blocks
   unfolding Once IsIn
   no_fault_free blocks e met =
@@ -238,7 +238,7 @@ module _ (g : Geometry) (image : List ℕ) where
     free = no_fault_free (reverse (free_walk g image).met) e (reverse-reverse (free_walk g image).met);
   }
 
-  -- if the volume has a stack, the walk ends in no fault
+  -- if the volume has a stack, the walk ends without a fault
   pub stack_no_fault : HasStack g image → (free_walk g image).fault ≡ None
   stack_no_fault has =
       elim (free_walk g image).fault as (λ o. (free_walk g image).fault ≡ o → (free_walk g image).fault ≡ None) [

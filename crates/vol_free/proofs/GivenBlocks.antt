@@ -20,7 +20,7 @@ others_kept free low s small fresh c i =
     let from = free_from free c i in
     kept_apart s small c (omega arith) (λ same. fresh (rw same i))
 
--- adding a number that isn't there keeps the numbers different
+-- adding a new number keeps the numbers different
 pub more_once : (b : ℕ) (blocks : List ℕ) → (IsIn b blocks → ⊥) → Once blocks → Once (b ∷ blocks)
 unfolding Once
 more_once b blocks fresh once = (fresh, once)

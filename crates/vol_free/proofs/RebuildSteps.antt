@@ -71,7 +71,7 @@ pub in_unused : (geometry : Geometry) (used : List Bool) (b c : ℕ) → b ≤ c
 unfolding unused_from
 in_unused geometry used b c low high clear = kept_from used b (geometry.zone_end - b) c low (omega arith) clear
 
--- writing the count of the super-block keeps all that is to be kept
+-- writing the count of the super-block keeps everything that must be kept
 pub keeps_start : {geometry : Geometry} {used : List Bool} {old new : List ℕ} → 2 ≤ geometry.zone_start → geometry.zone_start ≤ geometry.zone_end
     → SameOutside old new (free_head geometry.edition) (free_head geometry.edition + 2) → KeepsUsed geometry used old new
 keeps_start {geometry = geometry} two order s =

@@ -190,7 +190,7 @@ pops_refilled geometry old mid new b (c ∷ rest) fits taken one is nonzero copy
       },
     )
 
--- there is a stack after a taking too
+-- there is a stack after taking a block, too
 pub pops_left : (geometry : Geometry) (old new : List ℕ) (blocks : List ℕ) (result : Option ℕ) → IsFree geometry old blocks
     → Pops geometry old new blocks result → HasStack geometry new
 pops_left geometry old new [] result free (none, same) = rw same (record { blocks = []; free = free })

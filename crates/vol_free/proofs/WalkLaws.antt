@@ -32,7 +32,7 @@ module _ (g : Geometry) (image : List ℕ) (fuel head count : ℕ) (met : List �
     unfolding walk_rest
     walk_end one zero-there = rw is (grind (arith, some, few, one, zero-there))
 
-    -- a number that is no data block's
+    -- a number outside the data blocks
     pub walk_out : (count ≡ 1 → b ≡ 0 → ⊥) → in_zone g b ≡ false → walk_rest g image (suc fuel) head count met ≡ failed met OutOfZone b
     unfolding walk_rest
     walk_out more out = rw is (rw out (grind (arith, some, few, more)))

@@ -73,7 +73,7 @@ opens_first t (name ∷ names) x i opens is = by (search t user x) refl is
     by (Ok others) e is = (others, e)
     by (Err refusal) e is = absurd (cc)
 
--- a name that is no step is `.`
+-- a name that isn't a step is `.`
 is_dot : (name : List ℕ) → is_step name ≡ false → name ≡ dot
 is_dot name still = same_bytes name dot (by (bytes_eq name dot) still)
   where

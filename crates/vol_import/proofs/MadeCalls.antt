@@ -63,7 +63,7 @@ pub record Keeps (old new : Mounted) (calls : List Call) : Type 0 where
   pub asked : map (λ (entry : Record). entry.call) more ≡ calls
   pub around : StaysAround (geometry_of old.edition old.image) old.image new.image
 
--- no call keeps all
+-- no call keeps everything
 keeps_all : (old : Mounted) → Keeps old old []
 keeps_all old = record {
   edition = refl;
@@ -102,7 +102,7 @@ abbrev Reads : Edition → List ℕ → List Record → List ℕ → Type 0
 Reads edition base journal image =
     IsLegal (reads_as edition base) journal × (reads_as edition image ≡ after (reads_as edition base) journal) × IsSound edition image
 
--- the same, of equal things
+-- the same, for equal values
 reads_by : (volume : Mounted) (edition : Edition) (base : List ℕ) (journal : List Record) → IsConsistent volume → volume.edition ≡ edition
     → volume.base ≡ base → volume.journal ≡ journal → Reads edition base journal volume.image
 reads_by volume edition base journal consistent same_edition same_base same_journal =

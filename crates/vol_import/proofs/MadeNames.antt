@@ -72,7 +72,7 @@ unfolding walk
 path_kept old new path i same keeps is =
     ap (λ r. walk_from new user r (components path)) same ∙ walk_kept old new keeps (components path) (root old) i is
 
--- a node that is no directory has no names
+-- a node that isn't a directory has no names
 pub no_names : (node new : Option Node) → is_directory (unwrap_or node no_node) ≡ false → HasNamesOf node new
 no_names None new plain name i is = cc
 no_names (Some node) new plain name i is = by node.content plain is
@@ -107,7 +107,7 @@ keeps_then old mid new first second = (
       (two.0, two.1, two.2 ∙ one.2, λ plain. two.3 (one.2 ∙ plain) ∙ one.3 plain),
 )
 
--- if there is no node, all is kept
+-- if there is no node, everything is kept
 pub keeps_none : (old new : Option Node) → old ≡ None → Keeps old new
 keeps_none old new none = (
   no_names old new (ap (λ n. is_directory (unwrap_or n no_node)) none),
@@ -170,7 +170,7 @@ pub owners_set : (nodes : ℕ → Option Node) (i : ℕ) (node : Option Node) �
     → (x : ℕ) → KeepsOwner (nodes x) (set_at nodes i node x)
 owners_set = set_keeps KeepsOwner owner_same
 
--- a directory with an entry more
+-- a directory with one more entry
 abbrev pub entered : ℕ → ℕ → List ℕ → ℕ → Option Node → Option Node
 entered now size name i node =
     option_map (λ (x : Node). record (modified now x) { content = change_names (λ names. insert names name i) x.content; size = size }) node
@@ -195,7 +195,7 @@ pub get_insert : (names : Names) (name word : List ℕ) (i : ℕ) → get (inser
 get_insert names name word i =
     find-put (slice_cmp nat_cmp) nat_list_cmp_total word name i names ∙ ap (λ b. cond b (Some i) (get names word)) (is_eq-slice_cmp word name)
 
--- a name that a map hasn't hides none of it
+-- a name that a map doesn't have hides none of it
 insert_has : (names : Names) (name word : List ℕ) (i j : ℕ) → get names name ≡ None → ok_or (get names word) refusals.NoEntry ≡ Ok j
     → ok_or (get (insert names name i) word) refusals.NoEntry ≡ Ok j
 insert_has names name word i j fresh is =
@@ -289,7 +289,7 @@ entered_others now size i name (Some node) word j is = by node.content is
         split names (bytes_eq word name) refl (sym (ap (λ (o : Option ℕ). ok_or o refusals.NoEntry) (get_insert names name word i)) ∙ is)
     by (Device type addresses) is = absurd (cc)
 
--- an entry for i in directory d, of a name that d hasn't
+-- an entry for i in directory d, of a name that d doesn't have
 pub record EntersName (old new : ℕ → Option Node) (d : ℕ) (name : List ℕ) (i : ℕ) : Type 0 where
   pub kept : (x : ℕ) → Keeps (old x) (new x)
   pub owners : (x : ℕ) → KeepsOwner (old x) (new x)

@@ -182,11 +182,11 @@ truncate_holds state now path done accepted there =
     (λ some. empty_holds new now path led.0 (state.tree.nodes led.0)
     (leads_still state.tree new path led.0 (emptied now (state.tree.nodes led.0)) refl refl plain led.1) (some led.0)) there
 
--- bytes that are put into no bytes are all
+-- bytes that are put into no bytes are the result
 pub spliced_all : (bytes : List ℕ) → spliced [] 0 bytes ≡ bytes
 spliced_all bytes = ap (λ rest. bytes ++ rest) (drop_all (0 + length bytes) [] (omega arith)) ∙ append-nil bytes
 
--- bytes that are written from the first byte on are all that an empty file has then
+-- bytes that are written to the front of an empty file are its contents
 written_holds : (state : State) (now : ℕ) (path bytes : List ℕ) (held : Holds state.tree path [])
     → Holds (at_time now (after_write state now 0 bytes held.leads.number)).tree path bytes
 written_holds state now path [] held = record {

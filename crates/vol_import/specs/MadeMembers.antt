@@ -113,7 +113,7 @@ abbrev pub AddsNames : Tree → Tree → List (List ℕ) → Type 0
 AddsNames old new paths = (d : ℕ) (name : List ℕ) (i : ℕ) → find_in new user d name ≡ Ok i → is_dots name ≡ false
     → (find_in old user d name ≡ Ok i) ⊎ Any (EndsIn new d name) paths
 
--- the paths of the directories on a way, given by its steps from a path below another on (this project)
+-- the paths of the directories on a path, given by its steps from a path below another on (this project)
 abbrev pub way_paths : List ℕ → List ℕ → List (List ℕ) → List (List ℕ)
 way_paths base path [] = []
 way_paths base path (step ∷ steps) = (base ++ (path ++ 47 ∷ step)) ∷ way_paths base (path ++ 47 ∷ step) steps
@@ -122,7 +122,7 @@ way_paths base path (step ∷ steps) = (base ++ (path ++ 47 ∷ step)) ∷ way_p
 abbrev pub made_paths : List ℕ → Member → List (List ℕ)
 made_paths base member = way_paths base [] (way_of (steps_of member.path)) ++ below base member.path ∷ []
 
--- a tree has all members of an archive, which can be read, keeps the nodes of another one, and has no names but its and those of the members' paths (POSIX, ustar interchange format)
+-- a tree has all members of an archive, which can be read, keeps the nodes of another one, and has no names but those of that one and of the members' paths (POSIX, ustar interchange format)
 unfoldable pub HasArchive : Tree → Tree → List ℕ → ℕ → Result (List Member) ArchiveFault → Type 0
 HasArchive old tree base now (Ok all) = HasMembers old tree base now all × KeepsNodes old tree × AddsNames old tree (flat_map (made_paths base) all)
 HasArchive old tree base now (Err fault) = ⊥

@@ -46,7 +46,7 @@ abbrev pub unmounted : MountFault → ImportFault
 unmounted (mounts.Unsound rule) = faults.Unsound rule
 unmounted mounts.NoMemory = faults.NoMemory
 
--- the fault of a block at a position of an archive that is no header, for this reason; a member whose header has a field without a number is named (this project)
+-- the fault of a block at a position of an archive that isn't a header, for this reason; a member whose header has a field without a number is named (this project)
 abbrev pub unheaded : List ℕ → ℕ → HeaderFault → ImportFault
 unheaded archive at headers.Magic = faults.Archive (archives.Header at headers.Magic)
 unheaded archive at headers.Checksum = faults.Archive (archives.Header at headers.Checksum)

@@ -186,7 +186,7 @@ is_step name = not (bytes_eq name (codes "."))
 abbrev pub steps_of : List ℕ → List (List ℕ)
 steps_of path = filter is_step (components path)
 
--- the steps except the last: those on the way (this project)
+-- the steps except the last: those that lead to the parent (this project)
 abbrev pub way_of : List (List ℕ) → List (List ℕ)
 way_of steps = take (length steps - 1) steps
 
@@ -194,7 +194,7 @@ way_of steps = take (length steps - 1) steps
 abbrev pub joined : List (List ℕ) → List ℕ
 joined steps = flat_map (λ step. 47 ∷ step) steps
 
--- a draft with the directories on a way, given by its steps from a path below another on, each in turn (this project)
+-- a draft with the directories on a path, given by its steps from a path below another on, each in turn (this project)
 unfoldable pub with_way : Tree → List ℕ → ℕ → List ℕ → List (List ℕ) → Drafted → Drafted
 with_way tree base now path [] drafted = drafted
 with_way tree base now path (step ∷ steps) drafted =

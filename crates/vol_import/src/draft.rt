@@ -141,7 +141,7 @@ pub(crate) fn is_directory_kind(kind: Kind) -> bool
     }
 }
 
-/// Returns the steps of a path: its components except `.`, which leads nowhere else.
+/// Returns the steps of a path: its components except `.`, which doesn't lead anywhere else.
 pub(crate) fn steps_of<'a>(alloc: Global, path: &'a [u8]) -> Result<Vec<&'a [u8]>, AllocError>
     ensures { IfOk result (λ steps. map (λ step. step.now) steps.items ≡ steps_of path.now) }
 {
@@ -197,7 +197,7 @@ fn push_step(path: &mut Vec<u8>, step: &[u8]) -> Result<(), AllocError>
     Ok(())
 }
 
-/// Appends the calls that make the directories on a way, given by its steps, that are missing, each in turn.
+/// Appends the calls that make the missing directories on a path, given by its steps, each in turn.
 pub(crate) fn push_way(
     alloc: Global,
     volume: &Volume,

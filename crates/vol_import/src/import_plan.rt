@@ -45,14 +45,14 @@ impl From<AllocError> for PlanFault {
 ///
 /// If no calls make a member, the fault has its path in the archive and the reason. The fault is NoInode, with the path in the
 /// volume, if the directories of the members so far, and those on the way to it, are more than the volume has i-nodes. Calls
-/// would be refused for that too, but mostly at an earlier member.
+/// would be refused for that too, but usually at an earlier member.
 ///
 /// The bytes of the members are moved into the calls. Takes memory for the calls, each with its whole path, of at most `base`
 /// and 4,097 bytes: up to three for a member, and one for each missing directory. Also takes memory for the paths of
 /// directories, of members and on the way to them: each is kept once, and there are at most as many as the volume has i-nodes,
-/// plus the names of one way.
+/// plus the names of one path.
 ///
-/// Each member costs the square of the length of its way, since the path of each directory on it is copied and looked up, even
+/// Each member costs the square of the length of its path, since the path of each directory on it is copied and looked up, even
 /// if all are known: about 4 MB and 2,048 look-ups for a path of 4,096 bytes. A directory that isn't known also costs a walk,
 /// and each member that is a directory costs two.
 pub fn plan(

@@ -74,7 +74,7 @@ module _ (g : Geometry) (image : List ℕ) where
       ap (λ x. found_at g image x b c e) size
       ∙ (found_suc (d - 1) b c e ∙ ap (λ x. here_at b c e x + below (d - 1) b c e (constants g.edition).pointers) (sym size))
 
-  -- from a number that is no data block's no data block is found
+  -- from a number outside the data blocks no data block is found
   pub found_out : (d b c e : ℕ) → Fits g image → in_zone g b ≡ false → in_zone g c ≡ true → found_at g image d b c e ≡ 0
   unfolding below
   found_out zero b c e fits out zone =

@@ -81,7 +81,7 @@ hold_entries g image d logical b some one =
     ∙ (hold_suc g image (d - 1) logical b some
     ∙ ap (λ x. single g x logical b ∷ entries_before g image (d - 1) logical b (constants g.edition).pointers) (sym size))
 
--- below a number that is no data block's nothing is found
+-- below a number outside the data blocks nothing is found
 pub hold_outside : (g : Geometry) (image : List ℕ) (d logical b : ℕ) → b ≢ 0 → 1 ≤ d → in_zone g b ≡ false
     → holdings_from g image d logical b ≡ single g d logical b ∷ []
 unfolding entries_before pointer_in

@@ -38,7 +38,7 @@ named_kept {geometry = geometry} {image = image} {place = place} {named = named}
   only = known.only;
 }
 
--- another entry names what it is for
+-- any other entry names its i-number
 pub named_more : {geometry : Geometry} {image : List ℕ} {place d s : ℕ} {slot : Slot} {named : List Bool} → NamedBefore geometry image place named
     → IsNextSlot geometry image place d s slot → is_dots (name_of slot.name) ≡ false → slot.inode < length named
     → NamedBefore geometry image (rank d (s + 1)) (set named slot.inode true)
@@ -61,7 +61,7 @@ named_more {geometry = geometry} {image = image} {place = place} {d = d} {s = s}
           ];
     }
 
--- past the last entry all is known
+-- past the last entry everything is known
 pub named_all : {geometry : Geometry} {image : List ℕ} {place : ℕ} {named : List Bool} → NamedBefore geometry image place named
     → IsPastEntries geometry image place → KnowsNamed geometry image named
 named_all known past = record {

@@ -33,11 +33,11 @@ pub record NamedBefore (geometry : Geometry) (image : List ℕ) (place : ℕ) (n
   pub all : (i : ℕ) → i ≤ geometry.last_inode → IsEnteredBefore geometry image place i → slice_index_or named i false ≡ true
   pub only : (i : ℕ) → slice_index_or named i false ≡ true → (d : ℕ) × (s : ℕ) × Enters geometry image d s i
 
--- whether i-node i is lost, by marks of those that an entry names: it is above the root, has something to be brought back, and has no name (ncheck; this project)
+-- true if i-node i is lost, by marks of those that an entry names: it is above the root, has something to recover, and has no name (ncheck; this project)
 abbrev pub is_lost : Geometry → List ℕ → List Bool → ℕ → Bool
 is_lost geometry image named i = nat_lt (root_of geometry) i && (has_content (kind_at geometry image i) && not (slice_index_or named i false))
 
--- these are the lost i-nodes, ascending (ncheck; this project)
+-- these are the lost i-nodes, in ascending order (ncheck; this project)
 abbrev pub AreLost : Geometry → List ℕ → List ℕ → Type 0
 AreLost geometry image lost =
     (named : List Bool) × KnowsNamed geometry image named × (lost ≡ filter (is_lost geometry image named) (range_with_len 0 (geometry.last_inode + 1)))

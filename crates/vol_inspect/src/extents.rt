@@ -14,7 +14,7 @@ use vol_layout::{BlockMap, Geometry, number};
 /// The extents found so far.
 #[derive(Drop)]
 pub(crate) struct Gathering {
-    /// Those that no block can join any more.
+    /// Those that no more blocks can join.
     pub done: Vec<Extent>,
     /// The last one.
     pub last: Option<Extent>,

@@ -20,7 +20,7 @@ pub struct InodeReport {
     /// The fields.
     pub node: Inode,
     /// The blocks that its places name, in the order of the places, each indirect block before the blocks below it. Empty for
-    /// an i-node that is no regular file or directory.
+    /// an i-node that isn't a regular file or directory.
     pub extents: Vec<Extent>,
 }
 

@@ -28,7 +28,7 @@ pub again_here : (marks : List ℕ) (b : ℕ) (blocks : List ℕ) → get_or mar
 unfolding again
 again_here marks b blocks before = ap (λ t. cond t (again (set marks b 1) blocks) (Some b)) (ne_eqb (get_or marks b 0) 0 before)
 
--- further blocks are marked after the first
+-- more blocks are marked after the first
 pub again_then : (blocks more marks mid : List ℕ) (end : Option ℕ) → marked marks blocks ≡ Some mid → again mid more ≡ end → again marks (blocks ++ more) ≡ end
 again_then [] more marks mid end done next = ap (λ m. again m more) (same_Some marks mid (sym (marked_none marks) ∙ done)) ∙ next
 again_then (b ∷ blocks) more marks mid end done next = elim (cases_eq (get_or marks b 0) 0) [

@@ -27,7 +27,7 @@ pub record NamedBy (geometry : Geometry) (image : List ℕ) (i : ℕ) (p : List 
   pub is : named geometry image i p ≡ b
   pub some : b ≢ 0
 
--- a place of an i-node's form is a place of a file
+-- a place of an i-node's block map is a place of a file
 place_of : (geometry : Geometry) (image : List ℕ) (i : ℕ) (p : List ℕ) → 1 ≤ i → i ≤ geometry.last_inode → IsPlace (form_at geometry image i) p
     → IsPlaceOf geometry image i p
 place_of geometry image i p first last place =

@@ -20,7 +20,7 @@ use Rattle.vol_dir.specs.Scan.{IsNextEntry}
 use Rattle.vol_judge.specs.DirectoryNames.{IsValidEntry, HasEntriesBelow, HasEntriesIn, is_in, HoldsNamesBelow}
 use Rattle.vol_dir.proofs.NextEntries.{entry_next, none_from}
 
--- zero bytes are no name
+-- zero bytes aren't a name
 zeros : (k : ℕ) → name_of (replicate k 0) ≡ []
 zeros zero = refl
 zeros (suc k) = refl

@@ -21,7 +21,7 @@ holds b decides e = decides.0 e
 pub fails : {P : Type 0} (b : Bool) → (IsTrue b ↔ P) → b ≡ false → P → ⊥
 fails b decides e p = let t : b ≡ true = decides.1 p in cc
 
--- the two ways of a negation
+-- the two cases of a negation
 pub not_true : (a b : Bool) → a ≡ not b → a ≡ true → b ≡ false
 not_true a b e t = elim (cases_Bool b) [ inl y ↦ absurd (let f : true ≡ false = sym t ∙ (e ∙ ap not y) in cc) | inr n ↦ n ]
 

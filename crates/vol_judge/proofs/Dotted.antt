@@ -31,12 +31,12 @@ all_keep {geometry = geometry} all = record {
   parent = λ d is other. (all d (inl is)).parent.other other;
 }
 
--- what holds of all below d, and of d, holds of all below d + 1
+-- a property of all below d, and of d, is one of all below d + 1
 pub keep_more : {geometry : Geometry} {image : List ℕ} (d : ℕ) → ((e : ℕ) → e < d → NeedsDots geometry image e → KeepsDots geometry image e)
     → (NeedsDots geometry image d → KeepsDots geometry image d) → (e : ℕ) → e < d + 1 → NeedsDots geometry image e → KeepsDots geometry image e
 keep_more {geometry = geometry} {image = image} d below here = below_more (λ e. NeedsDots geometry image e → KeepsDots geometry image e) d below here
 
--- what holds of all below one past the last i-number holds of all
+-- a property of all below one past the last i-number is one of all
 pub keep_all : {geometry : Geometry} {image : List ℕ} (d : ℕ) → Fits geometry image
     → ((e : ℕ) → e < d → NeedsDots geometry image e → KeepsDots geometry image e) → geometry.last_inode < d → HasDots geometry image
 keep_all {geometry = geometry} d fits below last =

@@ -1,4 +1,4 @@
--- A graph in which a node that is no directory loses a name.
+-- A graph in which a node that isn't a directory loses a name.
 use Rattle.std.proofs.Common.{◌≡◌, ◌≢◌, ◌∙◌, sym, ap, ℕ, ◌+◌, ◌%◌, ◌≤◌, List, None, Some, inl, inr, arith}
 use Rattle.std.proofs.lemmas.Bool.{cases_eq}
 use Rattle.vol_dir.specs.Names.{dot, dot_dot}
@@ -32,7 +32,7 @@ stays_there old new d s x t i j name word slot away apart some = elim (cases_eq 
   | inr there ↦ away there ∙ some
 ]
 
--- i, which is no directory, loses its name in slot s of d; if it isn't free then, it has another name, as its link count says
+-- i, which isn't a directory, loses its name in slot s of d; if it isn't free then, it has another name, as its link count says
 pub record IsUnnamed (old new : Graph) (last i d s : ℕ) (name : List ℕ) : Type 0 where
   pub before : IsGraphWithin old last
   pub after : IsGraphWithin new last

@@ -18,11 +18,11 @@ leads_not old new i d s e t j name drops leads same =
 leads_to : (old new : Graph) (i d s : ℕ) (name : List ℕ) → DropsDirectory old new i d s name → Leads old d s i
 leads_to old new i d s name drops = (name, drops.slot.was, drops.named)
 
--- so the directory is another
+-- so the two directories differ
 apart_from : (old new : Graph) (i d s : ℕ) (name : List ℕ) → DropsDirectory old new i d s name → d ≢ i
 apart_from old new i d s name drops = leads_not old new i d s d s i name drops (leads_to old new i d s name drops)
 
--- and so is the root
+-- and the root differs from it too
 root_apart : (old new : Graph) (root last i d s : ℕ) (name : List ℕ) → IsGraphSound old root last → DropsDirectory old new i d s name → root ≢ i
 root_apart old new root last i d s name sound drops same =
     sound.root_none d s (name, drops.slot.was ∙ ap (λ n. Some (name, n)) (sym same), drops.named)
@@ -126,7 +126,7 @@ emptied_count old new last i d s j name before after drops =
     let none = slots_none new j i (λ t word e. let empty = gone_entry old new last i d s t name after drops in cc) in
     omega (arith, all, here, was, is, none)
 
--- the link counts say so
+-- as the link counts say
 emptied_links : (old new : Graph) (root last i d s j : ℕ) (name : List ℕ) → IsGraphWithin old last → IsGraphWithin new last
     → IsGraphSound old root last → DropsDirectory old new i d s name → new.kind j ≢ kinds.Free → new.links j ≡ counted new last j
 emptied_links old new root last i d s j name before after sound drops some =

@@ -19,7 +19,7 @@ use Rattle.vol_judge.proofs.BlocksFrom.{from_zero, from_leaf, entries_from, from
 use Rattle.vol_judge.proofs.MarkLists.{marked_none, marked_more}
 use Rattle.vol_judge.proofs.ZonedFiles.{file_counted}
 
--- a file's blocks are those that its form's places name
+-- a file's blocks are those that the places of its block map name
 pub blocks_at_all : (geometry : Geometry) (image : List ℕ) (i : ℕ) → blocks_of geometry image i ≡ blocks_at geometry image i (places (form_at geometry image i))
 unfolding blocks_of blocks_at
 blocks_at_all geometry image i = refl

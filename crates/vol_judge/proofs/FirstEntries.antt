@@ -18,7 +18,7 @@ early geometry image d {from = from} t i name next low entry = elim (cases_lt t 
   | inr above ↦ absurd (none_some (entry_at geometry image d t) (name, i) entry (next.none t above low))
 ]
 
--- so what holds of the slots before the start holds of those before the entry found
+-- so a property of the slots before the start is one of those before the entry found
 pub below_reached : {geometry : Geometry} {image : List ℕ} {d from s : ℕ} {slot : Slot} → HasEntriesBelow geometry image d from
     → IsNextEntry (entry_at geometry image d) from (slot_count geometry image d) s slot → HasEntriesBelow geometry image d s
 below_reached {geometry = geometry} {image = image} {d = d} below next = record {

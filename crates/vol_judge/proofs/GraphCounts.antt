@@ -17,7 +17,7 @@ sum_same f g a (suc n) same =
     let split_g = sum_by-cons g a (range_with_len (a + 1) n) in
     omega (arith, first, rest, split_f, split_g)
 
--- sums of terms that are the same but at k
+-- sums of terms that are the same except at k
 pub sum_but : (f g : ℕ → ℕ) (a n k : ℕ) → a ≤ k → k < a + n → ((x : ℕ) → x ≢ k → f x ≡ g x)
     → sum_by f (range_with_len a n) + g k ≡ sum_by g (range_with_len a n) + f k
 sum_but f g a zero k low high same = absurd (omega (arith, low, high))
@@ -36,7 +36,7 @@ sum_but f g a (suc n) k low high same =
           omega (arith, first, rest, split_f, split_g)
     ]
 
--- sums of terms that are the same but at j and k
+-- sums of terms that are the same except at j and k
 sum_but_two : (f g : ℕ → ℕ) (a n j k : ℕ) → j ≢ k → a ≤ j → j < a + n → a ≤ k → k < a + n
     → ((x : ℕ) → x ≢ j → x ≢ k → f x ≡ g x)
     → sum_by f (range_with_len a n) + g j + g k ≡ sum_by g (range_with_len a n) + f j + f k

@@ -23,7 +23,7 @@ is_directory kinds.Odd = inr (λ e. cc)
 pub not_free : (kind : Kind) → kind ≡ kinds.Directory → kind ≢ kinds.Free
 not_free kind is e = cc
 
--- a free i-node is no directory
+-- a free i-node isn't a directory
 pub not_directory : (kind : Kind) → kind ≡ kinds.Free → kind ≢ kinds.Directory
 not_directory kind is e = cc
 
@@ -66,7 +66,7 @@ not_dots graph root last d name sound is new =
 pub counted_free : (graph : Graph) (root last i : ℕ) → IsGraphSound graph root last → graph.kind i ≡ kinds.Free → counted graph last i ≡ 0
 counted_free graph root last i sound free = counted_none graph last i (λ d t name e. (sound.allocated d t i name e).1 free)
 
--- nothing except d changes if i is no directory, neither before nor after
+-- nothing except d changes if i isn't a directory, neither before nor after
 pub elsewhere : (old new : Graph) (last d i : ℕ) → IsGraphWithin old last → IsGraphWithin new last → KeepsOthers old new d i
     → old.kind i ≢ kinds.Directory → new.kind i ≢ kinds.Directory → (x t : ℕ) → x ≢ d → new.entry x t ≡ old.entry x t
 elsewhere old new last d i before after others was is x t other = elim (cases_eq x i) [
@@ -114,7 +114,7 @@ dot_is graph root last d s i sound is some =
     let place = sound.once d s self.0 i d dot some self.1 in
     (entry_parts dot dot i d (sym some ∙ (ap (graph.entry d) place ∙ self.1))).1
 
--- a graph in which nothing of a directory changes stays sound
+-- a graph in which no directory changes stays sound
 pub same_sound : (old new : Graph) (root last : ℕ) → IsGraphWithin old last → IsGraphWithin new last → IsGraphSound old root last
     → IsSameGraph old new → IsGraphSound new root last
 same_sound old new root last before after sound same =

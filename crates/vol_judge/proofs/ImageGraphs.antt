@@ -1,4 +1,4 @@
--- The rules of an image from 9 to 12, and those of its graph, say the same.
+-- Rules 9 to 12 of an image mean the same as those of its graph.
 use Rattle.std.proofs.Common.{◌≡◌, ◌≢◌, ◌∙◌, sym, ap, refl, ℕ, ◌/◌, ◌≤◌, if◌then◌else◌, true, false, List, map, None, Some, inl, inr, arith}
 use Rattle.std.specs.List.{count_by, range_with_len}
 use Rattle.std.proofs.lemmas.Bool.{le-leb, leb-true, and_parts, and_from, le-ltb}
@@ -60,7 +60,7 @@ entry_from geometry image name d s i is =
 pub leads_to : (geometry : Geometry) (image : List ℕ) (d s i : ℕ) → Enters geometry image d s i → Leads (graph_of geometry image) d s i
 leads_to geometry image d s i enters = (enters.0, entry_to geometry image enters.0 d s i enters.1, enters.2)
 
--- and the other way round
+-- and conversely
 pub leads_from : (geometry : Geometry) (image : List ℕ) (d s i : ℕ) → Leads (graph_of geometry image) d s i → Enters geometry image d s i
 leads_from geometry image d s i leads = (leads.0, entry_from geometry image leads.0 d s i leads.1, leads.2)
 
@@ -70,7 +70,7 @@ reached_to geometry image i root_reached = root_below
 reached_to geometry image i (one_reached d s j above enters) =
     one_below d s j (reached_to geometry image d above) (leads_to geometry image d s j enters)
 
--- and the other way round
+-- and conversely
 pub reached_from : (geometry : Geometry) (image : List ℕ) (i : ℕ) → IsBelow (graph_of geometry image) (root_of geometry) i → IsReached geometry image i
 reached_from geometry image i root_below = root_reached
 reached_from geometry image i (one_below d s j above leads) =
@@ -178,7 +178,7 @@ graph_from_rules geometry image sizes entries dots tree links = record {
   linked = λ i from used. let inside = used_from geometry image i used in links.linked i from inside.1 inside.2;
 }
 
--- and the other way round
+-- and conversely
 pub rules_from_graph : (geometry : Geometry) (image : List ℕ) → HasSizes geometry image
     → IsGraphSound (graph_of geometry image) (root_of geometry) geometry.last_inode
     → HasEntries geometry image × HasDots geometry image × IsTree geometry image × HasLinks geometry image

@@ -23,7 +23,7 @@ unfolding IsInside
 inside_here geometry image zero b inside some = inside some
 inside_here geometry image (suc d) b inside some = inside.0 some
 
--- so is all that is found in fewer levels
+-- so is everything found in fewer levels
 pub inside_less : (geometry : Geometry) (image : List ℕ) (d e b : ℕ) → d ≤ e → IsInside geometry image e b → IsInside geometry image d b
 unfolding IsInside
 inside_less geometry image zero e b less inside = inside_here geometry image e b inside
@@ -31,7 +31,7 @@ inside_less geometry image (suc d) zero b less inside = absurd (omega arith)
 inside_less geometry image (suc d) (suc e) b less inside =
     (inside.0, λ j h. inside_less geometry image d e (pointer_in geometry image b j) (omega arith) (inside.1 j h))
 
--- all that is found below a number is found below its entries
+-- everything found below a number is found below its entries
 pub inside_entry : (geometry : Geometry) (image : List ℕ) (d b j : ℕ) → 1 ≤ d → j < (constants geometry.edition).pointers
     → IsInside geometry image d b → IsInside geometry image (d - 1) (pointer_in geometry image b j)
 unfolding IsInside
@@ -40,7 +40,7 @@ inside_entry geometry image (suc d) b j one h inside =
     let less : d ≡ suc d - 1 = omega arith in
     subst (λ x. IsInside geometry image x (pointer_in geometry image b j)) less (inside.1 j h)
 
--- no levels say nothing
+-- no levels require nothing
 pub knows_nothing : (geometry : Geometry) (image known : List ℕ) → ((b : ℕ) → get_or known b 0 ≡ 0) → KnowsInside geometry image known
 unfolding IsInside
 knows_nothing geometry image known none b zone = subst (λ x. IsInside geometry image x b) (sym (none b)) (λ some. zone)

@@ -5,7 +5,7 @@ use Rattle.vol_layout.specs.declared.geometry.Geometry.{Geometry}
 use Rattle.vol_file.specs.Rules.{HasSizes}
 use Rattle.vol_judge.specs.Limits.{IsSized, IsLinked}
 
--- what holds of each i-number before n, and of n, holds of each up to n
+-- a property of each i-number before n, and of n, is one of each up to n
 pub up_to : (P : ℕ → Type 0) (n : ℕ) → ((i : ℕ) → 1 ≤ i → i < n → P i) → P n → (i : ℕ) → 1 ≤ i → i < n + 1 → P i
 up_to P n before here i some less = elim (cases_eq i n) [
   | inl same ↦ rw same here

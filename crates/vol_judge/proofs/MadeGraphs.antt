@@ -10,7 +10,7 @@ use Rattle.vol_judge.proofs.GraphParts.{not_free, not_directory, entry_parts, ro
 use Rattle.vol_judge.proofs.NamedGraphs.{added_or_old, old_stays}
 use Rattle.vol_layout.specs.declared.mode.Kind.TheVariants as kinds
 
--- the directory is another than the one that is made
+-- the directory is not the one that is made
 apart_from : (old new : Graph) (made d s : ℕ) (name : List ℕ) → AddsDirectory old new made d s name → d ≢ made
 apart_from old new made d s name adds same = not_free (old.kind d) adds.slot.directory (ap old.kind same ∙ adds.was)
 
@@ -33,7 +33,7 @@ made_entry old new made d s t j name word adds some = elim (cases_eq t 0) [
   ]
 ]
 
--- an entry that leads on afterwards is the new one, or was there before
+-- an entry that leads on afterwards is the new one, or existed before
 lead_cases : (old new : Graph) (made d s x t j : ℕ) (name : List ℕ) → AddsDirectory old new made d s name → Leads new x t j
     → ((x ≡ d) × (t ≡ s) × (j ≡ made)) ⊎ Leads old x t j
 lead_cases old new made d s x t j name adds leads = elim (cases_eq x made) [
@@ -47,7 +47,7 @@ lead_cases old new made d s x t j name adds leads = elim (cases_eq x made) [
   ]
 ]
 
--- an entry that was there stays
+-- an entry that existed stays
 made_stays : (old new : Graph) (last made d s x t : ℕ) (name : List ℕ) (entry : List ℕ × ℕ) → IsGraphWithin old last
     → AddsDirectory old new made d s name → old.entry x t ≡ Some entry → new.entry x t ≡ Some entry
 made_stays old new last made d s x t name entry before adds some = elim (cases_eq x made) [

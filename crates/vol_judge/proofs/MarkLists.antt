@@ -22,7 +22,7 @@ pub marked_again : (marks : List ℕ) (b : ℕ) (blocks : List ℕ) → get_or m
 unfolding marked
 marked_again marks b blocks before = ap (λ t. cond t (marked (set marks b 1) blocks) None) (ne_eqb (get_or marks b 0) 0 before)
 
--- further blocks are marked after the first
+-- more blocks are marked after the first
 pub marked_then : (blocks more marks mid : List ℕ) (end : Option (List ℕ)) → marked marks blocks ≡ Some mid → marked mid more ≡ end
     → marked marks (blocks ++ more) ≡ end
 unfolding marked

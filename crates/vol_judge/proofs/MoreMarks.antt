@@ -45,7 +45,7 @@ pub ext_known : (g : Geometry) (blocks marks : List ℕ) → ((x : ℕ) → IsIn
     → ExtendsMarks g blocks marks marks
 ext_known g blocks marks known = record { all = known; only = λ x some. inl some; kept = λ x some. some }
 
--- nor do none
+-- nor does an empty list
 pub ext_none : (g : Geometry) (marks : List ℕ) → ExtendsMarks g [] marks marks
 unfolding IsIn
 ext_none g marks = ext_known g [] marks (λ x among zone. absurd among)
@@ -141,7 +141,7 @@ module _ (g : Geometry) (image : List ℕ) where
     ]
   ]
 
-  -- from a number of no data block on, none is found
+  -- from a number outside the data blocks on, none is found
   out_from : (d b x : ℕ) → in_zone g b ≡ false → IsIn x (blocks_from g image d b) → in_zone g x ≡ true → ⊥
   unfolding IsIn entries_from
   out_from zero b x out among zone = elim (cases_eq b 0) [
@@ -161,7 +161,7 @@ module _ (g : Geometry) (image : List ℕ) where
     ]
   ]
 
-  -- a number of no data block adds nothing
+  -- a number outside the data blocks adds nothing
   pub ext_out : (d b : ℕ) (marks : List ℕ) → in_zone g b ≡ false → ExtendsMarks g (blocks_from g image d b) marks marks
   ext_out d b marks out = ext_known g (blocks_from g image d b) marks (λ x among zone. absurd (out_from d b x out among zone))
 

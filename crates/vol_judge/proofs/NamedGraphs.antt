@@ -1,4 +1,4 @@
--- A graph in which a node that is no directory gets a new name.
+-- A graph in which a node that isn't a directory gets a new name.
 use Rattle.std.proofs.Common.{◌≡◌, ◌≢◌, ◌∙◌, sym, ap, ℕ, ◌+◌, ◌%◌, ◌≤◌, ◌==◌, List, Option, None, Some, inl, inr, ◌⊎◌, arith}
 use Rattle.std.specs.List.{list_any}
 use Rattle.std.proofs.lemmas.Bool.{cases_eq}
@@ -9,7 +9,7 @@ use Rattle.vol_judge.proofs.GraphCounts.{one_for, one_here, one_else}
 use Rattle.vol_judge.proofs.GraphParts.{not_directory, entry_parts, root_directory, counted_free, elsewhere, counted_slot, below_same}
 use Rattle.vol_layout.specs.declared.mode.Kind.TheVariants as kinds
 
--- an entry that a slot has afterwards is the new one, or was there
+-- an entry that a slot has afterwards is the new one, or existed before
 pub added_or_old : (old new : Graph) (d s i x t j : ℕ) (name word : List ℕ) → ChangesSlot old new d s None (Some (name, i))
     → (x ≢ d → new.entry x t ≡ old.entry x t) → new.entry x t ≡ Some (word, j)
     → ((x ≡ d) × (t ≡ s) × (word ≡ name) × (j ≡ i)) ⊎ (old.entry x t ≡ Some (word, j))
@@ -23,7 +23,7 @@ added_or_old old new d s i x t j name word slot away some = elim (cases_eq x d) 
   | inr there ↦ inr (sym (away there) ∙ some)
 ]
 
--- an entry that was there stays
+-- an entry that existed stays
 pub old_stays : (old new : Graph) (d s x t : ℕ) (entry : List ℕ × ℕ) (added : Option (List ℕ × ℕ)) → ChangesSlot old new d s None added
     → (x ≢ d → new.entry x t ≡ old.entry x t) → old.entry x t ≡ Some entry → new.entry x t ≡ Some entry
 old_stays old new d s x t entry added slot away some = elim (cases_eq x d) [
@@ -35,7 +35,7 @@ old_stays old new d s x t entry added slot away some = elim (cases_eq x d) [
   | inr there ↦ away there ∙ some
 ]
 
--- i, which is no directory, gets a new name, in slot s of d, which is counted
+-- i, which isn't a directory, gets a new name, in slot s of d, which is counted
 pub record IsNamed (old new : Graph) (last i d s : ℕ) (name : List ℕ) : Type 0 where
   pub before : IsGraphWithin old last
   pub after : IsGraphWithin new last

@@ -1,4 +1,4 @@
--- Laws of the first number that is no data block's.
+-- Laws of the first number outside the data blocks.
 use Rattle.std.proofs.Common.{◌≡◌, ◌≢◌, ℕ, zero, suc, ◌+◌, ◌-◌, ◌<◌, ◌≤◌, ◌∙◌, sym, ap, subst, not, true, false, inl, inr, List, [], ◌∷◌, Option, None, Some, refl, arith}
 use Rattle.std.proofs.lemmas.Bool.{cases_eq, cases_Bool}
 use Rattle.std.proofs.lemmas.Option.{none-some}
@@ -25,7 +25,7 @@ module _ (g : Geometry) where
   pub passed : (b : ℕ) (rest : List ℕ) → in_zone g b ≡ true → first_outside g (b ∷ rest) ≡ first_outside g rest
   passed b rest zone = find_past (λ k. not (in_zone g k)) b rest (ap not zone)
 
-  -- a number of no data block is found
+  -- a number outside the data blocks is found
   pub found : (b : ℕ) (rest : List ℕ) → in_zone g b ≡ false → first_outside g (b ∷ rest) ≡ Some b
   found b rest out = find_here (λ k. not (in_zone g k)) b rest (ap not out)
 
@@ -62,7 +62,7 @@ module _ (g : Geometry) where
     pub out_zero : (d b : ℕ) → b ≡ 0 → first_outside g (blocks_from g image d b) ≡ None
     out_zero d b none = ap (λ x. first_outside g (blocks_from g image d x)) none ∙ ap (first_outside g) (from_zero g image d)
 
-    -- a number that is no data block's is found at once
+    -- a number outside the data blocks is found at once
     pub out_here : (d b : ℕ) → b ≢ 0 → in_zone g b ≡ false → first_outside g (blocks_from g image d b) ≡ Some b
     out_here zero b some out = ap (first_outside g) (from_leaf g image b some) ∙ found b [] out
     out_here (suc d) b some out =
@@ -103,7 +103,7 @@ module _ (g : Geometry) where
         entries_next d b (j + n) m None (omega arith) before
         (out_zero d (pointer_in g image b (j + n)) (zeros (j + n) (omega arith) (omega arith)))
 
-    -- if nothing is found from a number on, all that is found below it is inside
+    -- if nothing is found from a number on, everything found below it is inside
     pub none_inside : (d b : ℕ) → Fits g image → first_outside g (blocks_from g image d b) ≡ None → IsInside g image d b
     unfolding IsInside entries_from
     none_inside zero b fits none = λ some. (kept b [] (sym (ap (first_outside g) (from_leaf g image b some)) ∙ none)).0
@@ -119,7 +119,7 @@ module _ (g : Geometry) where
           )
     ]
 
-    -- if all that is found below a number is inside, nothing is found from it on
+    -- if everything found below a number is inside, nothing is found from it on
     pub inside_none : (d b : ℕ) → IsInside g image d b → first_outside g (blocks_from g image d b) ≡ None
     unfolding IsInside entries_from
     inside_none zero b inside = elim (cases_eq b 0) [

@@ -172,7 +172,7 @@ once_noted {geometry = geometry} {image = image} {place = place} {d = d} {s = s}
           ];
     }
 
--- what holds of the entries before the start of a search holds of all entries before the one that it finds
+-- a property of the entries before the start of a search is one of all entries before the one that it finds
 once_here : {geometry : Geometry} {image : List ℕ} {place d s : ℕ} {slot : Slot} → HasOnceBefore geometry image place
     → IsNextSlot geometry image place d s slot → HasOnceBefore geometry image (rank d s)
 once_here once next = record {

@@ -37,7 +37,7 @@ themselves_named {geometry = geometry} {image = image} {d = d} {ups = ups} {numb
   };
 }
 
--- a node that is no directory names nothing
+-- a node that isn't a directory names nothing
 pub themselves_other : {geometry : Geometry} {image : List ℕ} {d : ℕ} {ups : List (Option ℕ)} → NameThemselvesBelow geometry image d ups
     → (IsDirectory geometry image d → ⊥) → NameThemselvesBelow geometry image (d + 1) ups
 themselves_other {geometry = geometry} {image = image} {d = d} {ups = ups} below other = record {

@@ -49,7 +49,7 @@ pub passed_none : {geometry : Geometry} {image : List ℕ} (from d start : ℕ) 
 passed_none {geometry = geometry} {image = image} from d start passed none =
     passed_next from d start passed (λ t i name has above. none_some (entry_at geometry image d t) (name, i) has.entry (none_from geometry image d start none t above))
 
--- in a node that is no directory
+-- in a node that isn't a directory
 pub passed_other : {geometry : Geometry} {image : List ℕ} (from d start : ℕ) → IsPassed geometry image from d start
     → (IsDirectory geometry image d → ⊥) → IsPassed geometry image from (d + 1) 0
 passed_other from d start passed none = passed_next from d start passed (λ t i name has above. none has.directory)

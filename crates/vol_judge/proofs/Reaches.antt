@@ -1,4 +1,4 @@
--- Reaching the directories from the root, by the way up from each.
+-- Reaching the directories from the root, by a walk up from each.
 use Rattle.std.proofs.Common.{◌≡◌, ◌≢◌, ℕ, ◌+◌, ◌<◌, ◌≤◌, ◌==◌, inl, inr, false, if◌then◌else◌, List, Option, length, get_or, refl, sym, ◌∙◌, arith, get_or-set_other, get_or-set_same}
 use Rattle.std.proofs.Math.ListN.{set, length-set}
 use Rattle.std.proofs.lemmas.Bool.{cases_eq}
@@ -24,11 +24,11 @@ walked_first geometry image walks len none room = record {
       ];
 }
 
--- a node that is no directory, and the root, has no way
+-- no walk up begins at the root or at a node that isn't a directory
 pub walked_later : {geometry : Geometry} {image walks : List ℕ} {d : ℕ} → AreWalked geometry image d walks → AreWalked geometry image (d + 1) walks
 walked_later is = record { room = is.room; root = is.root; early = λ i apart some. omega (arith, is.early i apart some); reached = is.reached }
 
--- a way begins at its directory
+-- a walk begins at its directory
 pub walk_first : {geometry : Geometry} {image walks : List ℕ} {d : ℕ} (ups : List (Option ℕ)) → AreWalked geometry image d walks → IsDirectory geometry image d
     → d ≢ root_of geometry → WalksUp geometry image ups d d walks
 walk_first {geometry = geometry} {image = image} {walks = walks} {d = d} ups is directory other =
@@ -51,12 +51,12 @@ walk_first {geometry = geometry} {image = image} {walks = walks} {d = d} ups is 
       begun = inl refl;
     }
 
--- a directory that no way passed is not the root
+-- a directory that no walk passed is not the root
 pub not_root : {geometry : Geometry} {image walks : List ℕ} {ups : List (Option ℕ)} {d place : ℕ} → WalksUp geometry image ups d place walks
     → get_or walks place 0 ≡ 0 → place ≢ root_of geometry
 not_root {geometry = geometry} is zero same = let zero' = rw same at zero in omega (arith, zero', is.root, root_first geometry.edition)
 
--- a way that reaches a directory that an earlier one passed reaches the root
+-- a walk that reaches a directory that an earlier one passed reaches the root
 pub walk_done : {geometry : Geometry} {image walks : List ℕ} {ups : List (Option ℕ)} {d place : ℕ} → WalksUp geometry image ups d place walks
     → get_or walks place 0 ≢ 0 → get_or walks place 0 ≢ d → AreWalked geometry image (d + 1) walks × IsReached geometry image d
 walk_done {geometry = geometry} {image = image} {walks = walks} {d = d} {place = place} is some other =
@@ -77,7 +77,7 @@ walk_done {geometry = geometry} {image = image} {walks = walks} {d = d} {place =
       ],
     )
 
--- each step leaves fewer i-numbers that no way has passed
+-- each step leaves fewer i-numbers that no walk has passed
 pub walk_fewer : (walks : List ℕ) (n d : ℕ) → n < length walks → get_or walks n 0 ≡ 0 → 1 ≤ d → unwalked (set walks n d) + 1 ≤ unwalked walks
 walk_fewer walks n d room zero first =
     let sums = sum_by-set (λ walk. if walk == 0 then 1 else 0) walks n d 0 room in

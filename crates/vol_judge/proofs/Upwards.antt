@@ -1,4 +1,4 @@
--- Going up from a directory, from parent to parent.
+-- Walking up from a directory, from parent to parent.
 use Rattle.std.proofs.Common.{◌≡◌, ◌≢◌, ℕ, ◌<◌, ◌∙◌, ◌⊎◌, inl, inr, List, Option, None, Some, length, get_or, refl, sym, arith, get_or-set_other, get_or-set_same}
 use Rattle.std.proofs.Math.ListN.{set, length-set}
 use Rattle.std.proofs.lemmas.Bool.{cases_eq}
@@ -7,7 +7,7 @@ use Rattle.vol_judge.specs.Directories.{root_of, Enters, IsReached, at_root, bel
 use Rattle.vol_judge.specs.Reach.{WalksUp}
 use Rattle.vol_judge.specs.Tree.{KnowsParents}
 
--- a mark of a way is kept, and so is the one that is set
+-- a mark of a walk is kept, and so is the one that is set
 set_walk : (walks : List ℕ) (n d i : ℕ) → n < length walks → (get_or walks i 0 ≡ d) ⊎ (i ≡ n) → get_or (set walks n d) i 0 ≡ d
 set_walk walks n d i room (inr same) = rw same (rw get_or-set_same refl)
 set_walk walks n d i room (inl walked) =
@@ -16,11 +16,11 @@ set_walk walks n d i room (inl walked) =
       | inr apart ↦ rw get_or-set_other walked
     ]
 
--- a mark of a way that isn't the one that is set was there before
+-- a mark of a walk other than the one that is set existed before
 was_walk : (walks : List ℕ) (n d i : ℕ) → (i ≡ n → ⊥) → get_or (set walks n d) i 0 ≡ d → get_or walks i 0 ≡ d
 was_walk walks n d i apart same = rw get_or-set_other at same
 
--- a way continues to the parent
+-- a walk continues to the parent
 pub goes_on : {geometry : Geometry} {image walks : List ℕ} {parents : List (Option ℕ)} {d place : ℕ} (up : ℕ) → KnowsParents geometry image parents
     → WalksUp geometry image parents d place walks → place ≢ root_of geometry → place < length walks → get_or parents place None ≡ Some up
     → WalksUp geometry image parents d up (set walks place d)
@@ -75,7 +75,7 @@ closed : {geometry : Geometry} {image : List ℕ} {d : ℕ} (walks : List ℕ) (
 closed walks _ root from at_root walked = root walked
 closed walks _ root from (below e s i reached enters) walked = closed walks e root from reached (from i e s walked enters)
 
--- the directory of a way that runs into itself isn't reached
+-- a directory whose walk runs into itself isn't reached
 pub goes_round : {geometry : Geometry} {image walks : List ℕ} {parents : List (Option ℕ)} {d place : ℕ} → KnowsParents geometry image parents
     → WalksUp geometry image parents d place walks → get_or walks place 0 ≡ d → d ≢ root_of geometry → IsReached geometry image d → ⊥
 goes_round {geometry = geometry} {walks = walks} {d = d} known is top other reached =
@@ -86,7 +86,7 @@ goes_round {geometry = geometry} {walks = walks} {d = d} known is top other reac
     ])
     reached (elim is.begun [ inl same ↦ rw same at top | inr walked ↦ walked ])
 
--- nor is one whose way reaches a directory without a parent
+-- nor is one whose walk reaches a directory without a parent
 pub goes_nowhere : {geometry : Geometry} {image walks : List ℕ} {parents : List (Option ℕ)} {d place : ℕ} → KnowsParents geometry image parents
     → WalksUp geometry image parents d place walks → place ≢ root_of geometry → place < length walks → d ≢ root_of geometry
     → get_or parents place None ≡ None → IsReached geometry image d → ⊥

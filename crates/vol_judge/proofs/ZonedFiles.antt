@@ -10,7 +10,7 @@ use Rattle.vol_layout.specs.declared.block_map.BlockMap.TheVariants.{Bare}
 use Rattle.vol_file.proofs.Nodes.{pointers_file}
 use Rattle.vol_judge.specs.Marks.{IsInside, IsFileZoned}
 
--- a mode whose form has an address is of a kind with places
+-- a mode whose block map has an address is of a kind with places
 kind_counted : (edition : Edition) (mode k : ℕ) → k < first_count (form_of edition mode) → has_places (kind_of edition mode) ≡ true
 kind_counted edition mode k h =
     elim (has_places (kind_of edition mode)) as (λ t. k < first_count (if t then file_form edition mode else Bare) → t ≡ true)
@@ -22,7 +22,7 @@ pub file_counted : (geometry : Geometry) (image : List ℕ) (i k : ℕ) → 1 �
 file_counted geometry image i k first last h =
     record { first = first; last = last; kind = kind_counted geometry.edition (mode_of geometry image i) k h }
 
--- if a file's numbers are data blocks', so is all that is found below one of its places
+-- if a file's numbers are data blocks', so is everything found below one of its places
 pub place_inside : (geometry : Geometry) (image : List ℕ) (i : ℕ) → IsFile geometry image i → IsFileZoned geometry image i → (d a : ℕ) (p : List ℕ)
     → IsPlace (form_at geometry image i) (a ∷ p) → d ≤ levels_below (form_at geometry image i) (a ∷ p)
     → IsInside geometry image d (named geometry image i (a ∷ p))
@@ -35,7 +35,7 @@ place_inside geometry image i file zoned (suc d) a p place deep = (
       place_inside geometry image i file zoned d j (a ∷ p) (omega (arith, h, many), omega (arith, deep), place) (omega (arith, deep)),
 )
 
--- so is all that is found below one of its addresses
+-- so is everything found below one of its addresses
 pub address_inside : (geometry : Geometry) (image : List ℕ) (i k : ℕ) → 1 ≤ i → i ≤ geometry.last_inode
     → k < first_count (form_at geometry image i) → IsFileZoned geometry image i
     → IsInside geometry image (levels (form_at geometry image i) k) (address_at geometry.edition image (inode_place geometry.edition i) k)

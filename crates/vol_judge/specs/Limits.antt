@@ -14,7 +14,7 @@ abbrev pub KeepsBadBlocks : Geometry → List ℕ → Type 0
 KeepsBadBlocks geometry image =
     geometry.edition ≡ V7 → (kind_at geometry image 1 ≡ kinds.Free) ⊎ (kind_at geometry image 1 ≡ kinds.Regular)
 
--- the size of i-node i is no greater than a file of its form can have (manual section 5, file system)
+-- the size of i-node i is no greater than its block map allows (manual section 5, file system)
 pub record IsSized (geometry : Geometry) (image : List ℕ) (i : ℕ) : Type 0 where
   pub greatest : IsFile geometry image i → size_of geometry image i ≤ (constants geometry.edition).greatest
   pub small : IsFile geometry image i → form_at geometry image i ≡ Small → size_of geometry image i ≤ 4096

@@ -19,7 +19,7 @@ pub record IsFirstOutOfZone (geometry : Geometry) (image : List ℕ) (i number :
   pub before : (j : ℕ) → 1 ≤ j → j < i → IsFileZoned geometry image j
   pub outside : first_outside geometry (blocks_of geometry image i) ≡ Some number
 
--- the first violation of rule 5: of the first i-node that names a number of no data block, the first such number (this project)
+-- the first violation of rule 5: of the first i-node that names a number outside the data blocks, the first such number (this project)
 abbrev pub IsFirstOutside : Geometry → List ℕ → Finding → Type 0
 IsFirstOutside geometry image (findings.OutOfZone i number) = IsFirstOutOfZone geometry image i number
 IsFirstOutside geometry image _ = ⊥

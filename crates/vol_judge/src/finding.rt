@@ -10,11 +10,11 @@ pub enum Finding {
     BadSizes,
     /// Rule 3: the mode of this i-node is not one of the edition's.
     OddMode(u16),
-    /// Rule 3: the root is no directory.
+    /// Rule 3: the root isn't a directory.
     RootKind,
     /// Rule 3: i-number 1 of the seventh edition is neither free nor a regular file.
     BadBlocksKind,
-    /// Rule 4: this file is larger than a file of its form can be.
+    /// Rule 4: this file is larger than its block map allows.
     TooLarge(u16),
     /// Rule 4: the link count of this i-node is above the limit.
     TooManyLinks(u16),

@@ -72,7 +72,7 @@ fn has_bad_blocks(image: &Image, geometry: &Geometry) -> bool
     }
 }
 
-/// True if i-node `i` isn't too large for its form.
+/// True if i-node `i` isn't too large for its block map.
 fn is_sized(image: &Image, geometry: &Geometry, i: u16) -> bool
     requires fits { Fits geometry.now image.now }
     requires first { 1 ≤ i }

@@ -14,9 +14,9 @@ use vol_file::next_pointer;
 use vol_layout::i_list::{address, mode};
 use vol_layout::{BlockMap, Geometry, number};
 
-/// Returns the first violation of rule 5: of the first i-node that names a number of no data block, the first such number
-/// in the order of its places. `known` has a byte for each block, with any value at first: the number of levels below the
-/// block that were found to be within the data zone. So no block is read more than once for each level.
+/// Returns the first violation of rule 5: of the first i-node that names a number outside the data blocks, the first such
+/// number in the order of its places. `known` has a byte for each block, with any value at first: the number of levels
+/// below the block that were found to be within the data zone. So no block is read more than once for each level.
 ///
 /// Costs two reads of each i-node and at most four of each entry of the indirect blocks, however they are linked. Takes no
 /// memory.

@@ -119,7 +119,7 @@ pub zone_byte_in : (geometry : Geometry) (image : List ℕ) (m r : ℕ) → in_z
 unfolding zone_byte
 zone_byte_in geometry image m r z = rw z
 
--- a block that is no data block reads as zeros
+-- a block that isn't a data block reads as zeros
 pub zone_byte_out : (geometry : Geometry) (image : List ℕ) (m r : ℕ) → in_zone geometry m ≡ false → zone_byte geometry image m r ≡ 0
 unfolding zone_byte
 zone_byte_out geometry image m r z = rw z

@@ -20,7 +20,7 @@ use Rattle.vol_layout.proofs.PlaceLaws.{last_leaf, place_front, front_above, fro
 use Rattle.vol_layout.proofs.BodyLaws.{zone_bounds, same_body, zone_byte_in, body_byte_is}
 use Rattle.vol_layout.proofs.NameLaws.{stored_apart_from}
 
--- an indirect block of a file in its edition's form holds as many numbers as one of the edition
+-- an indirect block of a file with its edition's block map holds as many numbers as one of the edition
 pub pointers_in : (edition : Edition) (mode : ℕ) → pointer_count (file_form edition mode) ≡ (constants edition).pointers
 pointers_in V6 mode = elim (is_large V6 mode) as (λ t. pointer_count (if t then Large else Small) ≡ 256) [ true ↦ refl | false ↦ refl ]
 pointers_in V7 mode = refl
@@ -33,7 +33,7 @@ pointers_of edition mode =
       | false ↦ omega arith
     ]
 
--- a file in its edition's form has as many addresses as its i-node
+-- a file with its edition's block map has as many addresses as its i-node
 pub addresses_in : (edition : Edition) (mode : ℕ) → first_count (file_form edition mode) ≡ address_count edition
 addresses_in V6 mode = elim (is_large V6 mode) as (λ t. first_count (if t then Large else Small) ≡ 8) [ true ↦ refl | false ↦ refl ]
 addresses_in V7 mode = refl
@@ -58,7 +58,7 @@ block_keeps_inode geometry old new k i fits same zone first last =
     let bounds : (geometry.zone_start ≤ k) × (k < geometry.zone_end) = zone_bounds geometry k zone in
     inode_kept geometry old new (512 * k) (512 * k + 512) i fits same (omega arith) first last
 
--- the addresses of i-node i and the form of its file are the same in both images
+-- the addresses of i-node i and the block map of its file are the same in both images
 pub record KeepsPlaces (geometry : Geometry) (old new : List ℕ) (i : ℕ) : Type 0 where
   pub form : form_at geometry new i ≡ form_at geometry old i
   pub addresses : (k : ℕ) → k < 13
@@ -69,7 +69,7 @@ pub places_kept : (geometry : Geometry) (old new : List ℕ) (i : ℕ) → Keeps
 places_kept geometry old new i kept =
     record { form = form_kept geometry old new i kept; addresses = λ k h. address_kept geometry old new i k kept h }
 
--- entry j of block m stays if its number does, if m is a data block at all
+-- entry j of block m stays if its number does, provided that m is a data block
 pub entry_kept : (geometry : Geometry) (old new : List ℕ) (m j : ℕ)
     → (in_zone geometry m ≡ true → number geometry.edition new (512 * m) j ≡ number geometry.edition old (512 * m) j)
     → pointer_in geometry new m j ≡ pointer_in geometry old m j
@@ -79,7 +79,7 @@ entry_kept geometry old new m j same =
     → (if z then number geometry.edition new (512 * m) j else 0) ≡ (if z then number geometry.edition old (512 * m) j else 0))
     [ true ↦ λ z. same z | false ↦ λ z. refl ] refl
 
--- the name of a place stays if the address stays, and the entry in each data block on the way
+-- the name of a place stays if the address stays, and the entry in each data block on the path
 pub named_kept : (geometry : Geometry) (old new : List ℕ) (i : ℕ) (p : List ℕ)
     → ((k : ℕ) → IsFront (k ∷ []) p → address_at geometry.edition new (inode_place geometry.edition i) k ≡ address_at geometry.edition old (inode_place geometry.edition i) k)
     → ((j a : ℕ) (q : List ℕ) → IsFront (j ∷ (a ∷ q)) p → in_zone geometry (named geometry old i (a ∷ q)) ≡ true
@@ -91,7 +91,7 @@ named_kept geometry old new i (j ∷ (a ∷ p)) addresses entries =
     ap (λ m. pointer_in geometry new m j) (named_kept geometry old new i (a ∷ p) (λ k front. addresses k (inr front)) (λ h b q front. entries h b q (inr front)))
     ∙ entry_kept geometry old new (named geometry old i (a ∷ p)) j (entries j a p (inl refl))
 
--- the name of place p stays if the addresses and the form stay, and each data block on the way to it
+-- the name of place p stays if the addresses and the block map stay, and each data block on the way to it
 pub named_frame : (geometry : Geometry) (old new : List ℕ) (i : ℕ) (p : List ℕ) → KeepsPlaces geometry old new i → IsPlace (form_at geometry old i) p
     → ((j a : ℕ) (q : List ℕ) → IsFront (j ∷ (a ∷ q)) p → in_zone geometry (named geometry old i (a ∷ q)) ≡ true
     → IsCopy old new (512 * named geometry old i (a ∷ q)) (512 * named geometry old i (a ∷ q)) 512)
@@ -109,7 +109,7 @@ named_frame geometry old new i p kept place blocks =
     number_copied geometry.edition old new (512 * named geometry old i (a ∷ q)) (512 * named geometry old i (a ∷ q)) 512 j (blocks j a q front zone)
     (number_room geometry.edition j within))
 
--- a write of block k keeps the names of the places, if k is no indirect block of the file
+-- a write of block k keeps the names of the places, if k isn't an indirect block of the file
 pub named_apart : (geometry : Geometry) (old new : List ℕ) (i k : ℕ) (p : List ℕ) → KeepsPlaces geometry old new i
     → SameOutside old new (512 * k) (512 * k + 512)
     → ((q : List ℕ) → IsPlace (form_at geometry old i) q → 1 ≤ levels_below (form_at geometry old i) q → named geometry old i q ≢ k)
@@ -128,7 +128,7 @@ stored_kept geometry old new i form b same =
     elim (last_place form b) as (λ o. last_place form b ≡ o → option_map_or (named geometry new i) o 0 ≡ option_map_or (named geometry old i) o 0)
     [ None ↦ λ e. refl | Some p ↦ λ e. same p e ] refl
 
--- a write of block k keeps the numbers stored for logical blocks, if k is no indirect block of the file
+-- a write of block k keeps the numbers stored for logical blocks, if k isn't an indirect block of the file
 pub stored_apart : (geometry : Geometry) (old new : List ℕ) (i k b : ℕ) → KeepsPlaces geometry old new i
     → SameOutside old new (512 * k) (512 * k + 512)
     → ((q : List ℕ) → IsPlace (form_at geometry old i) q → 1 ≤ levels_below (form_at geometry old i) q → named geometry old i q ≢ k)
@@ -166,7 +166,7 @@ body_frame geometry old new i kept size names blocks =
     (λ z. (blocks (n / 512) low z).bytes (n % 512) byte)
     ∙ sym (body_byte_is geometry old i n)))))
 
--- a write of block k leaves the body of each file if k is on none of its ways
+-- a write of block k leaves the body of each file if k is on none of its paths
 pub body_ways_kept : (geometry : Geometry) (old new : List ℕ) (i k : ℕ) → Fits geometry old → KeepsInode geometry old new i
     → SameOutside old new (512 * k) (512 * k + 512)
     → ((b : ℕ) (p q : List ℕ) → 512 * b < body_size geometry old i → last_place (form_at geometry old i) b ≡ Some p → IsFront q p → named geometry old i q ≢ k)

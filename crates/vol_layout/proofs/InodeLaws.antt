@@ -175,11 +175,11 @@ pub mode_kept : (geometry : Geometry) (old new : List ℕ) (i : ℕ) → KeepsIn
 mode_kept geometry old new i kept =
     mode_copied geometry.edition old new (inode_place geometry.edition i) (inode_place geometry.edition i) kept
 
--- the form of a file depends on the mode alone
+-- the block map of a file depends on the mode alone
 pub form_same : (geometry : Geometry) (old new : List ℕ) (i : ℕ) → mode_of geometry new i ≡ mode_of geometry old i → form_at geometry new i ≡ form_at geometry old i
 form_same geometry old new i e = ap (form_of geometry.edition) e
 
--- a kept i-node has the same form
+-- a kept i-node has the same block map
 pub form_kept : (geometry : Geometry) (old new : List ℕ) (i : ℕ) → KeepsInode geometry old new i → form_at geometry new i ≡ form_at geometry old i
 form_kept geometry old new i kept = form_same geometry old new i (mode_kept geometry old new i kept)
 

@@ -20,7 +20,7 @@ file_used edition mode file zero =
     let none : has_places (kind_of edition mode) ≡ false = ap has_places (ap (kind_of edition) zero ∙ kind_zero edition) in
     absurd (cc)
 
--- a mode of the sixth edition without the allocated bit is that of no file
+-- a mode of the sixth edition without the allocated bit isn't a file's
 pub kind_low : (mode : ℕ) → mode ≢ 0 → mode < 32768 → kind_of V6 mode ≡ kinds.Odd
 unfolding kind_of
 kind_low mode some low =
@@ -36,7 +36,7 @@ file_allocated mode file =
       | inr high ↦ high
     ]
 
--- a regular file or directory has the form of its edition
+-- a regular file or directory has the block map of its edition
 pub form_file : (edition : Edition) (mode : ℕ) → has_places (kind_of edition mode) ≡ true → form_of edition mode ≡ file_form edition mode
 form_file edition mode file = rw file
 

@@ -21,7 +21,7 @@ pub entry_out : (geometry : Geometry) (image : List ℕ) (m j : ℕ) → in_zone
 unfolding pointer_in
 entry_out geometry image m j z = rw z
 
--- 0 is no data block
+-- 0 isn't a data block
 pub zero_out : (geometry : Geometry) (image : List ℕ) → Fits geometry image → in_zone geometry 0 ≡ false
 zero_out geometry image fits =
     elim (in_zone geometry 0) as (λ z. in_zone geometry 0 ≡ z → z ≡ false)
@@ -75,7 +75,7 @@ pub stored_is : (geometry : Geometry) (image : List ℕ) (i : ℕ) (form : Block
     → stored geometry image i form b ≡ named geometry image i p
 stored_is geometry image i form b p e = ap (λ o. option_map_or (named geometry image i) o 0) e
 
--- nothing is stored for a logical block with no way
+-- nothing is stored for a logical block with no path
 pub stored_none : (geometry : Geometry) (image : List ℕ) (i : ℕ) (form : BlockMap) (b : ℕ) → last_place form b ≡ None → stored geometry image i form b ≡ 0
 stored_none geometry image i form b e = ap (λ o. option_map_or (named geometry image i) o 0) e
 

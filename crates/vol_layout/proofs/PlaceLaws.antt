@@ -1,4 +1,4 @@
--- Laws of the places of a file, and of the last place of the way of each logical block.
+-- Laws of the places of a file, and of the last place of the block path of each logical block.
 use Rattle.std.proofs.Common.{◌≡◌, ℕ, zero, suc, ◌+◌, ◌-◌, ◌*◌, ◌/◌, ◌%◌, ◌<◌, ◌≤◌, ◌∙◌, sym, ap, subst, List, [], ◌∷◌, slice_index, true, false, Bool, if◌then◌else◌, ltb, refl, arith, Option, Some, None, inl, inr}
 use Rattle.std.proofs.lemmas.Bool.{ltb-true, ltb-false, cases_eq}
 use Rattle.std.proofs.lemmas.Bool.Decides.{nat_tests}
@@ -8,7 +8,7 @@ use Rattle.vol_layout.specs.declared.block_map.BlockMap.{BlockMap}
 use Rattle.vol_layout.specs.declared.block_map.BlockPath.{BlockPath}
 use Rattle.vol_layout.specs.declared.block_map.BlockMap.TheVariants.{Small, Large, Deep, Bare}
 
--- the logical block whose way ends at a place with nothing below it
+-- the logical block whose path ends at a place with nothing below it
 abbrev pub leaf_block : BlockMap → List ℕ → ℕ
 leaf_block form [] = 0
 leaf_block Small (b ∷ p) = b
@@ -28,12 +28,12 @@ pub record IsLeaf (form : BlockMap) (b : ℕ) (p : List ℕ) : Type 0 where
   pub block : leaf_block form p ≡ b
   pub limit : b < block_limit form
 
--- the form of the last place of logical block b, if there is one
+-- the block map with a last place for logical block b, if there is one
 abbrev EndsAt : BlockMap → ℕ → Option (List ℕ) → Type 0
 EndsAt form b None = block_limit form ≤ b
 EndsAt form b (Some p) = IsLeaf form b p
 
--- what holds of both sides of a choice holds of the choice
+-- a property of both sides of a choice is one of the choice
 choose : {X : Type 0} (P : Option X → Type 0) (t : Bool) (x y : Option X) → (t ≡ true → P x) → (t ≡ false → P y) → P (if t then x else y)
 choose P t x y first other = elim t as (λ s. t ≡ s → P (if s then x else y)) [ true ↦ first | false ↦ other ] refl
 
@@ -41,7 +41,7 @@ choose P t x y first other = elim t as (λ s. t ≡ s → P (if s then x else y)
 pub large_levels : (k : ℕ) → k < 7 → levels Large k ≡ 1
 large_levels k h = grind (arith, nat_tests)
 
--- the way of each logical block of a small file
+-- the path of each logical block of a small file
 ends_small : (b : ℕ) → EndsAt Small b (last_place Small b)
 unfolding last_place
 ends_small b =
@@ -49,7 +49,7 @@ ends_small b =
     (λ t. let h : b < 8 = ltb-true b 8 t in record { place = omega arith; bottom = refl; block = refl; limit = omega arith })
     (λ t. ltb-false b 8 t)
 
--- the way of each logical block of a large file
+-- the path of each logical block of a large file
 ends_large : (b : ℕ) → EndsAt Large b (last_place Large b)
 unfolding last_place
 ends_large b =
@@ -64,7 +64,7 @@ ends_large b =
     record { place = (omega arith, omega arith, (omega arith, omega arith, omega arith)); bottom = refl; block = omega arith; limit = omega arith })
     (λ t. ltb-false b 32768 t))
 
--- the way of each logical block in the seventh edition
+-- the path of each logical block in the seventh edition
 ends_deep : (b : ℕ) → EndsAt Deep b (last_place Deep b)
 unfolding last_place
 ends_deep b =
@@ -94,33 +94,33 @@ ends_deep b =
     })
     (λ t. ltb-false b 2113674 t))))
 
--- an i-node that has no places has no ways
+-- an i-node that has no places has no paths
 ends_bare : (b : ℕ) → EndsAt Bare b (last_place Bare b)
 unfolding last_place
 ends_bare b = omega arith
 
--- the way of each logical block
+-- the path of each logical block
 ends_at : (form : BlockMap) (b : ℕ) → EndsAt form b (last_place form b)
 ends_at Small b = ends_small b
 ends_at Large b = ends_large b
 ends_at Deep b = ends_deep b
 ends_at Bare b = ends_bare b
 
--- the last place of a way is a place with nothing below it, and gives back its logical block
+-- the last place of a path is a place with nothing below it, and gives back its logical block
 pub last_leaf : (form : BlockMap) (b : ℕ) (p : List ℕ) → last_place form b ≡ Some p → IsLeaf form b p
 last_leaf form b p e = subst (EndsAt form b) e (ends_at form b)
 
--- a logical block with no way is past the limit
+-- a logical block with no path is past the limit
 pub last_none : (form : BlockMap) (b : ℕ) → last_place form b ≡ None → block_limit form ≤ b
 last_none form b e = subst (EndsAt form b) e (ends_at form b)
 
--- a logical block below the limit has a way
+-- a logical block below the limit has a path
 pub has_way : (form : BlockMap) (b : ℕ) → b < block_limit form → (p : List ℕ) × (last_place form b ≡ Some p)
 has_way form b h =
     elim (last_place form b) as (λ o. last_place form b ≡ o → (p : List ℕ) × (last_place form b ≡ Some p))
     [ None ↦ λ e. let past : block_limit form ≤ b = last_none form b e in absurd (omega arith) | Some p ↦ λ e. (p, e) ] refl
 
--- a logical block past the limit has no way
+-- a logical block past the limit has no path
 pub has_no_way : (form : BlockMap) (b : ℕ) → block_limit form ≤ b → last_place form b ≡ None
 has_no_way form b h =
     elim (last_place form b) as (λ o. last_place form b ≡ o → last_place form b ≡ None)
@@ -167,7 +167,7 @@ front_to k entries d (suc n) h =
       | inr other ↦ inr (front_to k entries d n (omega arith))
     ]
 
--- the first entries of the way of a logical block lead to a place
+-- the first entries of the path of a logical block lead to a place
 pub way_place : (form : BlockMap) (b : ℕ) (way : BlockPath) (d : ℕ) → Some (end_of way) ≡ last_place form b → d ≤ way.depth
     → IsPlace form (place_to way.address way.entries d)
 way_place form b way d e h =

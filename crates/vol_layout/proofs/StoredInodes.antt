@@ -1,4 +1,4 @@
--- When the i-node at a byte is a given one: each field is.
+-- The i-node at a byte is a given one if each field is.
 use Rattle.std.proofs.Common.{◌≡◌, ℕ, ◌+◌, ◌<◌, ◌≤◌, List, length, slice_index, Option, None, Some, IsSome, refl, sym, arith, rules}
 use Rattle.std.specs.Option.{unwrap_or}
 use Rattle.std.proofs.lemmas.List.FromFn.{fill_by_all}

@@ -1,4 +1,4 @@
--- The order of the ways: logical block after logical block ends at the next place with no level below it.
+-- The order of the block paths: each logical block's path ends at the next place with no level below it.
 use Rattle.std.proofs.Common.{◌≡◌, ℕ, zero, suc, ◌+◌, ◌-◌, ◌*◌, ◌/◌, ◌%◌, ◌<◌, ◌==◌, ◌∙◌, ◌⊎◌, sym, ap, subst, cond, List, [], ◌∷◌, ◌++◌, map, filter, false, refl, arith, inl, inr, Option, Some}
 use Rattle.std.specs.List.{flat_map, range_with_len}
 use Rattle.std.proofs.lemmas.Bool.Decides.{nat_tests}
@@ -205,7 +205,7 @@ large_last form is =
     ∙ (ap (λ ps. map Some (leaves_of form ps)) parts
     ∙ (leaves_append form front back ∙ ap (λ xs. xs ++ map Some (leaves_of form back)) first)))
 
--- the ways of a large file
+-- the paths of a large file
 large_order : (form : BlockMap) → form ≡ Large → map Some (leaves form) ≡ ends form 0 (block_limit form) ++ map Some (large_rest form)
 unfolding places
 large_order form is =
@@ -271,7 +271,7 @@ deep_triple form x b is at small =
     ∙ (ap (λ k. Some (k ∷ ((b / 128 % 128) ∷ ((b / 16384) ∷ (12 ∷ []))))) entry
     ∙ ap (λ k. Some ((b % 16384 % 128 / 1) ∷ (k ∷ ((b / 16384) ∷ (12 ∷ []))))) above)))
 
--- the ways of a file of the seventh edition
+-- the paths of a file of the seventh edition
 deep_order : (form : BlockMap) → form ≡ Deep → map Some (leaves form) ≡ ends form 0 (block_limit form)
 unfolding places
 deep_order form is =
@@ -317,12 +317,12 @@ deep_order form is =
     ∙ (append_assoc (ends form 0 one ++ ends form (0 + one) (spread n 1)) (ends form (0 + two) (spread n 2)) (ends form (0 + three) (spread n 3))
     ∙ append_assoc (ends form 0 one) (ends form (0 + one) (spread n 1)) (ends form (0 + two) (spread n 2) ++ ends form (0 + three) (spread n 3)))))))))))))
 
--- an i-node that has no places has no ways
+-- an i-node that has no places has no paths
 bare_order : (form : BlockMap) → form ≡ Bare → map Some (leaves form) ≡ ends form 0 (block_limit form)
 unfolding places
 bare_order form is = rw is refl
 
--- the ways of each form
+-- the paths of each block map
 pub orders_ways : OrdersWays
 orders_ways form =
     elim form as (λ f. form ≡ f → (rest : List (List ℕ)) × (map Some (leaves form) ≡ ends form 0 (block_limit form) ++ map Some rest)

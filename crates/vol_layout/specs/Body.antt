@@ -7,11 +7,11 @@ use Rattle.vol_layout.specs.Inode.{inode_place, size_at}
 use Rattle.vol_layout.specs.Names.{form_at, stored}
 use Rattle.vol_layout.specs.declared.geometry.Geometry.{Geometry}
 
--- byte r of the data block k, or 0 if k is no data block (manual section 5, file system)
+-- byte r of the data block k, or 0 if k isn't a data block (manual section 5, file system)
 unfoldable pub zone_byte : Geometry → List ℕ → ℕ → ℕ → ℕ
 zone_byte geometry image k r = if in_zone geometry k then slice_index image (512 * k + r) else 0
 
--- byte n of file i: that of the block named by the last place of the way of n / 512; a hole reads as zeros (Lions on bmap)
+-- byte n of file i: that of the block named by the last place of the path of n / 512; a hole reads as zeros (Lions on bmap)
 unfoldable pub body_byte : Geometry → List ℕ → ℕ → ℕ → ℕ
 body_byte geometry image i n = zone_byte geometry image (stored geometry image i (form_at geometry image i) (n / 512)) (n % 512)
 

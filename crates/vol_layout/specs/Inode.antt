@@ -21,7 +21,7 @@ kind_of_type_v7 type =
     else if type == 2 then kinds.Special else if type == 6 then kinds.Special
     else if type == 3 then kinds.Special else if type == 7 then kinds.Special else kinds.Odd
 
--- the kind for a mode: free if it is 0; odd if it is no mode of the edition (manual section 5, file system; stat.h)
+-- the kind for a mode: free if it is 0; odd if it isn't a mode of the edition (manual section 5, file system; stat.h)
 unfoldable pub kind_of : Edition → ℕ → Kind
 kind_of V6 mode =
     if mode == 0 then kinds.Free else if nat_lt mode 32768 then kinds.Odd else kind_of_type_v6 (mode / 8192 % 4)

@@ -24,7 +24,7 @@ abbrev pub HoldsWhatIsNamed : Type 0
 HoldsWhatIsNamed = (geometry : Geometry) (image : List ℕ) (i : ℕ) (p : List ℕ) (k : ℕ) → Fits geometry image
     → (Holds geometry image i p k) ↔ ((named geometry image i p ≡ k) × (k ≢ 0))
 
--- a logical block below the form's limit has a last place, and no other block has one (this project's law)
+-- a logical block below the block map's limit has a last place, and no other block has one (this project's law)
 abbrev pub HasWaysBelowLimit : Type 0
 HasWaysBelowLimit = (form : BlockMap) (b : ℕ) → (b < block_limit form) ↔ ((p : List ℕ) × (last_place form b ≡ Some p))
 
@@ -36,7 +36,7 @@ EndsWaysAtPlaces = (form : BlockMap) (b : ℕ) (p : List ℕ) → last_place for
 abbrev pub EndsWaysApart : Type 0
 EndsWaysApart = (form : BlockMap) (b c : ℕ) (p : List ℕ) → last_place form b ≡ Some p → last_place form c ≡ Some p → b ≡ c
 
--- the places of a form that have no level below them, in the order of its places (Lions on bmap)
+-- the places of a block map that have no level below them, in the order of its places (Lions on bmap)
 abbrev pub leaves : BlockMap → List (List ℕ)
 leaves form = filter (λ p. levels_below form p == 0) (places form)
 

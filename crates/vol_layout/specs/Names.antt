@@ -13,7 +13,7 @@ use Rattle.vol_layout.specs.declared.block_map.BlockMap.{BlockMap}
 abbrev pub mode_of : Geometry → List ℕ → ℕ → ℕ
 mode_of geometry image i = word image (inode_place geometry.edition i)
 
--- the form of i-node i (manual section 5, file system)
+-- the block map of i-node i (manual section 5, file system)
 abbrev pub form_at : Geometry → List ℕ → ℕ → BlockMap
 form_at geometry image i = form_of geometry.edition (mode_of geometry image i)
 
@@ -23,7 +23,7 @@ pub record IsFile (geometry : Geometry) (image : List ℕ) (i : ℕ) : Type 0 wh
   pub last : i ≤ geometry.last_inode
   pub kind : has_places (kind_of geometry.edition (mode_of geometry image i)) ≡ true
 
--- pointer j in block m, or 0 if m is no data block: a number outside the zone names none (Lions on bmap; the zone's test is this project's)
+-- pointer j in block m, or 0 if m isn't a data block: a number outside the zone names none (Lions on bmap; the zone's test is this project's)
 unfoldable pub pointer_in : Geometry → List ℕ → ℕ → ℕ → ℕ
 pointer_in geometry image m j = if in_zone geometry m then number geometry.edition image (512 * m) j else 0
 
@@ -51,7 +51,7 @@ pub record NamesBlock (geometry : Geometry) (image : List ℕ) (i : ℕ) (p : Li
   pub place : IsPlaceOf geometry image i p
   pub holds : Holds geometry image i p k
 
--- the number at the last place of the way of logical block b, or 0 if there is no way or nothing is named (Lions on bmap)
+-- the number at the last place of the path of logical block b, or 0 if there is no path or nothing is named (Lions on bmap)
 abbrev pub stored : Geometry → List ℕ → ℕ → BlockMap → ℕ → ℕ
 stored geometry image i form b = option_map_or (named geometry image i) (last_place form b) 0
 

@@ -21,12 +21,12 @@ has_places kinds.Free = false
 has_places kinds.Special = false
 has_places kinds.Odd = false
 
--- the form of a file in its edition: small or large in the sixth, deep in the seventh (manual section 5, file system)
+-- the block map of a file in its edition: small or large in the sixth, deep in the seventh (manual section 5, file system)
 abbrev pub file_form : Edition → ℕ → BlockMap
 file_form V6 mode = if is_large V6 mode then Large else Small
 file_form V7 mode = Deep
 
--- the form of an i-node with some mode; one without places is bare (manual section 5, file system)
+-- the block map of an i-node with this mode; one without places is bare (manual section 5, file system)
 abbrev pub form_of : Edition → ℕ → BlockMap
 form_of edition mode = if has_places (kind_of edition mode) then file_form edition mode else Bare
 
@@ -37,7 +37,7 @@ first_count Large = 8
 first_count Deep = 13
 first_count Bare = 0
 
--- the number of block numbers in an indirect block of the form's edition (Lions on bmap; param.h)
+-- the number of block numbers in an indirect block of the block map's edition (Lions on bmap; param.h)
 abbrev pub pointer_count : BlockMap → ℕ
 pointer_count Small = (constants V6).pointers
 pointer_count Large = (constants V6).pointers
@@ -57,20 +57,20 @@ levels_below form [] = 0
 levels_below form (k ∷ []) = levels form k
 levels_below form (j ∷ (a ∷ p)) = levels_below form (a ∷ p) - 1
 
--- a list of indexes is a place of the form: an address, or an entry of the block of a place with a level below it (Lions on bmap; ino.h)
+-- a list of indexes is a place of the block map: an address, or an entry of the block of a place with a level below it (Lions on bmap; ino.h)
 abbrev pub IsPlace : BlockMap → List ℕ → Type 0
 IsPlace form [] = ⊥
 IsPlace form (k ∷ []) = k < first_count form
 IsPlace form (j ∷ (a ∷ p)) = (j < pointer_count form) × (1 ≤ levels_below form (a ∷ p)) × IsPlace form (a ∷ p)
 
--- the number of logical blocks that a file of the form can have (Lions on bmap; ino.h; the sixth edition's limit is this project's)
+-- the number of logical blocks that a file with this block map can have (Lions on bmap; ino.h; the sixth edition's limit is this project's)
 abbrev pub block_limit : BlockMap → ℕ
 block_limit Small = 8
 block_limit Large = 32768
 block_limit Deep = 2113674
 block_limit Bare = 0
 
--- the last place of the way of logical block b (Lions on bmap; the seventh edition's ino.h)
+-- the last place of the block path of logical block b (Lions on bmap; the seventh edition's ino.h)
 unfoldable pub last_place : BlockMap → ℕ → Option (List ℕ)
 last_place Small b = if nat_lt b 8 then Some (b ∷ []) else None
 last_place Large b =
@@ -89,7 +89,7 @@ abbrev pub place_to : ℕ → List ℕ → ℕ → List ℕ
 place_to k entries zero = k ∷ []
 place_to k entries (suc n) = slice_index entries n ∷ place_to k entries n
 
--- the place at which a way ends (Lions on bmap)
+-- the place at which a block path ends (Lions on bmap)
 abbrev pub end_of : BlockPath → List ℕ
 end_of way = place_to way.address way.entries way.depth
 
@@ -98,7 +98,7 @@ abbrev pub fronts : List ℕ → List (List ℕ)
 fronts [] = []
 fronts (j ∷ p) = (j ∷ p) ∷ fronts p
 
--- the way of logical block b: its last place with all fronts; none if b has no way (Lions on bmap)
+-- the block path of logical block b: its last place with all fronts; none if b has no block path (Lions on bmap)
 abbrev pub way : BlockMap → ℕ → List (List ℕ)
 way form b = option_map_or fronts (last_place form b) []
 
@@ -107,6 +107,6 @@ abbrev pub places_from : ℕ → List ℕ → ℕ → List (List ℕ)
 places_from n p zero = p ∷ []
 places_from n p (suc d) = p ∷ flat_map (λ j. places_from n (j ∷ p) d) (range_with_len 0 n)
 
--- all places of a form, each once, in ascending order of their indexes, each followed by those below it (Lions on itrunc)
+-- all places of a block map, each once, in ascending order of their indexes, each followed by those below it (Lions on itrunc)
 unfoldable pub places : BlockMap → List (List ℕ)
 places form = flat_map (λ k. places_from (pointer_count form) (k ∷ []) (levels form k)) (range_with_len 0 (first_count form))

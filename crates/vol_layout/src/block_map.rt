@@ -1,11 +1,11 @@
-//! The block maps of both editions: the form of a file, and the way to each of its logical blocks.
+//! The block maps of both editions, and the block path to each logical block of a file.
 ghost use Rattle.std.specs.Prelude.{◌≡◌, ◌≤◌, IfSome};
 ghost use Rattle.std.specs.Option.{option_map};
 
 use crate::edition::Edition;
 use crate::mode::{Kind, Mode};
 
-/// The form of a block map: how the addresses of an i-node lead to a file's blocks.
+/// A block map: how the addresses of an i-node lead to a file's blocks.
 #[derive(Clone, Copy, Debug, PartialEq, Eq)]
 pub enum BlockMap {
     /// Sixth edition, without the large flag: eight addresses of data blocks.
@@ -20,7 +20,7 @@ pub enum BlockMap {
     Bare,
 }
 
-/// The way of a logical block, from the i-node down: an address, and an entry of each indirect block on the way.
+/// The block path of a logical block, from the i-node down: an address, and an entry of each indirect block after it.
 #[derive(Clone, Copy, Debug, PartialEq, Eq)]
 pub struct BlockPath {
     /// The index of an address of the i-node, from 0.
@@ -34,7 +34,7 @@ pub struct BlockPath {
 impl BlockMap {
     ghost use Rattle.vol_layout.specs.Places.{form_of, block_limit, first_count, levels, last_place, end_of};
 
-    /// Returns the form of an i-node with some mode.
+    /// Returns the block map of an i-node with this mode.
     pub fn of(edition: Edition, mode: Mode) -> BlockMap
         ensures { result ≡ form_of edition mode.bits }
     {
@@ -48,7 +48,7 @@ impl BlockMap {
         }
     }
 
-    /// Returns the number of logical blocks that a file of this form can have.
+    /// Returns the number of logical blocks that a file with this block map can have.
     pub fn block_limit(self) -> u32
         ensures { result ≡ block_limit self }
     {
@@ -60,7 +60,7 @@ impl BlockMap {
         }
     }
 
-    /// Returns the number of addresses of an i-node that are places of a file of this form.
+    /// Returns the number of addresses of an i-node that are places of a file with this block map.
     pub fn address_count(self) -> usize
         ensures { result ≡ first_count self }
     {
@@ -85,7 +85,7 @@ impl BlockMap {
         }
     }
 
-    /// Returns the way of a logical block, or `None` past the blocks that a file of this form can have.
+    /// Returns the block path of a logical block, or `None` past the blocks that a file with this block map can have.
     #[tactic(auto, unfolding(crate::specs::Places::last_place))]
     pub fn way(self, block: u32) -> Option<BlockPath>
         ensures end { option_map end_of result ≡ last_place self block }
@@ -117,7 +117,7 @@ impl BlockMap {
 }
 
 impl BlockPath {
-    /// Returns the way from an address over the first `depth` of some entries.
+    /// Returns the block path that starts at an address and takes the first `depth` of some entries.
     fn new(address: u32, entries: [u32; 3], depth: usize) -> BlockPath
         ensures address { result.address ≡ address }
         ensures entries { result.entries ≡ entries }

@@ -18,8 +18,9 @@ pub fn names_follow_the_rules()
     ensures { HoldsWhatIsNamed }
 {}
 
-/// Exactly the logical blocks below the form's limit have a way. It ends at a place with nothing below it, and the
-/// ways of different logical blocks end at different places: these are the places with nothing below them, in their order.
+/// Exactly the logical blocks below the block map's limit have a path. It ends at a place with nothing below it, and the
+/// paths of different logical blocks end at different places: these are the places with nothing below them, in their
+/// order.
 pub fn ways_end_at_places()
     ensures limit { HasWaysBelowLimit }
     ensures places { EndsWaysAtPlaces }

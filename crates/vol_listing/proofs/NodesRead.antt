@@ -76,7 +76,7 @@ module _ (geometry : Geometry) (image : List ℕ) (i : ℕ) where
       ∙ (ap (λ bits. row_with i (inode_of geometry.edition image i) (special_sort (bits / 4096) device)) mode
       ∙ ap (row_of i) (sym (node_is kinds.Special number is))))
 
-  -- whether a node is a directory
+  -- true if a node is a directory
   pub directory_outside : is_number geometry i ≡ false → is_directory (node_at (tree geometry image) i) ≡ false
   directory_outside number = ap is_directory (node_outside number)
 

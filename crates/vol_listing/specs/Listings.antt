@@ -13,7 +13,7 @@ use Rattle.vol_listing.specs.declared.options.ListOptions.{ListOptions}
 use Rattle.vol_listing.specs.declared.options.Screen.{Screen}
 use Rattle.vol_listing.specs.declared.places.ListedNode.{ListedNode}
 
--- a listing in some form of a file or directory, with the directories below it (this project)
+-- a listing in some format of a file or directory, with the directories below it (this project)
 abbrev pub listing_text : Lines → Depth → Screen → Tree → ListedNode → List ListedNode → List ℕ
 listing_text lines.Plain depth screen tree place places = lines_text (record { is_long = false; screen = screen }) tree depth place places
 listing_text lines.Long depth screen tree place places = lines_text (record { is_long = true; screen = screen }) tree depth place places

@@ -19,7 +19,7 @@ use std::alloc::{AllocError, Global};
 use vol_layout::Geometry;
 use vol_volume::Bytes;
 
-/// The form of lines.
+/// The format of lines.
 #[derive(Clone, Copy)]
 pub(crate) struct Style {
     /// True for long lines, with the i-node's attributes.

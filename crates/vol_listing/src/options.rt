@@ -5,7 +5,7 @@ ghost use Rattle.vol_listing.specs.Depths.{goes_below, is_bare, is_plain};
 /// The options of a listing.
 #[derive(Clone, Copy, Debug, PartialEq, Eq)]
 pub struct ListOptions {
-    /// The form of the lines.
+    /// The format of the lines.
     pub lines: Lines,
     /// Its depth.
     pub depth: Depth,
@@ -46,7 +46,7 @@ impl Depth {
     }
 }
 
-/// The form of the lines of a listing.
+/// The format of the lines of a listing.
 #[derive(Clone, Copy, Debug, PartialEq, Eq)]
 pub enum Lines {
     /// The i-number and the name, on a line.

@@ -1,4 +1,4 @@
--- The logical blocks of a file without its holes, and the places on their ways in the seventh edition.
+-- The logical blocks of a file without its holes, and the places on their paths in the seventh edition.
 use Rattle.std.proofs.Common.{◌≡◌, ◌∙◌, sym, ap, refl, ℕ, zero, suc, ◌+◌, ◌-◌, ◌<◌, ◌≤◌, true, false, cond, List, [], ◌∷◌, ◌++◌, filter, None, Some, inl, inr, arith}
 use Rattle.std.specs.Prelude.{◌||◌}
 use Rattle.std.specs.List.{list_any, count_by, sum_by, range_with_len}
@@ -36,7 +36,7 @@ range_more : (a n : ℕ) → range_with_len a (suc n) ≡ range_with_len a n ++ 
 range_more a zero = ap (λ x. x ∷ []) (let e : a ≡ a + 0 = omega arith in e)
 range_more a (suc n) = ap (λ rest. a ∷ rest) (range_more (a + 1) n ∙ ap (λ x. range_with_len (a + 1) n ++ (x ∷ [])) (let e : a + 1 + n ≡ a + suc n = omega arith in e))
 
--- one logical block more
+-- one more logical block
 below_more : (shape : Shape) (n : ℕ) → stored_blocks shape (n + 1) ≡ stored_blocks shape n ++ filter (names_block shape) (n ∷ [])
 below_more shape n =
     let next : n + 1 ≡ suc n = omega arith in
@@ -68,7 +68,7 @@ below_holes shape m (suc n) order holes =
           ∙ (below_hole shape n (holes n high (omega arith)) ∙ below_holes shape m n high (λ b from to. holes b from (omega (arith, to))))
     ]
 
--- the places on the ways with one more block
+-- the places on the paths with one more block
 pub on_more : (shape : Shape) (n : ℕ) (p : List ℕ) → names_block shape n ≡ true
     → is_on_ways Deep (stored_blocks shape (n + 1)) p ≡ (is_on_ways Deep (stored_blocks shape n) p || is_on_ways Deep (n ∷ []) p)
 on_more shape n p some =
@@ -86,7 +86,7 @@ pub count_holes : (shape : Shape) (m n : ℕ) → m ≤ n → ((b : ℕ) → m �
 unfolding places_for
 count_holes shape m n order holes = ap (λ blocks. count_by (is_on_ways Deep blocks) (places Deep)) (below_holes shape m n order holes)
 
--- a block adds the places that are missing on its way
+-- a block adds the places that are missing on its path
 pub count_more : (shape : Shape) (n : ℕ) → names_block shape n ≡ true
     → places_for shape (n + 1) ≡ places_for shape n + need_of Deep (is_on_ways Deep (stored_blocks shape n)) (n ∷ [])
 unfolding places_for place_count

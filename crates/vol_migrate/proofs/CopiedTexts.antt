@@ -55,7 +55,7 @@ pub record HoldsBlock (from : Geometry) (old : List ℕ) (i b m len : ℕ) : Typ
   pub within : 512 * b + len ≤ size_of from old i
   pub greatest : size_of from old i ≤ (constants from.edition).greatest
 
--- a byte of it is one of the body
+-- each of its bytes is one of the body
 pub text_byte : (from : Geometry) (old : List ℕ) (i b m len r : ℕ) → HoldsBlock from old i b m len → r < len
     → get_or (take len (block_of old m)) r 0 ≡ get_or (body from old i) (512 * b + r) 0
 text_byte from old i b m len r holds low =
@@ -68,7 +68,7 @@ text_byte from old i b m len r holds low =
     ∙ (sym (ap (λ k. zone_byte from old k r) holds.is)
     ∙ (sym (body_byte_at from old i b r (omega (arith, few, low))) ∙ sym (get_or-body from old i (512 * b + r) (omega (arith, within, greatest, low)))))))
 
--- a slot of it is one of the body
+-- each of its slots is one of the body
 pub text_slot : (from : Geometry) (old text : List ℕ) (i b m len s : ℕ) → HoldsBlock from old i b m len → text ≡ take len (block_of old m)
     → length text ≡ len → 16 * s + 16 ≤ len → slot_at text (16 * s) ≡ slot_at (body from old i) (512 * b + 16 * s)
 text_slot from old text i b m len s holds is size low =
@@ -84,7 +84,7 @@ text_slot from old text i b m len s holds is size low =
     })
     (omega (arith, long, within, greatest, low)) (omega (arith, size, low))
 
--- a raised byte of it is one of the raised body
+-- each of its raised bytes is one of the raised body
 pub text_raised : (from : Geometry) (old text : List ℕ) (i b m len r : ℕ) → HoldsBlock from old i b m len → text ≡ take len (block_of old m)
     → length text ≡ len → len % 16 ≡ 0 → r < len → raised_byte text r ≡ raised_byte (body from old i) (512 * b + r)
 unfolding raised_byte
@@ -236,7 +236,7 @@ whole_slots from to old image i b m len w directory size =
     let within = w.holds.within in
     omega (arith, slots, size, within)
 
--- the bytes of the block are carried, if its file is no directory
+-- the bytes of the block are carried, if its file isn't a directory
 pub plain_carries : (from to : Geometry) (old image new text : List ℕ) (i b m len : ℕ) → WritesBlock from to old image i b m len
     → kind_at from old i ≢ kinds.Directory → text ≡ take len (block_of old m) → length text ≡ len
     → ((blocks : List ℕ) → Rules3To7With to image blocks → Writes to image new (i + 1) (512 * b) text blocks)

@@ -53,7 +53,7 @@ bare_by geometry image i kinds.Odd bare = refl
 bare_by geometry image i kinds.Regular bare = absurd (cc)
 bare_by geometry image i kinds.Directory bare = absurd (cc)
 
--- an i-node that is no file needs no places
+-- an i-node that isn't a file needs no places
 pub bare_need : (geometry : Geometry) (image : List ℕ) (i : ℕ) → 1 ≤ i → i ≤ geometry.last_inode → has_places (kind_at geometry image i) ≡ false
     → file_need geometry image i ≡ 0
 bare_need geometry image i first last bare =
@@ -74,7 +74,7 @@ names_last geometry image i form b is =
           ap (λ t. t && is_named geometry image i p) place
     ] refl
 
--- a file of the sixth edition has its form by its flag
+-- a file of the sixth edition has its block map by its flag
 form_sixth : (edition : Edition) (mode : ℕ) → edition ≡ V6 → has_places (kind_of edition mode) ≡ true
     → form_in V6 (is_large edition mode) ≡ form_of edition mode
 form_sixth edition mode sixth file = ap (λ e. form_in e (is_large edition mode)) (sym sixth) ∙ form_shape edition mode file

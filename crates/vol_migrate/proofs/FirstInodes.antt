@@ -38,7 +38,7 @@ inodes_pass from to old image now i free has = record {
       ];
 }
 
--- the byte of no use stays, by another name of it
+-- the unused byte stays, by another name of it
 pub byte_kept : (to : Geometry) (image new : List ℕ) (k j r : ℕ) → k ≡ j → r ≡ 51
     → slice_index new (inode_place to.edition j + 51) ≡ slice_index image (inode_place to.edition j + 51)
     → slice_index new (inode_place to.edition k + r) ≡ slice_index image (inode_place to.edition k + r)

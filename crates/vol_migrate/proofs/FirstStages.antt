@@ -215,7 +215,7 @@ first_sizes from to old image now may has fits =
           ];
     }
 
--- no block without a mark but is one of all
+-- each block without a mark is one of all
 length_unused : (geometry : Geometry) (used : List Bool) (n b : ℕ) → b + n ≡ geometry.zone_end → ((k : ℕ) → get_or used k false ≡ false)
     → length (unused_from geometry used b) ≡ n
 length_unused geometry used zero b end none = ap length (unused_end geometry used b (omega (arith, end)))

@@ -82,7 +82,7 @@ node_carried from to old image now k may stage =
           ∙ sym (ap (option_map (raised_node now)) (node_inside from old i used.1.first used.1.last))))))
     ]
 
--- a place on the ways of blocks is one, and no other is named
+-- a place on the paths of blocks is one, and no other is named
 names_places : (test name : Bool) → (name ≡ true → test ≡ true) → (test && name) ≡ name
 names_places true name place = refl
 names_places false true place = place refl

@@ -1,4 +1,4 @@
--- The number of places on the way of a logical block that are on no earlier way.
+-- The number of places on the block path of a logical block that are on no earlier path.
 use Rattle.std.proofs.Common.{◌≡◌, ◌∙◌, sym, ap, refl, ℕ, zero, suc, ◌+◌, ◌-◌, ◌*◌, ◌/◌, ◌%◌, ◌<◌, ◌≤◌, Bool, true, false, cond, not, leb, List, [], ◌∷◌, filter, reverse, length, None, Some, inl, inr, arith}
 use Rattle.std.specs.Prelude.{◌||◌}
 use Rattle.std.specs.List.{list_any, count_by}
@@ -33,7 +33,7 @@ front_passed p (j ∷ q) h = elim (cases_Bool (bytes_eq p (j ∷ q))) [
   | inr other ↦ inr (front_passed p q (sym (ap (λ t. t || list_any (bytes_eq p) (fronts q)) other) ∙ h))
 ]
 
--- a place on the way of a logical block has no later first block
+-- a place on the path of a logical block has no later first block
 on_from : (c a : ℕ) (p : List ℕ) → list_any (bytes_eq (a ∷ p)) (way Deep c) ≡ true → first_block Deep (a ∷ p) ≤ c
 on_from c a p on =
     elim (last_place Deep c) as (λ o. last_place Deep c ≡ o → first_block Deep (a ∷ p) ≤ c) [
@@ -49,7 +49,7 @@ on_from c a p on =
           omega (arith, later, is)
     ] refl
 
--- a place whose first block is later isn't on the way
+-- a place whose first block is later isn't on the path
 off_before : (c a : ℕ) (p : List ℕ) → c < first_block Deep (a ∷ p) → list_any (bytes_eq (a ∷ p)) (way Deep c) ≡ false
 off_before c a p later =
     elim (cases_Bool (list_any (bytes_eq (a ∷ p)) (way Deep c))) [
@@ -57,7 +57,7 @@ off_before c a p later =
       | inr off ↦ off
     ]
 
--- nor on the ways of blocks if it is on the way of none of them
+-- nor on the paths of blocks if it is on the path of none of them
 none_on : (shape : Shape) (p : List ℕ) (n : ℕ) → ((c : ℕ) → c < n → list_any (bytes_eq p) (way Deep c) ≡ false)
     → is_on_ways Deep (stored_blocks shape n) p ≡ false
 none_on shape p zero off = refl
@@ -72,7 +72,7 @@ none_on shape p (suc n) off =
       | inr hole ↦ ap (λ blocks. is_on_ways Deep blocks p) (below_hole shape n hole) ∙ rest
     ]
 
--- a place is on an earlier way if its first block is before the end of the last stored one
+-- a place is on an earlier path if its first block is before the end of the last stored one
 pub named_before : (shape : Shape) (b passed a : ℕ) (p : List ℕ) → ComesAfter shape b passed
     → ((c : ℕ) → first_block Deep (a ∷ p) ≤ c → c < b → list_any (bytes_eq (a ∷ p)) (way Deep c) ≡ true)
     → not (is_on_ways Deep (stored_blocks shape b) (a ∷ p)) ≡ leb passed (first_block Deep (a ∷ p))
@@ -104,14 +104,14 @@ missing_one shape b passed start a p after is convex =
     ap (λ t. cond t 1 0)
     (named_before shape b passed a p after (λ c from low. convex c (omega (arith, is, from)) low) ∙ ap (leb passed) is)
 
--- the block itself is on no way before
+-- the block itself is on no path before
 missing_self : (shape : Shape) (b passed a : ℕ) (p : List ℕ) → ComesAfter shape b passed → first_block Deep (a ∷ p) ≡ b
     → ◌≡◌ {A = ℕ} (cond (not (is_on_ways Deep (stored_blocks shape b) (a ∷ p))) 1 0) 1
 missing_self shape b passed a p after is =
     missing_one shape b passed b a p after is (λ c from low. absurd (omega (arith, from, low)))
     ∙ ap (λ t. cond t 1 0) (le-leb passed b after.order)
 
--- a block needs the places of its way that are missing
+-- a block needs the places of its path that are missing
 need_way : (names : List ℕ → Bool) (b : ℕ) (q : List ℕ) → last_place Deep b ≡ Some q
     → need_of Deep names (b ∷ []) ≡ count_by (λ p. not (names p)) (reverse (fronts q))
 unfolding missing_places
@@ -128,7 +128,7 @@ count_more t p ps = sum_by-cons (λ q. cond (t q) 1 0) p ps
 count_one : (t : List ℕ → Bool) (p : List ℕ) → count_by t (p ∷ []) ≡ cond (t p) 1 0
 count_one t p = let cons = count_more t p [] in omega (arith, cons)
 
--- a place is on the way of its block
+-- a place is on the path of its block
 on_way : (c : ℕ) (p q : List ℕ) → last_place Deep c ≡ Some q → IsFront p q → list_any (bytes_eq p) (way Deep c) ≡ true
 on_way c p q e front = ap (list_any (bytes_eq p)) (way_is Deep c q e) ∙ front_true q p front
 

@@ -127,7 +127,7 @@ past_none : (graph : Graph) (last d s : ℕ) → IsGraphWithin graph last → la
 past_none graph last d s within past =
     within.directories d s (λ e. let in_range = within.numbers d (not_free (graph.kind d) e) in absurd (omega (arith, in_range.1, past)))
 
--- as many entries are for each i-number as were for the one before
+-- each i-number has as many entries as the one before it had
 all_raised : (old new : Graph) (last top i : ℕ) → IsGraphWithin old last → IsGraphWithin new top → RaisesGraph old new → old.kind 0 ≡ kinds.Free → 1 ≤ i
     → 1 ≤ top → counted new top i ≡ counted old last (i - 1)
 unfolding counted

@@ -103,7 +103,7 @@ unfolding node_of
 node_here geometry image i first last =
     ap (λ o. option_map_or (λ (node : Node). true) o false) (node_inside geometry image i first last) ∙ node_by geometry image i (kind_at geometry image i)
 
--- a kind that is none of special files
+-- a kind other than that of special files
 pub not_special : (kind : Kind) → kind ≢ kinds.Special → is_special kind ≡ false
 not_special kinds.Free other = refl
 not_special kinds.Regular other = refl

@@ -279,7 +279,7 @@ stage_next old from to now image i first stage =
       zeros = stage.zeros;
     }
 
--- an i-node that is no file is passed
+-- an i-node that isn't a file is passed
 pub stage_pass : (old : List ℕ) (from to : Geometry) (now : ℕ) (image : List ℕ) (i : ℕ) → MayMigrate old from to → 1 ≤ i → i ≤ from.last_inode
     → has_places (kind_at from old i) ≡ false → IsStage from to old now image i 0 → IsStage from to old now image (i + 1) 0
 stage_pass old from to now image i may first last bare stage =

@@ -39,7 +39,7 @@ names_block shape b = option_map_or shape.names (last_place (form_in V6 shape.la
 abbrev pub stored_blocks : Shape → ℕ → List ℕ
 stored_blocks shape n = filter (names_block shape) (range_with_len 0 n)
 
--- the shape of a file: in the seventh edition exactly the places on the ways of the stored logical blocks within its size name blocks; the slots keep their names (this project)
+-- the shape of a file: in the seventh edition exactly the places on the paths of the stored logical blocks within its size name blocks; the slots keep their names (this project)
 abbrev pub raised_shape : ℕ → Shape → Shape
 raised_shape size shape = record {
   names = is_on_ways Deep (stored_blocks shape (whole_blocks size));

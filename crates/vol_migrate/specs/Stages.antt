@@ -40,11 +40,11 @@ pub record MayMigrate (old : List ℕ) (from to : Geometry) : Type 0 where
   pub numbers : (i : ℕ) → IsUsed from old i → i + 1 ≤ to.last_inode
   pub space : places_needed (state from old) ≤ to.zone_end - to.zone_start
 
--- the number of places in the seventh edition on the ways of the first n logical blocks of a file, without its holes (Lions on bmap)
+-- the number of places in the seventh edition on the paths of the first n logical blocks of a file, without its holes (Lions on bmap)
 unfoldable pub places_for : Shape → ℕ → ℕ
 places_for shape n = count_by (is_on_ways Deep (stored_blocks shape n)) (places Deep)
 
--- logical block b follows the first `passed`, of which the last is stored, and only holes are between (Lions on bmap)
+-- logical block b follows the first `passed`, the last of which is stored, and only holes are between them (Lions on bmap)
 pub record ComesAfter (shape : Shape) (b passed : ℕ) : Type 0 where
   pub order : passed ≤ b
   pub last : 1 ≤ passed → names_block shape (passed - 1) ≡ true

@@ -66,7 +66,7 @@ pub(crate) fn is_file(image: &Image, geometry: &Geometry, i: u16) -> bool
 }
 
 /// Returns the number of blocks that file `i` needs: its stored logical blocks within the size, and the indirect blocks on
-/// their ways.
+/// their paths.
 fn places_of_file(old: &Image, from: &Geometry, i: u16) -> u32
     requires fits { Fits from.now old.now }
     requires sixth { from.now.edition ≡ Edition.V6 }
@@ -88,8 +88,8 @@ fn places_of_file(old: &Image, from: &Geometry, i: u16) -> u32
     places
 }
 
-/// Returns the number of places on the way of logical block `b` in the seventh edition that are on the way of no earlier stored
-/// logical block. The last of these is the one before `passed`; if `passed` is 0, there are none.
+/// Returns the number of places on the path of logical block `b` in the seventh edition that are on the path of no earlier
+/// stored logical block. The last of these is the one before `passed`; if `passed` is 0, there are none.
 fn new_places(b: u32, passed: u32) -> u32
     requires { b < 2113674 }
     ensures exact { (shape : Shape) → ComesAfter shape b passed

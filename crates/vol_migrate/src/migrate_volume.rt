@@ -29,7 +29,7 @@ use vol_volume::Volume;
 /// change: each i-node was last changed at `now`, in seconds since the beginning of 1970, which is also the
 /// super-block's time; places past a file's size name nothing; and all unused bytes of the volume are zero: those past a size,
 /// in an empty slot, and after a name. Blocks are taken from the first data block on, by ascending i-number, and for each
-/// logical block in turn along its way from the i-node down; the others are free.
+/// logical block in turn along its path from the i-node down; the others are free.
 ///
 /// The refusals are checked in this order. Invalid: the volume is not one of the sixth edition. Bounds: a volume of the seventh
 /// can't have these sizes. HasDevice: it has a special file. NoInode: its highest i-number doesn't fit the i-list. NoSpace: the

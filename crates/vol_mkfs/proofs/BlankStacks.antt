@@ -1,4 +1,4 @@
--- The free list of a new volume: its heads, one after another, have the numbers of all data blocks but the root's.
+-- The free list of a new volume: its heads, one after another, have the numbers of all data blocks except the root's.
 use Rattle.std.proofs.Common.{◌≡◌, ℕ, zero, suc, ◌+◌, ◌-◌, ◌*◌, ◌/◌, ◌%◌, ◌<◌, ◌≤◌, List, refl, sym, subst, ◌∙◌, arith, inl, inr, true, nat_lt}
 use Rattle.std.specs.List.{range_with_len}
 use Rattle.std.proofs.lemmas.Bool.{cases_lt}
@@ -170,7 +170,7 @@ module _ (geometry : Geometry) (image : List ℕ)
       subst (IsStack geometry image at 1) (sym (range_before (top + 1) top geometry.zone_end refl (omega arith)))
       (stack_chained geometry image at 1 top _ refl is zone (omega arith) rest)
 
-  -- the free blocks are all data blocks but the root's
+  -- the free blocks are all data blocks except the root's
   pub blank_free : geometry.zone_start < geometry.zone_end
       → (geometry.zone_end ≡ geometry.zone_start + 1 → word image (free_head geometry.edition) ≡ 0)
       → (geometry.zone_start + 1 < geometry.zone_end

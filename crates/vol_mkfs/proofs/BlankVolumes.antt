@@ -102,7 +102,7 @@ order_end : (edition : Edition) → (512 + sizes_bytes edition ≤ 1024) × (fre
 order_end V6 = (omega arith, omega arith, omega arith)
 order_end V7 = (omega arith, omega arith, omega arith)
 
--- a byte of a chain block that is none of its head
+-- a byte of a chain block outside its head
 outside_chain : (b r k : ℕ) → k ≡ 512 * b + r → IsNoneOf (512 * b) 202 k → 202 ≤ r
 outside_chain b r k place apart = elim (cases_lt r 202) [ inl low ↦ absurd (apart (omega arith) (omega arith)) | inr high ↦ high ]
 

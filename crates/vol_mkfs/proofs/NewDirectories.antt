@@ -44,7 +44,7 @@ entry_root : (edition : Edition) (slot : Slot) (name : List ℕ) → slot ≡ re
 entry_root V6 slot name e = ap entry_in e
 entry_root V7 slot name e = ap entry_in e
 
--- a sum whose terms are all 0 but at one number
+-- a sum whose terms are all 0 except at one number
 sum_one : (f : ℕ → ℕ) (a n at : ℕ) → a ≤ at → at < a + n → ((k : ℕ) → a ≤ k → k < a + n → k ≢ at → f k ≡ 0) → sum_by f (range_with_len a n) ≡ f at
 sum_one f a zero at from to none = absurd (omega arith)
 sum_one f a (suc n) at from to none =
@@ -98,7 +98,7 @@ module _ (geometry : Geometry) (uid gid now : ℕ) (image : List ℕ) (new : IsN
       (ap (λ form. last_place form 0) (NewFiles.form_root geometry uid gid now image new fits start) ∙ root_last geometry.edition)
       ∙ NewFiles.named_root geometry uid gid now image new fits start
 
-  -- so a slot of it is there
+  -- so a slot of it is at its place in that block
   slot_root : (s : ℕ) → s < 2 → slot_at (body geometry image root) (16 * s) ≡ slot_at image (512 * geometry.zone_start + 16 * s)
   slot_root s low =
       let zone : in_zone geometry geometry.zone_start ≡ true = NewFiles.zone_first geometry uid gid now image new fits start in

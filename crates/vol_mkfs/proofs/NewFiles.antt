@@ -100,7 +100,7 @@ module _ (geometry : Geometry) (uid gid now : ℕ) (image : List ℕ) (new : IsN
   address_root k low =
       sym (inode_address geometry.edition image (inode_place geometry.edition root) k low) ∙ ap (λ node. get_or node.addresses k 0) new.root
 
-  -- the root's form
+  -- the root's block map
   pub form_root : form_at geometry image root ≡ form_of geometry.edition (root_mode geometry.edition)
   form_root = ap (form_of geometry.edition) mode_root
 

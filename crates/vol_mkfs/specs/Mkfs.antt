@@ -49,7 +49,7 @@ unfoldable pub is_chain : Geometry → ℕ → Bool
 is_chain geometry b =
     nat_lt geometry.zone_start b && (nat_lt b geometry.zone_end && ((geometry.zone_end - b) % (constants geometry.edition).free_slots == 0))
 
--- byte k is none of `count` bytes from byte `at` on (a frame)
+-- byte k is not among `count` bytes from byte `at` on (a frame)
 abbrev pub IsNoneOf : ℕ → ℕ → ℕ → Type 0
 IsNoneOf at count k = at ≤ k → k < at + count → ⊥
 
@@ -58,7 +58,7 @@ abbrev pub sizes_bytes : Edition → ℕ
 sizes_bytes V6 = 4
 sizes_bytes V7 = 6
 
--- byte k of a new volume is none of the sizes, the free list's head, the time, the root's i-node, or the root's two slots at byte `slots` (mkfs)
+-- byte k of a new volume is not in the sizes, the free list's head, the time, the root's i-node, or the root's two slots at byte `slots` (mkfs)
 pub record IsUnused (edition : Edition) (slots k : ℕ) : Type 0 where
   pub sizes : IsNoneOf 512 (sizes_bytes edition) k
   pub free : IsNoneOf (free_head edition) 202 k

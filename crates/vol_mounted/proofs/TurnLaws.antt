@@ -44,11 +44,11 @@ images_more [] turn = append-nil turn.images
 images_more (first ∷ turns) turn =
     ap (λ more. first.images ++ more) (images_more turns turn) ∙ sym (append_assoc first.images (images_of turns) turn.images)
 
--- the first of two ways
+-- the first of two cases
 pub match_true : (P Q : Type 0) (b : Bool) → b ≡ true → P → MatchBool b P Q
 match_true P Q b is p = subst (λ way. MatchBool way P Q) (sym is) p
 
--- the second of two ways
+-- the second of two cases
 pub match_false : (P Q : Type 0) (b : Bool) → b ≡ false → Q → MatchBool b P Q
 match_false P Q b is q = subst (λ way. MatchBool way P Q) (sym is) q
 

@@ -30,7 +30,7 @@ use Rattle.vol_mounted.specs.declared.owner.Owner.{Owner}
 use Rattle.vol_mounted.specs.declared.refusal.MountedRefusal.{MountedRefusal}
 use Rattle.vol_mounted.specs.declared.refusal.MountedRefusal.TheVariants as mounted
 
--- the input of a plan: the volume's geometry and image, the records of the i-numbers, the user that all nodes are shown as, if any, and the moment (this project)
+-- the input of a plan: the volume's geometry and image, the records of the i-numbers, the user that all nodes are shown as, if any, and the current time (this project)
 pub record Sight : Type 0 where
   pub geometry : Geometry
   pub image : List ℕ
@@ -201,7 +201,7 @@ owner_call sight stat path uid gid =
 abbrev pub inode_time : ℕ → ℕ
 inode_time seconds = if nat_le (2 ^ 63) seconds then 0 else min (2 ^ 32 - 1) seconds
 
--- a new time: the moment, or the one that is given (utimensat)
+-- a new time: the current time, or the one that is given (utimensat)
 abbrev pub time_of : ℕ → NewTime → ℕ
 time_of now times.Now = now
 time_of now (times.At seconds) = inode_time seconds

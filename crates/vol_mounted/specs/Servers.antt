@@ -44,7 +44,7 @@ pub record Kept (old new : MountedServer) : Type 0 where
   pub noted : IsNoted old new
   pub bounded : IsBounded old → IsBounded new
 
--- the sight of a server at a moment (this project)
+-- the sight of a server at a given time (this project)
 abbrev pub sight_at : MountedServer → ℕ → Sight
 sight_at server now = record {
   geometry = geometry_of server.volume.edition server.volume.image;

@@ -36,7 +36,7 @@ Runs old new taken taken' sent sent' saved saved' result =
     (turns : List Turn) × (replies : List (List ℕ)) × Grows taken taken' (requests_of turns) × Grows sent sent' replies
     × Grows saved saved' (images_of turns) × AreSent turns replies result × Follow old turns new
 
--- how a run ended, and whether the image was saved after it (this project)
+-- the end of a run, and whether the image was saved after it (this project)
 abbrev pub IsEnd : {X : Type 0} → Result X ServeFault → Bool → Result X MountedFault → Type 0
 IsEnd ended saved (Ok done) = (saved ≡ true) × (ended ≡ Ok done)
 IsEnd ended saved (Err (mounted.Serve fault)) = (saved ≡ true) × (ended ≡ Err fault)

@@ -110,7 +110,7 @@ IsCut old new count =
     × ((new ≡ record old { weight = 0; volume = after_cut old.volume })
     ⊎ ((2 ^ 64 ≤ old.volume.first + length old.volume.journal) × (new ≡ record old { weight = 0 }))))
 
--- a turn: a request's bytes, the moment, the reply, if one is sent, and the images that are saved (this project)
+-- a turn: a request's bytes, the current time, the reply, if one is sent, and the images that are saved (this project)
 pub record Turn : Type 0 where
   pub request : List ℕ
   pub now : ℕ

@@ -151,7 +151,7 @@ fn set_time(now: u32, present: u32, time: Option<NewTime>) -> u32
     }
 }
 
-/// Returns a new time: the moment, or the one that is given, limited to what an i-node can hold.
+/// Returns a new time: the current time, or the one that is given, limited to what an i-node can hold.
 pub(crate) fn time_of(now: u32, time: NewTime) -> u32
     ensures { result ≡ time_of now time }
 {

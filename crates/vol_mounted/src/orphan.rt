@@ -8,7 +8,7 @@ use vol_dir::Refusal;
 /// The type bits of a mode.
 const TYPE_BITS: u32 = 0o170000;
 
-/// A file that lost its last name while it was open. It isn't in the volume any more.
+/// A file that lost its last name while it was open. It is no longer in the volume.
 #[derive(Debug, Drop)]
 pub struct Orphan {
     /// Its node number in the kernel.

@@ -146,7 +146,7 @@ impl Scene<'_> {
         }
     }
 
-    /// Returns the call that gives a node other than a directory a further name.
+    /// Returns the call that gives a node other than a directory another name.
     pub(crate) fn call_link(&self, source: Bytes, target: Bytes) -> Call
         ensures { result ≡ calls.Link user self.now.moment source target }
     {

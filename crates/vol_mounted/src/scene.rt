@@ -1,4 +1,4 @@
-//! The volume and the nodes that the kernel knows, at a moment.
+//! The volume and the nodes that the kernel knows, at a given time.
 ghost use Rattle.std.specs.Prelude.{◌≡◌, ◌∷◌, ◌++◌, IfOk};
 ghost use Rattle.vol_layout.specs.Geometry.{Fits, geometry_of};
 
@@ -15,7 +15,7 @@ use vol_nodes::{NodeFault, look_up, stat};
 use vol_serve::errno::RequestRefusal;
 use vol_volume::{Stat, Volume};
 
-/// The volume and the nodes that the kernel knows, at a moment. Calls are planned and replies made from it.
+/// The volume and the nodes that the kernel knows, at a given time. Calls are planned and replies made from it.
 #[derive(Drop)]
 pub(crate) struct Scene<'a> {
     /// The allocator.
@@ -28,7 +28,7 @@ pub(crate) struct Scene<'a> {
     pub(crate) nodes: &'a NodeTable,
     /// The user that all nodes are shown as, if any.
     pub(crate) owner: Option<Owner>,
-    /// The moment.
+    /// The current time, in seconds since the beginning of 1970.
     pub(crate) moment: u32,
     pub(crate) ghost fits: { Fits geometry.now volume.now.image },
     pub(crate) ghost sizes: { geometry.now ≡ geometry_of volume.now.edition volume.now.image },

@@ -82,7 +82,7 @@ impl MountedServer {
         self.orphans.spare(self.volume.image().len())
     }
 
-    /// Returns the scene at a moment.
+    /// Returns the scene at a given time.
     pub(crate) fn scene<'a>(&'a self, alloc: Global, geometry: &'a Geometry, now: u32) -> Scene<'a>
         requires fits { Fits geometry.now self.now.volume.image }
         requires sizes { geometry.now ≡ geometry_of self.now.volume.edition self.now.volume.image }

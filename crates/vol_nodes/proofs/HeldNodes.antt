@@ -43,11 +43,11 @@ module _ (geometry : Geometry) (image : List ℕ) where
       → (tree geometry image).nodes i ≡ option_map (node_with (inode_of geometry.edition image i)) (content_of geometry image i kind)
   node_by i kind first last is = node_inside geometry image i first last ∙ node_of_kind geometry image i kind is
 
-  -- nor has what is free
+  -- nor has a free i-node
   pub none_free : (i : ℕ) → 1 ≤ i → i ≤ geometry.last_inode → kind_at geometry image i ≡ kinds.Free → (tree geometry image).nodes i ≡ None
   none_free i first last is = node_by i kinds.Free first last is
 
-  -- nor what is of no kind
+  -- nor one with a mode that isn't the edition's
   pub none_odd : (i : ℕ) → 1 ≤ i → i ≤ geometry.last_inode → kind_at geometry image i ≡ kinds.Odd → (tree geometry image).nodes i ≡ None
   none_odd i first last is = node_by i kinds.Odd first last is
 
@@ -58,7 +58,7 @@ module _ (geometry : Geometry) (image : List ℕ) where
   some_by i kinds.Special used known = refl
   some_by i kinds.Odd used known = absurd (known refl)
 
-  -- all else has one
+  -- every other i-number has one
   pub held : (i : ℕ) (kind : Kind) → 1 ≤ i → i ≤ geometry.last_inode → kind ≡ kind_at geometry image i → kind ≢ kinds.Free → kind ≢ kinds.Odd
       → HasNode geometry image i kind
   held i kind first last is used known =
@@ -92,7 +92,7 @@ module _ (geometry : Geometry) (image : List ℕ) where
       → permissions ≡ node.mode.bits % 4096 → Some (told i permissions kind node) ≡ stat_in (tree geometry image) i
   told_is i permissions kind node has node_is permissions_are = rw (permissions_are, node_is) (told_by i kind has)
 
-  -- and no node has none
+  -- and those without a node have none
   pub told_none : (i : ℕ) → (tree geometry image).nodes i ≡ None → stat_in (tree geometry image) i ≡ None
   told_none i none = ap (option_map (stat_of i)) none
 

@@ -1,10 +1,10 @@
 //! Errors of a node.
 use thiserror::Error;
 
-/// Why a request for a node failed.
+/// The reason why a request for a node failed.
 #[derive(Clone, Copy, Debug, PartialEq, Eq, Error)]
 pub enum NodeFault {
-    /// The number isn't that of a node: it is outside the volume, or its i-node is free or of no kind of the edition.
+    /// The number isn't that of a node: it is outside the volume, or its i-node is free, or its kind isn't the edition's.
     #[error("no node has this number")]
     Stale,
     /// The node isn't a directory.

@@ -22,7 +22,7 @@ before_read (Err line) number others read is = absurd (let e = is in cc)
 before_read (Ok script) number (Ok tail) read is = let e = is in (script, tail, refl, refl, cc)
 before_read (Ok script) number (Err later) read is = absurd (let e = is in cc)
 
--- each script that was read is there
+-- as many scripts are read as there are
 pub read_many : (number views : ℕ) (scripts : List (Vec ℕ Global)) (read : List Script) → scripts_from number views scripts ≡ Ok read → length read ≡ length scripts
 read_many number views [] read is = let e = is in let none : read ≡ [] = cc in ap length none
 read_many number views (script ∷ scripts) read is =

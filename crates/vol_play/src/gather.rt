@@ -6,7 +6,7 @@ use crate::prepare::Player;
 use vol_scripts::Played;
 use vol_shared::{Session, View};
 
-/// Moves each player's session or view to its list, after those that are there, and its script's results to `played`,
+/// Moves each player's session or view to its list, after those already in it, and its script's results to `played`,
 /// in order.
 pub(crate) fn gather(
     players: Vec<Player>,

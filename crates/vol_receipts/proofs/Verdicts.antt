@@ -1,4 +1,4 @@
--- What a refusal means for the verdict on a call, or the answer to a query.
+-- The meaning of a refusal for the verdict on a call, or the answer to a query.
 use Rattle.std.proofs.Common.{◌≡◌, refl, sym}
 use Rattle.std.specs.Prelude.{Some, Err}
 use Rattle.vol_dir.specs.Tree.{State, Tree}

@@ -1,4 +1,4 @@
--- When a receipt agrees with a journal.
+-- The agreement of a receipt with a journal.
 use Rattle.std.specs.Prelude.{◌≡◌, ℕ, ◌+◌, ◌-◌, ◌≤◌, List, [], ◌∷◌, length, take, Some, Ok, Err}
 use Rattle.std.specs.List.{slice_get}
 use Rattle.vol_dir.specs.Tree.{State}

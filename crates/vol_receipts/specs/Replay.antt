@@ -8,7 +8,7 @@ pub record HasFirst (volume again : Mounted) (count : ℕ) : Type 0 where
   pub base : again.base ≡ volume.base
   pub journal : again.journal ≡ take count volume.journal
 
--- `again` is either not begun, or has at most `count` of the volume's first records (this project)
+-- `again` has not begun, or has at most `count` of the volume's first records (this project)
 abbrev pub HasAtMost : Mounted → Option Mounted → ℕ → Type 0
 HasAtMost volume again count =
     IfSome again (λ made. HasFirst volume made (length made.journal) × (length made.journal ≤ count))

@@ -8,7 +8,7 @@ use std::alloc::Global;
 use thiserror::Error;
 use vol_volume::Volume;
 
-/// Why a receipt could be neither confirmed nor denied.
+/// The reason why a receipt could be neither confirmed nor denied.
 #[derive(Clone, Copy, Debug, PartialEq, Eq, Error)]
 pub enum ConfirmFault {
     /// The receipt's number is below that of the journal's first record: its record was cut.

@@ -1,4 +1,4 @@
--- The blocks that calls free which take names away.
+-- The blocks freed by calls that remove names.
 use Rattle.std.proofs.Common.{◌≡◌, ◌≢◌, ◌⊎◌, ◌∙◌, sym, ap, subst, ℕ, Bool, true, false, cond, if◌then◌else◌, nat_le, List, [], ◌∷◌, ◌++◌, Option, None, Some, Result, Ok, inl, inr, refl}
 use Rattle.std.specs.Option.{option_map}
 use Rattle.std.proofs.lemmas.Bool.{cases_eq, false≢true}
@@ -60,7 +60,7 @@ place_over g one other i p same place = record {
   place = subst (λ m. IsPlace (form_of g.edition m) p) (sym same) place.place;
 }
 
--- the blocks that a file which stays names
+-- the blocks that a remaining file names
 named_after : (g : Geometry) (old new : List ℕ) (i k : ℕ) (p : List ℕ) → KeepsContent g old new i → NamedBy g old i p k → NamedBy g new i p k
 named_after g old new i k p kept by =
     record { place = place_over g old new i p kept.mode by.place; is = kept.names p by.place ∙ by.is; some = by.some }
@@ -245,7 +245,7 @@ all_free old new (call ∷ calls) sound taking made =
       ];
     }
 
--- so each block of a file that is gone is free
+-- so each block of a file that was removed is free
 pub blocks_free : (old new : Mounted) (calls : List Call) → IsSound old.edition old.image → AreTaking calls → AreMade old calls new
     → FreesBlocks (geometry_of old.edition old.image) old.image new.image
 blocks_free old new calls sound taking made i k p names gone =

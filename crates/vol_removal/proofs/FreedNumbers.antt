@@ -1,4 +1,4 @@
--- The i-numbers that calls free which take names away.
+-- The i-numbers freed by calls that remove names.
 use Rattle.std.proofs.Common.{◌≡◌, ◌≢◌, ◌∙◌, sym, ap, subst, refl, ℕ, ◌+◌, ◌-◌, ◌≤◌, ◌==◌, Bool, true, false, cond, nat_le, List, [], ◌∷◌, ◌++◌, Option, None, Some, Result, Ok, Err, inl, inr, arith}
 use Rattle.std.specs.List.{count_by}
 use Rattle.std.specs.Option.{is_none, is_some, ok_or, unwrap_or}
@@ -83,7 +83,7 @@ own_links : (node : Option Node) → is_map node ≡ false → own_names node �
 own_links None is = refl
 own_links (Some node) is = ap (λ b. cond b 1 node.links) is
 
--- a link fewer is a name fewer, except for a directory
+-- one link fewer is one name fewer, except for a directory
 map_unlinked : (now : ℕ) (node : Option Node) → is_map node ≡ true → own_names (unlinked now node) ≡ own_names node
 map_unlinked now None is = refl
 map_unlinked now (Some node) is = ap (λ b. cond b 1 (node.links - 1)) is ∙ sym (ap (λ b. cond b 1 node.links) is)
@@ -92,7 +92,7 @@ own_unlinked : (now : ℕ) (node : Option Node) → is_map node ≡ false → ow
 own_unlinked now None is = refl
 own_unlinked now (Some node) is = ap (λ b. cond b 1 (node.links - 1)) is ∙ sym (ap (λ b. cond b 1 node.links - 1) is)
 
--- a node with an own name less, or none in its place
+-- a node with one own name less, or none in its place
 own_set : (nodes : ℕ → Option Node) (i : ℕ) (changed : Option Node) → own_names changed ≡ own_names (nodes i) - 1 → (x : ℕ)
     → own_names (set_at nodes i changed x) ≡ own_names (nodes x) - cond (x == i) 1 0
 own_set nodes i changed less x = elim (cases_eq x i) [

@@ -38,7 +38,7 @@ answer_of tree path refusal good plain is =
     ∙ (ap (λ b. cond b (Some refusals.Invalid) (of_node (walk tree user path) (λ i. None))) plain
     ∙ ap (λ r. of_node r (λ i. None)) is))
 
--- a walk of a path whose last name went
+-- a walk of a path whose last name was removed
 walk_over : (g : Geometry) (old new path : List ℕ) (d : ℕ) (name : List ℕ) (front : List (List ℕ)) → (tree g new).nodes (root (tree g new)) ≢ None
     → ((x : ℕ) → (tree g new).nodes x ≢ None → walk_from (tree g old) user x front ≡ Ok d
     → walk_from (tree g new) user x (front ++ name ∷ []) ≡ Err refusals.NoEntry)
@@ -48,7 +48,7 @@ unfolding tree walk
 walk_over g old new path d name front there gone walks parts =
     ap (walk_from (tree g new) user (root (tree g new))) parts ∙ gone (root (tree g new)) there walks
 
--- a path whose last name went leads to nothing
+-- a path whose last name was removed leads to nothing
 gone_by : (g : Geometry) (old new path : List ℕ) (now d : ℕ) (name : List ℕ) → Reaches (tree g old) path d name → Rules1To12 g new
     → Stays (set_at (tree g old).nodes d (without now name ((tree g old).nodes d))) (tree g new).nodes
     → walk (tree g new) user path ≡ Err refusals.NoEntry

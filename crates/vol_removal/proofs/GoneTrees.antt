@@ -92,7 +92,7 @@ with_name now name (Some node) others is =
       | Device type addresses ↦ λ e. cc
     ] is
 
--- a name that a map hasn't any more isn't found in it
+-- a name that a map no longer has isn't found in it
 lost_name : (names : Names) (name : List ℕ) → get (remove names name) name ≡ None
 lost_name names name = get_remove names name name ∙ ap (λ b. cond b None (get names name)) (bytes_same name name refl)
 

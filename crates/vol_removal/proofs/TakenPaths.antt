@@ -72,7 +72,7 @@ on_path tree now path next pending rest after calls more call on popped pushed i
     ∙ (ap (λ cs. cs ++ call ∷ reverse calls) (sym parts.2) ∙ ap (λ cs. first ++ cs) (sym turned))) in
     subst (Takes tree now (path ∷ [])) same (on (parts.0 ++ (parts.1 ++ call ∷ [])) all)
 
--- if no path is pending, all calls are there
+-- if no path is pending, the calls are complete
 pub on_end : (tree : Tree) (now : ℕ) (path : List ℕ) (pending : List (List ℕ)) (calls : List Call) → TakesOn tree now path pending calls → pending ≡ []
     → Takes tree now (path ∷ []) (reverse calls)
 unfolding TakesOn

@@ -33,7 +33,7 @@ lost_same : {g : Geometry} {image words : List ℕ} {fault : Option (FreeFault �
 lost_same {g} {image} {words} counts b inside =
     ap (λ n. is_lost_of n (is_met_in g words b)) (counts.places b inside) ∙ ap (λ m. is_lost_of (use_count g image b) m) (met_same counts b inside)
 
--- the lines of bad places by the words are those of the report
+-- the lines of bad places, computed from the words, are those of the report
 bad_same : {g : Geometry} {image words : List ℕ} {fault : Option (FreeFault × ℕ)} → CountsBlocks g image words fault
     → inode_lines g (bad_line_in g words) ≡ bad_lines g image
 unfolding bad_lines

@@ -1,4 +1,4 @@
--- A way up from a directory, step by step.
+-- A climb from a directory, step by step.
 use Rattle.std.proofs.Common.{◌≡◌, ◌≢◌, ◌⊎◌, inl, inr, ℕ, suc, zero, ◌+◌, ◌-◌, ◌<◌, ◌≤◌, Bool, true, false, cond, ◌||◌, List, [], ◌∷◌, ◌++◌, Option, Some, None, length, get_or, set, Bor, refl, sym, ap, ◌∙◌, subst, arith, append_assoc, append-nil, length-set, add-one, ◌==◌}
 use Rattle.std.specs.List.{count_by, list_any}
 use Rattle.std.specs.Option.{option_map}
@@ -20,7 +20,7 @@ count_none t (x ∷ xs) d none =
     count_front t x xs ∙ (ap (λ b. cond b 1 0 + count_by t xs) (none 0 (omega arith))
     ∙ ap (λ n. 0 + n) (count_none t xs d (λ k low. none (suc k) (omega arith))))
 
--- an item that passes in place of one that doesn't is counted
+-- an item that passes in place of one that doesn't adds one to the count
 count_set : (t : ℕ → Bool) (xs : List ℕ) (k v : ℕ) → k < length xs → t (get_or xs k 0) ≡ false → t v ≡ true
     → count_by t (set xs k v) ≡ count_by t xs + 1
 count_set t xs k v low fails passes =
@@ -29,14 +29,14 @@ count_set t xs k v low fails passes =
     let b : ◌≡◌ {A = ℕ} (cond (t v) 1 0) 1 = ap (λ b. cond b 1 0) passes in
     omega (arith, e, a, b)
 
--- the trail of a way with one more entry
+-- the trail of a climb with one more entry
 pub trail_push : (way : List (Bor Placed)) (entry : Bor Placed) → trail (way ++ entry ∷ []) ≡ slashed entry.now.name ++ trail way
 unfolding trail
 trail_push [] entry = sym (append-nil (slashed entry.now.name))
 trail_push (first ∷ way) entry =
     ap (λ xs. xs ++ slashed first.now.name) (trail_push way entry) ∙ append_assoc (slashed entry.now.name) (trail way) (slashed first.now.name)
 
--- a way without entries has no trail
+-- a climb without entries has no trail
 pub trail_none : (way : List (Bor Placed)) → length way ≡ 0 → trail way ≡ []
 unfolding trail
 trail_none [] e = refl
@@ -53,7 +53,7 @@ unfolding path_up
 up_root root naming zero met at e low = absurd (omega arith)
 up_root root naming (suc fuel) met at e low = rw (eq-eqb at root e) refl
 
--- if a way ends elsewhere, it is dots
+-- if a climb ends elsewhere, its path starts with dots
 up_dots : (root : ℕ) (naming : ℕ → Option Placed) (fuel : ℕ) (met : List ℕ) (at : ℕ) → at ≢ root
     → (list_any (λ e. e == at) met ≡ true) ⊎ (naming at ≡ None) → path_up root naming fuel met at ≡ dots
 unfolding path_up
@@ -78,7 +78,7 @@ up_more : (root : ℕ) (naming : ℕ → Option Placed) (fuel more : ℕ) (met :
 up_more root naming fuel more met at entry e other fresh is =
     ap (λ n. path_up root naming n met at) (e ∙ add-one more) ∙ up_next root naming more met at entry other fresh is
 
--- a way begins
+-- a climb begins
 pub climbs_first : {root turn d : ℕ} {naming : List (Option (Bor Placed))} {marks : List ℕ} (way : List (Bor Placed)) → length marks ≡ length naming
     → AreBefore turn marks → way ≡ [] → Climbs root naming turn d d marks way
 unfolding trail
@@ -96,7 +96,7 @@ climbs_first {root} {turn} {d} {naming} {marks} way room before none =
       path = sym (ap (λ w. start ++ trail w) none ∙ append-nil start);
     }
 
--- there is more to be used up
+-- the climb hasn't used up all steps
 fuel_some : {root turn d at : ℕ} {naming : List (Option (Bor Placed))} {marks : List ℕ} {way : List (Bor Placed)}
     → (was : Climbs root naming turn d at marks way) → 1 ≤ was.fuel
 fuel_some {turn = turn} {marks = marks} was =
@@ -115,7 +115,7 @@ flags_more met old new turn at x low is was =
           ∙ (was ∙ ap (λ n. n == turn) (sym (ap (λ xs. get_or xs x 0) is ∙ get_or-set_other old at x turn 0 (λ e. other (sym e)))))
     ]
 
--- a way continues
+-- a climb continues
 climbs_on : {root turn d at : ℕ} {naming : List (Option (Bor Placed))} {old new : List ℕ} {way : List (Bor Placed)} (entry : Bor Placed)
     → Climbs root naming turn d at old way → at ≢ root → Steps naming turn at old new (Some entry) → AreBefore (turn + 1) new
     → Climbs root naming turn d entry.now.directory new (way ++ entry ∷ [])
@@ -139,7 +139,7 @@ climbs_on {root} {turn} {d} {at} {naming} {old} {new} {way} entry was other step
           ∙ ap (λ xs. path_up root (naming_in naming) (was.fuel - 1) (at ∷ was.met) entry.now.directory ++ xs) (sym (trail_push way entry))));
     }
 
--- the same for an equal way and directory
+-- the same for an equal climb and directory
 pub climbs_more : {root turn d at next : ℕ} {naming : List (Option (Bor Placed))} {old new : List ℕ} {way more : List (Bor Placed)} (entry : Bor Placed)
     → Climbs root naming turn d at old way → at ≢ root → Steps naming turn at old new (Some entry) → AreBefore (turn + 1) new
     → next ≡ entry.now.directory → more ≡ way ++ entry ∷ [] → Climbs root naming turn d next new more
@@ -147,7 +147,7 @@ climbs_more {root} {turn} {d} {naming = naming} {new = new} {way = way} {more = 
     subst (λ x. Climbs root naming turn d x new more) (sym to)
     (subst (λ w. Climbs root naming turn d entry.now.directory new w) (sym grown) (climbs_on entry was other steps early))
 
--- a way ends
+-- a climb ends
 pub climbs_end : {root turn d at : ℕ} {naming : List (Option (Bor Placed))} {old : List ℕ} {way : List (Bor Placed)} (new : List ℕ)
     → Climbs root naming turn d at old way → at ≢ root → Steps naming turn at old new None
     → path_up root (naming_in naming) (length naming + 1) [] d ≡ path_start false ++ trail way
@@ -156,7 +156,7 @@ climbs_end {root} {turn} {d} {at} {naming} {old} {way} new was other steps =
     elim steps [ inl seen ↦ inl (was.flags at seen.0 ∙ eq-eqb (get_or old at 0) turn seen.1) | inr none ↦ inr none ] in
     was.path ∙ ap (λ xs. xs ++ trail way) (up_dots root (naming_in naming) was.fuel was.met at other ends)
 
--- a way ends at the root
+-- a climb ends at the root
 pub climbs_root : {root turn d at : ℕ} {naming : List (Option (Bor Placed))} {marks : List ℕ} {way : List (Bor Placed)}
     → Climbs root naming turn d at marks way → at ≡ root
     → path_up root (naming_in naming) (length naming + 1) [] d ≡ path_start true ++ trail way

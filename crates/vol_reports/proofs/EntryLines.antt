@@ -8,7 +8,7 @@ use Rattle.vol_reports.specs.FromWords.{links_line_in, no_links, inode_lines}
 use Rattle.vol_reports.specs.declared.links.LinkCount.{LinkCount}
 use Rattle.vol_reports.proofs.Ranges.{flat_same}
 
--- the lines by the words are those of the report
+-- the lines computed from the words are those of the report
 pub entries_from : {g : Geometry} {image words : List ℕ} {links : List LinkCount} → CountsEntries g image words → HasLinkCounts g image links
     → inode_lines g (links_line_in words links no_links) ≡ entry_lines g image
 unfolding entry_lines

@@ -26,7 +26,7 @@ use_count g image b = sum_by (λ i. count_by (λ k. k == b) (blocks_of g image i
 unfoldable pub met_count : Geometry → List ℕ → ℕ → ℕ
 met_count g image b = count_by (λ k. k == b) (free_walk g image).met
 
--- the numbers of no data block that the places of i-node i name (icheck)
+-- the numbers outside the data blocks that the places of i-node i name (icheck)
 unfoldable pub bad_numbers : Geometry → List ℕ → ℕ → List ℕ
 bad_numbers g image i = filter (λ k. not (in_zone g k)) (blocks_of g image i)
 
@@ -48,7 +48,7 @@ is_kind _ _ = false
 unfoldable pub kind_count : Geometry → List ℕ → Kind → ℕ
 kind_count g image kind = count_by (λ i. is_kind kind (kind_at g image i)) (range_with_len 1 g.last_inode)
 
--- the line of an i-node with this count of places that name numbers of no data block, or none if the count is 0 (icheck)
+-- the line of an i-node with this count of places that name numbers outside the data blocks, or none if the count is 0 (icheck)
 abbrev pub bad_line_of : ℕ → ℕ → ℕ → List Line
 bad_line_of i count least = if count == 0 then [] else lines.Bad i count least ∷ []
 
@@ -81,7 +81,7 @@ is_used g image b = not (use_count g image b == 0)
 abbrev pub is_lost : Geometry → List ℕ → ℕ → Bool
 is_lost g image b = is_lost_of (use_count g image b) (is_met g image b)
 
--- the line of i-node i, if some of its places name numbers of no data block (icheck)
+-- the line of i-node i, if some of its places name numbers outside the data blocks (icheck)
 abbrev pub bad_line : Geometry → List ℕ → ℕ → List Line
 bad_line g image i = bad_line_of i (length (bad_numbers g image i)) (least_of (bad_numbers g image i))
 

@@ -14,16 +14,16 @@ use Rattle.vol_reports.specs.Names.{slashed, dots, path_up}
 abbrev pub naming_in : List (Option (Bor Placed)) → ℕ → Option Placed
 naming_in naming i = option_map (λ (entry : Bor Placed). entry.now) (slice_index_or naming i None)
 
--- the names of the entries that a way up passed, each with a slash before it, the last of them first (ncheck)
+-- the names of the entries that a climb passed, each with a slash before it, the last of them first (ncheck)
 unfoldable pub trail : List (Bor Placed) → List ℕ
 trail [] = []
 trail (entry ∷ way) = trail way ++ slashed entry.now.name
 
--- the beginning of a path, depending on whether the way up ended at the root (ncheck)
+-- the beginning of a path, depending on whether the climb ended at the root (ncheck)
 abbrev pub path_start : Bool → List ℕ
 path_start rooted = if rooted then [] else dots
 
--- no way from turn `turn` on passed any directory (this project)
+-- no climb from turn `turn` on passed any directory (this project)
 abbrev pub AreBefore : ℕ → List ℕ → Type 0
 AreBefore turn marks = (x : ℕ) → slice_index marks x < turn
 
@@ -43,7 +43,7 @@ Steps naming turn at old new (Some entry) =
     (at < length old) × (slice_index old at ≢ turn) × (new ≡ slice_set old at turn) × (naming_in naming at ≡ Some entry.now)
 Steps naming turn at old new None = ((at < length old) × (slice_index old at ≡ turn)) ⊎ (naming_in naming at ≡ None)
 
--- the progress of a way up from directory d at directory `at` (this project)
+-- the progress of a climb from directory d at directory `at` (this project)
 pub record Climbs (root : ℕ) (naming : List (Option (Bor Placed))) (turn d at : ℕ) (marks : List ℕ) (way : List (Bor Placed)) : Type 0 where
   pub met : List ℕ
   pub fuel : ℕ

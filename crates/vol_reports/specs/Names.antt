@@ -47,11 +47,11 @@ naming_entry i (entry ∷ entries) = if entry.inode == i then Some entry else na
 abbrev pub slashed : List ℕ → List ℕ
 slashed name = 47 ∷ name
 
--- the beginning of a path whose way doesn't reach the root (ncheck)
+-- the beginning of a path that doesn't start at the root (ncheck)
 abbrev pub dots : List ℕ
 dots = 46 ∷ 46 ∷ 46 ∷ []
 
--- the path of directory d, found on the way up from it, where each i-number may have a naming entry: at the root it begins with nothing; at a directory that this way passed before, or that has no naming entry, with dots; else it ends with the naming entry's name, and the way continues at that entry's directory. Each directory uses up one `suc` (ncheck)
+-- the path of directory d, found by climbing from it, where each i-number may have a naming entry: at the root it begins with nothing; at a directory that this climb passed before, or that has no naming entry, with dots; else it ends with the naming entry's name, and the climb continues at that entry's directory. Each directory uses up one `suc` (ncheck)
 unfoldable pub path_up : ℕ → (ℕ → Option Placed) → ℕ → List ℕ → ℕ → List ℕ
 path_up root naming zero met d = dots
 path_up root naming (suc fuel) met d =
@@ -59,7 +59,7 @@ path_up root naming (suc fuel) met d =
     else if list_any (λ e. e == d) met then dots
     else option_map_or (λ (entry : Placed). path_up root naming fuel (d ∷ met) entry.directory ++ slashed entry.name) (naming d) dots
 
--- the path of a directory: a way passes each directory at most once, so it ends before it uses up more than there are (ncheck)
+-- the path of a directory: a climb passes each directory at most once, so it ends before it uses up all steps (ncheck)
 abbrev pub directory_path : Geometry → (ℕ → Option Placed) → ℕ → List ℕ
 directory_path g naming d = path_up (root_of g) naming (g.last_inode + 2) [] d
 

@@ -23,7 +23,7 @@ bad_word g i = 1 + (2 * zone_len g + (i - 1))
 abbrev pub kind_word : Geometry → ℕ → ℕ
 kind_word g k = 1 + (2 * zone_len g + (g.last_inode + k))
 
--- the word for the least number, of no data block, that a place of i-node i names (this project)
+-- the word for the least number outside the data blocks that a place of i-node i names (this project)
 abbrev pub least_word : Geometry → ℕ → ℕ
 least_word g i = 1 + (2 * zone_len g + (g.last_inode + 4)) + (i - 1)
 

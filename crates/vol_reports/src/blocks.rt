@@ -80,7 +80,7 @@ fn push_bad_lines(
     Ok(())
 }
 
-/// Appends the line of i-node `i`, if some of its places name numbers of no data block.
+/// Appends the line of i-node `i`, if some of its places name numbers outside the data blocks.
 fn push_bad(
     lines: &mut Vec<Line>,
     geometry: &Geometry,

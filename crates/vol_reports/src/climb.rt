@@ -1,4 +1,4 @@
-//! The paths of entries: the way up from a directory, over the entries that name directories.
+//! The paths of entries: the climb from a directory to the root, over the entries that name directories.
 ghost use Rattle.std.specs.Prelude.{◌≡◌, ◌+◌, ◌++◌, [], length, IfOk, OnOk};
 ghost use Rattle.vol_judge.specs.Directories.{root_of};
 ghost use Rattle.vol_reports.specs.Names.{slashed, path_up};
@@ -8,11 +8,11 @@ use crate::entered::EnteredName;
 use std::alloc::{AllocError, Global};
 use vol_layout::Geometry;
 
-/// The beginning of a path whose way doesn't reach the root.
+/// The beginning of a path that doesn't start at the root.
 const DOTS: &[u8] = b"...";
 
-/// Returns the path of an entry. Each mark is the turn whose way last passed the directory; this is turn `turn`. `way` is a
-/// buffer for the entries of the way.
+/// Returns the path of an entry. Each mark is the turn whose climb last passed the directory; this is turn `turn`. `way` is a
+/// buffer for the entries that the climb passes.
 ///
 /// Costs as much as the path is long.
 pub(crate) fn entry_path<'a>(
@@ -39,7 +39,7 @@ pub(crate) fn entry_path<'a>(
     Ok(path)
 }
 
-/// Walks up from directory `d`, and collects the naming entries of the way, the lowest first. Returns true if the way ends at
+/// Climbs from directory `d`, and collects the naming entries that it passes, the lowest first. Returns true if it ends at
 /// the root, and not at a directory that it passed before or that has no naming entry.
 fn climb<'a>(
     geometry: &Geometry,
@@ -102,7 +102,7 @@ fn first_bytes(alloc: Global, rooted: bool) -> Result<Vec<u8>, AllocError>
     Ok(path)
 }
 
-/// Appends the names of the entries of a way, the last of them first, and empties the way.
+/// Appends the names of the entries that a climb passed, the last of them first, and empties `way`.
 fn push_names(path: &mut Vec<u8>, way: &mut Vec<&EnteredName>) -> Result<(), AllocError>
     ensures path { IfOk result (λ _. path.new.items ≡ path.old.items ++ trail way.old.items) }
     ensures way { OnOk result (way.new.items ≡ []) }

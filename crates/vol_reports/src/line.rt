@@ -26,7 +26,7 @@ pub enum Total {
 pub enum Line {
     /// The image breaks this rule, 1 or 2, and so has no geometry.
     Rule(u8),
-    /// `count` places of an i-node name numbers of no data block, the least of which is `least`.
+    /// `count` places of an i-node name numbers outside the data blocks, the least of which is `least`.
     Bad {
         inode: u16,
         count: u64,

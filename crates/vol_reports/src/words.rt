@@ -50,7 +50,7 @@ pub fn kind_word(geometry: &Geometry, k: usize) -> usize
     1 + (2 * zone_len(geometry) + (geometry.last_inode as usize + k))
 }
 
-/// Returns the word for the least number, of no data block, that a place of i-node `i` names.
+/// Returns the word for the least number outside the data blocks that a place of i-node `i` names.
 pub fn least_word(geometry: &Geometry, i: u16) -> usize
     requires zone { geometry.now.zone_start < geometry.now.zone_end }
     requires first { 1 ≤ i }

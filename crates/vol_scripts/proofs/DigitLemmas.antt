@@ -29,7 +29,7 @@ goes_on radix most number c digits is = rw (lt-ltb (digit_value c) radix is) ref
 pub no_digit : (radix most number c : ℕ) (digits : List ℕ) → radix ≤ digit_value c → number_after radix most number (c ∷ digits) ≡ None
 no_digit radix most number c digits isnt = rw (le-ltb (digit_value c) radix isnt) refl
 
--- more digits make no smaller number
+-- more digits don't make a smaller number
 grows : (radix number : ℕ) (digits : List ℕ) → 1 ≤ radix → number ≤ digits_value_after radix number digits
 grows radix number [] least = omega arith
 grows radix number (c ∷ digits) least =

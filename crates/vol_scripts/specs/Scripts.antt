@@ -62,7 +62,7 @@ ReadsScript written (Ok read) = written ≡ Ok read
 ReadsScript written (Err (script_faults.Line number flaw)) = written ≡ Err (number, flaw)
 ReadsScript written (Err script_faults.NoMemory) = Unit {0}
 
--- the script in a text when `views` scripts before it are for views: at most 16 may be, and the first line of a further one can't be read (this project)
+-- the script in a text when `views` scripts before it are for views: at most 16 may be, and the first line of another one can't be read (this project)
 abbrev pub script_after : ℕ → List ℕ → Result Script BadLine
 script_after views script = if is_for_view script && nat_le 16 views then Err (1, Some flaws.TooManyViews) else script_in script
 

@@ -15,7 +15,7 @@ use std::alloc::{AllocError, Global};
 use vol_dir::Cred;
 use vol_volume::{Call, Query};
 
-/// Why a line couldn't be read.
+/// The reason why a line couldn't be read.
 #[derive(Clone, Copy, Debug, PartialEq, Eq)]
 pub(crate) enum LineFault {
     /// It isn't a line that a script may have.

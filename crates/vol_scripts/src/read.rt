@@ -10,7 +10,7 @@ use command_faults::{LineFlaw, WordForm};
 use std::alloc::{AllocError, Global};
 use vol_views::MOST_VIEWS;
 
-/// Why a script couldn't be read.
+/// The reason why a script couldn't be read.
 #[derive(Debug, PartialEq, Eq, Drop)]
 pub enum ScriptFault {
     /// The first line that can't be read.
@@ -95,7 +95,7 @@ fn push_item<T: Drop>(items: &mut Vec<T>, item: T) -> Result<(), ScriptFault>
     items.push(item).map_err(|_| ScriptFault::NoMemory)
 }
 
-/// Why several scripts couldn't be read.
+/// The reason why several scripts couldn't be read.
 #[derive(Debug, PartialEq, Eq, Drop)]
 pub enum ScriptsFault {
     /// The first line that can't be read, by script and line, both numbered from 1.

@@ -59,7 +59,7 @@ from_last entry kind from count room none =
     none_on entry kind (count - from) from (from + (count - from)) room (omega arith) (omega arith) (λ t low high. none t low (omega arith))
     ∙ ap (λ n. entries_from entry kind (from + (count - from)) room n) over
 
--- a slot far past the last lists nothing, as any other past the last
+-- a slot far past the last lists nothing, like any other past the last
 pub from_far : (entry : ℕ → Option (List ℕ × ℕ)) (kind : ℕ → EntryKind) (from far count room : ℕ) → count ≤ far
     → entries_from entry kind from room (count - from) ≡ entries_from entry kind (min from far) room (count - min from far)
 unfolding entries_from

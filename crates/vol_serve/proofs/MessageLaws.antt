@@ -10,7 +10,7 @@ grows_more (Some old) b c xs ys first then =
     let moved : Grows (Some (old ++ xs)) c ys = subst (λ known. Grows known c ys) first then in
     moved ∙ ap Some (append_assoc old xs ys)
 
--- no message more
+-- no more messages
 pub grows_by_none : (a : Option (List (List ℕ))) → Grows a a []
 grows_by_none None = tt
 grows_by_none (Some old) = ap Some (sym (append-nil old))

@@ -4,7 +4,7 @@ ghost use Rattle.vol_serve.specs.Errno.{errno};
 
 use vol_nodes::NodeFault;
 
-/// Why a request was refused.
+/// The reason why a request was refused.
 #[derive(Clone, Copy, Debug, PartialEq, Eq)]
 pub enum RequestRefusal {
     /// The node can't be used so, or doesn't exist.

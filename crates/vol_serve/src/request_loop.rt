@@ -16,7 +16,7 @@ use std::alloc::Global;
 use thiserror::Error;
 use vol_layout::Geometry;
 
-/// Why serving ended with requests left.
+/// The reason why serving ended with requests left.
 #[derive(Clone, Copy, Debug, PartialEq, Eq, Error)]
 pub enum ServeFault {
     /// Out of memory, before the first request.

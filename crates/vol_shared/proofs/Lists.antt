@@ -137,7 +137,7 @@ module _ {A B : Type 0} (f : A → List B) where
   all_flat P (x ∷ xs) h =
       All-cons (λ (y : A). All P (f y)) x xs (all_prefix P (f x) (flat_map f xs) h) (all_flat P xs (all_back P (f x) (flat_map f xs) h))
 
--- a list of no length is empty
+-- a list of length 0 is empty
 pub no_length : {A : Type 0} (xs : List A) → length xs ≡ 0 → xs ≡ []
 no_length [] e = refl
 no_length (x ∷ xs) e = absurd (omega arith)

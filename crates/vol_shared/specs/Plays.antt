@@ -100,7 +100,7 @@ pub record IsAnswered (found given : Stored) (r : Receipt) : Type 0 where
   pub agrees : Agrees given.origin given.journal r
   pub book : given.book ≡ found.book
 
--- how a volume that was taken may be given back: with the same journal, with at most one more record, or with its journal cut (this project)
+-- the ways in which a volume that was taken may be given back: with the same journal, with at most one more record, or with its journal cut (this project)
 abbrev pub MayGive : Stored → Stored → Event → Type 0
 MayGive found given nothing = IsUnchanged found given
 MayGive found given (receipt r) = IsAnswered found given r

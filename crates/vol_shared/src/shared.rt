@@ -35,7 +35,7 @@ pub struct Shared {
     views: usize,
 }
 
-/// Why a volume wasn't opened with views.
+/// The reason why a volume wasn't opened with views.
 #[derive(Clone, Copy, Debug, PartialEq, Eq, Error)]
 pub enum OpenFault {
     /// Out of memory.

@@ -92,7 +92,7 @@ impl Stock {
         }
     }
 
-    /// Returns the progress for a session to keep: all that is published, if anything is.
+    /// Returns the progress for a session to keep: everything published, if anything is.
     pub(crate) fn reported(&self) -> Option<LogPrefix>
         ensures book { book_in result ≡ self.now.book }
         ensures number { IfSome result (λ reported. number_of reported.log ≡ next_number self.now) }

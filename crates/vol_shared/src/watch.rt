@@ -1,5 +1,5 @@
-//! Views of a shared volume: made when it is opened, and compared with all that was published when it is
-//! closed.
+//! Views of a shared volume: made when it is opened, and compared with everything that was published when it
+//! is closed.
 ghost use Rattle.std.specs.Prelude.{◌≡◌, ◌<◌, ◌≤◌, ◌^◌, Some, length, All, IfOk, IfErr};
 ghost use Rattle.vol_views.specs.Views.{IsNew};
 ghost use Rattle.vol_shared.specs.Stored.{stored_of, unpublished, next_number};

@@ -35,7 +35,7 @@ pub record IsNew (whole : Reached) (view : Watched) : Type 0 where
   pub log : view.log ≡ whole.log
   pub receipts : view.receipts ≡ []
 
--- the identity of the log that was told, if any (this project)
+-- the identity of the log that was reported, if any (this project)
 abbrev pub book_in : Option Reached → Option Book
 book_in None = None
 book_in (Some reached) = Some reached.book

@@ -19,8 +19,8 @@ pub struct Published {
     pub prefix: SeenPrefix,
 }
 
-/// An operation on the published version: a record to apply, if any, and the number and the prefix that go
-/// with the result.
+/// An operation on the published version: a record to apply, if any, and the number and the prefix that
+/// belong with the result.
 #[derive(Drop)]
 pub struct Operation {
     /// The record of an accepted call.

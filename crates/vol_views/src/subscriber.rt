@@ -17,7 +17,7 @@ use vol_dir::Refusal;
 use vol_volume::{Query, Reply};
 
 /// One thread's access to the published version. It takes no lock. Contracts see the log prefix that it last
-/// read or was told.
+/// read or was given.
 #[derive(Drop)]
 pub struct Subscriber {
     pub(crate) reader: Reader<Published, SeenPrefix, OneHistory>,

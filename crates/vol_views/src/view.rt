@@ -45,7 +45,7 @@ impl Model for View {
         × All (AgreesIn v.known.log) v.notes.log };
 }
 
-/// Why a view gave no answer.
+/// The reason why a view gave no answer.
 #[derive(Clone, Copy, Debug, PartialEq, Eq, Error)]
 pub enum ViewFault {
     /// Out of memory.
@@ -59,7 +59,7 @@ pub enum ViewFault {
 }
 
 impl View {
-    /// Returns a view that knows all that is published, or `None` if all readers' seats were found in use.
+    /// Returns a view that knows everything published, or `None` if all readers' seats were found in use.
     ///
     /// Takes no memory; increments an owner count.
     pub fn new(publisher: &mut Publisher) -> Option<View>
@@ -163,7 +163,7 @@ impl View {
         self.known = reported;
     }
 
-    /// Learns a session's progress: from now on each answer reflects all that the session knows.
+    /// Learns a session's progress: from now on each answer reflects everything that the session knows.
     ///
     /// Takes no memory.
     #[tactic(auto, using(crate::proofs::Views::number_on))]

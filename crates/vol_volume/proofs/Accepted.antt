@@ -22,12 +22,12 @@ passed : (test : Bool) (refusal : Refusal) (others : Option Refusal) → (if tes
 passed true refusal others none = absurd (cc)
 passed false refusal others none = (refl, none)
 
--- one that checked the contrary
+-- one that checked the opposite
 not_not : (test : Bool) → not test ≡ false → test ≡ true
 not_not true e = refl
 not_not false e = sym e
 
--- a name that isn't there
+-- a name that doesn't exist
 none_there : (found : Option ℕ) → is_some found ≡ false → found ≡ None
 none_there None e = refl
 none_there (Some i) e = absurd (cc)
@@ -116,7 +116,7 @@ mkdir_passed state cred path d name none walked =
       above _ _ full.0,
     )
 
--- a further name
+-- another name
 link_asked : (state : State) (cred : Cred) (source target : List ℕ) (i : ℕ)
     → then_others state.tree cred (source ∷ target ∷ []) (of_node (walk state.tree cred source) (link_refusal state cred target)) ≡ None
     → walk state.tree cred source ≡ Ok i
@@ -209,7 +209,7 @@ write_passed state cred path offset len i none walked =
     let room = passed _ _ _ great.1 in
     record { other = other.0; regular = regular.0; greatest = below _ _ great.0; room = below _ _ room.0 }
 
--- another owner, whose numbers the edition has
+-- a new owner, whose numbers the edition has
 pub chown_passed : (state : State) (cred : Cred) (path : List ℕ) (uid gid : ℕ)
     → (if is_bad_id state.tree.geometry.edition uid gid then Some refusals.BadId
     else then_others state.tree cred (path ∷ []) (of_node (walk state.tree cred path) (λ i. first_of (chown_tests cred)))) ≡ None

@@ -9,7 +9,7 @@ first_some [] others refusal e = cc
 first_some ((true, first) ∷ tests) others refusal e = e
 first_some ((false, first) ∷ tests) others refusal e = first_some tests others refusal e
 
--- and if none of it does
+-- and if none of them applies
 pub first_none : (tests others : List (Bool × Refusal)) → first_of tests ≡ None → first_of (tests ++ others) ≡ first_of others
 first_none [] others e = refl
 first_none ((true, first) ∷ tests) others e = cc

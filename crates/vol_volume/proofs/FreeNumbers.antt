@@ -1,4 +1,4 @@
--- Which i-numbers are free for a new node.
+-- The i-numbers that are free for a new node.
 use Rattle.std.proofs.Common.{◌≡◌, ◌≢◌, ℕ, ◌+◌, ◌<◌, ◌≤◌, ◌==◌, ◌&&◌, ◌∙◌, ap, refl, sym, Bool, true, false, nat_lt, nat_le, List, zero, suc, arith}
 use Rattle.std.specs.Prelude.{IsTrue, ◌↔◌, IfSome, Option, None, Some}
 use Rattle.std.specs.Option.{option_map, is_none}

@@ -125,19 +125,19 @@ module _ (geometry : Geometry) (old new : List ℕ) where
     ];
   }
 
-  -- other permission bits
+  -- new permission bits
   pub chmod_inodes : (now perm i : ℕ) → state geometry new ≡ at_time now (after_chmod (state geometry old) now perm i)
       → ((j : ℕ) → 1 ≤ j → j ≤ geometry.last_inode → KeepsUnused geometry old new j) → KeepsInodes geometry old new
   chmod_inodes now perm i makes kept =
       inodes_same (λ j. free_as _ makes j ∙ changed_free (state geometry old) i (with_permission_bits now perm) j) kept
 
-  -- another owner
+  -- a new owner
   pub chown_inodes : (now uid gid i : ℕ) → state geometry new ≡ at_time now (after_chown (state geometry old) now uid gid i)
       → ((j : ℕ) → 1 ≤ j → j ≤ geometry.last_inode → KeepsUnused geometry old new j) → KeepsInodes geometry old new
   chown_inodes now uid gid i makes kept =
       inodes_same (λ j. free_as _ makes j ∙ changed_free (state geometry old) i (with_owner now uid gid) j) kept
 
-  -- other times
+  -- new times
   pub times_inodes : (now atime mtime i : ℕ) → state geometry new ≡ at_time now (after_utime (state geometry old) now atime mtime i)
       → ((j : ℕ) → 1 ≤ j → j ≤ geometry.last_inode → KeepsUnused geometry old new j) → KeepsInodes geometry old new
   times_inodes now atime mtime i makes kept =
@@ -155,7 +155,7 @@ module _ (geometry : Geometry) (old new : List ℕ) where
       → ((j : ℕ) → 1 ≤ j → j ≤ geometry.last_inode → KeepsUnused geometry old new j) → KeepsInodes geometry old new
   truncate_inodes now size i makes kept = inodes_same (λ j. free_as _ makes j ∙ truncate_free (state geometry old) now size i j) kept
 
-  -- a further name
+  -- another name
   pub link_inodes : (now i d : ℕ) (name : List ℕ) → state geometry new ≡ at_time now (after_link (state geometry old) now i d name)
       → ((j : ℕ) → 1 ≤ j → j ≤ geometry.last_inode → KeepsUnused geometry old new j) → KeepsInodes geometry old new
   link_inodes now i d name makes kept =

@@ -149,7 +149,7 @@ module _ (geometry : Geometry) (old new : List ℕ) where
           left_beside (Truncate cred now path left) Plain (gives i i (blocks_past geometry old i left))
           (ap (λ w. reach_of_node w (λ j. gives j j (blocks_past geometry old j left))) walked) free files tt (rw walked stored)
 
-      -- other permission bits
+      -- new permission bits
       pub chmod_leaves : (perm : ℕ) → FreeBecomes geometry old new as_before
           → KeepsFilesBut geometry old new i i → ChangesInode geometry old new i → LeavesTheRest geometry old new (Chmod cred now path perm) Plain
       unfolding reached_by KeepsBytes
@@ -157,14 +157,14 @@ module _ (geometry : Geometry) (old new : List ℕ) where
           left_beside (Chmod cred now path perm) Plain (record { file = i; other = i; listed = as_before; put = None })
           (ap (λ w. reach_of_node w (λ j. record { file = j; other = j; listed = as_before; put = None })) walked) free files tt (rw walked inode)
 
-      -- another owner
+      -- a new owner
       pub chown_leaves : (uid gid : ℕ) → FreeBecomes geometry old new as_before
           → KeepsFiles geometry old new → ChangesInode geometry old new i → LeavesTheRest geometry old new (Chown cred now path uid gid) Plain
       unfolding reached_by KeepsBytes
       chown_leaves uid gid free files inode =
           record { free = free; files = λ j low high _ _. files j low high; slot = tt; bytes = rw walked inode }
 
-      -- other times
+      -- new times
       pub times_leaves : (atime mtime : ℕ) → FreeBecomes geometry old new as_before
           → KeepsFiles geometry old new → ChangesInode geometry old new i → LeavesTheRest geometry old new (Times cred now path atime mtime) Plain
       unfolding reached_by KeepsBytes

@@ -96,7 +96,7 @@ module _ (geometry : Geometry) (image : List ℕ) where
   pub names_are : (d : ℕ) → IsDirectory geometry image d → names_at (tree geometry image) d ≡ names_of (slots geometry image d)
   names_are d directory = names_is geometry image d (kind_of_directory d directory)
 
-  -- if the node is no special file, the i-node is none
+  -- if the node isn't a special file, the i-node isn't one either
   pub other_device : (i : ℕ) → 1 ≤ i → i ≤ geometry.last_inode → is_device (node_at (tree geometry image) i).content ≡ false → kind_at geometry image i ≢ kinds.Special
   other_device i first last other is = false≢true (sym other ∙ device_is i first last is)
 

@@ -52,7 +52,7 @@ module _ (state : State) (cred : Cred) (now : ℕ) (path : List ℕ) where
   unfolding changed_by
   step_mkdir perm made d name walked = ap (λ w. at_time now (on_parent state w (after_mkdir state cred now perm made))) walked
 
-  -- a further name
+  -- another name
   pub step_link : (target : List ℕ) (i d : ℕ) (name : List ℕ) → walk state.tree cred path ≡ Ok i
       → walk_parent state.tree cred target ≡ Some (Ok (d, name))
       → step state (Link cred now path target) Plain ≡ at_time now (after_link state now i d name)
@@ -85,19 +85,19 @@ module _ (state : State) (cred : Cred) (now : ℕ) (path : List ℕ) where
   unfolding changed_by
   step_truncate size i walked = ap (λ w. at_time now (on_node state w (after_truncate state now size))) walked
 
-  -- other permission bits
+  -- new permission bits
   pub step_chmod : (perm i : ℕ) → walk state.tree cred path ≡ Ok i
       → step state (Chmod cred now path perm) Plain ≡ at_time now (after_chmod state now perm i)
   unfolding changed_by
   step_chmod perm i walked = ap (λ w. at_time now (on_node state w (after_chmod state now perm))) walked
 
-  -- another owner
+  -- a new owner
   pub step_chown : (uid gid i : ℕ) → walk state.tree cred path ≡ Ok i
       → step state (Chown cred now path uid gid) Plain ≡ at_time now (after_chown state now uid gid i)
   unfolding changed_by
   step_chown uid gid i walked = ap (λ w. at_time now (on_node state w (after_chown state now uid gid))) walked
 
-  -- other times
+  -- new times
   pub step_times : (atime mtime i : ℕ) → walk state.tree cred path ≡ Ok i
       → step state (Times cred now path atime mtime) Plain ≡ at_time now (after_utime state now atime mtime i)
   unfolding changed_by

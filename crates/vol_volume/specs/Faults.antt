@@ -1,4 +1,4 @@
--- Why an image isn't mounted.
+-- The reason why an image isn't mounted.
 use Rattle.std.specs.Prelude.{ℕ, true, List}
 use Rattle.vol_judge.specs.Sound.{IsLeastBroken}
 use Rattle.vol_layout.specs.declared.edition.Edition.{Edition}

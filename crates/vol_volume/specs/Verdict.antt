@@ -1,4 +1,4 @@
--- Which refusal a call gets, if any. The checks run in a fixed order, and the first that fails gives the refusal.
+-- The refusal of a call, if any. The checks run in a fixed order, and the first that fails gives the refusal.
 use Rattle.std.specs.Prelude.{ℕ, ◌+◌, ◌==◌, ◌&&◌, ◌||◌, Bool, true, false, not, nat_lt, nat_le, if◌then◌else◌, List, [], ◌∷◌, ◌++◌, length, Option, None, Some, is_none, is_some, Result, Ok, Err}
 use Rattle.std.specs.List.{list_any, range_with_len}
 use Rattle.vol_layout.specs.Edition.{constants}
@@ -147,7 +147,7 @@ abbrev pub truncate_tests : Tree → Cred → ℕ → ℕ → List (Bool × Refu
 truncate_tests tree cred size i =
     body_tests tree may_write cred i ++ (nat_lt (node_at tree i).size size, refusals.Invalid) ∷ []
 
--- the checks of a link once its source is found: that the source is no directory, and then the parent of the new name (Lions on link)
+-- the checks of a link once its source is found: that the source isn't a directory, and then the parent of the new name (Lions on link)
 abbrev pub link_refusal : State → Cred → List ℕ → ℕ → Option Refusal
 link_refusal state cred target i =
     if is_directory (node_at state.tree i) then Some refusals.IsDirectory

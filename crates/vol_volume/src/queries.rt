@@ -68,11 +68,11 @@ pub struct Stat {
     pub gid: u16,
     /// The size in bytes.
     pub size: u32,
-    /// When it was last read, as stored on the volume.
+    /// The time of its last read, as stored on the volume.
     pub accessed: u32,
-    /// When its bytes or entries last changed.
+    /// The time of the last change of its bytes or entries.
     pub modified: u32,
-    /// When its i-node last changed, or `None` in the sixth edition, which doesn't store it.
+    /// The time of its i-node's last change, or `None` in the sixth edition, which doesn't store it.
     pub changed: Option<u32>,
 }
 

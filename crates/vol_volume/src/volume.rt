@@ -262,7 +262,7 @@ impl Volume {
     /// Cuts the journal: drops its records, makes the present image the base, and adds their number to that of the first
     /// record. The image stays. If a record's number would reach 2^64, nothing changes.
     ///
-    /// Takes no memory, and gives back all that the journal took. Costs a copy of the image's bytes, and dropping the journal.
+    /// Takes no memory, and frees that of the journal. Costs a copy of the image's bytes, and dropping the journal.
     pub fn cut(&mut self) -> Result<(), TooManyRecords>
         ensures cut { OnOk result (self.new ≡ after_cut self.old) }
         ensures fault { OnErr result (2 ^ 64 ≤ self.old.first + length self.old.journal) }

@@ -35,7 +35,7 @@ static GNU_LONG: [Piece; 3] = [
     GNU_MAGIC,
 ];
 
-/// A further name of a file, in GNU tar's format.
+/// Another name of a file, in GNU tar's format.
 static GNU_LINK: [Piece; 3] = [
     (0, b"hard"),
     (

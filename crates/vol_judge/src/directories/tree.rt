@@ -64,8 +64,8 @@ fn find_unreached(
     Ok(None)
 }
 
-/// True if the way up from directory `d`, from parent to parent, reaches the root, not a directory without an entry or a
-/// cycle. Each directory on the way is marked with `d`; the way ends where an earlier one passed, which reached the root.
+/// True if the walk up from directory `d`, from parent to parent, reaches the root, not a directory without an entry or a
+/// cycle. It marks each directory with `d`, and ends at one that an earlier walk marked, since that one reached the root.
 fn goes_to_root(
     image: &Image,
     geometry: &Geometry,

@@ -1,4 +1,4 @@
--- A word that is no number of blocks isn't valid.
+-- A word that isn't a number of blocks isn't valid.
 use Rattle.std.proofs.Common.{ℕ, codes, subst, sym}
 use Rattle.command_words.specs.Invocations.{the_word}
 use Rattle.command_words.specs.Disks.{AreBlocksOf}

@@ -21,7 +21,7 @@ put_inode-requires-clause-storable c =
 abbrev put_node : After-put_inode → Inode
 put_node c = record c.inode-node.result { accessed = c.args.accessed; modified = c.args.modified; changed = c.stamp.result }
 
--- what the put leaves
+-- the bytes that the put leaves
 puts : (c : After-put_inode) → PutsInode c.args.geometry.now c.args.image.now c.put_inode.new.image c.args.i (put_node c)
 puts c =
     puts_changed c.args.geometry.now c.args.image.now c.put_inode.new.image c.args.i c.inode-node.result (put_node c) c.requires.node.first c.requires.node.last

@@ -1,4 +1,4 @@
--- Holes are carried as they are, and each block that there is is carried.
+-- Holes are carried as they are, and each stored block is carried.
 use Rattle.std.proofs.Common.{◌≡◌, ◌∙◌, ap, subst, ◌+◌, arith}
 use Rattle.vol_layout.specs.Names.{form_at}
 use Rattle.vol_file.specs.Changes.{whole_blocks}

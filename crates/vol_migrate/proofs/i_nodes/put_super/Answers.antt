@@ -7,7 +7,7 @@ use Rattle.vol_layout.specs.declared.edition.Edition.TheVariants.{V7}
 use Rattle.vol_mkfs.specs.Mkfs.{sizes_bytes, IsNoneOf}
 use Rattle.vol_migrate.proofs.i_nodes.put_super.Goals as goal
 
--- a byte that is none of those written stays
+-- a byte other than those written stays
 kept : {old new : List ℕ} (at count k : ℕ) → SameOutside old new at (at + count) → IsNoneOf at count k → get_or new k 0 ≡ get_or old k 0
 kept at count k same none =
     elim (cases_lt k at) [

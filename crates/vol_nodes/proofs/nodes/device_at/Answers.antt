@@ -6,7 +6,7 @@ use Rattle.vol_nodes.proofs.HeldNodes.{special_is}
 use Rattle.vol_nodes.proofs.nodes.device_at.Goals as goal
 use Rattle.vol_nodes.proofs.nodes.device_at.Goals.{in-Block, in_default}
 
--- a node of another kind is no block special file
+-- a node of another kind isn't a block special file
 no_block : (kind : MemberKind) → kind ≢ members.Block → is_block kind ≡ false
 no_block members.File other = refl
 no_block members.Link other = refl

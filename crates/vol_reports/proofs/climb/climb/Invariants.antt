@@ -3,7 +3,7 @@ use Rattle.std.specs.List.{count_by}
 use Rattle.vol_reports.specs.Climb.{Climbs}
 use Rattle.vol_reports.proofs.climb.climb.Given as goal
 
--- the way so far; each step marks one more directory
+-- the climb so far; each step marks one more directory
 abbrev pub invariant-loop-at : goal.invariant-loop-at
 invariant-loop-at l = Climbs l.root l.naming l.turn l.d l.at l.marks l.way.items
 

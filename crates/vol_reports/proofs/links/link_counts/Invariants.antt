@@ -3,7 +3,7 @@ use Rattle.vol_reports.specs.Entries.{link_count, wants_entry}
 use Rattle.vol_reports.specs.declared.links.LinkCount.{LinkCount}
 use Rattle.vol_reports.proofs.links.link_counts.Given as goal
 
--- the link counts of the i-numbers before the next are there
+-- the link counts of the i-numbers before the next have been added
 abbrev pub invariant-loop-before : goal.invariant-loop-before
 invariant-loop-before l = record {
   wide : length l.links.items ≡ l.before;

@@ -10,7 +10,7 @@ use Rattle.command_words.specs.declared.verbs.Verb.{Verb}
 use Rattle.command_words.specs.declared.verbs.Verb.TheVariants as verbs
 use Rattle.command_words.proofs.verbs.Verb.of.Goals as goal
 
--- what holds of each command in the list holds of each command
+-- a property of each command in the list is one of each command
 each : (text : List ℕ) → AllWithin (λ (verb : Verb). text ≢ verb_name verb) all_verbs 0 31 → (verb : Verb) → text ≢ verb_name verb
 each text none verbs.Cat = none 0 verbs.Cat (omega arith) (omega arith)
 each text none verbs.Ls = none 1 verbs.Cat (omega arith) (omega arith)

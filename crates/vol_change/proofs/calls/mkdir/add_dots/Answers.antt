@@ -78,7 +78,7 @@ add_name-requires-2-clause-room c =
     dot_there c.args.geometry.now c.args.image.now c.add_name.new.image c.args.i c.requires.directory c.requires.empty c.add_name.ensures.changed.makes c.add_name.ensures.beside in
     dot_dot_room c.args.geometry.now c.add_name.new.image c.args.i _ c.add_name.ensures.changed.keeps.rules dotted.is dotted.has
 
--- `.` takes a block, and `..` none
+-- `.` takes a block, and `..` takes none
 taken : (c : After-add_name-2) → FreeBecomes c.args.geometry.now c.args.image.now c.add_name-2.new.image (drop 1)
 taken c = λ blocks free.
     let geometry = c.args.geometry.now in

@@ -79,7 +79,7 @@ pub const MKFS_ABOUT: &str =
     "Makes a new volume with an empty root directory, and replaces an existing file.";
 
 pub const MKFS_MORE: &str = "\
-Example:
+Examples:
   unixvol mkfs 6 disk.img 4000 100 0 0 173750400
   unixvol mkfs --new 6 disk.img rk05
 
@@ -137,7 +137,7 @@ pub const NOW: &str =
 pub const LS_ABOUT: &str = "Lists the names in a directory of a volume, or a file.";
 
 pub const LS_MORE: &str = "\
-Example:
+Examples:
   unixvol ls 7 disk.img /usr
   unixvol ls -l -R 7 disk.img
   unixvol ls -l -d 7 disk.img /usr/src
@@ -183,7 +183,7 @@ unixvol get [OPTIONS] <EDITION> <IMAGE> <PATH>
        unixvol get [OPTIONS] <EDITION> <IMAGE> -o <FOLDER> <PATH>...";
 
 pub const GET_MORE: &str = "\
-Example:
+Examples:
   unixvol get 7 disk.img /etc/passwd > passwd
   unixvol get 7 disk.img -o out /etc/passwd /etc/group
 
@@ -220,7 +220,7 @@ pub const EMPTY_FOLDER: &str = "it is empty; the current folder is .";
 pub const INODE_ABOUT: &str = "Shows an i-node: its fields, and what its blocks hold.";
 
 pub const INODE_MORE: &str = "\
-Example:
+Examples:
   unixvol inode 7 disk.img 2
   unixvol inode 7 disk.img /etc/passwd
 
@@ -268,7 +268,7 @@ Status:
 pub const MAP_ABOUT: &str = "Draws what each block of a volume is used for.";
 
 pub const MAP_MORE: &str = "\
-Example:
+Examples:
   unixvol map 7 disk.img
   unixvol map --svg 7 disk.img > disk.svg
 
@@ -294,7 +294,7 @@ pub const SVG: &str = "Draw an SVG picture, for a browser";
 pub const CHECK_ABOUT: &str = "Checks a volume against the twelve rules of soundness.";
 
 pub const CHECK_MORE: &str = "\
-Example:
+Examples:
   unixvol check 7 disk.img
   unixvol check --status 7 disk.img
   unixvol check --json 7 disk.img | jq '.rules[] | select(.holds != true)'
@@ -325,7 +325,7 @@ unixvol put [OPTIONS] <EDITION> <IMAGE> <PATH> <FILE> [NOW]
        unixvol put [OPTIONS] <EDITION> <IMAGE> -t <DIR> <FILE>... [NOW]";
 
 pub const PUT_MORE: &str = "\
-Example:
+Examples:
   unixvol put 7 disk.img /etc/motd motd 173750400
   unixvol put 7 disk.img -t /usr/src a.c b.c c.c
 
@@ -376,7 +376,7 @@ pub const SAME_NAME: &str = "two files have this last name, and one would replac
 pub const RM_ABOUT: &str = "Removes a name of a file of a volume, or with -r a whole tree.";
 
 pub const RM_MORE: &str = "\
-Example:
+Examples:
   unixvol rm 7 disk.img /etc/motd 173750400
   unixvol rm -r 7 disk.img /usr/games
 
@@ -429,7 +429,7 @@ Status:
 pub const MKDIR_ABOUT: &str = "Makes a directory in a volume.";
 
 pub const MKDIR_MORE: &str = "\
-Example:
+Examples:
   unixvol mkdir 7 disk.img /usr/src 173750400
   unixvol mkdir -p 7 disk.img /usr/src/cmd
 
@@ -651,7 +651,7 @@ pub const SERVE_ABOUT: &str =
     "Serves a volume over Linux's FUSE; `unixvol-mount` runs this command.";
 
 pub const SERVE_MORE: &str = "\
-Example:
+Examples:
   unixvol-mount 7 disk.img /mnt
   unixvol serve 7 disk.img <&3 >&3
 

@@ -4,7 +4,7 @@ pub const ABOUT: &str =
     "Writes everything below a directory as a tar archive, even from an unsound image.";
 
 pub const MORE: &str = "\
-Example:
+Examples:
   unixvol export 7 disk.img /usr > usr.tar
   unixvol export --lost --status 7 damaged.img > all.tar
 

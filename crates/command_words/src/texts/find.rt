@@ -2,12 +2,12 @@
 
 pub const ABOUT: &str = "Prints the path of everything below a directory of a volume.";
 
-pub const SEARCHED: &str = "A directory of the volume; the root if it is left out";
+pub const SEARCHED: &str = "The directory's path in the volume; by default, the root";
 
 pub const NAME: &str = "Print only paths whose last name is like this pattern";
 
 pub const MORE: &str = "\
-Example:
+Examples:
   unixvol find 7 disk.img /usr
   unixvol find 7 disk.img --name '*.c'
 

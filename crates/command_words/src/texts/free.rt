@@ -1,4 +1,4 @@
-//! The help of `free`.
+//! The texts of `free`.
 
 pub const ABOUT: &str = "Shows the free list, link by link.";
 
@@ -6,15 +6,18 @@ pub const MORE: &str = "\
 Example:
   unixvol free 7 disk.img
 
-The free list is a chain: the super-block has a count, nfree, and an array of block numbers, and free[0] is the block with
-the next count and array. It prints each link of the chain: where it is, its count, and the numbers in use in its array, in
-the array's order, ten on a line behind the index of the first. The last number is the next to be taken, so the list goes
-on from free[0]. The first fault of the list ends it, and has a line, as `super` prints it. The last line has the numbers of
-links and of free blocks. Of the volume's soundness only the image's size and its super-block's sizes are asked.
+The free list is a chain. The super-block has a count, nfree, and an array of block numbers; free[0] is the block
+that holds the next count and array. Each link of the chain is shown: where it is, its count, and the numbers in use
+in its array, ten to a line, after the index of the first. The system takes the last number first, so the chain goes
+on from free[0]. It is shown up to its first fault, which has a line, as with `unixvol super`. The last line counts
+the links and the free blocks. With --json, the same is one JSON object.
+
+The volume need not be sound. Only rules 1 and 2 are checked: the image's size, and the sizes in its super-block.
 
 Status:
   0  the free list was shown
-  1  `unixvol: unsound, rule 1`, `unixvol: unsound, rule 2`: the image is too short, or the sizes don't fit one another
-  2  the command line can't be read
+  1  `unixvol: unsound, rule 1`: the image is shorter than its super-block says
+     `unixvol: unsound, rule 2`: the sizes in the super-block contradict one another
+  2  the command line is wrong
   3  `unixvol: cannot read IMAGE`, or `unixvol: cannot write -`: standard output failed
   4  `unixvol: 12 NoMemory`";

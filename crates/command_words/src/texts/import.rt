@@ -3,7 +3,7 @@
 pub const ABOUT: &str = "Adds the files and directories of a tar archive to a volume.";
 
 pub const MORE: &str = "\
-Example:
+Examples:
   unixvol import 7 disk.img /usr/src < src.tar
   unixvol export 6 old.img | unixvol import --skip-special 7 new.img
   unixvol import --owner 3:3 7 disk.img /usr/src < src.tar

@@ -4,7 +4,7 @@ pub const ABOUT: &str =
     "Prints a manifest of everything below a directory, with the SHA-256 of each file.";
 
 pub const MORE: &str = "\
-Example:
+Examples:
   unixvol sums 7 disk.img > disk.sums
   unixvol sums 7 disk.img | grep -v '^-' | cut -c 1-65,119- > SHA256SUMS
   unixvol sums --json 7 disk.img /usr | jq -r '.[].path'

@@ -11,3 +11,6 @@ pub returns-in-Play-clause-ends : goal.returns-in-Play-clause-ends
 returns-in-Play-clause-ends g c errors hears =
     ends_played g.R.File.Read.remaining g.R.File.Write.contents g.R.ImageFiles.had g.R.ImageFiles.stood _ c.args.volume.edition _ _ c.run_play.result.status
     (c.run_play.ensures errors hears)
+
+pub returns-in-Play-clause-runs : goal.returns-in-Play-clause-runs
+returns-in-Play-clause-runs g c errors hears = rw c.in-Play.is (rw c.deref.ensures.value at (c.run_play.ensures errors hears))

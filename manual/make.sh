@@ -101,7 +101,7 @@ words() {
 # options [COMMAND]: the options of the command, or of the program, one per line; an option with a value is followed by the value's kind
 options() {
     section Options "$@" | sed -E -e 's/^ +//' -e 's/  .*//' | awk -F ', ' '
-        { value = ""; if (match($0, /<[A-Z]+>/)) value = " " substr($0, RSTART + 1, RLENGTH - 2) }
+        { value = ""; if (match($0, /<[A-Z:]+>/)) value = " " substr($0, RSTART + 1, RLENGTH - 2) }
         { for (i = 1; i <= NF; i++) { sub(/ .*/, "", $i); print $i value } }'
 }
 
@@ -116,7 +116,7 @@ valued() {
 # words_with_option COMMAND: the kinds of the command's words if an option with a value is given, from the second line of its usage
 words_with_option() {
     local name dots
-    usage "$1" | sed -n 2p | sed -E -e 's/ \[OPTIONS\]//' -e 's/ -. <[A-Z]+>//' | tr ' ' '\n' | tail -n +3 | while read -r name; do
+    usage "$1" | sed -n 2p | sed -E -e 's/ \[OPTIONS\]//' -e 's/ -. <[A-Z:]+>//' | tr ' ' '\n' | tail -n +3 | while read -r name; do
         dots=
         [[ $name == *... ]] && dots=...
         echo "$(kind "$(tr -d '<>[].' <<< "$name")")$dots"
@@ -227,8 +227,8 @@ option_arguments() {
     local names text value
     while IFS=$'\t' read -r names text; do
         value=
-        [[ $names =~ \<([A-Z]+)\> ]] && value=":${BASH_REMATCH[1]}:$(completer "$(kind "${BASH_REMATCH[1]}")")"
-        for name in $(sed -e 's/,//g' -e 's/<[A-Z]*>//' <<< "$names"); do
+        [[ $names =~ \<([A-Z:]+)\> ]] && value=":${BASH_REMATCH[1]//:/\\:}:$(completer "$(kind "${BASH_REMATCH[1]}")")"
+        for name in $(sed -e 's/,//g' -e 's/<[A-Z:]*>//' <<< "$names"); do
             echo "'${name}[$(quoted <<< "$text")]$value'"
         done
     done < <(section Options "$1" | sed -E -e 's/^ +//' -e 's/  +/\t/')

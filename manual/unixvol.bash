@@ -28,24 +28,29 @@ _unixvol() {
     while [[ ${before[0]:-} == -* ]]; do before=("${before[@]:1}"); done
     command=${before[0]:-}
     if [ -z "$command" ]; then
-        mapfile -t COMPREPLY < <(compgen -W 'cat ls get export inode super map check icheck dcheck ncheck mkfs put import rm rmdir mkdir ln mv chmod chown touch salvage play migrate serve help --explain -h --help -V --version' -- "$current")
+        mapfile -t COMPREPLY < <(compgen -W 'cat ls get find export sums inode super free block df map check icheck dcheck ncheck mkfs put import rm rmdir mkdir ln mv chmod chown touch salvage play migrate serve help --explain -h --help -V --version' -- "$current")
         return
     fi
     case $command in
         cat) kinds='edition file any' options='--explain -h --help' ;;
         ls) kinds='edition file path' options='-l --long -R --recursive -d --directory --json --explain -h --help' ;;
         get) kinds='edition file path any...' options='-o --output --explain -h --help' valued='-o=file --output=file' others='edition file path...' ;;
+        find) kinds='edition file path' options='-g --name --explain -h --help' valued='-g=any --name=any' others='' ;;
         export) kinds='edition file path' options='--lost --status --explain -h --help' ;;
+        sums) kinds='edition file path' options='--json --explain -h --help' ;;
         inode) kinds='edition file any' options='--json --explain -h --help' ;;
         super) kinds='edition file' options='--json --explain -h --help' ;;
+        free) kinds='edition file' options='--json --explain -h --help' ;;
+        block) kinds='edition file any' options='--explain -h --help' ;;
+        df) kinds='edition file' options='--json --explain -h --help' ;;
         map) kinds='edition file' options='--svg --explain -h --help' ;;
-        check) kinds='edition file' options='--status --explain -h --help' ;;
+        check) kinds='edition file' options='--status --json --explain -h --help' ;;
         icheck) kinds='edition file any' options='--explain -h --help' ;;
         dcheck) kinds='edition file any' options='--explain -h --help' ;;
         ncheck) kinds='edition file any' options='--explain -h --help' ;;
         mkfs) kinds='edition file any any any any any' options='--new --explain -h --help' ;;
         put) kinds='edition file path file any any...' options='-t --target-directory --explain -h --help' valued='-t=path --target-directory=path' others='edition file file...' ;;
-        import) kinds='edition file path any' options='--explain -h --help' ;;
+        import) kinds='edition file path any' options='--skip-special -o --owner --explain -h --help' valued='-o=any --owner=any' others='' ;;
         rm) kinds='edition file path any' options='-r --recursive --explain -h --help' ;;
         rmdir) kinds='edition file path any' options='--explain -h --help' ;;
         mkdir) kinds='edition file path any' options='-p --parents --explain -h --help' ;;
@@ -55,7 +60,7 @@ _unixvol() {
         chown) kinds='edition file path any any any' options='--explain -h --help' ;;
         touch) kinds='edition file path any' options='--explain -h --help' ;;
         salvage) kinds='edition file' options='--explain -h --help' ;;
-        play) kinds='edition file file...' options='--explain -h --help' ;;
+        play) kinds='edition file file...' options='--journal --explain -h --help' ;;
         migrate) kinds='file file any any any' options='--new --explain -h --help' ;;
         serve) kinds='edition file' options='--read-only --mine --explain -h --help' ;;
     esac

@@ -55,7 +55,7 @@ listed() {
 
 # Nothing that the help lists is missing.
 for command in '' $(listed Commands | grep -v help); do
-    for option in $(listed Options $command | sed -E -e 's/,//g' -e 's/<[A-Z]+>//'); do
+    for option in $(listed Options $command | sed -E -e 's/,//g' -e 's/<[A-Z:]+>//'); do
         for file in unixvol.1 unixvol.bash _unixvol; do holds $file "$option"; done
     done
 done

@@ -7,7 +7,7 @@ cd "$(dirname "$0")/.."
 sources=$(tools/sources.sh)
 room=$(mktemp -d)
 trap 'rm -rf "$room"' EXIT
-awk -v crate=unixvol -f tools/below.awk crates.txt >"$room/crates.txt"
+awk -v crate=unixvol -f tools/crate_lines.awk crates.txt >"$room/crates.txt"
 sed 's/[: ].*//; s#^#crates/#' "$room/crates.txt" >"$room/folders"
 tar -cf - --exclude='crates/*/out' --exclude='crates/*/must-fail' -T "$room/folders" HANDLES | tar -xf - -C "$room"
 git init -q "$room"

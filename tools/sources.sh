@@ -6,7 +6,7 @@ set -euo pipefail
 export LC_ALL=C
 cd "$(dirname "$0")/.."
 crate=${1:-unixvol}
-lines=$(awk -v crate="$crate" -f tools/below.awk crates.txt)
+lines=$(awk -v crate="$crate" -f tools/crate_lines.awk crates.txt)
 names=$(sed 's/[: ].*//' <<<"$lines")
 {
     "${RT:-rt}" version

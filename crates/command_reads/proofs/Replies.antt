@@ -8,7 +8,7 @@ use Rattle.vol_layout.specs.Body.{body, body_size}
 use Rattle.vol_layout.specs.Edition.{constants}
 use Rattle.vol_layout.specs.Geometry.{geometry_of}
 use Rattle.vol_layout.specs.Inode.{inode_of, kind_of}
-use Rattle.vol_layout.specs.Names.{mode_of}
+use Rattle.vol_layout.specs.BlockPointers.{mode_of}
 use Rattle.vol_layout.proofs.BodyLaws.{length-body}
 use Rattle.vol_change.specs.Edits.{body_of}
 use Rattle.vol_change.specs.Nodes.{no_node, node_at}

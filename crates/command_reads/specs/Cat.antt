@@ -4,7 +4,7 @@ use Rattle.std.specs.Io.KnownBytes.{Appends, Keeps}
 use Rattle.pdp_words.specs.Devices.{IsReadWhole, AppendsFront}
 use Rattle.vol_layout.specs.Geometry.{geometry_read}
 use Rattle.vol_layout.specs.Inode.{kind_of}
-use Rattle.vol_layout.specs.Names.{mode_of}
+use Rattle.vol_layout.specs.BlockPointers.{mode_of}
 use Rattle.vol_layout.specs.Body.{body}
 use Rattle.vol_layout.specs.declared.edition.Edition.{Edition}
 use Rattle.vol_layout.specs.declared.geometry.Geometry.{Geometry}

@@ -1,7 +1,7 @@
 -- The effects of a change of a regular file's bytes, stated for the tree.
 use Rattle.std.proofs.Common.{◌≡◌, ◌≢◌, ◌∙◌, sym, ap, ℕ, ◌≤◌, ◌++◌, drop, List, length}
-use Rattle.vol_layout.specs.Names.{IsFile}
-use Rattle.vol_layout.specs.Places.{has_places}
+use Rattle.vol_layout.specs.BlockPointers.{IsFile}
+use Rattle.vol_layout.specs.BlockMaps.{has_places}
 use Rattle.vol_layout.specs.declared.geometry.Geometry.{Geometry}
 use Rattle.vol_layout.specs.declared.mode.Kind.TheVariants as kinds
 use Rattle.vol_file.specs.Changes.{Writes, ChangesFileAlone, Truncates, blocks_past}

@@ -9,7 +9,7 @@ use Rattle.vol_layout.specs.declared.edition.Edition.TheVariants.{V6, V7}
 use Rattle.vol_layout.specs.declared.geometry.Geometry.{Geometry}
 use Rattle.vol_layout.specs.declared.i_node.Inode.{Inode}
 use Rattle.vol_layout.specs.Inode.{inode_place}
-use Rattle.vol_layout.specs.Names.{mode_of}
+use Rattle.vol_layout.specs.BlockPointers.{mode_of}
 use Rattle.vol_layout.proofs.InodeLaws.{inode_mode}
 use Rattle.pdp_words.specs.Words.{SameOutside}
 use Rattle.vol_change.proofs.ListWrites.{PutsInode}

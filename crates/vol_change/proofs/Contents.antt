@@ -5,9 +5,9 @@ use Rattle.std.specs.List.{range_with_len}
 use Rattle.std.specs.Option.{option_map}
 use Rattle.vol_layout.specs.Edition.{constants}
 use Rattle.vol_layout.specs.Inode.{inode_of, kind_of, is_large}
-use Rattle.vol_layout.specs.Names.{mode_of, form_at, IsFile, IsPlaceOf, named}
+use Rattle.vol_layout.specs.BlockPointers.{mode_of, form_at, IsFile, IsPlaceOf, named}
 use Rattle.vol_layout.specs.Body.{body}
-use Rattle.vol_layout.specs.Places.{form_of, file_form, has_places}
+use Rattle.vol_layout.specs.BlockMaps.{form_of, file_form, has_places}
 use Rattle.vol_layout.specs.Slot.{slot_at}
 use Rattle.vol_layout.specs.declared.edition.Edition.{Edition}
 use Rattle.vol_layout.specs.declared.edition.Edition.TheVariants.{V6, V7}

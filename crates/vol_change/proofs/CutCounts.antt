@@ -4,8 +4,8 @@ use Rattle.std.specs.List.{count_by}
 use Rattle.std.proofs.lemmas.Bool.{cases_Bool}
 use Rattle.std.proofs.lemmas.Bool.Decides.{nat_tests}
 use Rattle.std.proofs.lemmas.List.Sums.{sum_by-cons}
-use Rattle.vol_layout.specs.Names.{mode_of, form_at}
-use Rattle.vol_layout.specs.Places.{has_places, places}
+use Rattle.vol_layout.specs.BlockPointers.{mode_of, form_at}
+use Rattle.vol_layout.specs.BlockMaps.{has_places, places}
 use Rattle.vol_layout.specs.declared.edition.Edition.{Edition}
 use Rattle.vol_layout.specs.declared.geometry.Geometry.{Geometry}
 use Rattle.vol_layout.specs.declared.mode.Kind.TheVariants as kinds

@@ -2,7 +2,7 @@
 use Rattle.std.proofs.Common.{◌≡◌, refl, ◌&&◌, Bool, true, false, not, [], ◌∷◌, arith}
 use Rattle.std.specs.Prelude.{◌||◌}
 use Rattle.std.specs.List.{count_by}
-use Rattle.vol_layout.specs.Places.{places}
+use Rattle.vol_layout.specs.BlockMaps.{places}
 use Rattle.vol_layout.specs.declared.edition.Edition.{Edition}
 use Rattle.vol_layout.specs.declared.edition.Edition.TheVariants.{V6, V7}
 use Rattle.vol_layout.specs.declared.block_map.BlockMap.TheVariants.{Small, Deep}

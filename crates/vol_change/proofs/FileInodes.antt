@@ -5,7 +5,7 @@ use Rattle.std.proofs.lemmas.Bool.{cases_Bool}
 use Rattle.std.proofs.lemmas.Bool.Decides.{nat_tests}
 use Rattle.pdp_words.specs.Words.{word}
 use Rattle.vol_layout.specs.Inode.{inode_at, kind_of, kind_of_type_v6, is_large, with_large}
-use Rattle.vol_layout.specs.Places.{form_of, has_places}
+use Rattle.vol_layout.specs.BlockMaps.{form_of, has_places}
 use Rattle.vol_layout.specs.declared.edition.Edition.{Edition}
 use Rattle.vol_layout.specs.declared.edition.Edition.TheVariants.{V6, V7}
 use Rattle.vol_layout.specs.declared.i_node.Inode.{Inode}

@@ -8,8 +8,8 @@ use Rattle.std.proofs.lemmas.List.Concat.{length-flat_map}
 use Rattle.std.proofs.lemmas.List.Sums.{sum_by-cons}
 use Rattle.vol_layout.specs.Geometry.{in_zone}
 use Rattle.vol_layout.specs.Inode.{kind_of, is_large}
-use Rattle.vol_layout.specs.Names.{mode_of, form_at, named}
-use Rattle.vol_layout.specs.Places.{form_of, file_form, has_places, places}
+use Rattle.vol_layout.specs.BlockPointers.{mode_of, form_at, named}
+use Rattle.vol_layout.specs.BlockMaps.{form_of, file_form, has_places, places}
 use Rattle.vol_layout.specs.declared.edition.Edition.{Edition}
 use Rattle.vol_layout.specs.declared.edition.Edition.TheVariants.{V6, V7}
 use Rattle.vol_layout.specs.declared.geometry.Geometry.{Geometry}

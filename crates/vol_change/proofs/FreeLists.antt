@@ -4,8 +4,8 @@ use Rattle.std.proofs.Math.Seq.{drop-append_seam}
 use Rattle.pdp_words.specs.Words.{SameOutside}
 use Rattle.vol_layout.specs.Edition.{constants}
 use Rattle.vol_layout.specs.Inode.{inode_place}
-use Rattle.vol_layout.specs.Names.{form_at, IsFile, named}
-use Rattle.vol_layout.specs.Places.{form_of, has_places, places}
+use Rattle.vol_layout.specs.BlockPointers.{form_at, IsFile, named}
+use Rattle.vol_layout.specs.BlockMaps.{form_of, has_places, places}
 use Rattle.vol_layout.specs.Super.{free_head, cache_head, time_place}
 use Rattle.vol_layout.specs.declared.geometry.Geometry.{Geometry}
 use Rattle.vol_layout.proofs.InodeLaws.{place_from, place_room}

@@ -6,8 +6,8 @@ use Rattle.pdp_words.proofs.Outside.{unchanged}
 use Rattle.pdp_words.specs.Words.{word, SameOutside}
 use Rattle.vol_layout.specs.Edition.{constants}
 use Rattle.vol_layout.specs.Inode.{inode_of, inode_place, kind_of}
-use Rattle.vol_layout.specs.Names.{mode_of, IsPlaceOf, named}
-use Rattle.vol_layout.specs.Places.{has_places}
+use Rattle.vol_layout.specs.BlockPointers.{mode_of, IsPlaceOf, named}
+use Rattle.vol_layout.specs.BlockMaps.{has_places}
 use Rattle.vol_layout.specs.declared.edition.Edition.{Edition}
 use Rattle.vol_layout.specs.declared.geometry.Geometry.{Geometry}
 use Rattle.vol_layout.specs.declared.mode.Kind.TheVariants as kinds

@@ -5,8 +5,8 @@ use Rattle.std.proofs.lemmas.Bool.{cases_eq}
 use Rattle.pdp_words.specs.Words.{long, SameOutside}
 use Rattle.vol_layout.specs.Edition.{constants}
 use Rattle.vol_layout.specs.Inode.{inode_of, inode_place, kind_of}
-use Rattle.vol_layout.specs.Names.{form_at, mode_of, named}
-use Rattle.vol_layout.specs.Places.{has_places}
+use Rattle.vol_layout.specs.BlockPointers.{form_at, mode_of, named}
+use Rattle.vol_layout.specs.BlockMaps.{has_places}
 use Rattle.vol_layout.specs.Super.{time_place}
 use Rattle.vol_layout.specs.declared.geometry.Geometry.{Geometry}
 use Rattle.vol_layout.specs.declared.i_node.Inode.{Inode}

@@ -4,7 +4,7 @@ use Rattle.pdp_words.specs.Words.{SameOutside}
 use Rattle.pdp_words.proofs.Outside.{join}
 use Rattle.vol_layout.specs.Edition.{constants}
 use Rattle.vol_layout.specs.Inode.{first_change, inode_of, inode_place, kind_of, is_large, new_inode}
-use Rattle.vol_layout.specs.Places.{has_places}
+use Rattle.vol_layout.specs.BlockMaps.{has_places}
 use Rattle.vol_layout.proofs.NewInodes.{zeros_at}
 use Rattle.vol_layout.specs.declared.edition.Edition.{Edition}
 use Rattle.vol_layout.specs.declared.edition.Edition.TheVariants.{V6, V7}

@@ -3,8 +3,8 @@ use Rattle.std.proofs.Common.{◌≡◌, ◌≢◌, ◌∙◌, sym, ap, subst, �
 use Rattle.std.proofs.lemmas.Bool.{cases_eq}
 use Rattle.vol_layout.specs.Edition.{constants}
 use Rattle.vol_layout.specs.Inode.{inode_of}
-use Rattle.vol_layout.specs.Names.{IsFile, IsPlaceOf, named}
-use Rattle.vol_layout.specs.Places.{form_of, has_places}
+use Rattle.vol_layout.specs.BlockPointers.{IsFile, IsPlaceOf, named}
+use Rattle.vol_layout.specs.BlockMaps.{form_of, has_places}
 use Rattle.vol_layout.specs.declared.geometry.Geometry.{Geometry}
 use Rattle.vol_layout.specs.declared.mode.Kind.TheVariants as kinds
 use Rattle.vol_free.specs.Stack.{IsFree}

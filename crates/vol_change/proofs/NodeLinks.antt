@@ -2,7 +2,7 @@
 use Rattle.std.proofs.Common.{◌≡◌, ◌≢◌, ◌∙◌, ap, refl, ℕ, ◌/◌, ◌≤◌, List, Some}
 use Rattle.std.specs.Option.{unwrap_or}
 use Rattle.vol_layout.specs.Inode.{inode_of}
-use Rattle.vol_layout.specs.Names.{mode_of}
+use Rattle.vol_layout.specs.BlockPointers.{mode_of}
 use Rattle.vol_layout.specs.Body.{body}
 use Rattle.vol_layout.specs.declared.geometry.Geometry.{Geometry}
 use Rattle.vol_layout.specs.declared.mode.Kind.{Kind}

@@ -5,8 +5,8 @@ use Rattle.pdp_words.specs.Words.{SameOutside}
 use Rattle.vol_layout.specs.Edition.{constants}
 use Rattle.vol_layout.specs.Geometry.{geometry_of, geometry_read, in_zone, Fits}
 use Rattle.vol_layout.specs.Inode.{inode_of}
-use Rattle.vol_layout.specs.Names.{IsFile, IsPlaceOf, named}
-use Rattle.vol_layout.specs.Places.{has_places, IsPlace}
+use Rattle.vol_layout.specs.BlockPointers.{IsFile, IsPlaceOf, named}
+use Rattle.vol_layout.specs.BlockMaps.{has_places, IsPlace}
 use Rattle.vol_layout.specs.Super.{free_head}
 use Rattle.vol_layout.specs.declared.edition.Edition.{Edition}
 use Rattle.vol_layout.specs.declared.edition.Edition.TheVariants.{V6, V7}

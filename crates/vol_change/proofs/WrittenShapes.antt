@@ -5,8 +5,8 @@ use Rattle.std.specs.List.{count_by}
 use Rattle.std.proofs.lemmas.Bool.{cases_Bool}
 use Rattle.std.proofs.lemmas.List.Sums.{sum_by-cons}
 use Rattle.vol_layout.specs.Inode.{inode_place, inode_of, is_large}
-use Rattle.vol_layout.specs.Names.{mode_of, form_at, IsFile}
-use Rattle.vol_layout.specs.Places.{places}
+use Rattle.vol_layout.specs.BlockPointers.{mode_of, form_at, IsFile}
+use Rattle.vol_layout.specs.BlockMaps.{places}
 use Rattle.vol_layout.specs.declared.geometry.Geometry.{Geometry}
 use Rattle.vol_layout.specs.declared.block_map.BlockMap.{BlockMap}
 use Rattle.vol_layout.specs.declared.block_map.BlockMap.TheVariants.{Large}

@@ -4,8 +4,8 @@ use Rattle.std.specs.Option.{option_map}
 use Rattle.std.proofs.lemmas.Bool.Decides.{nat_tests}
 use Rattle.vol_layout.specs.Geometry.{Fits}
 use Rattle.vol_layout.specs.Inode.{inode_place, inode_of, kind_of, is_large, with_large}
-use Rattle.vol_layout.specs.Names.{mode_of, form_at, IsFile, named}
-use Rattle.vol_layout.specs.Places.{form_of, has_places}
+use Rattle.vol_layout.specs.BlockPointers.{mode_of, form_at, IsFile, named}
+use Rattle.vol_layout.specs.BlockMaps.{form_of, has_places}
 use Rattle.vol_layout.specs.Body.{body}
 use Rattle.vol_layout.specs.declared.edition.Edition.{Edition}
 use Rattle.vol_layout.specs.declared.edition.Edition.TheVariants.{V6, V7}

@@ -3,7 +3,7 @@ use Rattle.std.specs.Prelude.{◌≡◌, ◌≢◌, ℕ, ◌+◌, ◌*◌, ◌<�
 use Rattle.pdp_words.specs.Words.{long}
 use Rattle.vol_layout.specs.Edition.{constants}
 use Rattle.vol_layout.specs.Inode.{inode_of, inode_place}
-use Rattle.vol_layout.specs.Names.{mode_of, IsFile, IsPlaceOf, named}
+use Rattle.vol_layout.specs.BlockPointers.{mode_of, IsFile, IsPlaceOf, named}
 use Rattle.vol_layout.specs.Body.{body}
 use Rattle.vol_layout.specs.Super.{time_place}
 use Rattle.vol_layout.specs.declared.geometry.Geometry.{Geometry}

@@ -1,8 +1,8 @@
 -- The effects of each change of a node: on the rules, the tree, the free list and the other nodes.
 use Rattle.std.specs.Prelude.{◌≡◌, ◌≢◌, ℕ, ◌/◌, ◌<◌, ◌≤◌, if◌then◌else◌, List, []}
 use Rattle.vol_layout.specs.Body.{body, body_byte}
-use Rattle.vol_layout.specs.Names.{form_at, IsPlaceOf, named}
-use Rattle.vol_layout.specs.Places.{has_places}
+use Rattle.vol_layout.specs.BlockPointers.{form_at, IsPlaceOf, named}
+use Rattle.vol_layout.specs.BlockMaps.{has_places}
 use Rattle.vol_layout.specs.declared.geometry.Geometry.{Geometry}
 use Rattle.vol_free.specs.Stack.{IsFree}
 use Rattle.vol_file.specs.Changes.{blocks_of, spliced, is_kept, whole_blocks}

@@ -15,7 +15,7 @@ pub use Rattle.vol_judge.specs.GraphEdits
 pub use Rattle.vol_layout.specs.Body
 pub use Rattle.vol_layout.specs.Edition
 pub use Rattle.vol_layout.specs.Inode
-pub use Rattle.vol_layout.specs.Places
+pub use Rattle.vol_layout.specs.BlockMaps
 pub use Rattle.vol_layout.specs.Super
 pub mod Alone
 pub mod Beside

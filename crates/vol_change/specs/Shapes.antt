@@ -1,7 +1,7 @@
 -- Changes of the shapes of files, and the number of blocks that they take.
 use Rattle.std.specs.Prelude.{ℕ, ◌/◌, ◌==◌, ◌&&◌, ◌||◌, not, List, [], ◌∷◌, map, Some}
 use Rattle.std.specs.List.{count_by}
-use Rattle.vol_layout.specs.Places.{places}
+use Rattle.vol_layout.specs.BlockMaps.{places}
 use Rattle.vol_file.specs.Changes.{is_kept}
 use Rattle.vol_file.specs.Shape.{filled, grows_large}
 use Rattle.vol_file.specs.Need.{need_of}

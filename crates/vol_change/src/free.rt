@@ -1,7 +1,7 @@
 //! Freeing nodes.
 ghost use Rattle.std.specs.Prelude.{◌≡◌, ◌≢◌, ℕ, ◌<◌, ◌≤◌, List, ◌++◌};
 ghost use Rattle.vol_layout.specs.Edition.{constants};
-ghost use Rattle.vol_layout.specs.Names.{IsPlaceOf, named};
+ghost use Rattle.vol_layout.specs.BlockPointers.{IsPlaceOf, named};
 ghost use Rattle.vol_layout.specs.declared.mode.Kind.TheVariants as kinds;
 ghost use Rattle.vol_dir.specs.Tree.{place_count, shapes, state};
 ghost use Rattle.vol_judge.specs.Graph.{graph_of};

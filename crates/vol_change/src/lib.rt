@@ -1,22 +1,22 @@
 //! The changes that the ten calls make to a volume, once their paths are walked.
 #![tactic(auto)]
 
-mod calls;
 mod entries;
 mod free;
+mod image_changes;
 mod links;
 mod new_nodes;
 mod ownership;
 mod times;
 
-pub use calls::chmod::chmod;
-pub use calls::chown::chown;
-pub use calls::create::create;
-pub use calls::link::link;
-pub use calls::mkdir::mkdir;
-pub use calls::rmdir::rmdir;
-pub use calls::truncate::truncate;
-pub use calls::unlink::unlink;
-pub use calls::utime::utime;
-pub use calls::write::write;
+pub use image_changes::chmod::chmod;
+pub use image_changes::chown::chown;
+pub use image_changes::create::create;
+pub use image_changes::link::link;
+pub use image_changes::mkdir::mkdir;
+pub use image_changes::rmdir::rmdir;
+pub use image_changes::truncate::truncate;
+pub use image_changes::unlink::unlink;
+pub use image_changes::utime::utime;
+pub use image_changes::write::write;
 pub use new_nodes::NewNode;

@@ -2,7 +2,7 @@
 ghost use Rattle.std.specs.Prelude.{◌≡◌, ◌≢◌, ℕ, ◌+◌, ◌≤◌, true, false, [], Some, None, IfSome, slice_index};
 ghost use Rattle.vol_layout.specs.Edition.{constants};
 ghost use Rattle.vol_layout.specs.Inode.{inode_place, is_large, kind_of, new_inode};
-ghost use Rattle.vol_layout.specs.Places.{has_places};
+ghost use Rattle.vol_layout.specs.BlockMaps.{has_places};
 ghost use Rattle.vol_layout.specs.declared.edition.Edition.TheVariants as editions;
 ghost use Rattle.vol_layout.specs.declared.mode.Kind.TheVariants as kinds;
 ghost use Rattle.vol_free.specs.Numbers.{IsFreeNumber};

@@ -4,7 +4,7 @@ ghost use Rattle.pdp_words.specs.Words.{SameOutside};
 ghost use Rattle.vol_layout.specs.Edition.{constants};
 ghost use Rattle.vol_layout.specs.Body.{body};
 ghost use Rattle.vol_layout.specs.Inode.{inode_place};
-ghost use Rattle.vol_layout.specs.Names.{IsFile};
+ghost use Rattle.vol_layout.specs.BlockPointers.{IsFile};
 ghost use Rattle.vol_file.specs.Rules.{kind_at};
 ghost use Rattle.vol_dir.specs.Tree.{state};
 ghost use Rattle.vol_judge.specs.Graph.{graph_of};

@@ -13,7 +13,7 @@ use Rattle.count_table.specs.Views.{mark}
 use Rattle.count_table.proofs.Totals.{total_cons, total_nil, least_same, least_here, least_else, least_nil}
 use Rattle.vol_reports.specs.Words.{zone_len, place_word, free_word, bad_word, kind_word, least_word}
 use Rattle.vol_check.specs.Pieces.{place_weight, kind_weight}
-use Rattle.vol_reports.specs.Blocks.{one_if, least_of}
+use Rattle.vol_reports.specs.Icheck.{one_if, least_of}
 use Rattle.vol_check.proofs.Weights.{place_inside, place_outside}
 
 -- a weight of the marks on a word alone

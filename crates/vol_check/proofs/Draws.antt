@@ -6,7 +6,7 @@ use Rattle.count_table.specs.Sums.{total, late, past}
 use Rattle.count_table.specs.Views.{view}
 use Rattle.count_table.specs.Tallies.{IsSeatAt, table_shape}
 use Rattle.count_table.proofs.Totals.{total_nil, total_push, past_here, past_short}
-use Rattle.vol_reports.specs.Blocks.{one_if}
+use Rattle.vol_reports.specs.Icheck.{one_if}
 use Rattle.vol_free.specs.FreeWalk.{free_walk}
 use Rattle.vol_check.specs.declared.checker.Checker.{Checker}
 use Rattle.vol_check.specs.declared.checker.Checker.TheVariants.{Blocks, Entries, Names}

@@ -9,8 +9,8 @@ use Rattle.vol_layout.specs.Super.{free_head}
 use Rattle.vol_layout.specs.declared.edition.Edition.{Edition}
 use Rattle.vol_layout.specs.declared.edition.Edition.TheVariants.{V6, V7}
 use Rattle.vol_layout.specs.Geometry.{in_zone, Fits}
-use Rattle.vol_layout.specs.Names.{form_at, pointer_in}
-use Rattle.vol_layout.specs.Places.{first_count, levels}
+use Rattle.vol_layout.specs.BlockPointers.{form_at, pointer_in}
+use Rattle.vol_layout.specs.BlockMaps.{first_count, levels}
 use Rattle.vol_layout.specs.declared.block_map.BlockMap.{BlockMap}
 use Rattle.vol_layout.specs.declared.block_map.BlockMap.TheVariants.{Small, Large, Deep, Bare}
 use Rattle.vol_layout.specs.declared.geometry.Geometry.{Geometry}
@@ -28,7 +28,7 @@ use Rattle.count_table.proofs.Totals.{total_cons, total_nil, total_ones}
 use Rattle.vol_reports.specs.Words.{zone_len, place_word, free_word, bad_word, kind_word, least_word}
 use Rattle.vol_free.specs.FreeWalk.{Walked, walk_rest, free_walk}
 use Rattle.vol_check.specs.Pieces.{place_weight, kind_weight, inode_weight, free_weight}
-use Rattle.vol_reports.specs.Blocks.{least_of, is_kind, use_count, met_count, bad_numbers, kind_count}
+use Rattle.vol_reports.specs.Icheck.{least_of, is_kind, use_count, met_count, bad_numbers, kind_count}
 use Rattle.vol_check.proofs.Sums.{below_same, below_zero}
 use Rattle.vol_check.proofs.Weights.{weigh_file, weigh_zero, weigh_leaf, weigh_block, entry_weight}
 use Rattle.vol_check.proofs.Drawn.{total_by, total_same, over_inodes, below_at_most, below_alone}

@@ -19,9 +19,9 @@ use Rattle.count_table.specs.Views.{mark}
 use Rattle.count_table.specs.Rule.{IsSummed}
 use Rattle.count_table.proofs.Totals.{total_nil, total_cons}
 use Rattle.vol_reports.specs.Words.{HasNameWords, name_word}
-use Rattle.vol_reports.specs.Blocks.{least_of}
+use Rattle.vol_reports.specs.Icheck.{least_of}
 use Rattle.vol_reports.specs.Placed.{Placed, placed}
-use Rattle.vol_reports.specs.Names.{entered, entries_of, entries_in, all_entries, naming_entry}
+use Rattle.vol_reports.specs.Ncheck.{entered, entries_of, entries_in, all_entries, naming_entry}
 use Rattle.vol_reports.specs.Counted.{rank_of, CountsNames}
 use Rattle.vol_check.specs.declared.checker.Checker.TheVariants.{Names}
 use Rattle.vol_check.specs.Parts.{HasStarts}

@@ -6,10 +6,10 @@ use Rattle.count_table.specs.declared.rule.Mark.{Mark}
 use Rattle.count_table.specs.declared.rule.TableShape.{TableShape}
 use Rattle.count_table.specs.Sums.{total, below}
 use Rattle.count_table.proofs.Totals.{total_push}
-use Rattle.vol_reports.specs.Blocks.{one_if}
+use Rattle.vol_reports.specs.Icheck.{one_if}
 use Rattle.vol_free.specs.FreeWalk.{free_walk}
 use Rattle.vol_reports.specs.Placed.{Placed}
-use Rattle.vol_reports.specs.declared.links.LinkCount.{LinkCount}
+use Rattle.vol_reports.specs.declared.inode_link_counts.LinkCount.{LinkCount}
 use Rattle.vol_check.specs.declared.checker.Checker.{Checker}
 use Rattle.vol_check.specs.declared.checker.Checker.TheVariants.{Blocks, Entries, Names}
 use Rattle.vol_check.specs.Shapes.{Layout, IsReady, IsShaped}

@@ -4,8 +4,8 @@ use Rattle.std.proofs.lemmas.Bool.{both_ways, cases_Bool}
 use Rattle.pdp_words.specs.Words.{long}
 use Rattle.vol_layout.specs.Geometry.{Fits, geometry_of, geometry_read, in_zone, is_whole, is_bounded}
 use Rattle.vol_layout.specs.Inode.{inode_place}
-use Rattle.vol_layout.specs.Names.{IsFile, IsPlaceOf, form_at, named, stored}
-use Rattle.vol_layout.specs.Places.{last_place}
+use Rattle.vol_layout.specs.BlockPointers.{IsFile, IsPlaceOf, form_at, named, stored}
+use Rattle.vol_layout.specs.BlockMaps.{last_place}
 use Rattle.vol_layout.specs.Super.{time_place}
 use Rattle.vol_layout.specs.declared.edition.Edition.{Edition}
 use Rattle.vol_layout.specs.declared.geometry.Geometry.{Geometry}

@@ -25,7 +25,7 @@ use Rattle.count_table.specs.Rule.{IsSummed}
 use Rattle.vol_free.specs.declared.free_walk.FreeFault.{FreeFault}
 use Rattle.vol_reports.specs.Words.{zone_len, HasWords, place_word, free_word, bad_word, kind_word, least_word}
 use Rattle.vol_free.specs.FreeWalk.{Walked, walk_rest, free_walk}
-use Rattle.vol_reports.specs.Blocks.{one_if, is_kind, use_count, met_count, bad_numbers, kind_count}
+use Rattle.vol_reports.specs.Icheck.{one_if, is_kind, use_count, met_count, bad_numbers, kind_count}
 use Rattle.vol_reports.specs.Counted.{CountsBlocks}
 use Rattle.vol_check.specs.Pieces.{piece_weight, inode_weight}
 use Rattle.vol_check.specs.declared.checker.Checker.TheVariants.{Blocks}

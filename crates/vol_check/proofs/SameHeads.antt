@@ -15,9 +15,9 @@ use Rattle.vol_layout.proofs.InodeLaws.{KeepsInode, inode_kept, mode_kept, body_
 use Rattle.vol_file.specs.Rules.{kind_at}
 use Rattle.vol_file.specs.Changes.{whole_blocks as blocks_in}
 use Rattle.vol_judge.specs.Directories.{root_of}
-use Rattle.vol_reports.specs.Entries.{is_allocated}
+use Rattle.vol_reports.specs.Dcheck.{is_allocated}
 use Rattle.vol_reports.specs.Counted.{HasLinkCounts}
-use Rattle.vol_reports.specs.declared.links.LinkCount.{LinkCount}
+use Rattle.vol_reports.specs.declared.inode_link_counts.LinkCount.{LinkCount}
 use Rattle.vol_check.specs.Parts.{parts_of, part_count, HasStarts}
 use Rattle.vol_check.specs.Layouts.{head_end, HasSameHead}
 use Rattle.vol_check.proofs.Sums.{below_same}

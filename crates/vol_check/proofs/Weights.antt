@@ -3,8 +3,8 @@ use Rattle.std.proofs.Common.{◌≡◌, ◌≢◌, ℕ, ◌+◌, ◌-◌, ◌�
 use Rattle.std.specs.List.{range_with_len}
 use Rattle.vol_layout.specs.Edition.{constants}
 use Rattle.vol_layout.specs.Geometry.{in_zone, Fits}
-use Rattle.vol_layout.specs.Names.{form_at, pointer_in}
-use Rattle.vol_layout.specs.Places.{first_count}
+use Rattle.vol_layout.specs.BlockPointers.{form_at, pointer_in}
+use Rattle.vol_layout.specs.BlockMaps.{first_count}
 use Rattle.vol_layout.specs.declared.geometry.Geometry.{Geometry}
 use Rattle.vol_layout.proofs.NameLaws.{entry_out}
 use Rattle.vol_file.specs.Changes.{blocks_of}

@@ -9,7 +9,7 @@ pub use Rattle.vol_judge.specs.Marks
 pub use Rattle.vol_judge.specs.Sound
 pub use Rattle.vol_layout.specs.Geometry
 pub use Rattle.vol_reports.specs.Counted
-pub use Rattle.vol_reports.specs.Names
+pub use Rattle.vol_reports.specs.Ncheck
 pub use Rattle.vol_reports.specs.Reports
 pub use Rattle.vol_reports.specs.Words
 pub mod Pieces

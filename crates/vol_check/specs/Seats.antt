@@ -6,7 +6,7 @@ use Rattle.count_table.specs.declared.words.Tally.{Tally}
 use Rattle.count_table.specs.Sums.{total, late}
 use Rattle.count_table.specs.Views.{view}
 use Rattle.count_table.specs.Tallies.{IsSeatAt, table_shape}
-use Rattle.vol_reports.specs.Blocks.{one_if}
+use Rattle.vol_reports.specs.Icheck.{one_if}
 use Rattle.vol_free.specs.FreeWalk.{free_walk}
 use Rattle.vol_reports.specs.Placed.{Placed}
 use Rattle.vol_free.specs.declared.free_walk.FreeFault.{FreeFault}

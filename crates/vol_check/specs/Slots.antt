@@ -13,7 +13,7 @@ use Rattle.count_table.specs.Sums.{total, below}
 use Rattle.count_table.specs.Views.{mark}
 use Rattle.vol_reports.specs.Words.{entry_word, name_word}
 use Rattle.vol_reports.specs.Placed.{Placed}
-use Rattle.vol_reports.specs.Names.{entered}
+use Rattle.vol_reports.specs.Ncheck.{entered}
 use Rattle.vol_check.specs.declared.checker.Checker.{Checker}
 use Rattle.vol_check.specs.declared.checker.Checker.TheVariants.{Blocks, Entries, Names}
 use Rattle.vol_check.specs.Parts.{part_count, piece_value}

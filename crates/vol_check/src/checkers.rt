@@ -5,7 +5,7 @@ ghost use Rattle.vol_check.specs.SweepReports.{IsReport};
 
 use crate::checker::Checker;
 use crate::gate::Gate;
-use crate::room::try_room;
+use crate::memory_check::try_room;
 use crate::sweeps::Sweep;
 use pdp_words::Image;
 use std::alloc::{AllocError, Global};

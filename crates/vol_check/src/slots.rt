@@ -6,7 +6,7 @@ ghost use Rattle.count_table.specs.Sums.{total, below};
 ghost use Rattle.count_table.specs.Views.{mark};
 ghost use Rattle.count_table.specs.Tallies.{IsSeatAt, table_shape};
 ghost use Rattle.vol_reports.specs.Words.{HasNameWords, name_word};
-ghost use Rattle.vol_reports.specs.Names.{entered};
+ghost use Rattle.vol_reports.specs.Ncheck.{entered};
 ghost use Rattle.vol_judge.specs.Steps.{rank};
 ghost use Rattle.vol_check.specs.Pieces.{Adds};
 ghost use Rattle.vol_check.specs.Parts.{part_count};

@@ -8,8 +8,8 @@ use Rattle.std.proofs.lemmas.Bool.{cases_lt, cases_eq, ne_eqb, lt-leb, or_cases,
 use Rattle.std.proofs.lemmas.List.{same_lists, get_or-map, length-map}
 use Rattle.std.proofs.lemmas.List.Sums.{fails_before_first, passes_at_first, sum_by-cons}
 use Rattle.vol_layout.specs.Geometry.{in_zone, Fits}
-use Rattle.vol_layout.specs.Names.{form_at, stored, named, IsFile}
-use Rattle.vol_layout.specs.Places.{last_place, fronts, way, places}
+use Rattle.vol_layout.specs.BlockPointers.{form_at, stored, named, IsFile}
+use Rattle.vol_layout.specs.BlockMaps.{last_place, fronts, way, places}
 use Rattle.vol_layout.specs.Body.{body}
 use Rattle.vol_layout.specs.Slot.{slot_at}
 use Rattle.vol_layout.proofs.BodyLaws.{length-body}

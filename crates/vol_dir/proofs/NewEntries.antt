@@ -9,7 +9,7 @@ use Rattle.std.proofs.lemmas.List.Folds.{list_any_at}
 use Rattle.std.proofs.lemmas.List.Sums.{passes_at_first, position_or_len_is, prefix_len-le-length}
 use Rattle.std.proofs.Math.Seq.{take-append_seam}
 use Rattle.vol_layout.specs.Edition.{constants}
-use Rattle.vol_layout.specs.Names.{IsFile}
+use Rattle.vol_layout.specs.BlockPointers.{IsFile}
 use Rattle.vol_layout.specs.Body.{body}
 use Rattle.vol_layout.specs.Slot.{slot_at, name_of, padded_name}
 use Rattle.vol_layout.proofs.BodyLaws.{length-body}

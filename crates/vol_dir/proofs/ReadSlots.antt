@@ -6,7 +6,7 @@ use Rattle.std.proofs.lemmas.Bool.{cases_lt, lt-ltb, le-ltb, eqb-true, true≢fa
 use Rattle.std.proofs.lemmas.List.{get_or_past}
 use Rattle.std.proofs.lemmas.List.FromFn.{length-map-range_with_len, get_or-map-range_with_len}
 use Rattle.vol_layout.specs.Geometry.{in_zone, Fits}
-use Rattle.vol_layout.specs.Names.{form_at, stored}
+use Rattle.vol_layout.specs.BlockPointers.{form_at, stored}
 use Rattle.vol_layout.specs.Body.{zone_byte, body_byte, body_size, body}
 use Rattle.vol_layout.specs.Slot.{slot_at}
 use Rattle.vol_layout.proofs.BodyLaws.{length-body, get_or-body, body_byte_at, zone_byte_in, zone_byte_out, zone_room}

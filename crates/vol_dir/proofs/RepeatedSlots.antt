@@ -4,7 +4,7 @@ use Rattle.std.specs.Prelude.{Option, Bool, nat_lt, MatchOption}
 use Rattle.std.specs.Option.{is_none, is_some, IfSome}
 use Rattle.std.proofs.lemmas.Bool.{cases_lt, lt-ltb, le-ltb, true≢false}
 use Rattle.vol_layout.specs.Geometry.{in_zone, Fits}
-use Rattle.vol_layout.specs.Names.{form_at, stored}
+use Rattle.vol_layout.specs.BlockPointers.{form_at, stored}
 use Rattle.vol_layout.specs.Slot.{slot_at}
 use Rattle.vol_layout.specs.declared.geometry.Geometry.{Geometry}
 use Rattle.vol_layout.specs.declared.slot.Slot.{Slot}

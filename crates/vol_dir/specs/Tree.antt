@@ -4,9 +4,9 @@ use Rattle.std.specs.List.{range_with_len, count_by, sum_by}
 use Rattle.std.specs.Option.{option_map}
 use Rattle.pdp_words.specs.Words.{long}
 use Rattle.vol_layout.specs.Inode.{inode_of, kind_of, is_large}
-use Rattle.vol_layout.specs.Names.{mode_of, form_at}
+use Rattle.vol_layout.specs.BlockPointers.{mode_of, form_at}
 use Rattle.vol_layout.specs.Body.{body}
-use Rattle.vol_layout.specs.Places.{first_count, pointer_count, levels_below, places}
+use Rattle.vol_layout.specs.BlockMaps.{first_count, pointer_count, levels_below, places}
 use Rattle.vol_layout.specs.Super.{time_place}
 use Rattle.vol_file.specs.Shape.{is_named}
 use Rattle.vol_dir.specs.Entries.{slots}

@@ -2,7 +2,7 @@
 ghost use Rattle.std.specs.Prelude.{◌≡◌, ◌≢◌, ℕ, ◌+◌, ◌*◌, ◌%◌, ◌<◌, ◌≤◌, List, None, Some, length, slice_index};
 ghost use Rattle.vol_layout.specs.Edition.{constants};
 ghost use Rattle.vol_layout.specs.Geometry.{Fits};
-ghost use Rattle.vol_layout.specs.Names.{IsFile};
+ghost use Rattle.vol_layout.specs.BlockPointers.{IsFile};
 ghost use Rattle.vol_file.specs.Changes.{Writes};
 ghost use Rattle.vol_file.specs.Need.{need};
 ghost use Rattle.vol_file.specs.Rules.{size_of, Rules3To7With, Rules3To7};

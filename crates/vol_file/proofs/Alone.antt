@@ -5,8 +5,8 @@ use Rattle.std.proofs.lemmas.Bool.{cases_lt}
 use Rattle.vol_layout.specs.Edition.{constants}
 use Rattle.vol_layout.specs.Geometry.{in_zone, Fits}
 use Rattle.vol_layout.specs.Inode.{inode_place}
-use Rattle.vol_layout.specs.Places.{IsPlace, last_place}
-use Rattle.vol_layout.specs.Names.{form_at, IsFile, IsPlaceOf, named, stored, NamesBlock}
+use Rattle.vol_layout.specs.BlockMaps.{IsPlace, last_place}
+use Rattle.vol_layout.specs.BlockPointers.{form_at, IsFile, IsPlaceOf, named, stored, NamesBlock}
 use Rattle.vol_layout.specs.Body.{body}
 use Rattle.vol_layout.specs.declared.geometry.Geometry.{Geometry}
 use Rattle.vol_layout.proofs.CopyLaws.{IsCopy}

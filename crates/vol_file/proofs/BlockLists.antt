@@ -4,9 +4,9 @@ use Rattle.std.proofs.lemmas.Bool.Decides.{nat_tests}
 use Rattle.std.proofs.lemmas.List.{map-append}
 use Rattle.std.proofs.lemmas.List.Elements.{filter-append}
 use Rattle.std.specs.List.{flat_map, range_with_len}
-use Rattle.vol_layout.specs.Places.{places_from}
+use Rattle.vol_layout.specs.BlockMaps.{places_from}
 use Rattle.vol_layout.specs.Laws.{IsFront}
-use Rattle.vol_layout.specs.Names.{named}
+use Rattle.vol_layout.specs.BlockPointers.{named}
 use Rattle.vol_layout.specs.declared.geometry.Geometry.{Geometry}
 use Rattle.vol_layout.proofs.PlaceLaws.{front_above}
 use Rattle.vol_file.specs.Clears.{blocks_at, places_below}

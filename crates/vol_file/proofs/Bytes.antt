@@ -5,8 +5,8 @@ use Rattle.std.proofs.lemmas.Bool.{cases_lt, cases_eq}
 use Rattle.pdp_words.specs.Words.{SameOutside}
 use Rattle.vol_layout.specs.Geometry.{in_zone, Fits}
 use Rattle.vol_layout.specs.Inode.{kind_of}
-use Rattle.vol_layout.specs.Places.{IsPlace, levels_below, last_place}
-use Rattle.vol_layout.specs.Names.{mode_of, form_at, IsFile, IsPlaceOf, named, stored, NamesBlock}
+use Rattle.vol_layout.specs.BlockMaps.{IsPlace, levels_below, last_place}
+use Rattle.vol_layout.specs.BlockPointers.{mode_of, form_at, IsFile, IsPlaceOf, named, stored, NamesBlock}
 use Rattle.vol_layout.specs.Body.{body_byte, zone_byte}
 use Rattle.vol_layout.specs.declared.geometry.Geometry.{Geometry}
 use Rattle.vol_layout.specs.declared.block_map.BlockMap.{BlockMap}

@@ -2,9 +2,9 @@
 use Rattle.std.proofs.Common.{◌≡◌, ℕ, ◌+◌, ◌-◌, ◌*◌, ◌<◌, ◌≤◌, ◌⊎◌, ◌∙◌, Bool, sym, ap, subst, List, [], ◌∷◌, ◌++◌, slice_index, refl, arith, inl, inr, true, false, true≢false, append_assoc}
 use Rattle.vol_layout.specs.Edition.{number}
 use Rattle.vol_layout.specs.Geometry.{in_zone, Fits}
-use Rattle.vol_layout.specs.Places.{levels_below, pointer_count}
+use Rattle.vol_layout.specs.BlockMaps.{levels_below, pointer_count}
 use Rattle.vol_layout.specs.Laws.{IsFront}
-use Rattle.vol_layout.specs.Names.{form_at, IsPlaceOf, named}
+use Rattle.vol_layout.specs.BlockPointers.{form_at, IsPlaceOf, named}
 use Rattle.vol_layout.specs.declared.geometry.Geometry.{Geometry}
 use Rattle.vol_layout.proofs.InodeLaws.{form_same}
 use Rattle.vol_layout.proofs.PlaceLaws.{place_front}

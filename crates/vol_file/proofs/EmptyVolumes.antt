@@ -5,8 +5,8 @@ use Rattle.pdp_words.specs.Words.{word, SameOutside}
 use Rattle.vol_layout.specs.Edition.{constants}
 use Rattle.vol_layout.specs.Geometry.{Fits}
 use Rattle.vol_layout.specs.Inode.{inode_place, inode_at, address_at, address_count, size_at, kind_of}
-use Rattle.vol_layout.specs.Places.{first_count}
-use Rattle.vol_layout.specs.Names.{mode_of, form_at, IsPlaceOf, named}
+use Rattle.vol_layout.specs.BlockMaps.{first_count}
+use Rattle.vol_layout.specs.BlockPointers.{mode_of, form_at, IsPlaceOf, named}
 use Rattle.vol_layout.specs.declared.edition.Edition.{Edition}
 use Rattle.vol_layout.specs.declared.edition.Edition.TheVariants.{V6, V7}
 use Rattle.vol_layout.specs.declared.geometry.Geometry.{Geometry}

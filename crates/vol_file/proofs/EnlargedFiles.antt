@@ -7,8 +7,8 @@ use Rattle.pdp_words.proofs.Outside.{widen, join}
 use Rattle.vol_layout.specs.Edition.{constants, number}
 use Rattle.vol_layout.specs.Geometry.{in_zone}
 use Rattle.vol_layout.specs.Inode.{inode_place, address_at, address_bytes, address_offset, address_place, kind_of, is_large, with_large}
-use Rattle.vol_layout.specs.Places.{form_of, has_places}
-use Rattle.vol_layout.specs.Names.{mode_of, form_at, IsFile, IsPlaceOf, named, pointer_in}
+use Rattle.vol_layout.specs.BlockMaps.{form_of, has_places}
+use Rattle.vol_layout.specs.BlockPointers.{mode_of, form_at, IsFile, IsPlaceOf, named, pointer_in}
 use Rattle.vol_layout.specs.declared.edition.Edition.{Edition}
 use Rattle.vol_layout.specs.declared.edition.Edition.TheVariants.{V6, V7}
 use Rattle.vol_layout.specs.declared.geometry.Geometry.{Geometry}

@@ -4,8 +4,8 @@ use Rattle.pdp_words.specs.Words.{SameOutside}
 use Rattle.vol_layout.specs.Edition.{constants, number}
 use Rattle.vol_layout.specs.Geometry.{in_zone}
 use Rattle.vol_layout.specs.Inode.{inode_place, address_at, address_bytes, address_place}
-use Rattle.vol_layout.specs.Places.{first_count, pointer_count}
-use Rattle.vol_layout.specs.Names.{mode_of, form_at, named}
+use Rattle.vol_layout.specs.BlockMaps.{first_count, pointer_count}
+use Rattle.vol_layout.specs.BlockPointers.{mode_of, form_at, named}
 use Rattle.vol_layout.specs.declared.geometry.Geometry.{Geometry}
 use Rattle.vol_layout.proofs.CopyLaws.{number_room}
 use Rattle.vol_layout.proofs.BodyLaws.{zone_bounds}

@@ -3,7 +3,7 @@ use Rattle.std.proofs.Common.{◌≡◌, ℕ, suc, ◌+◌, ◌-◌, ◌*◌, �
 use Rattle.std.proofs.lemmas.Bool.Decides.{nat_tests}
 use Rattle.std.proofs.Math.Nat.{one-le-pow, pow-suc, mul-le-mul_right, div-mul-le_self}
 use Rattle.vol_layout.specs.Edition.{constants}
-use Rattle.vol_layout.specs.Places.{pointer_count, levels_below, IsPlace}
+use Rattle.vol_layout.specs.BlockMaps.{pointer_count, levels_below, IsPlace}
 use Rattle.vol_layout.specs.Laws.{IsFront}
 use Rattle.vol_layout.specs.declared.edition.Edition.{Edition}
 use Rattle.vol_layout.specs.declared.edition.Edition.TheVariants.{V6, V7}

@@ -9,7 +9,7 @@ use Rattle.vol_layout.specs.declared.geometry.Geometry.{Geometry}
 use Rattle.vol_free.specs.Stack.{IsFree, HasStack}
 use Rattle.vol_free.proofs.Lengths.{free_within}
 use Rattle.vol_free.proofs.Stacks.{IsFree_unique, zone_behind}
-use Rattle.vol_layout.specs.Names.{form_at}
+use Rattle.vol_layout.specs.BlockPointers.{form_at}
 use Rattle.vol_file.specs.Clears.{first_block, Gains, IsNamedAtLevel, ClearsBelow}
 
 -- there is one list of free blocks

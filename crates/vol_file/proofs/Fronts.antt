@@ -3,7 +3,7 @@ use Rattle.std.proofs.Common.{◌≡◌, ℕ, ◌+◌, ◌<◌, ◌≤◌, ◌�
 use Rattle.std.proofs.lemmas.Bool.{cases_lt, cases_eq}
 use Rattle.vol_layout.specs.Geometry.{in_zone, Fits}
 use Rattle.vol_layout.specs.Laws.{IsFront}
-use Rattle.vol_layout.specs.Names.{named}
+use Rattle.vol_layout.specs.BlockPointers.{named}
 use Rattle.vol_layout.specs.declared.geometry.Geometry.{Geometry}
 use Rattle.vol_layout.proofs.NameLaws.{zero_out, named_past}
 use Rattle.vol_layout.proofs.PlaceLaws.{front_above}

@@ -1,8 +1,8 @@
 -- The indexes on the block path of a logical block, each within its bounds, and the numbers that they lead to.
 use Rattle.std.proofs.Common.{◌≡◌, ℕ, zero, suc, ◌+◌, ◌*◌, ◌<◌, ◌≤◌, sym, subst, List, slice_index, refl, arith, Some}
 use Rattle.vol_layout.specs.Edition.{constants}
-use Rattle.vol_layout.specs.Places.{first_count, pointer_count, last_place, place_to, end_of}
-use Rattle.vol_layout.specs.Names.{mode_of, form_at, pointer_in, named}
+use Rattle.vol_layout.specs.BlockMaps.{first_count, pointer_count, last_place, place_to, end_of}
+use Rattle.vol_layout.specs.BlockPointers.{mode_of, form_at, pointer_in, named}
 use Rattle.vol_layout.specs.declared.geometry.Geometry.{Geometry}
 use Rattle.vol_layout.specs.declared.block_map.BlockMap.{BlockMap}
 use Rattle.vol_layout.specs.declared.block_map.BlockMap.TheVariants.{Small, Large, Deep, Bare}

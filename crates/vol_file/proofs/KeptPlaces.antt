@@ -6,9 +6,9 @@ use Rattle.std.specs.List.{list_any, range_with_len}
 use Rattle.std.specs.Str.{bytes_eq}
 use Rattle.std.proofs.lemmas.Bool.{cases_lt}
 use Rattle.std.proofs.lemmas.Bool.Decides.{nat_tests}
-use Rattle.vol_layout.specs.Places.{levels, levels_below, IsPlace, block_limit, last_place, fronts, way, places}
+use Rattle.vol_layout.specs.BlockMaps.{levels, levels_below, IsPlace, block_limit, last_place, fronts, way, places}
 use Rattle.vol_layout.specs.Laws.{IsFront}
-use Rattle.vol_layout.specs.Names.{form_at}
+use Rattle.vol_layout.specs.BlockPointers.{form_at}
 use Rattle.vol_layout.specs.declared.geometry.Geometry.{Geometry}
 use Rattle.vol_layout.specs.declared.block_map.BlockMap.{BlockMap}
 use Rattle.vol_layout.specs.declared.block_map.BlockMap.TheVariants.{Small, Large, Deep, Bare}

@@ -9,7 +9,7 @@ use Rattle.std.proofs.lemmas.List.Sums.{sum_by-cons}
 use Rattle.std.proofs.lemmas.Slice.Eq.{bytes_eq-Decides}
 use Rattle.std.specs.Prelude.{nat_le, nat_lt}
 use Rattle.std.proofs.Math.Bool.{or-false, or_assoc}
-use Rattle.vol_layout.specs.Places.{pointer_count, levels, levels_below, IsPlace, block_limit, last_place, place_to, fronts, way, places}
+use Rattle.vol_layout.specs.BlockMaps.{pointer_count, levels, levels_below, IsPlace, block_limit, last_place, place_to, fronts, way, places}
 use Rattle.vol_layout.specs.Laws.{IsFront}
 use Rattle.vol_layout.specs.declared.block_map.BlockMap.{BlockMap}
 use Rattle.vol_layout.specs.declared.block_map.BlockMap.TheVariants.{Small, Large, Deep, Bare}

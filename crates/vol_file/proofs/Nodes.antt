@@ -3,9 +3,9 @@ use Rattle.std.proofs.Common.{◌≡◌, ◌≢◌, ℕ, zero, suc, ◌+◌, ◌
 use Rattle.vol_layout.specs.Edition.{constants, number}
 use Rattle.vol_layout.specs.Geometry.{Fits}
 use Rattle.vol_layout.specs.Inode.{inode_place, address_at}
-use Rattle.vol_layout.specs.Places.{places, levels, levels_below, first_count, pointer_count}
+use Rattle.vol_layout.specs.BlockMaps.{places, levels, levels_below, first_count, pointer_count}
 use Rattle.vol_layout.specs.Laws.{IsFront}
-use Rattle.vol_layout.specs.Names.{mode_of, form_at, IsFile, IsPlaceOf, named}
+use Rattle.vol_layout.specs.BlockPointers.{mode_of, form_at, IsFile, IsPlaceOf, named}
 use Rattle.vol_layout.specs.declared.geometry.Geometry.{Geometry}
 use Rattle.vol_layout.specs.declared.block_map.BlockMap.{BlockMap}
 use Rattle.vol_layout.proofs.CopyLaws.{number_room}

@@ -2,9 +2,9 @@
 use Rattle.std.proofs.Common.{◌≡◌, ℕ, zero, suc, ◌+◌, ◌<◌, ◌≤◌, ◌∙◌, Bool, true, false, sym, ap, List, [], ◌∷◌, ◌++◌, filter, cond, refl, arith, inl}
 use Rattle.std.proofs.lemmas.List.Elements.{filter-append}
 use Rattle.std.specs.List.{flat_map, range_with_len}
-use Rattle.vol_layout.specs.Places.{IsPlace, levels_below, pointer_count, places_from}
+use Rattle.vol_layout.specs.BlockMaps.{IsPlace, levels_below, pointer_count, places_from}
 use Rattle.vol_layout.specs.Laws.{IsFront}
-use Rattle.vol_layout.specs.Names.{named}
+use Rattle.vol_layout.specs.BlockPointers.{named}
 use Rattle.vol_layout.specs.declared.geometry.Geometry.{Geometry}
 use Rattle.vol_layout.specs.declared.block_map.BlockMap.{BlockMap}
 use Rattle.vol_layout.proofs.PlaceLaws.{front_above}

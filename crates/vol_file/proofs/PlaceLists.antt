@@ -4,7 +4,7 @@ use Rattle.std.specs.List.{count_by, sum_by, flat_map, range_with_len}
 use Rattle.std.specs.Str.{bytes_eq}
 use Rattle.std.proofs.lemmas.List.Sums.{sum_by-cons, sum_by-append}
 use Rattle.std.proofs.lemmas.Slice.Eq.{bytes_eq-Decides}
-use Rattle.vol_layout.specs.Places.{first_count, pointer_count, levels, levels_below, IsPlace, places_from, places}
+use Rattle.vol_layout.specs.BlockMaps.{first_count, pointer_count, levels, levels_below, IsPlace, places_from, places}
 use Rattle.vol_layout.specs.Laws.{IsFront}
 use Rattle.vol_layout.specs.declared.block_map.BlockMap.{BlockMap}
 use Rattle.vol_layout.proofs.PlaceLaws.{place_front, front_above}

@@ -6,10 +6,10 @@ use Rattle.std.proofs.lemmas.List.{append_assoc, append-nil, reverse-append}
 use Rattle.std.specs.List.{list_any, range_with_len}
 use Rattle.std.specs.Str.{bytes_eq}
 use Rattle.std.proofs.Math.Bool.{or-false, or_assoc}
-use Rattle.vol_layout.specs.Places.{IsPlace, block_limit, last_place, fronts, way}
+use Rattle.vol_layout.specs.BlockMaps.{IsPlace, block_limit, last_place, fronts, way}
 use Rattle.vol_layout.specs.Laws.{IsFront}
 use Rattle.vol_layout.proofs.PlaceLaws.{place_front, last_leaf}
-use Rattle.vol_layout.specs.Names.{form_at}
+use Rattle.vol_layout.specs.BlockPointers.{form_at}
 use Rattle.vol_layout.specs.declared.geometry.Geometry.{Geometry}
 use Rattle.vol_layout.specs.declared.block_map.BlockMap.{BlockMap}
 use Rattle.vol_layout.proofs.InodeLaws.{form_same}

@@ -3,7 +3,7 @@ use Rattle.std.proofs.Common.{◌≡◌, ℕ, ◌+◌, ◌-◌, ◌*◌, ◌/◌
 use Rattle.std.proofs.lemmas.Bool.{cases_lt}
 use Rattle.std.proofs.lemmas.Grind.{common_steps, same_number_lists}
 use borrow.Rule.Slice.PartMut.{put_mid}
-use Rattle.vol_layout.specs.Names.{form_at, stored}
+use Rattle.vol_layout.specs.BlockPointers.{form_at, stored}
 use Rattle.vol_layout.specs.Body.{zone_byte, body_byte, body_size, body}
 use Rattle.vol_layout.proofs.BodyLaws.{body_byte_at, length-body, get_or-body, length-slice_range, get_or-slice_range}
 use Rattle.std.specs.Prelude.{slice_range}

@@ -3,8 +3,8 @@ use Rattle.std.proofs.Common.{◌≡◌, ℕ, suc, ◌+◌, ◌-◌, ◌/◌, �
 use Rattle.std.specs.Option.{option_map_or}
 use Rattle.std.proofs.lemmas.Bool.{cases_lt}
 use Rattle.vol_layout.specs.Edition.{constants}
-use Rattle.vol_layout.specs.Names.{form_at, pointer_in, named, stored}
-use Rattle.vol_layout.specs.Places.{pointer_count, last_place, place_to, end_of}
+use Rattle.vol_layout.specs.BlockPointers.{form_at, pointer_in, named, stored}
+use Rattle.vol_layout.specs.BlockMaps.{pointer_count, last_place, place_to, end_of}
 use Rattle.vol_layout.specs.declared.geometry.Geometry.{Geometry}
 use Rattle.vol_layout.specs.declared.block_map.BlockMap.{BlockMap}
 use Rattle.vol_layout.specs.declared.block_map.BlockMap.TheVariants.{Small, Large, Deep, Bare}

@@ -4,8 +4,8 @@ use Rattle.std.proofs.lemmas.Bool.{cases_eq}
 use Rattle.vol_layout.specs.Edition.{constants}
 use Rattle.vol_layout.specs.Geometry.{in_zone, Fits}
 use Rattle.vol_layout.specs.Inode.{inode_place, inode_of, kind_of}
-use Rattle.vol_layout.specs.Places.{has_places}
-use Rattle.vol_layout.specs.Names.{form_at, IsFile, IsPlaceOf, named}
+use Rattle.vol_layout.specs.BlockMaps.{has_places}
+use Rattle.vol_layout.specs.BlockPointers.{form_at, IsFile, IsPlaceOf, named}
 use Rattle.vol_layout.specs.declared.geometry.Geometry.{Geometry}
 use Rattle.vol_layout.specs.declared.mode.Kind.TheVariants as kinds
 use Rattle.vol_layout.specs.declared.block_map.BlockMap.TheVariants.{Small}

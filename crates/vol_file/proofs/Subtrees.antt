@@ -7,8 +7,8 @@ use Rattle.vol_layout.specs.declared.edition.Edition.{Edition}
 use Rattle.vol_layout.specs.declared.edition.Edition.TheVariants.{V6, V7}
 use Rattle.vol_layout.specs.Geometry.{Fits, in_zone}
 use Rattle.vol_layout.specs.Inode.{kind_of, inode_place, address_at}
-use Rattle.vol_layout.specs.Names.{mode_of, form_at, pointer_in, named, stored}
-use Rattle.vol_layout.specs.Places.{form_of, file_form, has_places, block_limit, pointer_count, last_place, place_to, end_of}
+use Rattle.vol_layout.specs.BlockPointers.{mode_of, form_at, pointer_in, named, stored}
+use Rattle.vol_layout.specs.BlockMaps.{form_of, file_form, has_places, block_limit, pointer_count, last_place, place_to, end_of}
 use Rattle.vol_layout.specs.declared.geometry.Geometry.{Geometry}
 use Rattle.vol_layout.specs.declared.block_map.BlockMap.{BlockMap}
 use Rattle.vol_layout.specs.declared.block_map.BlockMap.TheVariants.{Small, Large, Deep, Bare}

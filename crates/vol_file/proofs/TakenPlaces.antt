@@ -6,7 +6,7 @@ use Rattle.std.specs.List.{count_by, list_any}
 use Rattle.std.specs.Str.{bytes_eq}
 use Rattle.std.proofs.lemmas.Bool.{or_parts, or_cases}
 use Rattle.std.proofs.lemmas.List.{length-append, reverse-reverse}
-use Rattle.vol_layout.specs.Places.{last_place, fronts, way, places}
+use Rattle.vol_layout.specs.BlockMaps.{last_place, fronts, way, places}
 use Rattle.vol_layout.specs.declared.block_map.BlockMap.{BlockMap}
 use Rattle.vol_layout.specs.declared.block_map.BlockMap.TheVariants.{Large}
 use Rattle.vol_layout.proofs.PlaceLaws.{last_leaf}

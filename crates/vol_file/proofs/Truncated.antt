@@ -10,8 +10,8 @@ use Rattle.pdp_words.proofs.Outside.{join}
 use Rattle.vol_layout.specs.Edition.{constants}
 use Rattle.vol_layout.specs.Geometry.{Fits}
 use Rattle.vol_layout.specs.Inode.{inode_place, address_count, address_offset, size_place, size_bytes, size_at, with_large, kind_of}
-use Rattle.vol_layout.specs.Places.{IsPlace, has_places, first_count, block_limit, last_place, places}
-use Rattle.vol_layout.specs.Names.{mode_of, form_at, IsFile, IsPlaceOf, named, stored}
+use Rattle.vol_layout.specs.BlockMaps.{IsPlace, has_places, first_count, block_limit, last_place, places}
+use Rattle.vol_layout.specs.BlockPointers.{mode_of, form_at, IsFile, IsPlaceOf, named, stored}
 use Rattle.vol_layout.specs.Body.{zone_byte, body_byte, body, body_size}
 use Rattle.vol_layout.specs.declared.edition.Edition.{Edition}
 use Rattle.vol_layout.specs.declared.edition.Edition.TheVariants.{V6, V7}

@@ -5,8 +5,8 @@ use Rattle.std.specs.List.{list_any, range_with_len}
 use Rattle.std.specs.Str.{bytes_eq}
 use Rattle.vol_layout.specs.Edition.{constants}
 use Rattle.vol_layout.specs.Geometry.{in_zone}
-use Rattle.vol_layout.specs.Places.{IsPlace, block_limit, way}
-use Rattle.vol_layout.specs.Names.{form_at, IsFile, named, stored}
+use Rattle.vol_layout.specs.BlockMaps.{IsPlace, block_limit, way}
+use Rattle.vol_layout.specs.BlockPointers.{form_at, IsFile, named, stored}
 use Rattle.vol_layout.specs.Body.{body_byte, body_size, body}
 use Rattle.vol_layout.specs.declared.geometry.Geometry.{Geometry}
 use Rattle.vol_layout.proofs.InodeLaws.{form_same}

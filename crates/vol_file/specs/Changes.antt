@@ -4,8 +4,8 @@ use Rattle.std.specs.List.{range_with_len}
 use Rattle.vol_layout.specs.Edition.{constants}
 use Rattle.vol_layout.specs.Inode.{inode_place, with_large}
 use Rattle.vol_layout.specs.Super.{free_head}
-use Rattle.vol_layout.specs.Places.{IsPlace, places}
-use Rattle.vol_layout.specs.Names.{mode_of, form_at, IsFile, IsPlaceOf, named, NamesBlock}
+use Rattle.vol_layout.specs.BlockMaps.{IsPlace, places}
+use Rattle.vol_layout.specs.BlockPointers.{mode_of, form_at, IsFile, IsPlaceOf, named, NamesBlock}
 use Rattle.vol_layout.specs.Body.{body_byte, body}
 use Rattle.vol_file.specs.Shape.{is_named, touched, is_on_ways, grows_large, filled}
 use Rattle.vol_file.specs.Need.{need, places_taken}

@@ -2,9 +2,9 @@
 use Rattle.std.specs.Prelude.{◌≡◌, ◌≢◌, ℕ, zero, suc, ◌+◌, ◌-◌, ◌*◌, ◌^◌, ◌<◌, ◌≤◌, ◌⊎◌, ◌==◌, not, Bool, true, nat_le, if◌then◌else◌, List, [], ◌∷◌, ◌++◌, length, map, filter, slice_index}
 use Rattle.std.specs.List.{flat_map, range_with_len}
 use Rattle.vol_layout.specs.Edition.{constants}
-use Rattle.vol_layout.specs.Places.{pointer_count, levels_below, places_from, places}
+use Rattle.vol_layout.specs.BlockMaps.{pointer_count, levels_below, places_from, places}
 use Rattle.vol_layout.specs.Laws.{IsFront}
-use Rattle.vol_layout.specs.Names.{mode_of, form_at, IsPlaceOf, named}
+use Rattle.vol_layout.specs.BlockPointers.{mode_of, form_at, IsPlaceOf, named}
 use Rattle.vol_free.specs.Stack.{IsFree}
 use Rattle.vol_file.specs.Rules.{size_of, Rules3To7With, IsCovered}
 use Rattle.vol_file.specs.Changes.{StaysElsewhere, KeepsBlocks}

@@ -2,7 +2,7 @@
 use Rattle.std.specs.Prelude.{◌≡◌, ℕ, ◌+◌, ◌/◌, ◌<◌, ◌≤◌, ◌⊎◌, ◌↔◌, Bool, true, false, List, [], ◌∷◌, length}
 use Rattle.std.specs.List.{count_by, range_with_len}
 use Rattle.std.specs.Str.{bytes_eq}
-use Rattle.vol_layout.specs.Places.{IsPlace, places}
+use Rattle.vol_layout.specs.BlockMaps.{IsPlace, places}
 use Rattle.vol_free.specs.Stack.{IsIn}
 use Rattle.vol_file.specs.Shape.{touched, is_on_ways}
 use Rattle.vol_file.specs.Need.{missing_count, need_of, need, missing_places, places_taken}

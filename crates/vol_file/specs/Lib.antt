@@ -2,8 +2,8 @@ pub use Rattle.vol_layout.specs.Body
 pub use Rattle.vol_layout.specs.Edition
 pub use Rattle.vol_layout.specs.Geometry
 pub use Rattle.vol_layout.specs.Inode
-pub use Rattle.vol_layout.specs.Names
-pub use Rattle.vol_layout.specs.Places
+pub use Rattle.vol_layout.specs.BlockPointers
+pub use Rattle.vol_layout.specs.BlockMaps
 pub mod Changes
 pub mod Clears
 pub mod Holes

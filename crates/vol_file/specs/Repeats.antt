@@ -1,7 +1,7 @@
 -- Blocks that places of one or more files name repeatedly, and what is known of everything below them.
 use Rattle.std.specs.Prelude.{◌≡◌, ℕ, zero, suc, ◌+◌, ◌*◌, ◌/◌, ◌%◌, ◌^◌, ◌<◌, ◌&&◌, Bool, true, false, nat_lt, List, slice_index_or}
 use Rattle.vol_layout.specs.Edition.{constants}
-use Rattle.vol_layout.specs.Names.{pointer_in}
+use Rattle.vol_layout.specs.BlockPointers.{pointer_in}
 use Rattle.vol_layout.specs.declared.geometry.Geometry.{Geometry}
 
 -- the number of the c-th data block below block m, n levels down, if each indirect block has `pointers` pointers (Lions on bmap)

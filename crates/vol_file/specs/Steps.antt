@@ -3,9 +3,9 @@ use Rattle.std.specs.Prelude.{◌≡◌, ◌≢◌, ℕ, ◌+◌, ◌-◌, ◌<�
 use Rattle.std.specs.List.{count_by, list_any, range_with_len}
 use Rattle.std.specs.Str.{bytes_eq}
 use Rattle.vol_layout.specs.Inode.{with_large}
-use Rattle.vol_layout.specs.Places.{IsPlace, block_limit, fronts, way, places}
+use Rattle.vol_layout.specs.BlockMaps.{IsPlace, block_limit, fronts, way, places}
 use Rattle.vol_layout.specs.Body.{body_byte}
-use Rattle.vol_layout.specs.Names.{mode_of, form_at, IsFile, IsPlaceOf, named}
+use Rattle.vol_layout.specs.BlockPointers.{mode_of, form_at, IsFile, IsPlaceOf, named}
 use Rattle.vol_file.specs.Shape.{is_named, is_on_ways, moved_down, fit_form, filled}
 use Rattle.vol_file.specs.Laws.{IsAmong}
 use Rattle.vol_file.specs.Need.{need_of, missing_on_way, missing_places, places_taken}

@@ -1,12 +1,12 @@
 //! The number of blocks that a write takes.
 ghost use Rattle.std.specs.Prelude.{◌≡◌, ◌+◌, ◌-◌, ◌^◌, ◌≤◌, ◌==◌, ◌||◌, true, if◌then◌else◌};
 ghost use Rattle.vol_layout.specs.Geometry.{Fits};
-ghost use Rattle.vol_layout.specs.Names.{form_at};
+ghost use Rattle.vol_layout.specs.BlockPointers.{form_at};
 ghost use Rattle.vol_file.specs.Shape.{is_named, moved_down};
 ghost use Rattle.vol_file.specs.Need.{need};
 ghost use Rattle.vol_file.specs.MissingBlocks.{missing_at, missing_from, grows_at, grown_form, grown_names};
 
-use crate::follow::entry;
+use crate::block_lookup::entry;
 use pdp_words::{BLOCK, Image};
 use vol_layout::i_list::{address, mode};
 use vol_layout::{BlockMap, Geometry};

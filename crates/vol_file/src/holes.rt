@@ -3,11 +3,11 @@ ghost use Rattle.std.specs.Prelude.{◌≡◌, ◌≢◌, ℕ, ◌-◌, ◌^◌,
 ghost use Rattle.vol_layout.specs.Edition.{constants};
 ghost use Rattle.vol_layout.specs.Geometry.{Fits};
 ghost use Rattle.vol_layout.specs.Inode.{address_at, inode_place};
-ghost use Rattle.vol_layout.specs.Names.{form_at, stored};
-ghost use Rattle.vol_layout.specs.Places.{end_of};
+ghost use Rattle.vol_layout.specs.BlockPointers.{form_at, stored};
+ghost use Rattle.vol_layout.specs.BlockMaps.{end_of};
 ghost use Rattle.vol_file.specs.Holes.{IsHole, IsNextStored, blocks_left, direct_count};
 
-use crate::follow::entry;
+use crate::block_lookup::entry;
 use crate::pointers::next_pointer;
 use pdp_words::Image;
 use vol_layout::i_list::{address, mode};

@@ -1,8 +1,8 @@
 //! The files of a volume: their block maps and their bytes.
 #![tactic(auto)]
 
+pub mod block_lookup;
 pub mod blocks_needed;
-pub mod follow;
 pub mod holes;
 pub mod laws;
 mod pieces;
@@ -15,8 +15,8 @@ pub mod truncate_file;
 pub mod visit;
 pub mod write_bytes;
 
+pub use block_lookup::block_at;
 pub use blocks_needed::need;
-pub use follow::block_at;
 pub use holes::next_block;
 pub use pointers::next_pointer;
 pub use read_bytes::read;

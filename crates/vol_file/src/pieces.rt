@@ -1,11 +1,11 @@
 //! Writing the bytes of a file where its places name blocks.
 ghost use Rattle.std.specs.Prelude.{◌≡◌, ℕ, ◌+◌, ◌-◌, ◌*◌, ◌/◌, ◌%◌, ◌^◌, ◌<◌, ◌≤◌, true, List, length, slice_index};
 ghost use Rattle.vol_layout.specs.Geometry.{in_zone};
-ghost use Rattle.vol_layout.specs.Names.{form_at, IsFile, stored};
+ghost use Rattle.vol_layout.specs.BlockPointers.{form_at, IsFile, stored};
 ghost use Rattle.vol_file.specs.Rules.{Rules3To7With, Rules3To7};
 ghost use Rattle.vol_file.specs.Steps.{Rewrites, text_at, zeros_at};
 
-use crate::follow::number_at;
+use crate::block_lookup::number_at;
 use crate::holes::next_stored;
 use pdp_words::{BLOCK, Image};
 use vol_layout::{BlockMap, Geometry};

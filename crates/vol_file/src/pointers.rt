@@ -2,7 +2,7 @@
 ghost use Rattle.std.specs.Prelude.{◌≡◌, ◌≢◌, ℕ, ◌+◌, ◌<◌, ◌≤◌, true, length, slice_index};
 ghost use Rattle.vol_layout.specs.Edition.{constants};
 ghost use Rattle.vol_layout.specs.Geometry.{Fits};
-ghost use Rattle.vol_layout.specs.Names.{pointer_in};
+ghost use Rattle.vol_layout.specs.BlockPointers.{pointer_in};
 
 use pdp_words::{BLOCK, Image};
 use vol_layout::Geometry;

@@ -1,14 +1,14 @@
 //! Skipping what is below an indirect block that was visited before, however often places name that block.
 ghost use Rattle.std.specs.Prelude.{◌≡◌, ℕ, ◌+◌, ◌-◌, ◌*◌, ◌^◌, ◌<◌, ◌≤◌, true, false, Bool, List, length, slice_index, slice_index_or, IfOk};
 ghost use Rattle.vol_layout.specs.Edition.{constants};
-ghost use Rattle.vol_layout.specs.Places.{end_of};
+ghost use Rattle.vol_layout.specs.BlockMaps.{end_of};
 ghost use Rattle.vol_file.specs.Holes.{blocks_left};
 ghost use Rattle.vol_layout.specs.Geometry.{Fits};
 ghost use Rattle.vol_layout.specs.declared.geometry.Geometry.{Geometry};
-ghost use Rattle.vol_layout.specs.Names.{form_at, stored};
+ghost use Rattle.vol_layout.specs.BlockPointers.{form_at, stored};
 ghost use Rattle.vol_file.specs.Repeats.{is_marked, MarksPassed, PassesBelow};
 
-use crate::follow::entry;
+use crate::block_lookup::entry;
 use crate::holes::{blocks_below, left_below};
 use pdp_words::Image;
 use std::alloc::{AllocError, Global};

@@ -1,11 +1,11 @@
 //! The numbers of a file's logical blocks, looked up one after the other.
 ghost use Rattle.std.specs.Prelude.{◌≡◌, ◌≤◌};
 ghost use Rattle.vol_layout.specs.Geometry.{Fits};
-ghost use Rattle.vol_layout.specs.Names.{form_at, stored, block_named};
+ghost use Rattle.vol_layout.specs.BlockPointers.{form_at, stored, block_named};
 ghost use Rattle.vol_file.specs.Holes.{IsNextStored};
 ghost use Rattle.vol_file.specs.Runs.{IsRun, LooksUp, number_from};
 
-use crate::follow::{entry, follow};
+use crate::block_lookup::{entry, follow};
 use crate::holes::{direct_count, next_stored};
 use pdp_words::Image;
 use vol_layout::i_list::{address, mode};

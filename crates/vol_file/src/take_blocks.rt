@@ -1,6 +1,6 @@
 //! Taking blocks for a write: each place on the path of a logical block that names no block gets one.
 ghost use Rattle.std.specs.Prelude.{◌≡◌, ℕ, ◌-◌, ◌*◌, ◌≤◌, Bool, List, [], ◌∷◌};
-ghost use Rattle.vol_layout.specs.Names.{form_at};
+ghost use Rattle.vol_layout.specs.BlockPointers.{form_at};
 ghost use Rattle.vol_file.specs.Steps.{
   Reaches,
   IsWanted,

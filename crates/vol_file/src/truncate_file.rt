@@ -1,7 +1,7 @@
 //! Truncating a file: the blocks past its new size return to the free list.
 ghost use Rattle.std.specs.Prelude.{◌≡◌, ℕ, ◌*◌, ◌≤◌, List, [], ◌∷◌, length};
 ghost use Rattle.vol_layout.specs.Geometry.{Fits};
-ghost use Rattle.vol_layout.specs.Names.{form_at, IsFile, named};
+ghost use Rattle.vol_layout.specs.BlockPointers.{form_at, IsFile, named};
 ghost use Rattle.vol_file.specs.Rules.{size_of, Rules3To7With, Rules3To7};
 ghost use Rattle.vol_file.specs.Changes.{blocks_past, Truncates};
 ghost use Rattle.vol_file.specs.Clears.{first_at, ClearsPast, Gains, Drops, HasPointer, HasAddress, IsNamedAtLevel, ClearsBelow};

@@ -2,8 +2,8 @@
 ghost use Rattle.std.specs.Prelude.{◌≡◌, ℕ, ◌+◌, ◌-◌, ◌*◌, ◌/◌, ◌<◌, ◌≤◌, true, List, length};
 ghost use Rattle.std.specs.List.{range_with_len};
 ghost use Rattle.vol_layout.specs.Edition.{constants};
-ghost use Rattle.vol_layout.specs.Places.{block_limit};
-ghost use Rattle.vol_layout.specs.Names.{form_at, IsFile, stored};
+ghost use Rattle.vol_layout.specs.BlockMaps.{block_limit};
+ghost use Rattle.vol_layout.specs.BlockPointers.{form_at, IsFile, stored};
 ghost use Rattle.vol_layout.specs.Geometry.{in_zone, Fits};
 ghost use Rattle.vol_file.specs.Need.{need};
 ghost use Rattle.vol_file.specs.Changes.{Writes};

@@ -17,8 +17,8 @@ use Rattle.vol_judge.specs.INodes.{IsFirstKind, IsFirstSize}
 use Rattle.vol_judge.specs.Links.{IsFirstLink}
 use Rattle.vol_judge.specs.Lost.{IsFirstUncovered}
 use Rattle.vol_judge.specs.SharedBlocks.{IsUsedOnce, IsFirstTwice}
-use Rattle.vol_judge.specs.Tree.{IsFirstTree}
-use Rattle.vol_judge.specs.Zones.{IsFirstOutside}
+use Rattle.vol_judge.specs.DirectoryTree.{IsFirstTree}
+use Rattle.vol_judge.specs.OutsideBlocks.{IsFirstOutside}
 use Rattle.vol_judge.specs.Finds.{Finds}
 use Rattle.vol_findings.specs.Outcomes.{Says, outcome_of, IsTwiceUnasked, TellsVolume, Tells, Keeps, HasGeometry}
 use Rattle.vol_judge.specs.declared.finding.Finding.{Finding}

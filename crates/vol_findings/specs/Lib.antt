@@ -9,8 +9,8 @@ pub use Rattle.vol_judge.specs.Lost
 pub use Rattle.vol_judge.specs.Marks
 pub use Rattle.vol_judge.specs.SharedBlocks
 pub use Rattle.vol_judge.specs.Sound
-pub use Rattle.vol_judge.specs.Tree
-pub use Rattle.vol_judge.specs.Zones
+pub use Rattle.vol_judge.specs.DirectoryTree
+pub use Rattle.vol_judge.specs.OutsideBlocks
 pub use Rattle.vol_layout.specs.Edition
 pub use Rattle.vol_layout.specs.Geometry
 pub mod Outcomes

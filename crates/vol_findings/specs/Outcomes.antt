@@ -15,8 +15,8 @@ use Rattle.vol_judge.specs.INodes.{IsFirstKind, IsFirstSize}
 use Rattle.vol_judge.specs.Links.{IsFirstLink}
 use Rattle.vol_judge.specs.Lost.{IsFirstUncovered}
 use Rattle.vol_judge.specs.SharedBlocks.{IsUsedOnce, IsFirstTwice}
-use Rattle.vol_judge.specs.Tree.{IsFirstTree}
-use Rattle.vol_judge.specs.Zones.{IsFirstOutside}
+use Rattle.vol_judge.specs.DirectoryTree.{IsFirstTree}
+use Rattle.vol_judge.specs.OutsideBlocks.{IsFirstOutside}
 use Rattle.vol_judge.specs.declared.finding.Finding.{Finding}
 use Rattle.vol_judge.specs.declared.finding.Finding.TheVariants.{TooShort, BadSizes}
 use Rattle.vol_findings.specs.declared.blocks.BlockOutcomes.{BlockOutcomes}

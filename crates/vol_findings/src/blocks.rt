@@ -11,7 +11,7 @@ ghost use Rattle.vol_judge.specs.Lost.{IsFirstUncovered};
 ghost use Rattle.vol_judge.specs.Marks.{MarksNamed};
 ghost use Rattle.vol_judge.specs.SharedBlocks.{IsUsedOnce, IsFirstTwice};
 ghost use Rattle.vol_judge.specs.Sound.{IsFreeApart, IsNoneLost};
-ghost use Rattle.vol_judge.specs.Zones.{IsFirstOutside};
+ghost use Rattle.vol_judge.specs.OutsideBlocks.{IsFirstOutside};
 ghost use Rattle.vol_findings.specs.Outcomes.{Says, IsTwiceUnasked, TellsBlocks};
 
 use crate::outcome::RuleOutcome;

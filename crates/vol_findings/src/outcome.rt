@@ -5,7 +5,7 @@ ghost use Rattle.vol_dir.specs.Entries.{HasEntries};
 ghost use Rattle.vol_judge.specs.Directories.{HasDots};
 ghost use Rattle.vol_judge.specs.Dots.{KnowsDots, IsFirstDots};
 ghost use Rattle.vol_judge.specs.Entries.{IsFirstEntry};
-ghost use Rattle.vol_judge.specs.Tree.{NotesParents};
+ghost use Rattle.vol_judge.specs.DirectoryTree.{NotesParents};
 ghost use Rattle.vol_findings.specs.Outcomes.{Says, TellsVolume, Tells, outcome_of};
 
 use crate::blocks::check_blocks;

@@ -5,10 +5,10 @@ use Rattle.std.proofs.lemmas.List.Sums.{sum_by-append, sum_by-cons, sum_by-le-su
 use Rattle.std.specs.List.{sum_by, range_with_len}
 use Rattle.vol_layout.specs.Edition.{constants}
 use Rattle.vol_layout.specs.Geometry.{in_zone, Fits}
-use Rattle.vol_layout.specs.Names.{pointer_in}
+use Rattle.vol_layout.specs.BlockPointers.{pointer_in}
 use Rattle.vol_layout.specs.declared.geometry.Geometry.{Geometry}
 use Rattle.vol_layout.proofs.NameLaws.{entry_out, zero_out}
-use Rattle.vol_reports.specs.Blocks.{one_if}
+use Rattle.vol_reports.specs.Icheck.{one_if}
 use Rattle.vol_reports.proofs.Ranges.{range_more}
 use Rattle.vol_inspect.specs.PlaceCounts.{found_at}
 

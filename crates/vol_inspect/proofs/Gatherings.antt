@@ -5,8 +5,8 @@ use Rattle.std.proofs.lemmas.List.{append-nil}
 use Rattle.std.specs.List.{flat_map, range_with_len}
 use Rattle.vol_layout.specs.Edition.{constants, number}
 use Rattle.vol_layout.specs.Geometry.{in_zone}
-use Rattle.vol_layout.specs.Names.{pointer_in, form_at}
-use Rattle.vol_layout.specs.Places.{first_count}
+use Rattle.vol_layout.specs.BlockPointers.{pointer_in, form_at}
+use Rattle.vol_layout.specs.BlockMaps.{first_count}
 use Rattle.vol_layout.specs.declared.geometry.Geometry.{Geometry}
 use Rattle.vol_reports.proofs.Ranges.{flat_more}
 use Rattle.vol_inspect.specs.declared.extent.Extent.{Extent}

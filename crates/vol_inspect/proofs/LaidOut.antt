@@ -7,8 +7,8 @@ use Rattle.std.specs.List.{flat_map, range_with_len}
 use Rattle.vol_layout.specs.Edition.{constants}
 use Rattle.vol_layout.specs.Geometry.{in_zone, Fits}
 use Rattle.vol_layout.specs.Inode.{inode_place, address_at, kind_of}
-use Rattle.vol_layout.specs.Names.{mode_of, form_at, named, pointer_in}
-use Rattle.vol_layout.specs.Places.{has_places, file_form, first_count, pointer_count, levels, levels_below, places_from, places}
+use Rattle.vol_layout.specs.BlockPointers.{mode_of, form_at, named, pointer_in}
+use Rattle.vol_layout.specs.BlockMaps.{has_places, file_form, first_count, pointer_count, levels, levels_below, places_from, places}
 use Rattle.vol_layout.specs.declared.block_map.BlockMap.TheVariants.{Bare}
 use Rattle.vol_layout.specs.declared.geometry.Geometry.{Geometry}
 use Rattle.vol_layout.proofs.FrameLaws.{pointers_in}

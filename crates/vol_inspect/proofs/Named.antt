@@ -6,8 +6,8 @@ use Rattle.std.specs.List.{count_by, sum_by, filter, flat_map, range_with_len}
 use Rattle.vol_layout.specs.Edition.{constants}
 use Rattle.vol_layout.specs.Geometry.{Fits}
 use Rattle.vol_layout.specs.Inode.{inode_place, address_at, kind_of}
-use Rattle.vol_layout.specs.Names.{mode_of, form_at, named, pointer_in}
-use Rattle.vol_layout.specs.Places.{has_places, file_form, first_count, pointer_count, levels, levels_below, places_from, places}
+use Rattle.vol_layout.specs.BlockPointers.{mode_of, form_at, named, pointer_in}
+use Rattle.vol_layout.specs.BlockMaps.{has_places, file_form, first_count, pointer_count, levels, levels_below, places_from, places}
 use Rattle.vol_layout.specs.declared.block_map.BlockMap.TheVariants.{Bare}
 use Rattle.vol_layout.specs.declared.geometry.Geometry.{Geometry}
 use Rattle.vol_layout.specs.declared.mode.Kind.TheVariants as kinds
@@ -18,7 +18,7 @@ use Rattle.vol_file.specs.Rules.{kind_at}
 use Rattle.vol_file.proofs.BlockLists.{at_nil, at_zero, at_some}
 use Rattle.vol_file.proofs.FirstBlocks.{levels_few}
 use Rattle.vol_file.proofs.PlaceLists.{counted_flat, among_places}
-use Rattle.vol_reports.specs.Blocks.{one_if, is_kind, use_count}
+use Rattle.vol_reports.specs.Icheck.{one_if, is_kind, use_count}
 use Rattle.vol_inspect.specs.PlaceCounts.{found_at, names_at, node_count, wanted_count, naming_count}
 use Rattle.vol_inspect.proofs.Found.{here_at}
 use Rattle.vol_inspect.proofs.LaidOut.{pointers_or_none}

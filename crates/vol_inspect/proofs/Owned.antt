@@ -6,8 +6,8 @@ use Rattle.std.specs.List.{find, flat_map, range_with_len}
 use Rattle.std.specs.Option.{is_some}
 use Rattle.vol_layout.specs.Edition.{constants}
 use Rattle.vol_layout.specs.Geometry.{in_zone}
-use Rattle.vol_layout.specs.Names.{form_at, pointer_in}
-use Rattle.vol_layout.specs.Places.{first_count}
+use Rattle.vol_layout.specs.BlockPointers.{form_at, pointer_in}
+use Rattle.vol_layout.specs.BlockMaps.{first_count}
 use Rattle.vol_layout.specs.declared.geometry.Geometry.{Geometry}
 use Rattle.vol_inspect.specs.declared.extent.Extent.{Extent}
 use Rattle.vol_inspect.specs.Extents.{single, holdings_from, address_holdings, holdings}

@@ -1,7 +1,7 @@
 -- The pointers of a way.
 use Rattle.std.proofs.Common.{◌≡◌, ◌∙◌, ℕ, zero, suc, ◌+◌, ◌-◌, ◌≤◌, ◌<◌, List, [], ◌++◌, codes, decimal, drop, ap, refl, arith}
 use Rattle.std.specs.Prelude.{slice_index}
-use Rattle.vol_layout.specs.Places.{place_to}
+use Rattle.vol_layout.specs.BlockMaps.{place_to}
 use Rattle.vol_inspect.specs.OwnerTexts.{pointers_text}
 
 -- without its last pointers a way is shorter

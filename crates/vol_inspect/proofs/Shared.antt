@@ -6,7 +6,7 @@ use Rattle.std.proofs.lemmas.List.FromFn.{filter_of_map_range_with_len_more}
 use Rattle.vol_layout.specs.Geometry.{Fits}
 use Rattle.vol_layout.specs.declared.geometry.Geometry.{Geometry}
 use Rattle.vol_layout.specs.declared.mode.Kind.TheVariants as kinds
-use Rattle.vol_reports.specs.Blocks.{use_count}
+use Rattle.vol_reports.specs.Icheck.{use_count}
 use Rattle.vol_inspect.specs.PlaceCounts.{CountsKind}
 use Rattle.vol_inspect.specs.SharedBlocks.{is_counted_twice, is_shared}
 use Rattle.vol_inspect.specs.Uses.{named_in}

@@ -10,7 +10,7 @@ use Rattle.vol_layout.specs.declared.mode.Kind.TheVariants as kinds
 use Rattle.vol_layout.proofs.NameLaws.{zone_some}
 use Rattle.vol_free.specs.FreeWalk.{free_walk}
 use Rattle.vol_free.specs.Walk.{left_after}
-use Rattle.vol_reports.specs.Blocks.{one_if, use_count, met_count, is_met, is_lost_of}
+use Rattle.vol_reports.specs.Icheck.{one_if, use_count, met_count, is_met, is_lost_of}
 use Rattle.vol_inspect.specs.PlaceCounts.{CountsKind, naming_count}
 use Rattle.vol_inspect.specs.FreeListStatus.{listed_at, listed_in, listed_of}
 use Rattle.vol_inspect.specs.Uses.{use_in, use_of, data_use, free_use, is_listed, named_in}

@@ -4,8 +4,8 @@ use Rattle.std.specs.List.{flat_map, range_with_len}
 use Rattle.vol_layout.specs.Edition.{constants}
 use Rattle.vol_layout.specs.Geometry.{in_zone}
 use Rattle.vol_layout.specs.Inode.{inode_place, address_at}
-use Rattle.vol_layout.specs.Places.{first_count, levels}
-use Rattle.vol_layout.specs.Names.{form_at, pointer_in}
+use Rattle.vol_layout.specs.BlockMaps.{first_count, levels}
+use Rattle.vol_layout.specs.BlockPointers.{form_at, pointer_in}
 use Rattle.vol_layout.specs.declared.geometry.Geometry.{Geometry}
 use Rattle.vol_file.specs.Clears.{first_at}
 use Rattle.vol_inspect.specs.declared.extent.Extent.{Extent}

@@ -9,7 +9,7 @@ use Rattle.vol_layout.specs.Super.{free_head, cache_head, flag_place, time_place
 use Rattle.vol_layout.specs.declared.edition.Edition.{Edition}
 use Rattle.vol_layout.specs.declared.mode.Kind.TheVariants as kinds
 use Rattle.vol_layout.specs.declared.super_block.Flag.TheVariants as flags
-use Rattle.vol_reports.specs.Blocks.{kind_count}
+use Rattle.vol_reports.specs.Icheck.{kind_count}
 use Rattle.vol_free.specs.FreeWalk.{free_walk}
 use Rattle.vol_layout.specs.declared.geometry.Geometry.{Geometry}
 use Rattle.vol_layout.specs.declared.geometry.GeometryFault.{GeometryFault}

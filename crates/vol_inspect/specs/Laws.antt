@@ -2,8 +2,8 @@
 use Rattle.std.specs.Prelude.{◌≡◌, ℕ, ◌+◌, ◌==◌, if◌then◌else◌, List, [], ◌∷◌, map}
 use Rattle.std.specs.List.{flat_map, range_with_len}
 use Rattle.vol_layout.specs.Geometry.{Fits}
-use Rattle.vol_layout.specs.Places.{levels_below, places}
-use Rattle.vol_layout.specs.Names.{form_at, named}
+use Rattle.vol_layout.specs.BlockMaps.{levels_below, places}
+use Rattle.vol_layout.specs.BlockPointers.{form_at, named}
 use Rattle.vol_layout.specs.declared.geometry.Geometry.{Geometry}
 use Rattle.vol_file.specs.Clears.{first_block}
 use Rattle.vol_inspect.specs.Extents.{single, extents_of}

@@ -3,7 +3,7 @@ pub use Rattle.vol_free.specs.Numbers
 pub use Rattle.vol_layout.specs.Edition
 pub use Rattle.vol_layout.specs.Geometry
 pub use Rattle.vol_layout.specs.Inode
-pub use Rattle.vol_reports.specs.Blocks
+pub use Rattle.vol_reports.specs.Icheck
 pub mod Extents
 pub mod Inspect
 pub mod Laws

@@ -3,12 +3,12 @@ use Rattle.std.specs.Prelude.{◌≡◌, ℕ, zero, suc, ◌+◌, ◌*◌, ◌�
 use Rattle.std.specs.List.{count_by, sum_by, range_with_len}
 use Rattle.vol_layout.specs.Edition.{constants}
 use Rattle.vol_layout.specs.Geometry.{in_zone}
-use Rattle.vol_layout.specs.Places.{levels_below, places}
-use Rattle.vol_layout.specs.Names.{form_at, named, pointer_in}
+use Rattle.vol_layout.specs.BlockMaps.{levels_below, places}
+use Rattle.vol_layout.specs.BlockPointers.{form_at, named, pointer_in}
 use Rattle.vol_layout.specs.declared.geometry.Geometry.{Geometry}
 use Rattle.vol_layout.specs.declared.mode.Kind.{Kind}
 use Rattle.vol_file.specs.Rules.{kind_at}
-use Rattle.vol_reports.specs.Blocks.{one_if, is_kind}
+use Rattle.vol_reports.specs.Icheck.{one_if, is_kind}
 
 -- the number of places that name block c with e levels of blocks below it, among the place that names number b with d levels below it and the places below that (icheck; Lions on bmap)
 unfoldable pub found_at : Geometry → List ℕ → ℕ → ℕ → ℕ → ℕ → ℕ

@@ -2,7 +2,7 @@
 use Rattle.std.specs.Prelude.{ℕ, ◌+◌, ◌-◌, ◌*◌, Bool, nat_lt, List, filter}
 use Rattle.std.specs.List.{range_with_len}
 use Rattle.vol_layout.specs.declared.geometry.Geometry.{Geometry}
-use Rattle.vol_reports.specs.Blocks.{use_count}
+use Rattle.vol_reports.specs.Icheck.{use_count}
 use Rattle.vol_inspect.specs.Uses.{named_in}
 
 -- true if block b was counted at least twice, by the counts of the places of directories and of regular files (icheck)

@@ -2,7 +2,7 @@
 use Rattle.std.specs.Prelude.{ℕ, ◌+◌, ◌*◌, ◌==◌, nat_lt, Bool, true, false, if◌then◌else◌, List, slice_index, slice_index_or}
 use Rattle.vol_layout.specs.declared.geometry.Geometry.{Geometry}
 use Rattle.vol_layout.specs.declared.mode.Kind.TheVariants as kinds
-use Rattle.vol_reports.specs.Blocks.{one_if, use_count, is_met, is_lost_of}
+use Rattle.vol_reports.specs.Icheck.{one_if, use_count, is_met, is_lost_of}
 use Rattle.vol_inspect.specs.PlaceCounts.{naming_count}
 use Rattle.vol_inspect.specs.FreeListStatus.{listed_of}
 use Rattle.vol_inspect.specs.declared.free_list.Listed.{Listed}

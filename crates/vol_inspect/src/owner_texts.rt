@@ -1,7 +1,7 @@
 //! The lines of the owners of a block.
 ghost use Rattle.std.specs.Prelude.{◌≡◌, ◌≤◌, ◌++◌, drop, OnOk};
 ghost use Rattle.std.specs.String.{string_bytes};
-ghost use Rattle.vol_layout.specs.Places.{end_of};
+ghost use Rattle.vol_layout.specs.BlockMaps.{end_of};
 ghost use Rattle.vol_inspect.specs.OwnerTexts.{inodes_text, level_text, listed_text, logical_text, node_text, owner_line, owner_text, owners_text, pointers_text, way_text};
 
 use crate::owners::Owner;

@@ -2,7 +2,7 @@
 ghost use Rattle.std.specs.Prelude.{◌≡◌, ◌*◌, ◌≤◌, length};
 ghost use Rattle.vol_layout.specs.Geometry.{Fits};
 ghost use Rattle.vol_inspect.specs.PlaceCounts.{CountsFrom, CountsNode, CountsWanted, CountsKind, IsTally, IsClear};
-ghost use Rattle.vol_reports.specs.Blocks.{is_kind};
+ghost use Rattle.vol_reports.specs.Icheck.{is_kind};
 
 use pdp_words::{BLOCK, Image};
 use vol_layout::i_list::{address, kind, mode};

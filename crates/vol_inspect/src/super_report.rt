@@ -3,7 +3,7 @@ ghost use Rattle.std.specs.Prelude.{◌≡◌, ◌≤◌, length, IfOk};
 ghost use Rattle.vol_layout.specs.Geometry.{Fits};
 ghost use Rattle.vol_layout.specs.declared.mode.Kind.TheVariants as kinds;
 ghost use Rattle.vol_file.specs.Rules.{kind_at};
-ghost use Rattle.vol_reports.specs.Blocks.{is_kind, kind_count};
+ghost use Rattle.vol_reports.specs.Icheck.{is_kind, kind_count};
 ghost use Rattle.vol_inspect.specs.Inspect.{InspectsSuper, IsSuperReport, cached_numbers, flag_bytes, used};
 
 use crate::fault::InspectFault;

@@ -2,8 +2,8 @@
 use Rattle.std.proofs.Common.{◌≡◌, ◌≢◌, ℕ, ◌+◌, ◌<◌, ◌≤◌, ◌∙◌, sym, ap, subst, List, true, length, get_or, refl, arith, inl, inr, Some, None, Option}
 use Rattle.std.specs.List.{flat_map, range_with_len}
 use Rattle.vol_layout.specs.Geometry.{in_zone, Fits}
-use Rattle.vol_layout.specs.Places.{IsPlace, places}
-use Rattle.vol_layout.specs.Names.{mode_of, form_at, IsPlaceOf, named}
+use Rattle.vol_layout.specs.BlockMaps.{IsPlace, places}
+use Rattle.vol_layout.specs.BlockPointers.{mode_of, form_at, IsPlaceOf, named}
 use Rattle.vol_layout.specs.declared.geometry.Geometry.{Geometry}
 use Rattle.vol_layout.proofs.BodyLaws.{zone_bounds}
 use Rattle.vol_layout.proofs.KindLaws.{place_file}

@@ -3,7 +3,7 @@ use Rattle.std.proofs.Common.{◌≡◌, ◌≢◌, ℕ, zero, suc, ◌+◌, ◌
 use Rattle.std.proofs.lemmas.Bool.{ne_eqb}
 use Rattle.std.specs.List.{flat_map, range_with_len}
 use Rattle.vol_layout.specs.Edition.{constants}
-use Rattle.vol_layout.specs.Names.{pointer_in}
+use Rattle.vol_layout.specs.BlockPointers.{pointer_in}
 use Rattle.vol_layout.specs.declared.geometry.Geometry.{Geometry}
 use Rattle.vol_judge.specs.Marks.{blocks_from, marked}
 use Rattle.vol_judge.proofs.MarkLists.{marked_none, marked_first, marked_more}

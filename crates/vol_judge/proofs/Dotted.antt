@@ -11,7 +11,7 @@ use Rattle.vol_dir.specs.Names.{dot_dot}
 use Rattle.vol_judge.specs.Directories.{root_of, HasDots}
 use Rattle.vol_judge.specs.Dots.{NeedsDots, NamesItself, NamesParent, KeepsDots, KnowsDots, IsBeforeFirst}
 use Rattle.vol_judge.specs.InodeMarks.{IsNamed}
-use Rattle.vol_judge.specs.Tree.{NotesParents}
+use Rattle.vol_judge.specs.DirectoryTree.{NotesParents}
 use Rattle.vol_judge.proofs.Decisions.{not_true, not_false, same_option, other_option}
 
 -- if rule 10 holds, each directory and the root have their entries

@@ -6,8 +6,8 @@ use Rattle.vol_layout.specs.Edition.{constants}
 use Rattle.vol_layout.specs.Geometry.{in_zone, Fits}
 use Rattle.vol_layout.specs.Inode.{inode_place, address_at}
 use Rattle.vol_layout.specs.Laws.{IsFront}
-use Rattle.vol_layout.specs.Places.{first_count, pointer_count, levels, places_from, places}
-use Rattle.vol_layout.specs.Names.{form_at, named, pointer_in}
+use Rattle.vol_layout.specs.BlockMaps.{first_count, pointer_count, levels, places_from, places}
+use Rattle.vol_layout.specs.BlockPointers.{form_at, named, pointer_in}
 use Rattle.vol_layout.specs.declared.geometry.Geometry.{Geometry}
 use Rattle.vol_layout.proofs.NameLaws.{zero_out, named_past}
 use Rattle.vol_file.specs.Changes.{blocks_of}

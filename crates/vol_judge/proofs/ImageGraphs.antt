@@ -3,7 +3,7 @@ use Rattle.std.proofs.Common.{◌≡◌, ◌≢◌, ◌∙◌, sym, ap, refl, �
 use Rattle.std.specs.List.{count_by, range_with_len}
 use Rattle.std.proofs.lemmas.Bool.{le-leb, leb-true, and_parts, and_from, le-ltb}
 use Rattle.vol_layout.specs.Edition.{constants}
-use Rattle.vol_layout.specs.Places.{has_places}
+use Rattle.vol_layout.specs.BlockMaps.{has_places}
 use Rattle.vol_layout.specs.declared.geometry.Geometry.{Geometry}
 use Rattle.vol_layout.specs.declared.mode.Kind.{Kind}
 use Rattle.vol_layout.specs.declared.mode.Kind.TheVariants as kinds

@@ -2,7 +2,7 @@
 use Rattle.std.proofs.Common.{◌≡◌, ◌≢◌, ℕ, ◌∙◌, ap, sym, subst, inl, inr, true, List, [], ◌∷◌, ◌++◌, Option, None, Some, MatchOption, get_or, refl, arith, append_assoc}
 use Rattle.std.specs.Option.{option_map}
 use Rattle.vol_layout.specs.Geometry.{in_zone, Fits}
-use Rattle.vol_layout.specs.Names.{named}
+use Rattle.vol_layout.specs.BlockPointers.{named}
 use Rattle.vol_layout.specs.declared.geometry.Geometry.{Geometry}
 use Rattle.vol_layout.proofs.NameLaws.{holds_named, named_holds, zone_some}
 use Rattle.vol_free.specs.Stack.{IsIn, IsFree}

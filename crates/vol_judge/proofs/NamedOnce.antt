@@ -3,7 +3,7 @@ use Rattle.std.proofs.Common.{◌≡◌, ◌≢◌, ℕ, zero, suc, ◌+◌, ◌
 use Rattle.std.proofs.lemmas.Bool.{cases_eq}
 use Rattle.std.specs.List.{count_by, flat_map, range_with_len}
 use Rattle.std.specs.Str.{bytes_eq}
-use Rattle.vol_layout.specs.Names.{named}
+use Rattle.vol_layout.specs.BlockPointers.{named}
 use Rattle.vol_layout.specs.declared.geometry.Geometry.{Geometry}
 use Rattle.vol_free.specs.Stack.{IsIn, Once}
 use Rattle.vol_file.specs.Clears.{blocks_at}

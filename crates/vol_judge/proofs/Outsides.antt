@@ -4,8 +4,8 @@ use Rattle.std.proofs.lemmas.Bool.{cases_eq, cases_Bool}
 use Rattle.std.proofs.lemmas.Option.{none-some}
 use Rattle.vol_layout.specs.Edition.{constants}
 use Rattle.vol_layout.specs.Geometry.{in_zone, Fits}
-use Rattle.vol_layout.specs.Places.{places}
-use Rattle.vol_layout.specs.Names.{form_at, pointer_in, named}
+use Rattle.vol_layout.specs.BlockMaps.{places}
+use Rattle.vol_layout.specs.BlockPointers.{form_at, pointer_in, named}
 use Rattle.vol_layout.specs.declared.geometry.Geometry.{Geometry}
 use Rattle.vol_free.specs.Stack.{IsIn}
 use Rattle.vol_file.specs.Rules.{IsZoned}
@@ -17,7 +17,7 @@ use Rattle.vol_judge.proofs.BlocksFrom.{from_zero, from_leaf, from_suc, from_ent
 use Rattle.vol_judge.proofs.FileBlocks.{address_blocks, addresses_from, blocks_at_all}
 use Rattle.vol_judge.proofs.Insides.{inside_zero}
 use Rattle.vol_judge.proofs.NamedOnce.{at_in, flat_in}
-use Rattle.vol_judge.specs.Zones.{first_outside}
+use Rattle.vol_judge.specs.OutsideBlocks.{first_outside}
 use Rattle.vol_judge.proofs.Searches.{find_here, find_past, find_none, find_more, find_stops, find_each, find_flat}
 
 module _ (g : Geometry) where

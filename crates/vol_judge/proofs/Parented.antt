@@ -12,7 +12,7 @@ use Rattle.vol_judge.specs.Directories.{root_of, Enters}
 use Rattle.vol_judge.specs.Finds.{Finds}
 use Rattle.vol_judge.specs.InodeMarks.{IsOnce}
 use Rattle.vol_judge.specs.Steps.{rank, IsNextSlot, IsPastEntries}
-use Rattle.vol_judge.specs.Tree.{HasOnceBefore, NotesParentsBefore, NotesParents, KnowsParents, IsEnteredAgain, IsFirstTree}
+use Rattle.vol_judge.specs.DirectoryTree.{HasOnceBefore, NotesParentsBefore, NotesParents, KnowsParents, IsEnteredAgain, IsFirstTree}
 use Rattle.vol_judge.specs.declared.finding.Finding.{Finding}
 use Rattle.vol_judge.specs.declared.finding.Finding.TheVariants as findings
 use Rattle.vol_judge.proofs.Parents.{some_number}

@@ -5,7 +5,7 @@ use Rattle.std.proofs.lemmas.Bool.{cases_eq}
 use Rattle.vol_layout.specs.declared.geometry.Geometry.{Geometry}
 use Rattle.vol_judge.specs.Directories.{root_of, Enters, IsReached, at_root, below}
 use Rattle.vol_judge.specs.Reach.{WalksUp}
-use Rattle.vol_judge.specs.Tree.{KnowsParents}
+use Rattle.vol_judge.specs.DirectoryTree.{KnowsParents}
 
 -- a mark of a walk is kept, and so is the one that is set
 set_walk : (walks : List ℕ) (n d i : ℕ) → n < length walks → (get_or walks i 0 ≡ d) ⊎ (i ≡ n) → get_or (set walks n d) i 0 ≡ d

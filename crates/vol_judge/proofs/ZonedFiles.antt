@@ -2,8 +2,8 @@
 use Rattle.std.proofs.Common.{◌≡◌, ℕ, zero, suc, ◌<◌, ◌≤◌, List, [], ◌∷◌, true, false, if◌then◌else◌, refl, arith}
 use Rattle.vol_layout.specs.Edition.{constants}
 use Rattle.vol_layout.specs.Inode.{inode_place, address_at, kind_of}
-use Rattle.vol_layout.specs.Places.{has_places, file_form, form_of, first_count, pointer_count, levels, levels_below, IsPlace}
-use Rattle.vol_layout.specs.Names.{mode_of, form_at, IsFile, named}
+use Rattle.vol_layout.specs.BlockMaps.{has_places, file_form, form_of, first_count, pointer_count, levels, levels_below, IsPlace}
+use Rattle.vol_layout.specs.BlockPointers.{mode_of, form_at, IsFile, named}
 use Rattle.vol_layout.specs.declared.edition.Edition.{Edition}
 use Rattle.vol_layout.specs.declared.geometry.Geometry.{Geometry}
 use Rattle.vol_layout.specs.declared.block_map.BlockMap.TheVariants.{Bare}

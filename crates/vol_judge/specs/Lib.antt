@@ -26,5 +26,5 @@ pub mod Reach
 pub mod SharedBlocks
 pub mod Sound
 pub mod Steps
-pub mod Tree
-pub mod Zones
+pub mod DirectoryTree
+pub mod OutsideBlocks

@@ -2,7 +2,7 @@
 use Rattle.std.specs.Prelude.{◌≡◌, ◌≢◌, ℕ, ◌≤◌, ◌⊎◌, List}
 use Rattle.vol_layout.specs.Edition.{constants}
 use Rattle.vol_layout.specs.Inode.{inode_of}
-use Rattle.vol_layout.specs.Names.{form_at, IsFile}
+use Rattle.vol_layout.specs.BlockPointers.{form_at, IsFile}
 use Rattle.vol_file.specs.Rules.{size_of, kind_at}
 use Rattle.vol_layout.specs.declared.edition.Edition.TheVariants.{V7}
 use Rattle.vol_layout.specs.declared.geometry.Geometry.{Geometry}

@@ -1,7 +1,7 @@
 -- The first violation of the rule that no block is lost.
 use Rattle.std.specs.Prelude.{◌≡◌, ℕ, ◌<◌, true, List}
 use Rattle.vol_layout.specs.Geometry.{in_zone}
-use Rattle.vol_layout.specs.Names.{NamesBlock}
+use Rattle.vol_layout.specs.BlockPointers.{NamesBlock}
 use Rattle.vol_free.specs.Stack.{IsIn, IsFree}
 use Rattle.vol_layout.specs.declared.geometry.Geometry.{Geometry}
 use Rattle.vol_judge.specs.declared.finding.Finding.{Finding}

@@ -3,7 +3,7 @@ use Rattle.std.specs.Prelude.{◌≡◌, ◌≢◌, ℕ, zero, suc, ◌+◌, ◌
 use Rattle.std.specs.List.{flat_map, range_with_len}
 use Rattle.vol_layout.specs.Edition.{constants}
 use Rattle.vol_layout.specs.Geometry.{in_zone}
-use Rattle.vol_layout.specs.Names.{IsPlaceOf, named, pointer_in, NamesBlock}
+use Rattle.vol_layout.specs.BlockPointers.{IsPlaceOf, named, pointer_in, NamesBlock}
 use Rattle.vol_free.specs.Stack.{IsIn}
 use Rattle.vol_layout.specs.declared.geometry.Geometry.{Geometry}
 

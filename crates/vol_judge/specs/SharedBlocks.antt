@@ -1,7 +1,7 @@
 -- The first violation of the rule that no block is used twice.
 use Rattle.std.specs.Prelude.{◌≡◌, ◌≢◌, ℕ, ◌-◌, ◌≤◌, ◌==◌, if◌then◌else◌, List, [], ◌∷◌, ◌++◌, slice_index, slice_set, Option, None, Some}
 use Rattle.std.specs.List.{flat_map, range_with_len}
-use Rattle.vol_layout.specs.Names.{NamesBlock}
+use Rattle.vol_layout.specs.BlockPointers.{NamesBlock}
 use Rattle.vol_free.specs.Stack.{IsIn, Once, IsFree}
 use Rattle.vol_file.specs.Rules.{IsApart}
 use Rattle.vol_file.specs.Changes.{blocks_of}

@@ -5,8 +5,8 @@ use Rattle.pdp_words.specs.Words.{SameOutside}
 use Rattle.vol_layout.specs.Edition.{constants, number}
 use Rattle.vol_layout.specs.Geometry.{in_zone, Fits}
 use Rattle.vol_layout.specs.Inode.{inode_place, address_at, address_count, is_large, kind_of}
-use Rattle.vol_layout.specs.Places.{form_of, file_form, has_places, first_count, pointer_count, levels_below, IsPlace, last_place}
-use Rattle.vol_layout.specs.Names.{mode_of, form_at, pointer_in, named, stored}
+use Rattle.vol_layout.specs.BlockMaps.{form_of, file_form, has_places, first_count, pointer_count, levels_below, IsPlace, last_place}
+use Rattle.vol_layout.specs.BlockPointers.{mode_of, form_at, pointer_in, named, stored}
 use Rattle.vol_layout.specs.Body.{zone_byte, body_byte, body_size, body}
 use Rattle.vol_layout.specs.Laws.{IsFront}
 use Rattle.vol_layout.specs.declared.edition.Edition.{Edition}

@@ -8,10 +8,10 @@ use Rattle.pdp_words.specs.Words.{word, long, SameOutside}
 use Rattle.vol_layout.specs.Edition.{constants}
 use Rattle.vol_layout.specs.Geometry.{Fits}
 use Rattle.vol_layout.specs.Inode.{inode_place, address_at, addresses_at, size_at, inode_at, inode_of, kind_of}
-use Rattle.vol_layout.specs.Names.{mode_of, form_at, IsFile}
+use Rattle.vol_layout.specs.BlockPointers.{mode_of, form_at, IsFile}
 use Rattle.vol_layout.specs.Body.{body_size}
 use Rattle.vol_layout.specs.Laws.{manual_place}
-use Rattle.vol_layout.specs.Places.{form_of, has_places}
+use Rattle.vol_layout.specs.BlockMaps.{form_of, has_places}
 use Rattle.vol_layout.specs.declared.edition.Edition.{Edition}
 use Rattle.vol_layout.specs.declared.edition.Edition.TheVariants.{V6, V7}
 use Rattle.vol_layout.specs.declared.geometry.Geometry.{Geometry}

@@ -2,7 +2,7 @@
 use Rattle.std.proofs.Common.{◌≡◌, ◌≢◌, ℕ, ◌+◌, ◌*◌, ◌/◌, ◌%◌, ◌<◌, ◌≤◌, ◌∙◌, ap, refl, eqb, ltb, true, false, inl, inr, if◌then◌else◌, List, [], ◌∷◌, arith}
 use Rattle.std.proofs.lemmas.Bool.{cases_lt, ne_eqb, lt-ltb, le-ltb}
 use Rattle.vol_layout.specs.Inode.{kind_of}
-use Rattle.vol_layout.specs.Places.{has_places, form_of, file_form, IsPlace}
+use Rattle.vol_layout.specs.BlockMaps.{has_places, form_of, file_form, IsPlace}
 use Rattle.vol_layout.specs.declared.edition.Edition.{Edition}
 use Rattle.vol_layout.specs.declared.edition.Edition.TheVariants.{V6, V7}
 use Rattle.vol_layout.specs.declared.mode.Kind.TheVariants as kinds

@@ -1,7 +1,7 @@
 -- The last place of each logical block whose range is known.
 use Rattle.std.proofs.Common.{◌≡◌, ℕ, ◌-◌, ◌/◌, ◌%◌, ◌<◌, ◌≤◌, [], ◌∷◌, refl, arith, Some}
 use Rattle.std.proofs.lemmas.Bool.{lt-ltb, le-ltb}
-use Rattle.vol_layout.specs.Places.{last_place}
+use Rattle.vol_layout.specs.BlockMaps.{last_place}
 use Rattle.vol_layout.specs.declared.block_map.BlockMap.TheVariants.{Small, Large, Deep}
 
 -- of a small file

@@ -2,8 +2,8 @@
 use Rattle.std.proofs.Common.{◌≡◌, ◌≢◌, ℕ, ◌*◌, ◌<◌, ◌≤◌, ◌∙◌, sym, ap, subst, List, [], ◌∷◌, true, false, refl, arith, inl, inr, Some, None}
 use Rattle.vol_layout.specs.Edition.{number}
 use Rattle.vol_layout.specs.Geometry.{in_zone, Fits}
-use Rattle.vol_layout.specs.Names.{pointer_in, named, Holds, stored}
-use Rattle.vol_layout.specs.Places.{last_place}
+use Rattle.vol_layout.specs.BlockPointers.{pointer_in, named, Holds, stored}
+use Rattle.vol_layout.specs.BlockMaps.{last_place}
 use Rattle.vol_layout.specs.declared.block_map.BlockMap.{BlockMap}
 use Rattle.std.specs.Option.{option_map_or}
 use Rattle.vol_layout.specs.Laws.{IsFront}

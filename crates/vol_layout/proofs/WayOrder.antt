@@ -7,7 +7,7 @@ use Rattle.std.proofs.lemmas.List.{append_assoc, append-nil, map-append}
 use Rattle.std.proofs.lemmas.List.Elements.{filter-append}
 use Rattle.std.proofs.lemmas.Nat.{div-mul-add}
 use Rattle.std.proofs.Math.Nat.{mul-add-mod_self_right, mod-eq_of_lt}
-use Rattle.vol_layout.specs.Places.{first_count, pointer_count, levels, levels_below, block_limit, last_place, places_from, places}
+use Rattle.vol_layout.specs.BlockMaps.{first_count, pointer_count, levels, levels_below, block_limit, last_place, places_from, places}
 use Rattle.vol_layout.specs.Laws.{leaves, OrdersWays}
 use Rattle.vol_layout.specs.declared.block_map.BlockMap.{BlockMap}
 use Rattle.vol_layout.specs.declared.block_map.BlockMap.TheVariants.{Small, Large, Deep, Bare}

@@ -4,7 +4,7 @@ use Rattle.std.specs.List.{range_with_len}
 use Rattle.vol_layout.specs.Edition.{constants}
 use Rattle.vol_layout.specs.Geometry.{in_zone}
 use Rattle.vol_layout.specs.Inode.{inode_place, size_at}
-use Rattle.vol_layout.specs.Names.{form_at, stored}
+use Rattle.vol_layout.specs.BlockPointers.{form_at, stored}
 use Rattle.vol_layout.specs.declared.geometry.Geometry.{Geometry}
 
 -- byte r of the data block k, or 0 if k isn't a data block (manual section 5, file system)

@@ -5,8 +5,8 @@ use Rattle.pdp_words.specs.Words.{SameOutside}
 use Rattle.vol_layout.specs.Edition.{constants}
 use Rattle.vol_layout.specs.Geometry.{in_zone, Fits}
 use Rattle.vol_layout.specs.Inode.{inode_place, inode_of}
-use Rattle.vol_layout.specs.Places.{IsPlace, levels_below, block_limit, last_place, places}
-use Rattle.vol_layout.specs.Names.{form_at, IsFile, IsPlaceOf, named, stored, Holds}
+use Rattle.vol_layout.specs.BlockMaps.{IsPlace, levels_below, block_limit, last_place, places}
+use Rattle.vol_layout.specs.BlockPointers.{form_at, IsFile, IsPlaceOf, named, stored, Holds}
 use Rattle.vol_layout.specs.Body.{body, body_size}
 use Rattle.vol_layout.specs.declared.edition.Edition.{Edition}
 use Rattle.vol_layout.specs.declared.edition.Edition.TheVariants.{V6, V7}

@@ -5,7 +5,7 @@ pub mod Ids
 pub mod Inode
 pub mod Super
 pub mod Slot
-pub mod Places
-pub mod Names
+pub mod BlockMaps
+pub mod BlockPointers
 pub mod Body
 pub mod Laws

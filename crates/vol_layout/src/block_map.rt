@@ -32,7 +32,7 @@ pub struct BlockPath {
 }
 
 impl BlockMap {
-    ghost use Rattle.vol_layout.specs.Places.{form_of, block_limit, first_count, levels, last_place, end_of};
+    ghost use Rattle.vol_layout.specs.BlockMaps.{form_of, block_limit, first_count, levels, last_place, end_of};
 
     /// Returns the block map of an i-node with this mode.
     pub fn of(edition: Edition, mode: Mode) -> BlockMap
@@ -86,7 +86,7 @@ impl BlockMap {
     }
 
     /// Returns the block path of a logical block, or `None` past the blocks that a file with this block map can have.
-    #[tactic(auto, unfolding(crate::specs::Places::last_place))]
+    #[tactic(auto, unfolding(crate::specs::BlockMaps::last_place))]
     pub fn way(self, block: u32) -> Option<BlockPath>
         ensures end { option_map end_of result ≡ last_place self block }
         ensures depth { IfSome result (λ way. way.depth ≤ 3) }

@@ -3,7 +3,7 @@ ghost use Rattle.std.specs.Prelude.{◌≡◌, ◌+◌, ◌*◌, ◌-◌, ◌≤
 ghost use Rattle.pdp_words.specs.Words.{SameOutside, word, long, addr3};
 ghost use Rattle.vol_layout.specs.Edition.{constants};
 ghost use Rattle.vol_layout.specs.Geometry.{Fits};
-ghost use Rattle.vol_layout.specs.Names.{mode_of};
+ghost use Rattle.vol_layout.specs.BlockPointers.{mode_of};
 ghost use Rattle.vol_layout.specs.Inode.{
   inode_place,
   inode_of,

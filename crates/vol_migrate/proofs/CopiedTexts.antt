@@ -6,8 +6,8 @@ use Rattle.pdp_words.specs.Words.{word, block_of}
 use Rattle.vol_layout.specs.Body.{body, zone_byte}
 use Rattle.vol_layout.specs.Edition.{constants}
 use Rattle.vol_layout.specs.Geometry.{Fits, in_zone}
-use Rattle.vol_layout.specs.Names.{IsFile, form_at, stored}
-use Rattle.vol_layout.specs.Places.{last_place}
+use Rattle.vol_layout.specs.BlockPointers.{IsFile, form_at, stored}
+use Rattle.vol_layout.specs.BlockMaps.{last_place}
 use Rattle.vol_layout.specs.Slot.{slot_at, name_of}
 use Rattle.vol_layout.specs.declared.edition.Edition.{Edition}
 use Rattle.vol_layout.specs.declared.edition.Edition.TheVariants.{V7}

@@ -5,8 +5,8 @@ use Rattle.std.specs.Option.{option_map_or}
 use Rattle.std.proofs.lemmas.Bool.{eq-eqb, ne_eqb}
 use Rattle.vol_layout.specs.Edition.{constants}
 use Rattle.vol_layout.specs.Inode.{is_large, kind_of}
-use Rattle.vol_layout.specs.Names.{IsFile, form_at, mode_of, named, stored}
-use Rattle.vol_layout.specs.Places.{form_of, has_places, last_place}
+use Rattle.vol_layout.specs.BlockPointers.{IsFile, form_at, mode_of, named, stored}
+use Rattle.vol_layout.specs.BlockMaps.{form_of, has_places, last_place}
 use Rattle.vol_layout.specs.declared.edition.Edition.{Edition}
 use Rattle.vol_layout.specs.declared.edition.Edition.TheVariants.{V6}
 use Rattle.vol_layout.specs.declared.geometry.Geometry.{Geometry}

@@ -7,8 +7,8 @@ use Rattle.pdp_words.specs.Words.{SameOutside}
 use Rattle.vol_layout.specs.Edition.{constants}
 use Rattle.vol_layout.specs.Geometry.{Fits}
 use Rattle.vol_layout.specs.Inode.{inode_of, inode_place, raised_inode, kind_of}
-use Rattle.vol_layout.specs.Names.{IsPlaceOf, form_at, mode_of, named, pointer_in, stored}
-use Rattle.vol_layout.specs.Places.{IsPlace, first_count, has_places, last_place}
+use Rattle.vol_layout.specs.BlockPointers.{IsPlaceOf, form_at, mode_of, named, pointer_in, stored}
+use Rattle.vol_layout.specs.BlockMaps.{IsPlace, first_count, has_places, last_place}
 use Rattle.vol_layout.specs.declared.geometry.Geometry.{Geometry}
 use Rattle.vol_layout.specs.declared.i_node.Inode.{Inode}
 use Rattle.vol_layout.specs.declared.mode.Kind.{Kind}

@@ -8,7 +8,7 @@ use Rattle.std.proofs.lemmas.Bool.{cases_Bool, cases_lt, le-leb, lt-leb, true≢
 use Rattle.std.proofs.lemmas.List.{append-nil}
 use Rattle.std.proofs.lemmas.List.Sums.{length-filter, sum_by-cons}
 use Rattle.vol_layout.specs.Laws.{IsFront}
-use Rattle.vol_layout.specs.Places.{last_place, fronts, way}
+use Rattle.vol_layout.specs.BlockMaps.{last_place, fronts, way}
 use Rattle.vol_layout.specs.declared.block_map.BlockMap.TheVariants.{Deep}
 use Rattle.vol_layout.proofs.LastPlaces.{last_direct, last_single, last_double, last_triple}
 use Rattle.vol_layout.proofs.PlaceLaws.{last_leaf}

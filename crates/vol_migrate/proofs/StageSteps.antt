@@ -8,8 +8,8 @@ use Rattle.vol_layout.specs.Body.{body}
 use Rattle.vol_layout.specs.Edition.{constants}
 use Rattle.vol_layout.specs.Geometry.{Fits, geometry_of}
 use Rattle.vol_layout.specs.Inode.{inode_of, inode_place, raised_inode, raised_mode, kind_of, with_large}
-use Rattle.vol_layout.specs.Names.{IsFile, form_at, mode_of}
-use Rattle.vol_layout.specs.Places.{IsPlace, file_form, form_of, has_places}
+use Rattle.vol_layout.specs.BlockPointers.{IsFile, form_at, mode_of}
+use Rattle.vol_layout.specs.BlockMaps.{IsPlace, file_form, form_of, has_places}
 use Rattle.vol_layout.specs.Super.{free_head, time_place}
 use Rattle.vol_layout.specs.declared.edition.Edition.TheVariants.{V6, V7}
 use Rattle.vol_layout.specs.declared.geometry.Geometry.{Geometry}

@@ -8,8 +8,8 @@ pub use Rattle.vol_free.specs.Rebuild
 pub use Rattle.vol_free.specs.Stack
 pub use Rattle.vol_judge.specs.Sound
 pub use Rattle.vol_layout.specs.Geometry
-pub use Rattle.vol_layout.specs.Names
-pub use Rattle.vol_layout.specs.Places
+pub use Rattle.vol_layout.specs.BlockPointers
+pub use Rattle.vol_layout.specs.BlockMaps
 pub use Rattle.vol_mkfs.specs.Mkfs
 pub use Rattle.vol_volume.specs.Volume
 pub mod Raised

@@ -6,7 +6,7 @@ use Rattle.vol_layout.specs.Body.{body}
 use Rattle.vol_layout.specs.Edition.{constants}
 use Rattle.vol_layout.specs.Geometry.{geometry_of}
 use Rattle.vol_layout.specs.Inode.{inode_of, inode_place, raised_inode}
-use Rattle.vol_layout.specs.Places.{IsPlace, places}
+use Rattle.vol_layout.specs.BlockMaps.{IsPlace, places}
 use Rattle.vol_layout.specs.Slot.{slot_at}
 use Rattle.vol_layout.specs.Super.{free_head, time_place}
 use Rattle.vol_layout.specs.declared.edition.Edition.TheVariants.{V6, V7}

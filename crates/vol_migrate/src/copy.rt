@@ -1,6 +1,6 @@
 //! Copying the blocks of files from a volume of the sixth edition to one of the seventh.
 ghost use Rattle.std.specs.Prelude.{◌≡◌, ◌≢◌, ◌+◌, ◌*◌, ◌<◌};
-ghost use Rattle.vol_layout.specs.Names.{IsFile, form_at, stored};
+ghost use Rattle.vol_layout.specs.BlockPointers.{IsFile, form_at, stored};
 ghost use Rattle.vol_file.specs.Rules.{size_of};
 ghost use Rattle.vol_migrate.specs.Stages.{MayMigrate, HasStage, CarriesTo};
 

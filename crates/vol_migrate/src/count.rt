@@ -1,10 +1,10 @@
 //! The number of blocks that the files of a sixth edition volume need in the seventh.
 ghost use Rattle.std.specs.Prelude.{◌≡◌, ◌<◌, ◌≤◌, [], ◌∷◌};
 ghost use Rattle.vol_layout.specs.Geometry.{Fits};
-ghost use Rattle.vol_layout.specs.Names.{IsFile};
+ghost use Rattle.vol_layout.specs.BlockPointers.{IsFile};
 ghost use Rattle.vol_file.specs.Changes.{whole_blocks};
 ghost use Rattle.vol_file.specs.Need.{need_of};
-ghost use Rattle.vol_layout.specs.Places.{has_places};
+ghost use Rattle.vol_layout.specs.BlockMaps.{has_places};
 ghost use Rattle.vol_file.specs.Rules.{HasSizes, kind_at};
 ghost use Rattle.vol_file.specs.Shape.{is_on_ways};
 ghost use Rattle.vol_dir.specs.Tree.{Shape, state};

@@ -9,8 +9,8 @@ use Rattle.std.proofs.lemmas.List.Sums.{sum_by-cons}
 use Rattle.vol_layout.specs.Edition.{constants}
 use Rattle.vol_layout.specs.Geometry.{Fits, in_zone}
 use Rattle.vol_layout.specs.Inode.{inode_of, kind_of}
-use Rattle.vol_layout.specs.Names.{form_at, stored}
-use Rattle.vol_layout.specs.Places.{form_of, last_place}
+use Rattle.vol_layout.specs.BlockPointers.{form_at, stored}
+use Rattle.vol_layout.specs.BlockMaps.{form_of, last_place}
 use Rattle.vol_layout.specs.Body.{body, body_size, body_byte, zone_byte}
 use Rattle.vol_layout.specs.Slot.{slot_at, padded_name, name_of}
 use Rattle.vol_layout.specs.declared.edition.Edition.{Edition}

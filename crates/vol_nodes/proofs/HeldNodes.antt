@@ -7,7 +7,7 @@ use Rattle.std.proofs.lemmas.Bool.Decides.{nat_tests}
 use Rattle.ustar.specs.declared.header.MemberKind.TheVariants as members
 use Rattle.vol_layout.specs.Body.{body}
 use Rattle.vol_layout.specs.Inode.{inode_of, inode_place}
-use Rattle.vol_layout.specs.Names.{mode_of}
+use Rattle.vol_layout.specs.BlockPointers.{mode_of}
 use Rattle.vol_layout.proofs.InodeLaws.{inode_mode}
 use Rattle.vol_layout.specs.declared.geometry.Geometry.{Geometry}
 use Rattle.vol_layout.specs.declared.i_node.Inode.{Inode}

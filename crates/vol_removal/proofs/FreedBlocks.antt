@@ -4,8 +4,8 @@ use Rattle.std.specs.Option.{option_map}
 use Rattle.std.proofs.lemmas.Bool.{cases_eq, false≢true}
 use Rattle.vol_layout.specs.Geometry.{geometry_of, in_zone}
 use Rattle.vol_layout.specs.Inode.{inode_of, kind_of}
-use Rattle.vol_layout.specs.Names.{mode_of, form_at, IsFile, IsPlaceOf, named}
-use Rattle.vol_layout.specs.Places.{form_of, has_places, IsPlace, places}
+use Rattle.vol_layout.specs.BlockPointers.{mode_of, form_at, IsFile, IsPlaceOf, named}
+use Rattle.vol_layout.specs.BlockMaps.{form_of, has_places, IsPlace, places}
 use Rattle.vol_layout.specs.declared.geometry.Geometry.{Geometry}
 use Rattle.vol_layout.proofs.NameLaws.{holds_named}
 use Rattle.vol_free.specs.Stack.{IsIn}

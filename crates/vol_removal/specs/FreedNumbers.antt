@@ -1,7 +1,7 @@
 -- The i-numbers and blocks that removing a tree frees.
 use Rattle.std.specs.Prelude.{◌≡◌, ℕ, ◌≤◌, ◌==◌, Bool, false, nat_le, if◌then◌else◌, List, Option, None, Some, is_none, Result, Ok, Err}
 use Rattle.std.specs.List.{count_by}
-use Rattle.vol_layout.specs.Names.{NamesBlock}
+use Rattle.vol_layout.specs.BlockPointers.{NamesBlock}
 use Rattle.vol_layout.specs.declared.geometry.Geometry.{Geometry}
 use Rattle.vol_free.specs.Stack.{IsFree, IsIn}
 use Rattle.vol_dir.specs.Tree.{Node, Tree, tree}

@@ -5,7 +5,7 @@ use Rattle.vol_layout.specs.Geometry.{in_zone}
 use Rattle.vol_layout.specs.declared.geometry.Geometry.{Geometry}
 use Rattle.vol_reports.specs.Words.{zone_len, least_word}
 use Rattle.vol_free.specs.FreeWalk.{free_walk}
-use Rattle.vol_reports.specs.Blocks.{use_count, bad_numbers, is_used, is_met, is_lost, is_lost_of, bad_line, dup_line, lost_line, bad_line_of, dup_line_of, lost_line_of, bad_lines, dup_lines, lost_lines, total_lines, block_lines, free_list_line, zone_count}
+use Rattle.vol_reports.specs.Icheck.{use_count, bad_numbers, is_used, is_met, is_lost, is_lost_of, bad_line, dup_line, lost_line, bad_line_of, dup_line_of, lost_line_of, bad_lines, dup_lines, lost_lines, total_lines, block_lines, free_list_line, zone_count}
 use Rattle.vol_reports.specs.Counted.{CountsBlocks}
 use Rattle.vol_reports.specs.FromWords.{is_used_in, is_met_in, is_lost_in, bad_line_in, dup_line_in, lost_line_in, inode_lines, zone_lines, total_lines_in, Appended}
 use Rattle.vol_reports.specs.declared.line.Line.{Line}

@@ -6,7 +6,7 @@ use Rattle.std.proofs.lemmas.List.{get_or-set_same, get_or-set_other, get_or_pas
 use Rattle.std.proofs.lemmas.List.Sums.{sum_by-set, sum_by-append, count_by-le-length}
 use Rattle.std.proofs.lemmas.Bool.{eq-eqb, ne_eqb, cases_eq}
 use Rattle.vol_reports.specs.Placed.{Placed}
-use Rattle.vol_reports.specs.Names.{slashed, dots, path_up}
+use Rattle.vol_reports.specs.Ncheck.{slashed, dots, path_up}
 use Rattle.vol_reports.specs.Climb.{naming_in, trail, path_start, AreBefore, Steps, Climbs}
 
 -- a count with one more item before the others

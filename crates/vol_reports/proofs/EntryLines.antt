@@ -2,10 +2,10 @@
 use Rattle.std.proofs.Common.{◌≡◌, ℕ, ◌+◌, ◌-◌, List, get_or, ap, ◌∙◌, arith}
 use Rattle.vol_layout.specs.declared.geometry.Geometry.{Geometry}
 use Rattle.vol_judge.specs.Directories.{entry_count}
-use Rattle.vol_reports.specs.Entries.{link_count, wants_entry, links_line, links_line_of, entry_lines}
+use Rattle.vol_reports.specs.Dcheck.{link_count, wants_entry, links_line, links_line_of, entry_lines}
 use Rattle.vol_reports.specs.Counted.{CountsEntries, HasLinkCounts}
 use Rattle.vol_reports.specs.FromWords.{links_line_in, no_links, inode_lines}
-use Rattle.vol_reports.specs.declared.links.LinkCount.{LinkCount}
+use Rattle.vol_reports.specs.declared.inode_link_counts.LinkCount.{LinkCount}
 use Rattle.vol_reports.proofs.Ranges.{flat_same}
 
 -- the lines computed from the words are those of the report

@@ -18,7 +18,7 @@ use Rattle.vol_dir.specs.Names.{is_dots}
 use Rattle.vol_judge.specs.Directories.{root_of}
 use Rattle.vol_judge.specs.Steps.{rank}
 use Rattle.vol_reports.specs.Placed.{Placed, placed}
-use Rattle.vol_reports.specs.Names.{slashed, entered, entries_of, entries_in, all_entries, naming_entry, path_up, named_path, named_paths}
+use Rattle.vol_reports.specs.Ncheck.{slashed, entered, entries_of, entries_in, all_entries, naming_entry, path_up, named_path, named_paths}
 use Rattle.vol_reports.specs.Counted.{CountsNames, rank_of}
 use Rattle.vol_reports.specs.Climb.{naming_in, IsNaming, HasNaming, path_in}
 

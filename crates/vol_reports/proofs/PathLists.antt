@@ -6,7 +6,7 @@ use Rattle.std.specs.Ordering.{is_lt}
 use Rattle.std.proofs.lemmas.List.{map_more, map-append, get_or-map, length-map}
 use Rattle.std.proofs.lemmas.List.Sorted.{IsPermutation-map, sum_by-IsPermutation}
 use Rattle.vol_reports.specs.Placed.{Placed}
-use Rattle.vol_reports.specs.Names.{slashed, path_up, pair_cmp, name_line}
+use Rattle.vol_reports.specs.Ncheck.{slashed, path_up, pair_cmp, name_line}
 use Rattle.vol_reports.specs.declared.line.Line.{Line}
 use Rattle.vol_reports.specs.Climb.{naming_in, path_in, seen_pair}
 

@@ -8,7 +8,7 @@ use Rattle.std.specs.declared.alloc.Global.{Global}
 use Rattle.vol_judge.specs.Steps.{rank}
 use Rattle.vol_reports.specs.Words.{name_word}
 use Rattle.vol_reports.specs.Placed.{Placed}
-use Rattle.vol_reports.specs.Names.{slashed, dots, path_up}
+use Rattle.vol_reports.specs.Ncheck.{slashed, dots, path_up}
 
 -- the naming entry of i-number i, if one was found (ncheck)
 abbrev pub naming_in : List (Option (Bor Placed)) → ℕ → Option Placed

@@ -9,11 +9,11 @@ use Rattle.vol_judge.specs.Steps.{rank}
 use Rattle.vol_reports.specs.Words.{zone_len, place_word, free_word, bad_word, kind_word, least_word, entry_word, name_word}
 use Rattle.vol_free.specs.FreeWalk.{free_walk}
 use Rattle.vol_reports.specs.Placed.{Placed}
-use Rattle.vol_reports.specs.Blocks.{use_count, met_count, bad_numbers, least_of, kind_count}
-use Rattle.vol_reports.specs.Entries.{link_count, wants_entry}
-use Rattle.vol_reports.specs.Names.{all_entries, naming_entry}
+use Rattle.vol_reports.specs.Icheck.{use_count, met_count, bad_numbers, least_of, kind_count}
+use Rattle.vol_reports.specs.Dcheck.{link_count, wants_entry}
+use Rattle.vol_reports.specs.Ncheck.{all_entries, naming_entry}
 use Rattle.vol_free.specs.declared.free_walk.FreeFault.{FreeFault}
-use Rattle.vol_reports.specs.declared.links.LinkCount.{LinkCount}
+use Rattle.vol_reports.specs.declared.inode_link_counts.LinkCount.{LinkCount}
 
 -- there are as many words as a block report needs (this project)
 abbrev pub HasBlockWidth : Geometry → List ℕ → Type 0

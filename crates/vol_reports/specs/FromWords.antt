@@ -3,9 +3,9 @@ use Rattle.std.specs.Prelude.{◌≡◌, ℕ, ◌-◌, ◌==◌, Bool, false, no
 use Rattle.std.specs.List.{flat_map, range_with_len}
 use Rattle.vol_layout.specs.declared.geometry.Geometry.{Geometry}
 use Rattle.vol_reports.specs.Words.{zone_len, place_word, free_word, bad_word, kind_word, least_word, entry_word}
-use Rattle.vol_reports.specs.Blocks.{bad_line_of, dup_line_of, lost_line_of, is_lost_of, zone_count}
-use Rattle.vol_reports.specs.Entries.{links_line_of}
-use Rattle.vol_reports.specs.declared.links.LinkCount.{LinkCount}
+use Rattle.vol_reports.specs.Icheck.{bad_line_of, dup_line_of, lost_line_of, is_lost_of, zone_count}
+use Rattle.vol_reports.specs.Dcheck.{links_line_of}
+use Rattle.vol_reports.specs.declared.inode_link_counts.LinkCount.{LinkCount}
 use Rattle.vol_reports.specs.declared.line.Line.{Line}
 use Rattle.vol_reports.specs.declared.line.Line.TheVariants as lines
 use Rattle.vol_reports.specs.declared.line.Total.{Total}

@@ -5,9 +5,9 @@ pub use Rattle.vol_layout.specs.Geometry
 pub use Rattle.vol_layout.specs.Slot
 pub mod Words
 pub mod Placed
-pub mod Blocks
-pub mod Entries
-pub mod Names
+pub mod Icheck
+pub mod Dcheck
+pub mod Ncheck
 pub mod Reports
 pub mod Texts
 pub mod Counted

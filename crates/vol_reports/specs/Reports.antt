@@ -7,9 +7,9 @@ use Rattle.vol_layout.specs.declared.edition.Edition.{Edition}
 use Rattle.vol_layout.specs.declared.geometry.Geometry.{Geometry}
 use Rattle.vol_layout.specs.declared.geometry.GeometryFault.{GeometryFault}
 use Rattle.vol_layout.specs.declared.geometry.GeometryFault.TheVariants.{Short, Bounds}
-use Rattle.vol_reports.specs.Blocks.{block_lines}
-use Rattle.vol_reports.specs.Entries.{entry_lines}
-use Rattle.vol_reports.specs.Names.{dots, IsNameLines}
+use Rattle.vol_reports.specs.Icheck.{block_lines}
+use Rattle.vol_reports.specs.Dcheck.{entry_lines}
+use Rattle.vol_reports.specs.Ncheck.{dots, IsNameLines}
 use Rattle.vol_reports.specs.declared.line.Line.{Line}
 use Rattle.vol_reports.specs.declared.line.Line.TheVariants as lines
 use Rattle.vol_reports.specs.declared.line.Total.{Total}

@@ -3,7 +3,7 @@ use Rattle.std.specs.Prelude.{ℕ, List, [], ◌∷◌, ◌++◌, codes}
 use Rattle.std.specs.List.{flat_map}
 use Rattle.std.specs.Fmt.{decimal}
 use Rattle.vol_free.specs.FreeWalk.{fault_word}
-use Rattle.vol_reports.specs.Blocks.{one_if}
+use Rattle.vol_reports.specs.Icheck.{one_if}
 use Rattle.vol_reports.specs.declared.line.Line.{Line}
 use Rattle.vol_reports.specs.declared.line.Line.TheVariants as lines
 use Rattle.vol_reports.specs.declared.line.Total.{Total}

@@ -1,7 +1,7 @@
 //! The paths of entries: the climb from a directory to the root, over the entries that name directories.
 ghost use Rattle.std.specs.Prelude.{◌≡◌, ◌+◌, ◌++◌, [], length, IfOk, OnOk};
 ghost use Rattle.vol_judge.specs.Directories.{root_of};
-ghost use Rattle.vol_reports.specs.Names.{slashed, path_up};
+ghost use Rattle.vol_reports.specs.Ncheck.{slashed, path_up};
 ghost use Rattle.vol_reports.specs.Climb.{naming_in, trail, path_start, AreBefore, Steps};
 
 use crate::entered::EnteredName;

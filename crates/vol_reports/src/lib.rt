@@ -1,22 +1,22 @@
 //! The reports of the checkers: their lines for any image, built from counts.
 #![tactic(auto)]
 
-mod blocks;
 mod climb;
+mod dcheck;
 mod entered;
-mod entries;
+mod icheck;
+mod inode_link_counts;
 mod line;
-mod links;
-mod names;
+mod ncheck;
 mod report;
 mod texts;
 pub mod words;
 
-pub use blocks::block_report;
+pub use dcheck::entry_report;
 pub use entered::EnteredName;
-pub use entries::entry_report;
+pub use icheck::block_report;
+pub use inode_link_counts::{LinkCount, link_counts};
 pub use line::{Line, Total};
-pub use links::{LinkCount, link_counts};
-pub use names::name_report;
+pub use ncheck::name_report;
 pub use report::Report;
 pub use vol_free::FreeFault;

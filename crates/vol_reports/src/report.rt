@@ -1,6 +1,6 @@
 //! Reports.
 ghost use Rattle.std.specs.Prelude.{◌≡◌, IfOk};
-ghost use Rattle.vol_reports.specs.Names.{dots};
+ghost use Rattle.vol_reports.specs.Ncheck.{dots};
 ghost use Rattle.vol_reports.specs.Reports.{rule_lines, is_faulty, has_faults};
 
 use crate::line::{Line, Total};

@@ -11,13 +11,13 @@ mod numbers;
 mod pieces;
 pub mod played;
 pub mod read;
-pub mod refusals;
 mod report;
 pub mod steps;
 mod texts;
+pub mod unread_scripts;
 
 pub use ending::finish;
 pub use played::Played;
 pub use read::{ScriptFault, ScriptsFault, read_script, read_scripts};
-pub use refusals::refuse;
 pub use steps::{Script, ScriptStep, Sequence};
+pub use unread_scripts::refuse;

@@ -4,7 +4,7 @@ use Rattle.fuse_words.specs.declared.reply.Statistics.{Statistics}
 use Rattle.vol_layout.specs.declared.geometry.Geometry.{Geometry}
 use Rattle.vol_layout.specs.declared.mode.Kind.TheVariants as kinds
 use Rattle.vol_free.specs.FreeWalk.{free_walk}
-use Rattle.vol_reports.specs.Blocks.{kind_count}
+use Rattle.vol_reports.specs.Icheck.{kind_count}
 
 -- the sizes: the data blocks, the free ones up to the free list's first fault, and the i-nodes (fuse_kstatfs)
 unfoldable pub statistics_of : Geometry → List ℕ → Statistics

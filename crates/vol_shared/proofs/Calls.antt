@@ -10,7 +10,7 @@ use Rattle.vol_shared.specs.Stored.{Stored, next_number, IsCut}
 use Rattle.vol_views.specs.Views.{book_in}
 use Rattle.vol_shared.specs.Plays.{Event, nothing, receipt, took, gave, FindsVolume, Took, IsAnswered, cut}
 use Rattle.vol_shared.specs.Sessions.{known_by, knowledge_of, IsIdle, Got, HasCut}
-use Rattle.vol_shared.specs.declared.knowledge.Knowledge.{Knowledge}
+use Rattle.vol_shared.specs.declared.lock_rule.Knowledge.{Knowledge}
 
 -- the next record of the volume that is found has a number that isn't below the least that a session's receipt may have
 pub reaches : (v : Knowledge) (gone : List Record) (found : Stored) → FindsVolume v gone found

@@ -11,7 +11,7 @@ use Rattle.vol_shared.specs.Lists.{BeginsWith, greatest, greatest_of}
 use Rattle.vol_shared.specs.Close.{IsGathered, IsSettled}
 use Rattle.vol_shared.specs.Sessions.{Known}
 use Rattle.vol_shared.specs.Stored.{Stored, stored_of, next_number, Continues}
-use Rattle.vol_shared.specs.declared.knowledge.Knowledge.{Knowledge}
+use Rattle.vol_shared.specs.declared.lock_rule.Knowledge.{Knowledge}
 use Rattle.vol_shared.proofs.Lists.{total_flat, greatest_flat, length_flat, flat_none, all_flat, no_length}
 
 -- a volume that has these contents of the lock

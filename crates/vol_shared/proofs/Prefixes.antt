@@ -33,7 +33,7 @@ use Rattle.vol_shared.specs.Plays.{IsAnswered}
 use Rattle.vol_shared.specs.Close.{IsSettled}
 use Rattle.vol_shared.specs.Published.{IsPublished}
 use Rattle.vol_shared.specs.Watch.{IsNewView, IsBehind, Covers}
-use Rattle.vol_shared.specs.declared.knowledge.Knowledge.{Knowledge}
+use Rattle.vol_shared.specs.declared.lock_rule.Knowledge.{Knowledge}
 
 -- a volume that is published as it is
 pub published_first : (volume : Mounted) (log : List LogEntry) → log ≡ first_log volume → IsPublished log (stored_of volume)

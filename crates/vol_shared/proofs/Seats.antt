@@ -20,8 +20,8 @@ use Rattle.vol_shared.specs.Stored.{Stored, Follows}
 use Rattle.vol_shared.specs.Rule.{hold_of, SeatFits, Locked}
 use Rattle.vol_shared.specs.Plays.{fresh, first_knowledge, nobody, kept_part, given_part, as_one}
 use Rattle.vol_shared.specs.Close.{IsSettled}
-use Rattle.vol_shared.specs.declared.knowledge.Knowledge.{Knowledge}
-use Rattle.vol_shared.specs.declared.knowledge.TableStart.{TableStart}
+use Rattle.vol_shared.specs.declared.lock_rule.Knowledge.{Knowledge}
+use Rattle.vol_shared.specs.declared.lock_rule.TableStart.{TableStart}
 use Rattle.vol_shared.proofs.Lists.{begins_itself, longer_first, longer_second, longer_prefix, set_there, greatest_nil, greatest_cons, greatest_push, greatest_append, greatest_set, greatest_part, greatest_all}
 use Rattle.vol_shared.proofs.Steps.{cut_of, idle, shifts}
 

@@ -23,8 +23,8 @@ use Rattle.vol_shared.specs.Lists.{BeginsWith, greatest, greatest_of}
 use Rattle.vol_shared.specs.Stored.{Stored, nothing_stored, next_number, KeepsAround, Follows, IsUnchanged, IsCut}
 use Rattle.vol_shared.specs.Rule.{hold_of, SeatFits, Locked}
 use Rattle.vol_shared.specs.Plays.{Event, nothing, receipt, cut, nobody, took, gave, FindsVolume, Took, Tries, Gives, IsAnswered, MayGive}
-use Rattle.vol_shared.specs.declared.knowledge.Knowledge.{Knowledge}
-use Rattle.vol_shared.specs.declared.knowledge.TableStart.{TableStart}
+use Rattle.vol_shared.specs.declared.lock_rule.Knowledge.{Knowledge}
+use Rattle.vol_shared.specs.declared.lock_rule.TableStart.{TableStart}
 use Rattle.vol_shared.proofs.Lists.{begins_itself, begins_same, begins_on, set_there, greatest_push, greatest_set, greatest_part}
 use Rattle.vol_shared.proofs.Agreement.{agrees_back, place_goes_on}
 

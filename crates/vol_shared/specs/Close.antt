@@ -6,8 +6,8 @@ use Rattle.count_table.specs.Sums.{total, below}
 use Rattle.vol_shared.specs.Lists.{greatest_of}
 use Rattle.vol_shared.specs.Sessions.{Known}
 use Rattle.vol_shared.specs.Stored.{Stored, next_number, Continues}
-use Rattle.vol_shared.specs.declared.knowledge.Knowledge.{Knowledge}
-use Rattle.vol_shared.specs.declared.knowledge.TableStart.{TableStart}
+use Rattle.vol_shared.specs.declared.lock_rule.Knowledge.{Knowledge}
+use Rattle.vol_shared.specs.declared.lock_rule.TableStart.{TableStart}
 
 -- the table has one word and one slot, and was made for some sessions of a volume whose next record has number `records` (this project)
 pub record IsLock (table : TableId) (key : TableStart) (records : ℕ) : Type 0 where

@@ -6,8 +6,8 @@ use Rattle.vol_receipts.specs.Agrees.{Agrees, place_of, record_of}
 use Rattle.vol_receipts.specs.declared.receipts.Receipt.{Receipt}
 use Rattle.vol_shared.specs.Lists.{BeginsWith, longer}
 use Rattle.vol_shared.specs.Stored.{Stored, nothing_stored, next_number, KeepsAround, Follows, IsUnchanged, IsCut}
-use Rattle.vol_shared.specs.declared.knowledge.Knowledge.{Knowledge}
-use Rattle.vol_shared.specs.declared.knowledge.TableStart.{TableStart}
+use Rattle.vol_shared.specs.declared.lock_rule.Knowledge.{Knowledge}
+use Rattle.vol_shared.specs.declared.lock_rule.TableStart.{TableStart}
 
 -- the result of the work on a volume that is given back: nothing, a receipt, or a cut of its journal (this project)
 pub data Event : Type 0 where

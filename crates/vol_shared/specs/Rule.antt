@@ -8,8 +8,8 @@ use Rattle.vol_volume.specs.declared.calls.Record.{Record}
 use Rattle.vol_receipts.specs.Agrees.{Agrees}
 use Rattle.vol_shared.specs.Lists.{BeginsWith, greatest, greatest_of}
 use Rattle.vol_shared.specs.Stored.{Stored, next_number, Follows}
-use Rattle.vol_shared.specs.declared.knowledge.Knowledge.{Knowledge}
-use Rattle.vol_shared.specs.declared.knowledge.TableStart.{TableStart}
+use Rattle.vol_shared.specs.declared.lock_rule.Knowledge.{Knowledge}
+use Rattle.vol_shared.specs.declared.lock_rule.TableStart.{TableStart}
 
 -- 1 for a seat that holds the volume (this project)
 abbrev pub hold_of : Knowledge → ℕ

@@ -8,7 +8,7 @@ use Rattle.vol_views.specs.History.{Reached}
 use Rattle.vol_views.specs.Logs.{number_of}
 use Rattle.vol_views.specs.Views.{book_in}
 use Rattle.vol_shared.specs.Plays.{nobody}
-use Rattle.vol_shared.specs.declared.knowledge.Knowledge.{Knowledge}
+use Rattle.vol_shared.specs.declared.lock_rule.Knowledge.{Knowledge}
 
 -- the identity of a shared volume: its table, and the log that has its records, if they are published (this project)
 pub record Identity : Type 0 where

@@ -7,9 +7,9 @@ ghost use Rattle.vol_shared.specs.Plays.{fresh};
 ghost use Rattle.vol_shared.specs.Sessions.{new_session};
 ghost use Rattle.vol_shared.specs.Stored.{Stored, next_number};
 
-use crate::knowledge::{Deal, Knowledge, Lock, OneHolder, SessionSeat, TableStart};
+use crate::lock_contents::Stock;
+use crate::lock_rule::{Deal, Knowledge, Lock, OneHolder, SessionSeat, TableStart};
 use crate::session::Session;
-use crate::stock::Stock;
 use atomic_table::{Refused, Table};
 use std::alloc::Global;
 use vol_views::LogPrefix;

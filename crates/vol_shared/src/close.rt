@@ -3,9 +3,9 @@ ghost use Rattle.std.specs.Prelude.{◌≡◌, ◌≤◌, [], ◌∷◌, length,
 ghost use Rattle.vol_shared.specs.Close.{IsGathered, IsSettled};
 
 use crate::board::Board;
-use crate::knowledge::{Gather, Lock, SessionSeat};
+use crate::lock_contents::Stock;
+use crate::lock_rule::{Gather, Lock, SessionSeat};
 use crate::session::Session;
-use crate::stock::Stock;
 
 /// Joins all sessions of a list into one seat, and adds up their accepted calls.
 pub(crate) fn gather(lock: &Lock, mut sessions: Vec<Session>) -> (SessionSeat, u128)

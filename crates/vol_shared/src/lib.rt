@@ -6,14 +6,14 @@
 mod board;
 mod close;
 mod closed;
-mod kept;
-mod knowledge;
 mod lock;
+mod lock_contents;
+mod lock_rule;
+mod made_views;
 mod publish;
 mod session;
 mod shared;
-mod stock;
-mod watch;
+mod snapshot;
 
 pub use closed::Closed;
 pub use session::Session;

@@ -2,8 +2,8 @@
 ghost use Rattle.std.specs.Prelude.{◌≡◌, ◌<◌, [], ◌∷◌, None, IfSome, IfNone, true, false};
 ghost use Rattle.vol_shared.specs.Plays.{Event, Took, MayGive, gave};
 
-use crate::knowledge::{Give, Lock, SessionSeat, Telling, Try};
-use crate::stock::Stock;
+use crate::lock_contents::Stock;
+use crate::lock_rule::{Give, Lock, SessionSeat, Telling, Try};
 use std::marker::Brand;
 use std::sync::Wait;
 use std::thread;

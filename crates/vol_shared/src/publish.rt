@@ -11,8 +11,8 @@ ghost use Rattle.vol_shared.specs.Stored.{stored_of, stored_with, next_number, I
 ghost use Rattle.vol_shared.specs.Plays.{IsAnswered};
 ghost use Rattle.vol_shared.specs.Published.{IsPublished};
 
+use crate::lock_contents::Stock;
 use crate::shared::copy_of;
-use crate::stock::Stock;
 use std::alloc::{AllocError, Global};
 use std::sync::Wait;
 use vol_dir::Refusal;

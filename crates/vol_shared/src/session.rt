@@ -4,9 +4,9 @@ ghost use Rattle.vol_receipts.specs.Agrees.{place_of, next_of};
 ghost use Rattle.vol_shared.specs.Plays.{Took};
 ghost use Rattle.vol_shared.specs.Sessions.{knowledge_of};
 
-use crate::knowledge::{Knowledge, Lock, SessionSeat};
 use crate::lock::take;
-use crate::stock::Stock;
+use crate::lock_contents::Stock;
+use crate::lock_rule::{Knowledge, Lock, SessionSeat};
 use atomic_table::Badge;
 use std::marker::Model;
 use std::mem::replace;

@@ -5,8 +5,8 @@ ghost use Rattle.vol_views.specs.LogRule.{first_log};
 ghost use Rattle.vol_views.specs.declared.history.LogEntry.TheVariants.{Made};
 
 use crate::history::LogEntry;
+use crate::log_pens::new_pen;
 use crate::log_rule::{Append, Begin, Beginning, Compare, Head, Nothing, OneOwner};
-use crate::pens::new_pen;
 use crate::seen_prefix::SeenPrefix;
 use logbook::{Offer, Pen, Seen, Start};
 use std::marker::Model;

@@ -7,9 +7,9 @@
 mod ghost_list;
 pub mod history;
 pub mod ledger;
+mod log_pens;
 pub mod log_prefix;
 mod log_rule;
-mod pens;
 pub mod published;
 mod published_rule;
 pub mod publisher;

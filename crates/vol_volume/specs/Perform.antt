@@ -16,8 +16,8 @@ use Rattle.vol_volume.specs.declared.calls.Call.{Call}
 use Rattle.vol_volume.specs.declared.calls.Call.TheVariants.{Create, Mkdir, Link, Unlink, Rmdir, Write, Truncate, Chmod, Chown, Times}
 use Rattle.vol_volume.specs.declared.calls.Done.{Done}
 use Rattle.vol_volume.specs.declared.calls.Done.TheVariants.{Made, Wrote, Plain}
-use Rattle.vol_volume.specs.declared.steps.Caller.{Caller}
-use Rattle.vol_volume.specs.declared.steps.found.EntryPlace.{EntryPlace}
+use Rattle.vol_volume.specs.declared.checked_calls.Caller.{Caller}
+use Rattle.vol_volume.specs.declared.checked_calls.found.EntryPlace.{EntryPlace}
 
 -- a path leads to directory d and a last name (Lions on namei)
 pub record LeadsToParent (geometry : Geometry) (image : List ℕ) (cred : Cred) (path : List ℕ) (d : ℕ) (name : List ℕ) : Type 0 where

@@ -3,7 +3,7 @@ ghost use Rattle.std.specs.Prelude.{◌≡◌, OnOk, IfOk};
 ghost use Rattle.std.specs.Result.{result_err};
 ghost use Rattle.vol_layout.specs.Body.{body};
 ghost use Rattle.vol_layout.specs.Geometry.{geometry_of};
-ghost use Rattle.vol_layout.specs.Names.{IsFile};
+ghost use Rattle.vol_layout.specs.BlockPointers.{IsFile};
 ghost use Rattle.vol_dir.specs.Entries.{IsDirectory, IsInUse};
 ghost use Rattle.vol_dir.specs.Tree.{tree};
 ghost use Rattle.vol_judge.specs.Sound.{IsSound};
@@ -12,9 +12,9 @@ ghost use Rattle.vol_volume.specs.Answer.{stat_of, list_tests, read_bytes, Answe
 ghost use Rattle.vol_volume.specs.Stands.{Rules3To7And9};
 ghost use Rattle.vol_volume.specs.Verdict.{first_of};
 
+use crate::checked_calls::asked::{body_tests, find_node, is_directory, is_granted, refuse_if};
+use crate::checked_calls::stands;
 use crate::queries::{Listing, Query, Reply, Stat};
-use crate::steps::asked::{body_tests, find_node, is_directory, is_granted, refuse_if};
-use crate::steps::stands;
 use pdp_words::{Bytes, Image};
 use std::alloc::{AllocError, Global};
 use vol_dir::{Access, Cred, Refusal, list_names};

@@ -7,7 +7,7 @@ ghost use Rattle.vol_volume.specs.Journal.{MayFollow};
 ghost use Rattle.vol_volume.specs.Volume.{Performs};
 
 use crate::calls::Record;
-use crate::steps::{make, may_answer, stands};
+use crate::checked_calls::{make, may_answer, stands};
 use pdp_words::Image;
 use vol_layout::Geometry;
 

@@ -4,11 +4,11 @@
 pub mod answer;
 pub mod apply_records;
 pub mod calls;
+mod checked_calls;
 pub mod image_queries;
 pub mod laws;
 pub mod queries;
 pub mod reserved;
-mod steps;
 pub mod volume;
 
 pub use answer::ask_image;

@@ -13,8 +13,8 @@ ghost use Rattle.vol_volume.specs.Volume.{IsConsistent, Accepts, mounted, after_
 
 use crate::answer::ask_image;
 use crate::calls::{Call, Done, Record};
+use crate::checked_calls::{check, make, stands};
 use crate::queries::{Query, Reply};
-use crate::steps::{check, make, stands};
 use pdp_words::Image;
 use std::alloc::{AllocError, Global};
 use std::marker::Model;

@@ -10,7 +10,7 @@ ghost use Rattle.vol_judge.specs.Directories.{HasDots};
 ghost use Rattle.vol_judge.specs.Dots.{NeedsDots, NamesItself, NamesParent, KeepsDots, KnowsDots, IsWrongDots, IsFirstDots};
 ghost use Rattle.vol_judge.specs.Finds.{Finds};
 ghost use Rattle.vol_judge.specs.InodeMarks.{IsNamed};
-ghost use Rattle.vol_judge.specs.Tree.{NotesParents};
+ghost use Rattle.vol_judge.specs.DirectoryTree.{NotesParents};
 
 use crate::entry_walk::{is_directory, marks_for};
 use crate::finding::Finding;

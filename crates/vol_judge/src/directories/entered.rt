@@ -7,7 +7,7 @@ ghost use Rattle.vol_judge.specs.EntryCounts.{HasCounts};
 ghost use Rattle.vol_judge.specs.Finds.{Finds};
 ghost use Rattle.vol_judge.specs.InodeMarks.{IsOnce};
 ghost use Rattle.vol_judge.specs.Steps.{rank, IsNextSlot};
-ghost use Rattle.vol_judge.specs.Tree.{NotesParentsBefore, NotesParents, KnowsParents, HasOnceBefore, IsEnteredAgain};
+ghost use Rattle.vol_judge.specs.DirectoryTree.{NotesParentsBefore, NotesParents, KnowsParents, HasOnceBefore, IsEnteredAgain};
 
 use crate::entry_walk::{EntryAt, EntryPosition, is_directory, marks_for, next_entry};
 use crate::finding::Finding;

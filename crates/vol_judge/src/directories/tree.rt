@@ -6,7 +6,7 @@ ghost use Rattle.vol_judge.specs.Directories.{IsTree, IsReached, root_of};
 ghost use Rattle.vol_judge.specs.Finds.{Finds};
 ghost use Rattle.vol_judge.specs.InodeMarks.{IsOnce};
 ghost use Rattle.vol_judge.specs.Reach.{AreWalked};
-ghost use Rattle.vol_judge.specs.Tree.{KnowsParents, IsEnteredAgain, IsFirstTree};
+ghost use Rattle.vol_judge.specs.DirectoryTree.{KnowsParents, IsEnteredAgain, IsFirstTree};
 
 use crate::entry_walk::is_directory;
 use crate::finding::Finding;

@@ -1,5 +1,5 @@
 use Rattle.std.proofs.Common.{◌∙◌, ap, sym, length, inl, inr}
-use Rattle.vol_layout.specs.Places.{has_places}
+use Rattle.vol_layout.specs.BlockMaps.{has_places}
 use Rattle.vol_file.proofs.Truncated.{past_all, names_none}
 use Rattle.vol_change.proofs.FreeCounts.{count_number, count_none_bare}
 use Rattle.vol_change.proofs.FreedNodes.{truncated_list, truncated_whole, truncated_only}

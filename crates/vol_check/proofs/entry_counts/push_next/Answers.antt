@@ -3,7 +3,7 @@ use Rattle.std.specs.List.{sum_by}
 use Rattle.std.proofs.lemmas.List.Elements.{All-push}
 use Rattle.std.proofs.lemmas.List.Sums.{sum_by_push}
 use Rattle.vol_layout.specs.Geometry.{in_zone}
-use Rattle.vol_layout.specs.Names.{form_at, stored, block_named}
+use Rattle.vol_layout.specs.BlockPointers.{form_at, stored, block_named}
 use Rattle.vol_dir.proofs.ReadSlots.{number_named}
 use Rattle.vol_check.specs.declared.checker.Checker.TheVariants.{Entries}
 use Rattle.vol_check.specs.Levels.{IsNamed, by_times}

@@ -1,7 +1,7 @@
 use Rattle.std.proofs.Common.{◌≡◌, ◌+◌, sym, ap, arith, ◌∙◌}
 use Rattle.vol_layout.specs.Inode.{inode_place, address_at}
-use Rattle.vol_layout.specs.Names.{form_at}
-use Rattle.vol_layout.specs.Places.{form_of, first_count, levels}
+use Rattle.vol_layout.specs.BlockPointers.{form_at}
+use Rattle.vol_layout.specs.BlockMaps.{form_of, first_count, levels}
 use Rattle.vol_file.specs.Changes.{blocks_of}
 use Rattle.vol_judge.specs.Marks.{blocks_from}
 use Rattle.vol_judge.proofs.FileBlocks.{address_blocks}

@@ -1,5 +1,5 @@
 use Rattle.std.proofs.Common.{◌+◌, ◌*◌, All}
-use Rattle.vol_layout.specs.Names.{pointer_in}
+use Rattle.vol_layout.specs.BlockPointers.{pointer_in}
 use Rattle.vol_judge.specs.Marks.{blocks_from}
 use Rattle.count_table.specs.Sums.{total, below}
 use Rattle.vol_check.specs.Pieces.{place_weight}

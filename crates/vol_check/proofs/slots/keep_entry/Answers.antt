@@ -6,7 +6,7 @@ use Rattle.vol_dir.specs.Names.{is_dots}
 use Rattle.vol_judge.specs.Steps.{rank}
 use Rattle.vol_reports.specs.Words.{name_word}
 use Rattle.vol_reports.specs.Placed.{placed}
-use Rattle.vol_reports.specs.Names.{entered}
+use Rattle.vol_reports.specs.Ncheck.{entered}
 use Rattle.vol_check.specs.Slots.{name_weight}
 use Rattle.vol_check.proofs.AddedMarks.{adds_as}
 use Rattle.vol_check.proofs.Noted.{notes_none}

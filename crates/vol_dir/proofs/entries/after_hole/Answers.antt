@@ -1,5 +1,5 @@
 use Rattle.std.proofs.Common.{◌≡◌, ◌≢◌, ◌∙◌, ◌+◌, ◌*◌, ◌/◌, ◌%◌, ◌<◌, ap, arith, None, false, refl}
-use Rattle.vol_layout.specs.Names.{form_at, stored}
+use Rattle.vol_layout.specs.BlockPointers.{form_at, stored}
 use Rattle.vol_layout.proofs.NameLaws.{zero_out}
 use Rattle.vol_dir.specs.Entries.{entry_at, slot_count}
 use Rattle.vol_dir.specs.Search.{is_sought}

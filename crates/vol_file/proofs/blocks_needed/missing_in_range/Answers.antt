@@ -1,5 +1,5 @@
 use Rattle.std.proofs.Common.{◌≡◌, ◌≤◌, ◌⊎◌, ◌∙◌, ap, sym, inl, inr, refl, arith}
-use Rattle.vol_layout.specs.Places.{block_limit}
+use Rattle.vol_layout.specs.BlockMaps.{block_limit}
 use Rattle.vol_file.specs.Shape.{is_named}
 use Rattle.vol_file.specs.MissingBlocks.{grown_form, grown_names}
 use Rattle.vol_file.proofs.MissingLaws.{missing_start, missing_more, missing_limit}

@@ -1,6 +1,6 @@
 use Rattle.std.proofs.Common.{◌≡◌, ◌+◌, ◌≤◌}
-use Rattle.vol_layout.specs.Names.{named}
-use Rattle.vol_layout.specs.Places.{place_to}
+use Rattle.vol_layout.specs.BlockPointers.{named}
+use Rattle.vol_layout.specs.BlockMaps.{place_to}
 use Rattle.vol_file.specs.Shape.{is_named}
 use Rattle.vol_file.specs.MissingBlocks.{missing_to}
 use Rattle.vol_file.proofs.blocks_needed.missing_on_way.Given as goal

@@ -1,5 +1,5 @@
 use Rattle.std.proofs.Common.{◌≡◌, ◌+◌, ◌≤◌}
-use Rattle.vol_layout.specs.Places.{place_to}
+use Rattle.vol_layout.specs.BlockMaps.{place_to}
 use Rattle.vol_file.specs.Shape.{is_named, moved_down}
 use Rattle.vol_file.specs.MissingBlocks.{missing_to}
 use Rattle.vol_file.proofs.blocks_needed.missing_once_large.Given as goal

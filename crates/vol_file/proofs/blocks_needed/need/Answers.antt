@@ -1,6 +1,6 @@
 use Rattle.std.proofs.Common.{◌≡◌, ℕ, ◌+◌, ◌-◌, ◌/◌, ◌≤◌, ◌∙◌, ap, sym, refl, arith, rules, List, Bool, if◌then◌else◌}
-use Rattle.vol_layout.specs.Names.{form_at}
-use Rattle.vol_layout.specs.Places.{form_of}
+use Rattle.vol_layout.specs.BlockPointers.{form_at}
+use Rattle.vol_layout.specs.BlockMaps.{form_of}
 use Rattle.vol_layout.specs.declared.block_map.BlockMap.{BlockMap}
 use Rattle.vol_file.specs.Shape.{is_named, touched}
 use Rattle.vol_file.specs.Need.{need_of}

@@ -2,8 +2,8 @@ use Rattle.std.proofs.Common.{◌+◌, ◌-◌, ◌<◌, ◌*◌, ◌≤◌, ◌
 use Rattle.std.proofs.Math.Nat.{mul-le-mul}
 use Rattle.vol_layout.specs.Edition.{constants}
 use Rattle.vol_layout.specs.Inode.{address_at, inode_place}
-use Rattle.vol_layout.specs.Names.{pointer_in}
-use Rattle.vol_layout.specs.Places.{end_of}
+use Rattle.vol_layout.specs.BlockPointers.{pointer_in}
+use Rattle.vol_layout.specs.BlockMaps.{end_of}
 use Rattle.vol_file.specs.Holes.{IsHole, blocks_left}
 use Rattle.vol_file.proofs.Subtrees.{stored_direct, hole_at_entries, hole_past, few_entries, few_pointers, low_block}
 use Rattle.vol_file.proofs.holes.hole_end.Goals as goal

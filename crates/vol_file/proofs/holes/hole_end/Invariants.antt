@@ -1,6 +1,6 @@
 use Rattle.std.proofs.Common.{◌≡◌}
-use Rattle.vol_layout.specs.Names.{named}
-use Rattle.vol_layout.specs.Places.{place_to}
+use Rattle.vol_layout.specs.BlockPointers.{named}
+use Rattle.vol_layout.specs.BlockMaps.{place_to}
 use Rattle.vol_file.proofs.holes.hole_end.Given as goal
 
 -- the block that the first d entries lead to

@@ -2,7 +2,7 @@ use Rattle.std.proofs.Common.{◌≡◌, ℕ, List, get_or, slice_index, zero, s
 use Rattle.std.proofs.Math.Nat.{pow-suc, mul-le-mul}
 use Rattle.vol_layout.specs.Edition.{constants}
 use Rattle.vol_layout.specs.declared.edition.Constants.{Constants}
-use Rattle.vol_layout.specs.Places.{place_to}
+use Rattle.vol_layout.specs.BlockMaps.{place_to}
 use Rattle.vol_file.specs.Holes.{blocks_left}
 use Rattle.vol_file.proofs.Subtrees.{few_pointers}
 use Rattle.vol_file.proofs.holes.left_below.Goals as goal

@@ -1,4 +1,4 @@
-use Rattle.vol_layout.specs.Names.{form_at}
+use Rattle.vol_layout.specs.BlockPointers.{form_at}
 use Rattle.vol_file.specs.Shape.{is_named}
 use Rattle.vol_file.proofs.MissingLaws.{count_blocks, need_nothing}
 use Rattle.vol_file.proofs.laws.need_is_counted_by_blocks.Goals as goal

@@ -1,6 +1,6 @@
 use Rattle.std.proofs.Common.{◌≡◌, ◌+◌, ◌/◌, ◌∙◌, ap, sym, subst, arith, refl}
-use Rattle.vol_layout.specs.Names.{form_at, stored}
-use Rattle.vol_layout.specs.Places.{form_of}
+use Rattle.vol_layout.specs.BlockPointers.{form_at, stored}
+use Rattle.vol_layout.specs.BlockMaps.{form_of}
 use Rattle.vol_file.specs.Steps.{Rewrites, zeros_at}
 use Rattle.vol_file.proofs.Bytes.{rewrites_then, rewrites_none, hole_zero}
 use Rattle.vol_file.proofs.pieces.clear_between.Goals as goal

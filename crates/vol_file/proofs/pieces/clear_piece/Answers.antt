@@ -1,6 +1,6 @@
 use Rattle.std.proofs.Common.{◌≡◌, ◌+◌, ◌*◌, ◌/◌, ◌%◌, true, ap, sym, ◌∙◌, arith}
 use Rattle.vol_layout.specs.Geometry.{in_zone}
-use Rattle.vol_layout.specs.Names.{form_at, stored}
+use Rattle.vol_layout.specs.BlockPointers.{form_at, stored}
 use Rattle.vol_layout.proofs.BodyLaws.{zone_room}
 use Rattle.vol_file.specs.Steps.{zeros_at}
 use Rattle.vol_file.proofs.Bytes.{rewrites_stored, rewrites_none, hole_zero, stored_zone}

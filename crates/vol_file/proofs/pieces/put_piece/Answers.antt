@@ -1,6 +1,6 @@
 use Rattle.std.proofs.Common.{◌≡◌, ◌+◌, ◌*◌, ◌/◌, ◌%◌, true, length, get_or, ap, sym, ◌∙◌}
 use Rattle.vol_layout.specs.Geometry.{in_zone}
-use Rattle.vol_layout.specs.Names.{form_at, stored}
+use Rattle.vol_layout.specs.BlockPointers.{form_at, stored}
 use Rattle.vol_layout.proofs.BodyLaws.{get_or-slice_range}
 use Rattle.vol_file.proofs.Bytes.{rewrites_stored}
 use Rattle.vol_file.proofs.pieces.put_piece.Goals as goal

@@ -1,7 +1,7 @@
 use Rattle.std.proofs.Common.{◌≡◌, ℕ, ◌+◌, ◌-◌, ◌*◌, ◌/◌, ◌<◌, ◌≤◌, ◌∙◌, sym, ap, subst, true, slice_index, arith}
 use Rattle.vol_layout.specs.Edition.{constants}
 use Rattle.vol_layout.specs.Geometry.{in_zone}
-use Rattle.vol_layout.specs.Names.{pointer_in}
+use Rattle.vol_layout.specs.BlockPointers.{pointer_in}
 use Rattle.vol_layout.proofs.NameLaws.{entry_in, entry_out}
 use Rattle.vol_file.proofs.ZeroNumbers.{zeros_before, some_at, found_within}
 use Rattle.vol_file.proofs.pointers.next_pointer.Goals as goal

@@ -1,5 +1,5 @@
 use Rattle.std.proofs.Common.{◌≡◌, ◌+◌, ◌-◌, ◌/◌, ◌%◌, ◌<◌, ◌≤◌, take, drop, length, length-take, length-drop, arith, ap, subst, ◌∙◌}
-use Rattle.vol_layout.specs.Names.{form_at, stored}
+use Rattle.vol_layout.specs.BlockPointers.{form_at, stored}
 use Rattle.vol_layout.specs.Body.{zone_byte, body_byte}
 use Rattle.vol_file.specs.Runs.{LooksUp}
 use Rattle.vol_file.proofs.ReadingLaws.{zone_byte-body, written_on}

@@ -1,8 +1,8 @@
 use Rattle.std.proofs.Common.{◌≡◌, ◌≤◌, ◌∙◌, ◌-◌, ap, sym, subst, refl, arith, slice_index}
 use Rattle.std.proofs.Math.Nat.{pow-zero}
 use Rattle.vol_layout.specs.Edition.{constants}
-use Rattle.vol_layout.specs.Names.{form_at, named, pointer_in}
-use Rattle.vol_layout.specs.Places.{form_of, block_limit, last_place, place_to}
+use Rattle.vol_layout.specs.BlockPointers.{form_at, named, pointer_in}
+use Rattle.vol_layout.specs.BlockMaps.{form_of, block_limit, last_place, place_to}
 use Rattle.vol_file.specs.Repeats.{MarksPassed, PassesBelow}
 use Rattle.vol_file.proofs.Indexes.{named_more}
 use Rattle.vol_file.proofs.RepeatedNumbers.{passes_stored}

@@ -1,7 +1,7 @@
 use Rattle.std.proofs.Common.{◌≡◌, ℕ, ◌<◌, ◌≤◌, true}
 use Rattle.std.specs.Prelude.{Bool}
-use Rattle.vol_layout.specs.Names.{named, form_at, stored}
-use Rattle.vol_layout.specs.Places.{place_to}
+use Rattle.vol_layout.specs.BlockPointers.{named, form_at, stored}
+use Rattle.vol_layout.specs.BlockMaps.{place_to}
 use Rattle.vol_file.specs.Repeats.{MarksPassed}
 use Rattle.vol_file.proofs.repeats.mark_passed.Given as goal
 

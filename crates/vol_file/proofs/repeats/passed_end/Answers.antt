@@ -1,6 +1,6 @@
 use Rattle.std.proofs.Common.{◌≡◌, ◌∙◌, ◌-◌, ◌+◌, ◌<◌, ap, sym, subst, refl, arith}
-use Rattle.vol_layout.specs.Names.{form_at, named}
-use Rattle.vol_layout.specs.Places.{form_of, last_place, place_to}
+use Rattle.vol_layout.specs.BlockPointers.{form_at, named}
+use Rattle.vol_layout.specs.BlockMaps.{form_of, last_place, place_to}
 use Rattle.vol_file.specs.Repeats.{PassesBelow}
 use Rattle.vol_file.proofs.RepeatedNumbers.{stored_passes}
 use Rattle.vol_file.proofs.Subtrees.{few_entries, low_block}

@@ -1,7 +1,7 @@
 use Rattle.std.proofs.Common.{◌≡◌, ◌+◌, ◌-◌, ◌≤◌, ◌∙◌, ap, sym, arith, slice_index}
 use Rattle.vol_layout.specs.Edition.{constants}
 use Rattle.vol_layout.specs.declared.edition.Constants.{Constants}
-use Rattle.vol_layout.specs.Names.{pointer_in, stored}
+use Rattle.vol_layout.specs.BlockPointers.{pointer_in, stored}
 use Rattle.vol_file.specs.Holes.{direct_count}
 use Rattle.vol_file.specs.Runs.{number_from}
 use Rattle.vol_file.specs.declared.runs.PointerRun.TheVariants.{Inode}

@@ -1,5 +1,5 @@
 use Rattle.std.proofs.Common.{◌<◌, sym, subst, arith}
-use Rattle.vol_layout.specs.Places.{block_limit}
+use Rattle.vol_layout.specs.BlockMaps.{block_limit}
 use Rattle.vol_layout.proofs.PlaceLaws.{last_none}
 use Rattle.vol_file.proofs.Lasts.{way_wanted, way_named, way_next, may_first, may_next}
 use Rattle.vol_file.proofs.take_blocks.name_way.Goals as goal

@@ -1,5 +1,5 @@
 use Rattle.std.proofs.Common.{ℕ, Bool, List}
-use Rattle.vol_layout.specs.Places.{place_to}
+use Rattle.vol_layout.specs.BlockMaps.{place_to}
 use Rattle.vol_file.specs.Steps.{Reaches, WantsWay}
 use Rattle.vol_file.proofs.take_blocks.name_way.Given as goal
 

@@ -1,7 +1,7 @@
 use Rattle.std.proofs.Common.{◌≡◌, ◌-◌, ◌*◌, ◌/◌, ◌^◌, ◌≤◌, arith, sym, ap, subst, ◌∙◌, ◌∷◌}
 use Rattle.std.proofs.Math.Nat.{one-le-pow}
 use Rattle.vol_layout.specs.Edition.{constants, number}
-use Rattle.vol_layout.specs.Names.{form_at}
+use Rattle.vol_layout.specs.BlockPointers.{form_at}
 use Rattle.vol_file.specs.Clears.{ClearsBelow}
 use Rattle.vol_file.proofs.FirstBlocks.{levels_few, some_edition}
 use Rattle.vol_file.proofs.Nodes.{below_none, entries_start, entries_end, entries_room, entries_none, entries_node, entries_entry, entries_part, entries_some}

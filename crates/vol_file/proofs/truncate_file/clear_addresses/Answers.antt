@@ -1,7 +1,7 @@
 use Rattle.std.proofs.Common.{◌≡◌, ◌-◌, ◌≤◌, arith, sym, ap, subst, ◌∙◌}
 use Rattle.vol_layout.specs.Inode.{inode_place, address_at}
-use Rattle.vol_layout.specs.Names.{form_at}
-use Rattle.vol_layout.specs.Places.{first_count, levels}
+use Rattle.vol_layout.specs.BlockPointers.{form_at}
+use Rattle.vol_layout.specs.BlockMaps.{first_count, levels}
 use Rattle.vol_file.specs.Clears.{first_at, IsNamedAtLevel, ClearsBelow}
 use Rattle.vol_file.proofs.Nodes.{addresses_start, addresses_end, addresses_none, addresses_node, addresses_address, addresses_part, addresses_some}
 use Rattle.vol_file.proofs.FreedCounts.{gains_none, step_few, step_part, step_gains, zone_some}

@@ -1,6 +1,6 @@
 use Rattle.std.proofs.Common.{◌≤◌}
-use Rattle.vol_layout.specs.Names.{form_at}
-use Rattle.vol_layout.specs.Places.{first_count}
+use Rattle.vol_layout.specs.BlockPointers.{form_at}
+use Rattle.vol_layout.specs.BlockMaps.{first_count}
 use Rattle.vol_file.specs.Clears.{Gains}
 use Rattle.vol_file.proofs.Nodes.{ClearsAddresses}
 use Rattle.vol_file.proofs.truncate_file.clear_addresses.Given as goal

@@ -1,5 +1,5 @@
 use Rattle.std.proofs.Common.{◌∙◌}
-use Rattle.vol_layout.specs.Names.{mode_of}
+use Rattle.vol_layout.specs.BlockPointers.{mode_of}
 use Rattle.vol_file.proofs.Truncated.{emptied_to, shortened, given_count, ends_v6, mode_v7, mode_left}
 use Rattle.vol_file.proofs.truncate_file.truncate.Goals as goal
 

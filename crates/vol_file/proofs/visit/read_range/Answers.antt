@@ -3,7 +3,7 @@ use Rattle.std.specs.List.{range_with_len}
 use Rattle.std.proofs.lemmas.List.{get_or-replicate}
 use Rattle.std.proofs.lemmas.Fn.{FoldsTo-push}
 use Rattle.vol_layout.specs.Body.{zone_byte}
-use Rattle.vol_layout.specs.Names.{form_at, stored}
+use Rattle.vol_layout.specs.BlockPointers.{form_at, stored}
 use Rattle.vol_layout.proofs.BodyLaws.{body_byte_at}
 use Rattle.vol_file.specs.Runs.{LooksUp}
 use Rattle.vol_file.specs.Visits.{IsBlock, Visits}

@@ -1,6 +1,6 @@
 use Rattle.std.proofs.Common.{◌≡◌, ◌≤◌, true, ◌∷◌, ap, sym, subst, ◌∙◌, arith}
 use Rattle.vol_layout.specs.Inode.{kind_of, is_large, with_large}
-use Rattle.vol_layout.specs.Names.{mode_of}
+use Rattle.vol_layout.specs.BlockPointers.{mode_of}
 use Rattle.vol_layout.specs.declared.edition.Edition.TheVariants.{V6}
 use Rattle.vol_layout.proofs.BodyLaws.{zone_room}
 use Rattle.vol_file.specs.Rules.{Rules3To7With}

@@ -1,7 +1,7 @@
 use Rattle.std.proofs.Common.{◌≡◌, ◌-◌, ◌<◌, ◌≤◌, if◌then◌else◌, ap, sym, subst, ◌∙◌, arith}
 use Rattle.std.specs.List.{range_with_len}
-use Rattle.vol_layout.specs.Places.{form_of, block_limit}
-use Rattle.vol_layout.specs.Names.{mode_of, form_at}
+use Rattle.vol_layout.specs.BlockMaps.{form_of, block_limit}
+use Rattle.vol_layout.specs.BlockPointers.{mode_of, form_at}
 use Rattle.vol_layout.specs.declared.block_map.BlockMap.TheVariants.{Small, Large}
 use Rattle.vol_file.specs.Shape.{is_named, is_on_ways}
 use Rattle.vol_file.proofs.FilledPaths.{grows_small, grows_few, wants_plain, fills_plain, wants_large, fills_large, grows_not, grows_then, limit_of, limit_large, enlarged_file, room_some}

@@ -1,6 +1,6 @@
 use Rattle.std.proofs.Common.{◌+◌, ◌-◌, ◌/◌, ◌≤◌, length, sym, subst, ◌∙◌, arith}
 use Rattle.std.specs.List.{range_with_len}
-use Rattle.vol_layout.specs.Places.{block_limit}
+use Rattle.vol_layout.specs.BlockMaps.{block_limit}
 use Rattle.vol_layout.specs.declared.block_map.BlockMap.TheVariants.{Small}
 use Rattle.vol_file.proofs.StoredNames.{file_same}
 use Rattle.vol_file.proofs.Whole.{touched_run, run_room, fills_zone, writes, some_length}

@@ -8,7 +8,7 @@ use Rattle.vol_judge.specs.Marks.{MarksZone}
 use Rattle.vol_judge.specs.SharedBlocks.{IsFirstTwice}
 use Rattle.vol_judge.specs.Sound.{IsFreeApart}
 use Rattle.vol_judge.specs.declared.free_list.FreeStack.{FreeStack}
-use Rattle.vol_judge.specs.Zones.{IsFirstOutside}
+use Rattle.vol_judge.specs.OutsideBlocks.{IsFirstOutside}
 use Rattle.vol_findings.specs.Outcomes.{Says}
 use Rattle.vol_findings.specs.declared.outcome.RuleOutcome.TheVariants.{Holds}
 use Rattle.vol_findings.proofs.OutcomeLaws.{said_as}

@@ -5,7 +5,7 @@ use Rattle.vol_judge.specs.Directories.{IsTree, HasLinks}
 use Rattle.vol_judge.specs.Entries.{IsFirstEntry}
 use Rattle.vol_judge.specs.INodes.{IsFirstKind, IsFirstSize}
 use Rattle.vol_judge.specs.Links.{IsFirstLink}
-use Rattle.vol_judge.specs.Tree.{IsFirstTree}
+use Rattle.vol_judge.specs.DirectoryTree.{IsFirstTree}
 use Rattle.vol_findings.proofs.OutcomeLaws.{said_as}
 use Rattle.vol_findings.proofs.outcome.check_volume.Goals as goal
 

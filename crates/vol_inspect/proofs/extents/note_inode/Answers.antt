@@ -1,6 +1,6 @@
 use Rattle.std.proofs.Common.{◌≡◌, ◌+◌, ◌<◌, ◌≤◌, [], ◌∷◌, sym, ap, arith, ◌∙◌}
-use Rattle.vol_layout.specs.Names.{form_at}
-use Rattle.vol_layout.specs.Places.{form_of, first_count, levels}
+use Rattle.vol_layout.specs.BlockPointers.{form_at}
+use Rattle.vol_layout.specs.BlockMaps.{form_of, first_count, levels}
 use Rattle.vol_file.specs.Clears.{first_at}
 use Rattle.vol_file.proofs.FirstBlocks.{levels_few}
 use Rattle.vol_inspect.specs.Extents.{holdings_from, address_holdings, holdings}

@@ -2,7 +2,7 @@ use Rattle.std.proofs.Common.{◌≡◌, ◌++◌, ◌-◌, ◌≤◌, codes, de
 use Rattle.std.specs.Prelude.{slice_index}
 use Rattle.std.specs.String.{string_bytes}
 use Rattle.std.proofs.lemmas.List.{append-nil}
-use Rattle.vol_layout.specs.Places.{place_to}
+use Rattle.vol_layout.specs.BlockMaps.{place_to}
 use Rattle.vol_inspect.specs.OwnerTexts.{pointers_text}
 use Rattle.vol_inspect.proofs.Pointers.{cut_all, cut_way, pointers_more, pointers_none}
 use Rattle.vol_inspect.proofs.owner_texts.push_pointers.Goals as goal

@@ -1,6 +1,6 @@
 use Rattle.std.proofs.Common.{◌≡◌, ◌++◌}
 use Rattle.std.specs.String.{string_bytes}
-use Rattle.vol_layout.specs.Places.{place_to}
+use Rattle.vol_layout.specs.BlockMaps.{place_to}
 use Rattle.vol_inspect.specs.OwnerTexts.{pointers_text}
 use Rattle.vol_inspect.proofs.owner_texts.push_pointers.Given as goal
 

@@ -1,8 +1,8 @@
 use Rattle.std.proofs.Common.{◌≡◌, ◌+◌, ◌++◌, ap, ◌∙◌, arith, refl}
 use Rattle.std.specs.List.{flat_map, range_with_len}
 use Rattle.vol_reports.proofs.Ranges.{appended_more}
-use Rattle.vol_layout.specs.Names.{form_at}
-use Rattle.vol_layout.specs.Places.{form_of}
+use Rattle.vol_layout.specs.BlockPointers.{form_at}
+use Rattle.vol_layout.specs.BlockMaps.{form_of}
 use Rattle.vol_inspect.specs.Owners.{naming, node_owners, owner_by}
 use Rattle.vol_inspect.proofs.owners.push_nodes.Goals as goal
 

@@ -1,6 +1,6 @@
 use Rattle.std.proofs.Common.{◌≡◌, ◌++◌}
 use Rattle.std.specs.List.{flat_map, range_with_len}
-use Rattle.vol_layout.specs.Names.{form_at}
+use Rattle.vol_layout.specs.BlockPointers.{form_at}
 use Rattle.vol_inspect.specs.Owners.{AreDead, naming, owner_by}
 use Rattle.vol_inspect.proofs.owners.push_nodes.Given as goal
 

@@ -1,7 +1,7 @@
 use Rattle.std.proofs.Common.{◌≡◌, ◌+◌, ◌-◌, sym, ap, arith, ◌∙◌, false, true}
 use Rattle.vol_layout.specs.Edition.{constants}
 use Rattle.vol_layout.specs.Geometry.{in_zone}
-use Rattle.vol_layout.specs.Names.{pointer_in}
+use Rattle.vol_layout.specs.BlockPointers.{pointer_in}
 use Rattle.vol_layout.proofs.NameLaws.{entry_in}
 use Rattle.vol_inspect.specs.PlaceCounts.{found_at}
 use Rattle.vol_inspect.proofs.Found.{here_at, below, below_none, below_more, found_out, found_leaf, found_deep}

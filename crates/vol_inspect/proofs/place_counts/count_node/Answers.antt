@@ -1,8 +1,8 @@
 use Rattle.std.proofs.Common.{◌≡◌, ◌+◌, ℕ, sym, ap, arith, ◌∙◌, refl}
 use Rattle.std.specs.List.{sum_by, range_with_len}
 use Rattle.vol_layout.specs.Inode.{inode_place, address_at}
-use Rattle.vol_layout.specs.Names.{form_at}
-use Rattle.vol_layout.specs.Places.{form_of, first_count, levels}
+use Rattle.vol_layout.specs.BlockPointers.{form_at}
+use Rattle.vol_layout.specs.BlockMaps.{form_of, first_count, levels}
 use Rattle.vol_inspect.specs.PlaceCounts.{found_at, node_count}
 use Rattle.vol_inspect.proofs.Found.{sum_more}
 use Rattle.vol_inspect.proofs.Named.{node_is}

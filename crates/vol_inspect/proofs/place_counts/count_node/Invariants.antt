@@ -1,7 +1,7 @@
 use Rattle.std.specs.List.{sum_by, range_with_len}
 use Rattle.vol_layout.specs.Inode.{inode_place, address_at}
-use Rattle.vol_layout.specs.Places.{levels}
-use Rattle.vol_layout.specs.Names.{form_at}
+use Rattle.vol_layout.specs.BlockMaps.{levels}
+use Rattle.vol_layout.specs.BlockPointers.{form_at}
 use Rattle.vol_inspect.specs.PlaceCounts.{Counts, IsTally, found_at}
 use Rattle.vol_inspect.proofs.place_counts.count_node.Given as goal
 

@@ -3,7 +3,7 @@ use mir.Val.{bool_byte}
 use Rattle.std.specs.List.{count_by, range_with_len}
 use Rattle.vol_layout.specs.declared.mode.Kind.TheVariants as kinds
 use Rattle.vol_file.specs.Rules.{kind_at}
-use Rattle.vol_reports.specs.Blocks.{is_kind, kind_count}
+use Rattle.vol_reports.specs.Icheck.{is_kind, kind_count}
 use Rattle.vol_reports.proofs.Ranges.{counted_more}
 use Rattle.vol_inspect.proofs.super_report.free_inodes.Goals as goal
 

@@ -2,7 +2,7 @@ use Rattle.std.proofs.Common.{◌≡◌, ◌≤◌}
 use Rattle.std.specs.List.{count_by, range_with_len}
 use Rattle.vol_layout.specs.declared.mode.Kind.TheVariants as kinds
 use Rattle.vol_file.specs.Rules.{kind_at}
-use Rattle.vol_reports.specs.Blocks.{is_kind}
+use Rattle.vol_reports.specs.Icheck.{is_kind}
 use Rattle.vol_inspect.proofs.super_report.free_inodes.Given as goal
 
 -- the free i-nodes so far are counted

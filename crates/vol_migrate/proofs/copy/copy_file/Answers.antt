@@ -1,6 +1,6 @@
 -- Holes are carried as they are, and each stored block is carried.
 use Rattle.std.proofs.Common.{◌≡◌, ◌∙◌, ap, subst, ◌+◌, arith}
-use Rattle.vol_layout.specs.Names.{form_at}
+use Rattle.vol_layout.specs.BlockPointers.{form_at}
 use Rattle.vol_file.specs.Changes.{whole_blocks}
 use Rattle.vol_file.specs.Holes.{IsNextStored}
 use Rattle.vol_file.specs.Rules.{size_of}

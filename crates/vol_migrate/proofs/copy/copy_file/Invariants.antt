@@ -1,6 +1,6 @@
 -- All blocks before the next that has one are carried.
 use Rattle.std.proofs.Common.{◌≢◌, ◌-◌, ◌≤◌, ◌<◌}
-use Rattle.vol_layout.specs.Names.{form_at, stored}
+use Rattle.vol_layout.specs.BlockPointers.{form_at, stored}
 use Rattle.vol_file.specs.Runs.{LooksUp}
 use Rattle.vol_migrate.specs.Stages.{CarriesTo}
 use Rattle.vol_migrate.proofs.copy.copy_file.Given as goal

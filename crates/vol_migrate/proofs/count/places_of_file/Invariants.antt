@@ -1,6 +1,6 @@
 -- The places of the logical blocks that were passed are counted, and the next is known.
 use Rattle.std.proofs.Common.{◌≡◌, ◌-◌, ◌*◌, ◌≤◌, true}
-use Rattle.vol_layout.specs.Names.{form_at}
+use Rattle.vol_layout.specs.BlockPointers.{form_at}
 use Rattle.vol_file.specs.Holes.{IsNextStored}
 use Rattle.vol_file.specs.Runs.{LooksUp}
 use Rattle.vol_dir.specs.Tree.{shapes}

@@ -1,6 +1,6 @@
 use Rattle.std.proofs.Common.{◌≡◌, ◌+◌, [], length, sym, ap, ◌∙◌}
 use Rattle.vol_judge.specs.Directories.{root_of}
-use Rattle.vol_reports.specs.Names.{path_up}
+use Rattle.vol_reports.specs.Ncheck.{path_up}
 use Rattle.vol_reports.specs.Climb.{naming_in}
 use Rattle.vol_reports.proofs.Climbs.{climbs_first, climbs_more, climbs_end, climbs_root, climbs_fall}
 use Rattle.vol_reports.proofs.climb.climb.Goals as goal

@@ -1,5 +1,5 @@
 use Rattle.std.proofs.Common.{◌≡◌, length, ◌++◌, ap, sym, ◌∙◌, append_assoc, append-nil}
-use Rattle.vol_reports.specs.Names.{slashed}
+use Rattle.vol_reports.specs.Ncheck.{slashed}
 use Rattle.vol_reports.specs.Climb.{trail}
 use Rattle.vol_reports.proofs.Climbs.{trail_push, trail_none}
 use Rattle.vol_reports.proofs.climb.push_names.Goals as goal

@@ -2,7 +2,7 @@ use Rattle.std.proofs.Common.{◌≡◌, ◌<◌, [], ◌∷◌, ◌∙◌, sym,
 use Rattle.atomic_table.specs.Table.{Me, step, rest}
 use Rattle.vol_shared.specs.Plays.{MayGive, gave}
 use Rattle.vol_shared.specs.Stored.{Stored}
-use Rattle.vol_shared.specs.declared.knowledge.Knowledge.{Knowledge}
+use Rattle.vol_shared.specs.declared.lock_rule.Knowledge.{Knowledge}
 use Rattle.vol_shared.proofs.Steps.{gives_back, slot_is}
 use Rattle.vol_shared.proofs.lock.give.Goals as goal
 

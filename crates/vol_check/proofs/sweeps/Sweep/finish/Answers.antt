@@ -2,9 +2,9 @@ use Rattle.std.proofs.Common.{◌≡◌, ◌∙◌, sym, ap, subst, ℕ, List, A
 use Rattle.std.proofs.lemmas.Result.{IfOk-weaker}
 use Rattle.count_table.specs.Tallies.{table_shape, items_of}
 use Rattle.vol_reports.specs.Reports.{block_report_of, entry_report_of, IsNameReportOf}
-use Rattle.vol_reports.specs.Blocks.{block_lines}
-use Rattle.vol_reports.specs.Entries.{entry_lines}
-use Rattle.vol_reports.specs.Names.{IsNameLines}
+use Rattle.vol_reports.specs.Icheck.{block_lines}
+use Rattle.vol_reports.specs.Dcheck.{entry_lines}
+use Rattle.vol_reports.specs.Ncheck.{IsNameLines}
 use Rattle.vol_reports.specs.Counted.{CountsBlocks, CountsEntries, CountsNames, HasLinkCounts}
 use Rattle.vol_check.specs.declared.checker.Checker.{Checker}
 use Rattle.vol_check.specs.declared.checker.Checker.TheVariants.{Blocks, Entries, Names}

@@ -1,7 +1,7 @@
 use Rattle.std.proofs.Common.{◌≡◌, ◌∙◌, ◌+◌, ◌*◌, ◌<◌, ◌≤◌, sym, ap, false, refl, arith}
 use Rattle.count_table.proofs.Totals.{below_more, below_none}
 use Rattle.vol_layout.specs.Geometry.{in_zone}
-use Rattle.vol_layout.specs.Names.{form_at, stored}
+use Rattle.vol_layout.specs.BlockPointers.{form_at, stored}
 use Rattle.vol_layout.specs.Slot.{slot_at}
 use Rattle.vol_layout.proofs.NameLaws.{zero_out}
 use Rattle.vol_dir.specs.Entries.{entry_in, entry_at, slot_count}

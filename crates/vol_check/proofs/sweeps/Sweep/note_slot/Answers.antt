@@ -5,7 +5,7 @@ use Rattle.count_table.specs.Views.{mark}
 use Rattle.vol_dir.specs.Entries.{entry_in}
 use Rattle.vol_reports.specs.Words.{entry_word}
 use Rattle.vol_reports.specs.Placed.{Placed}
-use Rattle.vol_reports.specs.Names.{entered}
+use Rattle.vol_reports.specs.Ncheck.{entered}
 use Rattle.vol_check.specs.declared.checker.Checker.{Checker}
 use Rattle.vol_check.specs.Slots.{slot_weight, slot_kept, entry_weight, name_weight}
 use Rattle.vol_check.specs.Notes.{Notes}

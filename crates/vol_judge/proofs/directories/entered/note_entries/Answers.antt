@@ -2,7 +2,7 @@ use Rattle.std.proofs.Common.{◌≡◌, ◌<◌, take, drop, ◌++◌, get_or, 
 use Rattle.std.proofs.lemmas.Grind.{common_steps}
 use Rattle.std.proofs.lemmas.List.{get_or_read_under}
 use Rattle.vol_judge.specs.Steps.{rank}
-use Rattle.vol_judge.specs.Tree.{NotesParentsBefore}
+use Rattle.vol_judge.specs.DirectoryTree.{NotesParentsBefore}
 use Rattle.vol_judge.proofs.Counts.{last_low, counts_first, counts_next, counts_past, counts_all}
 use Rattle.vol_judge.proofs.Once.{marks_written}
 use Rattle.vol_judge.proofs.Parented.{parents_first, once_first, again_next, again_all, parents_all, parents_known}

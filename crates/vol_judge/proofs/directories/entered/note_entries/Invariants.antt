@@ -2,7 +2,7 @@ use Rattle.std.proofs.Common.{◌-◌, ◌≤◌, IfNone, IfSome}
 use Rattle.vol_dir.specs.Repeats.{MarksEmpty}
 use Rattle.vol_judge.specs.EntryCounts.{CountsBefore}
 use Rattle.vol_judge.specs.Steps.{rank}
-use Rattle.vol_judge.specs.Tree.{NotesParentsBefore, HasOnceBefore, IsEnteredAgain}
+use Rattle.vol_judge.specs.DirectoryTree.{NotesParentsBefore, HasOnceBefore, IsEnteredAgain}
 use Rattle.vol_judge.proofs.directories.entered.note_entries.Given as goal
 
 -- the entries before the position are noted

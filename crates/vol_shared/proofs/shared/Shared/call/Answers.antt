@@ -1,7 +1,7 @@
 use Rattle.std.proofs.Common.{rules, List, sym, subst}
 use Rattle.vol_shared.specs.Plays.{IsAnswered}
 use Rattle.vol_shared.specs.Sessions.{Known, known_by, knowledge_of, Got}
-use Rattle.vol_shared.specs.declared.knowledge.Knowledge.{Knowledge}
+use Rattle.vol_shared.specs.declared.lock_rule.Knowledge.{Knowledge}
 use Rattle.vol_shared.proofs.Calls.{got}
 use Rattle.vol_shared.proofs.shared.Shared.call.Goals as goal
 

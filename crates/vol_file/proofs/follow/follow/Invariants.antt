@@ -1,8 +1,0 @@
-use Rattle.std.proofs.Common.{◌≡◌}
-use Rattle.vol_layout.specs.Names.{named}
-use Rattle.vol_layout.specs.Places.{place_to}
-use Rattle.vol_file.proofs.follow.follow.Given as goal
-
--- the block that the first d entries lead to
-abbrev pub invariant-loop-d : goal.invariant-loop-d
-invariant-loop-d l = l.block ≡ named l.geometry l.image l.i (place_to l.way.address l.way.entries l.d)

@@ -1,8 +1,0 @@
-use Rattle.std.proofs.Common.{◌≡◌, Some}
-use Rattle.vol_judge.specs.Marks.{marked}
-use Rattle.vol_judge.proofs.FileBlocks.{addresses_from}
-use Rattle.vol_judge.proofs.mark.again_in.Given as goal
-
--- the blocks found from the addresses before k on are marked
-abbrev pub invariant-loop-k : goal.invariant-loop-k
-invariant-loop-k l = marked l.fn.marks (addresses_from l.geometry l.image l.i l.k) ≡ Some l.marks

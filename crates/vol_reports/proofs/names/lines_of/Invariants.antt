@@ -1,8 +1,0 @@
-use Rattle.std.proofs.Common.{◌≡◌, map}
-use Rattle.vol_reports.specs.Names.{name_line}
-use Rattle.vol_reports.specs.Climb.{seen_pair}
-use Rattle.vol_reports.proofs.names.lines_of.Given as goal
-
--- the lines of the pairs so far have been added
-abbrev pub invariant-loop-inode : goal.invariant-loop-inode
-invariant-loop-inode l = l.lines.items ≡ map name_line (map seen_pair l.yielded)

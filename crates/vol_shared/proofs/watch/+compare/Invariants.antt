@@ -1,5 +1,0 @@
-use Rattle.std.proofs.Common.{length}
-use Rattle.vol_shared.proofs.watch.+compare.Given as goal
-
-abbrev pub decreases-compare : goal.decreases-compare
-decreases-compare l = length l.views.now

@@ -1,0 +1,304 @@
+//! Calls, each in a module of its own: its checks, and the change that it makes. The checks walk each path once and
+//! search the last directory once, and the change uses what they found.
+ghost use Rattle.std.specs.Prelude.{◌≡◌, ◌↔◌, IsTrue, IfSome, IfOk, OnErr};
+ghost use Rattle.std.specs.Result.{result_err};
+ghost use Rattle.vol_layout.specs.Geometry.{geometry_of};
+ghost use Rattle.vol_dir.specs.Tree.{state};
+ghost use Rattle.vol_judge.specs.Sound.{IsSound};
+ghost use Rattle.vol_change.specs.Ready.{Rules1To12, free_in};
+ghost use Rattle.vol_volume.specs.Journal.{MayAnswer};
+ghost use Rattle.vol_volume.specs.Perform.{IsPerformed, caller_of, recorded_number};
+ghost use Rattle.vol_volume.specs.Stands.{Rules3To7And9};
+ghost use Rattle.vol_volume.specs.Verdict.{verdict};
+
+pub(crate) mod asked;
+mod chmod;
+mod chown;
+mod create;
+pub(crate) mod found;
+mod link;
+mod mkdir;
+mod rmdir;
+mod times;
+mod truncate;
+mod unlink;
+mod write;
+
+use crate::calls::{Call, Done};
+use crate::checked_calls::asked::{find_owned, is_free_number};
+use pdp_words::Image;
+use vol_change::NewNode;
+use vol_dir::{Cred, Refusal};
+use vol_layout::Geometry;
+use vol_layout::super_block::SUPER;
+
+/// The answer to a call that was made, and the number of free blocks after it.
+#[derive(Clone, Copy, Debug)]
+pub(crate) struct Performed {
+    /// The answer.
+    pub done: Done,
+    /// The number of free blocks.
+    pub free: u32,
+}
+
+/// The caller: the user of a call, and its time.
+#[derive(Clone, Copy, Debug)]
+pub(crate) struct Caller {
+    /// The user and group.
+    pub cred: Cred,
+    /// The time, in seconds since the beginning of 1970.
+    pub moment: u32,
+}
+
+/// Returns the answer that a call would get, or the first refusal that applies, in the order of the definition
+/// `verdict`. NoMemory is not among them. `free` is the number of free blocks.
+///
+/// Costs the walks of the call's paths, and one search of the last directory. A new node costs a search for a free
+/// i-number, removing a directory costs a read of its slots, and a write costs one block-map lookup for each logical
+/// block that it touches.
+#[tactic(auto, unfolding(crate::specs::Verdict::verdict))]
+pub(crate) fn check(
+    image: &Image,
+    geometry: &Geometry,
+    free: u32,
+    call: &Call,
+) -> Result<Done, Refusal>
+    requires stands { Rules3To7And9 geometry.now image.now }
+    requires count { free ≡ free_in (state geometry.now image.now) }
+    ensures refusal { result_err result ≡ verdict (state geometry.now image.now) call.now }
+    ensures answered { IfOk result (λ done. MayAnswer (state geometry.now image.now) call.now done) }
+{
+    match call {
+        Call::Create { cred, path, .. } => {
+            let (_, number) = create::check(image, geometry, free, *cred, path.as_slice())?;
+            Ok(Done::Made(number))
+        }
+        Call::Mkdir { cred, path, .. } => {
+            let (_, number) = mkdir::check(image, geometry, free, *cred, path.as_slice())?;
+            Ok(Done::Made(number))
+        }
+        Call::Link {
+            cred,
+            source,
+            target,
+            ..
+        } => {
+            let source = source.as_slice();
+            link::check(image, geometry, free, *cred, source, target.as_slice())?;
+            Ok(Done::Plain)
+        }
+        Call::Unlink { cred, path, .. } => {
+            unlink::check(image, geometry, *cred, path.as_slice())?;
+            Ok(Done::Plain)
+        }
+        Call::Rmdir { cred, path, .. } => {
+            rmdir::check(image, geometry, *cred, path.as_slice())?;
+            Ok(Done::Plain)
+        }
+        Call::Write {
+            cred,
+            path,
+            offset,
+            bytes,
+            ..
+        } => {
+            let len = bytes.as_slice().len();
+            write::check(image, geometry, free, *cred, path.as_slice(), *offset, len)?;
+            Ok(Done::Wrote(len as u32))
+        }
+        Call::Truncate {
+            cred,
+            path,
+            length,
+            ..
+        } => {
+            truncate::check(image, geometry, *cred, path.as_slice(), *length)?;
+            Ok(Done::Plain)
+        }
+        Call::Chmod { cred, path, .. } => {
+            find_owned(image, geometry, *cred, path.as_slice())?;
+            Ok(Done::Plain)
+        }
+        Call::Chown {
+            cred,
+            path,
+            uid,
+            gid,
+            ..
+        } => {
+            let owner = new_owner(*uid, *gid);
+            chown::check(image, geometry, *cred, path.as_slice(), owner)?;
+            Ok(Done::Plain)
+        }
+        Call::Times { cred, path, .. } => {
+            find_owned(image, geometry, *cred, path.as_slice())?;
+            Ok(Done::Plain)
+        }
+    }
+}
+
+/// Makes a call; if [`check`] refuses it, returns that refusal and changes nothing. `free` is the number of free blocks. A
+/// recorded answer, if given, becomes the answer.
+///
+/// Costs one [`check`], and the change.
+pub(crate) fn make(
+    image: &mut Image,
+    geometry: &Geometry,
+    free: u32,
+    call: &Call,
+    recorded: Option<Done>,
+) -> Result<Performed, Refusal>
+    requires ready { Rules1To12 geometry.now image.old }
+    requires count { free ≡ free_in (state geometry.now image.old) }
+    requires recorded { IfSome recorded (λ done. MayAnswer (state geometry.now image.old) call.now done) }
+    ensures refusal { result_err result ≡ verdict (state geometry.now image.old) call.now }
+    ensures unchanged { OnErr result (image.new ≡ image.old) }
+    ensures performed { IfOk result (λ performed. IsPerformed geometry.now image.old image.new call.now performed.done performed.free) }
+    ensures recorded { IfSome recorded (λ done. IfOk result (λ performed. performed.done ≡ done)) }
+{
+    let caller = caller_of(call);
+    let number = recorded_number(recorded);
+    match call {
+        Call::Create { path, perm, .. } => {
+            let node = new_node(caller, *perm);
+            create::make(image, geometry, free, node, path.as_slice(), number)
+        }
+        Call::Mkdir { path, perm, .. } => {
+            let node = new_node(caller, *perm);
+            mkdir::make(image, geometry, free, node, path.as_slice(), number)
+        }
+        Call::Link { source, target, .. } => {
+            let source = source.as_slice();
+            link::make(image, geometry, free, caller, source, target.as_slice())
+        }
+        Call::Unlink { path, .. } => unlink::make(image, geometry, free, caller, path.as_slice()),
+        Call::Rmdir { path, .. } => rmdir::make(image, geometry, free, caller, path.as_slice()),
+        Call::Write {
+            path,
+            offset,
+            bytes,
+            ..
+        } => {
+            let path = path.as_slice();
+            let bytes = bytes.as_slice();
+            write::make(image, geometry, free, caller, path, *offset, bytes)
+        }
+        Call::Truncate { path, length, .. } => {
+            truncate::make(image, geometry, free, caller, path.as_slice(), *length)
+        }
+        Call::Chmod { path, perm, .. } => {
+            chmod::make(image, geometry, free, caller, path.as_slice(), *perm)
+        }
+        Call::Chown { path, uid, gid, .. } => {
+            let owner = new_owner(*uid, *gid);
+            chown::make(image, geometry, free, caller, path.as_slice(), owner)
+        }
+        Call::Times {
+            path,
+            atime,
+            mtime,
+            ..
+        } => {
+            let path = path.as_slice();
+            times::make(image, geometry, free, caller, path, *atime, *mtime)
+        }
+    }
+}
+
+/// True if `done` may be the answer to the call, once it is accepted.
+pub(crate) fn may_answer(image: &Image, geometry: &Geometry, call: &Call, done: Done) -> bool
+    requires { Rules3To7And9 geometry.now image.now }
+    ensures { IsTrue result ↔ MayAnswer (state geometry.now image.now) call.now done }
+{
+    match (call, done) {
+        (Call::Create { .. } | Call::Mkdir { .. }, Done::Made(i)) => {
+            is_free_number(image, geometry, i)
+        }
+        (Call::Write { bytes, .. }, Done::Wrote(n)) => n as usize == bytes.as_slice().len(),
+        (
+            Call::Link { .. }
+            | Call::Unlink { .. }
+            | Call::Rmdir { .. }
+            | Call::Truncate { .. }
+            | Call::Chmod { .. }
+            | Call::Chown { .. }
+            | Call::Times { .. },
+            Done::Plain,
+        ) => true,
+        _ => false,
+    }
+}
+
+/// Returns the user and the time of a call.
+fn caller_of(call: &Call) -> Caller
+    ensures { result ≡ caller_of call.now }
+{
+    let (cred, now) = match call {
+        Call::Create { cred, now, .. }
+        | Call::Mkdir { cred, now, .. }
+        | Call::Link { cred, now, .. }
+        | Call::Unlink { cred, now, .. }
+        | Call::Rmdir { cred, now, .. }
+        | Call::Write { cred, now, .. }
+        | Call::Truncate { cred, now, .. }
+        | Call::Chmod { cred, now, .. }
+        | Call::Chown { cred, now, .. }
+        | Call::Times { cred, now, .. } => (cred, now),
+    };
+    Caller {
+        cred: *cred,
+        moment: *now,
+    }
+}
+
+/// Returns the new node that a call describes.
+fn new_node(caller: Caller, permissions: u16) -> NewNode
+    ensures owner { result.owner ≡ caller.cred }
+    ensures moment { result.moment ≡ caller.moment }
+    ensures permissions { result.permissions ≡ permissions }
+{
+    NewNode {
+        owner: caller.cred,
+        permissions,
+        moment: caller.moment,
+    }
+}
+
+/// Returns the user and group that a node is given to.
+fn new_owner(uid: u16, gid: u16) -> Cred
+    ensures user { result.uid ≡ uid }
+    ensures group { result.gid ≡ gid }
+{
+    Cred { uid, gid }
+}
+
+/// Returns the recorded i-number, or `None` if there is none.
+fn recorded_number(recorded: Option<Done>) -> Option<u16>
+    ensures { result ≡ recorded_number recorded }
+{
+    match recorded {
+        Some(Done::Made(i)) => Some(i),
+        _ => None,
+    }
+}
+
+/// Does nothing: the contract says what holds of a sound image.
+pub(crate) fn ready_stands(image: &Image, geometry: &Geometry)
+    requires { Rules1To12 geometry.now image.now }
+    ensures { Rules3To7And9 geometry.now image.now }
+{
+    // Only the contract uses the parameters.
+    let _ = image;
+    let _ = geometry;
+}
+
+/// Does nothing: the contract says what holds of a sound image with its own geometry.
+pub(crate) fn stands(image: &Image, geometry: &Geometry)
+    requires sound { IsSound geometry.now.edition image.now }
+    requires sizes { geometry.now ≡ geometry_of geometry.now.edition image.now }
+    ensures { Rules3To7And9 geometry.now image.now }
+{
+    // No rule bounds the number of blocks in the sixth edition. It is a word, and reading it tells the proof that it
+    // is below 65536.
+    let _ = image.word(SUPER + 2);
+}

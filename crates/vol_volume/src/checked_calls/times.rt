@@ -1,0 +1,42 @@
+//! Changing a node's times.
+ghost use Rattle.std.specs.Prelude.{◌≡◌, IfOk, OnErr};
+ghost use Rattle.std.specs.Result.{result_err};
+ghost use Rattle.vol_dir.specs.Tree.{state};
+ghost use Rattle.vol_change.specs.Ready.{Rules1To12, free_in};
+ghost use Rattle.vol_volume.specs.Perform.{IsPerformed};
+ghost use Rattle.vol_volume.specs.Verdict.{verdict};
+
+use crate::calls::{Call, Done};
+use crate::checked_calls::asked::find_owned;
+use crate::checked_calls::{Caller, Performed, ready_stands};
+use pdp_words::Image;
+use vol_dir::Refusal;
+use vol_layout::Geometry;
+
+/// Sets the times of a node's last access and last modification, if no check fails.
+#[tactic(auto, unfolding(crate::specs::Verdict::verdict))]
+pub(crate) fn make(
+    image: &mut Image,
+    geometry: &Geometry,
+    free: u32,
+    caller: Caller,
+    path: &[u8],
+    accessed: u32,
+    modified: u32,
+) -> Result<Performed, Refusal>
+    requires ready { Rules1To12 geometry.now image.old }
+    requires count { free ≡ free_in (state geometry.now image.old) }
+    ensures refusal { result_err result ≡ verdict (state geometry.now image.old) (Call.Times caller.cred caller.moment path.now accessed modified) }
+    ensures unchanged { OnErr result (image.new ≡ image.old) }
+    ensures done { IfOk result (λ performed. performed.done ≡ Done.Plain) }
+    ensures performed { IfOk result (λ performed. IsPerformed geometry.now image.old image.new
+        (Call.Times caller.cred caller.moment path.now accessed modified) performed.done performed.free) }
+{
+    ready_stands(image, geometry);
+    let i = find_owned(image, geometry, caller.cred, path)?;
+    vol_change::utime(image, geometry, i, accessed, modified, caller.moment);
+    Ok(Performed {
+        done: Done::Plain,
+        free,
+    })
+}

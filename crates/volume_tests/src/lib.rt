@@ -1,6 +1,6 @@
 //! Tests through public functions, of what no contract and no command shows: devices that fail at each of their calls, headers
-//! of another program, the words of faults; threads that wait for one another, with sessions and as checkers; and what
-//! a log and a sweep are given.
+//! of another program, the words of faults; threads that wait for one another, with sessions, as checkers and as scripts;
+//! and what a log and a sweep are given.
 #![tactic(auto)]
 
 #[cfg(test)]
@@ -13,6 +13,8 @@ mod fixtures;
 mod headers;
 #[cfg(test)]
 mod ledgers;
+#[cfg(test)]
+mod play;
 #[cfg(test)]
 mod texts;
 #[cfg(test)]

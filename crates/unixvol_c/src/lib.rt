@@ -12,8 +12,6 @@ mod queries;
 mod repair;
 mod sealed;
 mod structs;
-#[cfg(test)]
-mod tests;
 
 pub use answers::{unixvol_answer, unixvol_answer_size, unixvol_export, unixvol_report};
 pub use calls::{

@@ -4,7 +4,7 @@ use vol_import::ImportOptions;
 
 /// A change of a volume, made whole or not at all. Paths start at the root and have `/` between their names; `now` is the
 /// time of the calls, in seconds since the beginning of 1970.
-#[derive(Clone, Copy, Debug, PartialEq, Eq)]
+#[derive(Clone, Copy)]
 pub enum Change<'a> {
     /// Put the bytes of the file `file`, which is outside the volume, into the file `path` of the volume.
     Put {

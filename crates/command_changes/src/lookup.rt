@@ -13,7 +13,7 @@ use vol_layout::Kind;
 use vol_volume::{Bytes, Query, Reply, Volume};
 
 /// The kind of node that a path leads to, if any.
-#[derive(Clone, Copy, Debug, PartialEq, Eq)]
+#[derive(Clone, Copy)]
 pub enum PathKind {
     /// A directory.
     Directory,

@@ -14,7 +14,7 @@ use vol_migrate::{MigrateFault, migrate};
 use vol_volume::Volume;
 
 /// The sizes and the time of the volume that `migrate` makes.
-#[derive(Clone, Copy, Debug, PartialEq, Eq)]
+#[derive(Clone, Copy)]
 pub struct Migration {
     /// The number of its blocks, of 512 bytes.
     pub blocks: u32,

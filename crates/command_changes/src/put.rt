@@ -34,7 +34,7 @@ use vol_volume::{Bytes, Call, Query, Volume};
 pub(crate) const FILE_PERMISSIONS: u16 = 0o644;
 
 /// A file to put into a directory of a volume.
-#[derive(Debug, Drop)]
+#[derive(Drop)]
 pub struct NewFile<'a> {
     /// Its name there, at most 14 bytes.
     pub name: &'a str,

@@ -12,7 +12,7 @@ use vol_volume::MountFault;
 pub const CANNOT_WRITE: &str = "unixvol: cannot write -\n";
 
 /// The reason why a command failed.
-#[derive(Debug, Drop)]
+#[derive(Drop)]
 pub enum Fault {
     /// The image isn't sound. The number is the first of the twelve rules that it breaks.
     Unsound(u8),

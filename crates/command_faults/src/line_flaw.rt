@@ -3,7 +3,7 @@
 use pdp_words::Bytes;
 
 /// What a word of a line must be.
-#[derive(Clone, Copy, Debug, PartialEq, Eq)]
+#[derive(Clone, Copy)]
 pub enum WordForm {
     /// A decimal number of 32 bits.
     Number,
@@ -22,7 +22,7 @@ pub enum WordForm {
 }
 
 /// Why a line of a script can't be read. Places are the number of bytes before a word in its line.
-#[derive(Debug, PartialEq, Eq, Drop)]
+#[derive(Drop)]
 pub enum LineFlaw {
     /// A word isn't what it must be.
     Word {

@@ -17,7 +17,7 @@ use vol_layout::i_list::kind;
 use vol_layout::{Edition, Geometry, GeometryFault, Kind};
 
 /// The reason why `cat` didn't print a file.
-#[derive(Clone, Copy, Debug, PartialEq, Eq)]
+#[derive(Clone, Copy)]
 pub enum CatFault {
     /// The image can't be read.
     Device,

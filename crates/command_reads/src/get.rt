@@ -23,7 +23,7 @@ use vol_layout::Edition;
 use vol_volume::{Bytes, Query, Reply, Volume, ask};
 
 /// The reason why several files weren't read.
-#[derive(Debug, Drop)]
+#[derive(Drop)]
 pub enum GetFault<'a> {
     /// The image isn't sound, or an allocation was refused.
     Volume(Fault),
@@ -40,7 +40,7 @@ impl<'a> From<AllocError> for GetFault<'a> {
 }
 
 /// A file of a volume that was read.
-#[derive(Debug, Drop)]
+#[derive(Drop)]
 pub struct FileRead<'a> {
     /// Its path, as it was given.
     pub path: &'a str,

@@ -3,7 +3,7 @@
 use vol_listing::ListOptions;
 
 /// The part of an image that a command shows.
-#[derive(Clone, Copy, Debug, PartialEq, Eq)]
+#[derive(Clone, Copy)]
 pub enum Look<'a> {
     /// Everything below a directory, as an archive.
     Export {
@@ -58,7 +58,7 @@ pub enum Look<'a> {
 }
 
 /// The options of an export.
-#[derive(Clone, Copy, Debug, PartialEq, Eq)]
+#[derive(Clone, Copy)]
 pub struct ExportOptions {
     /// True if the i-nodes that no entry names are exported too.
     pub lost: bool,
@@ -67,7 +67,7 @@ pub struct ExportOptions {
 }
 
 /// An i-node by its name.
-#[derive(Clone, Copy, Debug, PartialEq, Eq)]
+#[derive(Clone, Copy)]
 pub enum NodeName<'a> {
     /// Its number.
     Number(u16),
@@ -76,7 +76,7 @@ pub enum NodeName<'a> {
 }
 
 /// The format of a report.
-#[derive(Clone, Copy, Debug, PartialEq, Eq)]
+#[derive(Clone, Copy)]
 pub enum OutputForm {
     /// Lines of text.
     Text,
@@ -85,7 +85,7 @@ pub enum OutputForm {
 }
 
 /// The format of a picture of the blocks.
-#[derive(Clone, Copy, Debug, PartialEq, Eq)]
+#[derive(Clone, Copy)]
 pub enum Picture {
     /// Rows of letters.
     Cells,

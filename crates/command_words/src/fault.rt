@@ -5,7 +5,7 @@ ghost use Rattle.command_words.specs.declared.fault.WordFault.TheVariants as fau
 use std::alloc::AllocError;
 
 /// The reason why the words of a command were refused.
-#[derive(Clone, Copy, Debug, PartialEq, Eq)]
+#[derive(Clone, Copy)]
 pub enum WordFault<'a> {
     /// Out of memory.
     NoMemory,
@@ -14,7 +14,7 @@ pub enum WordFault<'a> {
 }
 
 /// A word that isn't valid for its argument.
-#[derive(Clone, Copy, Debug, PartialEq, Eq)]
+#[derive(Clone, Copy)]
 pub struct WrongWord<'a> {
     /// The argument's name.
     pub name: &'a str,
@@ -25,7 +25,7 @@ pub struct WrongWord<'a> {
 }
 
 /// The word given for an argument.
-#[derive(Clone, Copy, Debug, PartialEq, Eq)]
+#[derive(Clone, Copy)]
 pub enum Said<'a> {
     /// Nothing.
     Nothing,

@@ -6,7 +6,7 @@ use vol_layout::Edition;
 use vol_mkfs::NewVolume;
 
 /// A volume in a file.
-#[derive(Clone, Copy, Debug, PartialEq, Eq)]
+#[derive(Clone, Copy)]
 pub struct VolumeFile<'a> {
     /// The edition of Unix.
     pub edition: Edition,
@@ -15,7 +15,7 @@ pub struct VolumeFile<'a> {
 }
 
 /// A file to make.
-#[derive(Clone, Copy, Debug, PartialEq, Eq)]
+#[derive(Clone, Copy)]
 pub struct MadeFile<'a> {
     /// Its path.
     pub path: &'a str,
@@ -24,7 +24,7 @@ pub struct MadeFile<'a> {
 }
 
 /// Work on a volume with several threads.
-#[derive(Debug, PartialEq, Eq, Drop)]
+#[derive(Drop)]
 pub enum Work<'a> {
     /// Print a checker's findings, with 1 to 64 threads.
     Check {
@@ -39,7 +39,7 @@ pub enum Work<'a> {
 }
 
 /// A time, and the word it was read from.
-#[derive(Clone, Copy, Debug, PartialEq, Eq)]
+#[derive(Clone, Copy)]
 pub struct Moment<'a> {
     /// The time, in seconds since the beginning of 1970.
     pub seconds: u32,
@@ -48,7 +48,7 @@ pub struct Moment<'a> {
 }
 
 /// Copying between a volume and files outside it.
-#[derive(Debug, PartialEq, Eq, Drop)]
+#[derive(Drop)]
 pub enum Copying<'a> {
     /// Put files into a directory of the volume, each under its last name; `now` is the time of the calls.
     Put {
@@ -64,7 +64,7 @@ pub enum Copying<'a> {
 }
 
 /// A way of serving a volume.
-#[derive(Clone, Copy, Debug, PartialEq, Eq)]
+#[derive(Clone, Copy)]
 pub enum Serving {
     /// Read-only.
     ReadOnly,
@@ -73,7 +73,7 @@ pub enum Serving {
 }
 
 /// A command with its arguments.
-#[derive(Debug, PartialEq, Eq, Drop)]
+#[derive(Drop)]
 pub enum Invocation<'a> {
     /// Print the body of i-node `ino` of the volume in a file.
     Cat {

@@ -2,7 +2,7 @@
 use crate::texts;
 
 /// The kind of words that an argument takes.
-#[derive(Clone, Copy, Debug, PartialEq, Eq)]
+#[derive(Clone, Copy)]
 pub enum WordKind {
     /// An edition, `6` or `7`.
     Edition,
@@ -35,7 +35,7 @@ pub enum WordKind {
 }
 
 /// The number of words that an argument takes.
-#[derive(Clone, Copy, Debug, PartialEq, Eq)]
+#[derive(Clone, Copy)]
 pub enum Need {
     /// One.
     Once,
@@ -52,7 +52,7 @@ pub enum Need {
 }
 
 /// The name of an option's value in the help.
-#[derive(Clone, Copy, Debug, PartialEq, Eq)]
+#[derive(Clone, Copy)]
 pub enum ValueName {
     /// A directory of a volume.
     Directory,
@@ -77,7 +77,7 @@ impl ValueName {
 }
 
 /// An argument of a command.
-#[derive(Clone, Copy, Debug, PartialEq, Eq)]
+#[derive(Clone, Copy)]
 pub struct Parameter {
     /// Its name, as the help shows it.
     pub name: &'static str,

@@ -11,7 +11,7 @@ use crate::parameters::{
 use crate::texts;
 
 /// The commands.
-#[derive(Clone, Copy, Debug, PartialEq, Eq)]
+#[derive(Clone, Copy, PartialEq, Eq)]
 pub enum Verb {
     Cat,
     Ls,

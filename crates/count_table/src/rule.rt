@@ -6,7 +6,7 @@ use atomic_table::{Join, Play, Seat, Split, TableRule};
 use std::collections::LinkedList;
 
 /// The amount that a step added to a word, or gave as a possible least value.
-#[derive(Clone, Copy, Debug, PartialEq, Eq)]
+#[derive(Clone, Copy)]
 pub struct Mark {
     pub word: u64,
     pub amount: u64,
@@ -25,7 +25,7 @@ pub struct SeatView {
 }
 
 /// The number of pieces, of words of each kind, and of seats.
-#[derive(Clone, Copy, Debug, PartialEq, Eq)]
+#[derive(Clone, Copy)]
 pub struct TableShape {
     pub pieces: u64,
     pub counts: u64,

@@ -9,7 +9,7 @@ use crate::push::{push, push_u32, push_u64};
 const FRONT: usize = 24;
 
 /// The kind of an entry.
-#[derive(Clone, Copy, PartialEq, Eq)]
+#[derive(Clone, Copy)]
 pub enum EntryKind {
     /// Unknown.
     Unknown,

@@ -15,7 +15,7 @@ pub const KEEP_CACHE: u32 = 2;
 pub const CACHE_DIRECTORY: u32 = 8;
 
 /// The server's settings in INIT's reply. The version is 7.31.
-#[derive(Clone, Copy, Debug, PartialEq, Eq)]
+#[derive(Clone, Copy)]
 pub struct Settings {
     /// The greatest number of bytes to read ahead.
     pub max_readahead: u32,
@@ -34,7 +34,7 @@ pub struct Settings {
 }
 
 /// The attributes of a node. Times are whole seconds since the beginning of 1970.
-#[derive(Clone, Copy, Debug, PartialEq, Eq)]
+#[derive(Clone, Copy)]
 pub struct Attributes {
     /// The i-number.
     pub ino: u64,
@@ -63,7 +63,7 @@ pub struct Attributes {
 }
 
 /// A directory entry in LOOKUP's reply.
-#[derive(Clone, Copy, Debug, PartialEq, Eq)]
+#[derive(Clone, Copy)]
 pub struct EntryReply {
     /// The node, or 0 if there is no such entry.
     pub node: u64,
@@ -78,7 +78,7 @@ pub struct EntryReply {
 }
 
 /// The sizes of the file system.
-#[derive(Clone, Copy, Debug, PartialEq, Eq)]
+#[derive(Clone, Copy)]
 pub struct Statistics {
     /// The number of fragments.
     pub blocks: u64,

@@ -14,7 +14,7 @@ pub const MOST_DATA: usize = 131_072;
 
 /// A buffer with room for the longest reply, so that a reply takes no memory. Contracts see it as the list of
 /// its bytes.
-#[derive(Debug, Drop)]
+#[derive(Drop)]
 pub struct ReplyBuffer {
     bytes: Vec<u8>,
     ghost room: { 131088 ≤ vec_capacity bytes },

@@ -13,7 +13,7 @@ pub const ROOT: u64 = 1;
 pub const HEADER: usize = 40;
 
 /// The header of a request.
-#[derive(Clone, Copy, PartialEq, Eq)]
+#[derive(Clone, Copy)]
 pub struct Header {
     /// The number of bytes in the request, including its header.
     pub length: u32,
@@ -41,7 +41,7 @@ pub struct Request<'a> {
 }
 
 /// The reason why bytes aren't a request.
-#[derive(Clone, Copy, PartialEq, Eq)]
+#[derive(Clone, Copy)]
 pub enum RequestFault {
     /// There are fewer bytes than in a header.
     NoHeader,

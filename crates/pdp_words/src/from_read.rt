@@ -10,7 +10,7 @@ use std::io::{self, Error, ErrorKind, Read};
 
 /// A source of a reader's bytes. A read that a signal interrupts is retried; after 2^64 - 1 interrupts the call returns
 /// `TimedOut`, so that every call ends. To lend a reader only, use `FromRead::new(&mut reader)`.
-#[derive(Debug, Drop)]
+#[derive(Drop)]
 pub struct FromRead<R> {
     reader: R,
     failed: bool,

@@ -9,7 +9,7 @@ use std::marker::Model;
 pub const BLOCK: usize = 512;
 
 /// The bytes of a volume, from byte 0. Contracts see it as the list of its bytes.
-#[derive(Debug, Drop)]
+#[derive(Drop)]
 pub struct Image {
     bytes: Vec<u8>,
 }

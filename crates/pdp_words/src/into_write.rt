@@ -12,7 +12,7 @@ use std::io::{self, Error, ErrorKind, Write};
 /// `TimedOut`, so that every call ends. A write that takes none of some bytes is an error, since retrying it might never
 /// end. The writer isn't flushed: its owner calls `Write::flush` after the last write, and handles its error. To lend a
 /// writer only, use `IntoWrite::new(&mut writer)`.
-#[derive(Debug, Drop)]
+#[derive(Drop)]
 pub struct IntoWrite<W> {
     writer: W,
     failed: bool,

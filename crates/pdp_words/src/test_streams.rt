@@ -10,7 +10,7 @@ use std::alloc::Global;
 use std::io::{self, Error, ErrorKind, Read, Write};
 
 /// A mishap that happens in place of one call, after `left` calls that succeed.
-#[derive(Debug, Clone, Copy)]
+#[derive(Clone, Copy)]
 pub struct Mishap<T> {
     pub left: u64,
     pub kind: Option<T>,
@@ -32,7 +32,7 @@ impl<T: Copy> Mishap<T> {
 }
 
 /// A reader that returns at most `piece` bytes per read.
-#[derive(Debug, Drop)]
+#[derive(Drop)]
 pub struct ScriptedReader<'a> {
     /// The bytes that it has left.
     pub rest: &'a [u8],
@@ -104,7 +104,7 @@ impl<'a> Read for ScriptedReader<'a> {
 }
 
 /// The mishap of one write.
-#[derive(Debug, Clone, Copy)]
+#[derive(Clone, Copy)]
 pub enum WriteMishap {
     /// The write returns an error of this kind.
     Error(ErrorKind),
@@ -113,7 +113,7 @@ pub enum WriteMishap {
 }
 
 /// A writer that takes at most `piece` bytes per write.
-#[derive(Debug, Drop)]
+#[derive(Drop)]
 pub struct ScriptedWriter {
     /// The bytes that it took.
     pub taken: Vec<u8>,

@@ -27,7 +27,7 @@ use std::io::{self, Write};
 const STREAM: &str = "-";
 
 /// A file, or one of the standard streams.
-#[derive(Clone, Copy, Debug, PartialEq, Eq)]
+#[derive(Clone, Copy)]
 pub enum NamedFile<'a> {
     /// The file at a path.
     File(&'a str),

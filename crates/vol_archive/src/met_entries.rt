@@ -5,7 +5,7 @@ ghost use Rattle.vol_archive.specs.Walk.{is_first};
 use pdp_words::Bytes;
 
 /// The reason why an entry is left out of an archive.
-#[derive(Clone, Copy, Debug, PartialEq, Eq)]
+#[derive(Clone, Copy)]
 pub enum Reason {
     /// Its i-number is not one of the volume, or its i-node is free or has no mode of the edition.
     NoNode,
@@ -20,7 +20,7 @@ pub enum Reason {
 }
 
 /// The role of an entry in an archive.
-#[derive(Clone, Copy, Debug, PartialEq, Eq)]
+#[derive(Clone, Copy)]
 pub enum Role {
     /// A regular file.
     File,
@@ -44,7 +44,7 @@ impl Role {
 }
 
 /// An entry that was met below a directory.
-#[derive(Debug, Drop)]
+#[derive(Drop)]
 pub struct MetEntry {
     /// Its path, from that directory on, without a slash at its front or its end.
     pub path: Bytes,

@@ -2,7 +2,7 @@
 use pdp_words::Bytes;
 
 /// An entry that a walk has yet to meet.
-#[derive(Debug, Drop)]
+#[derive(Drop)]
 pub(crate) struct Pending {
     /// Its path, without a slash at its front or its end.
     pub(crate) path: Bytes,

@@ -22,7 +22,7 @@ use vol_free::take_inode;
 use vol_layout::{Geometry, Inode, Mode, clear_inode, put_inode};
 
 /// A node that a call makes.
-#[derive(Clone, Copy, Debug, PartialEq, Eq)]
+#[derive(Clone, Copy)]
 pub struct NewNode {
     /// The user and group that own the node.
     pub owner: Cred,

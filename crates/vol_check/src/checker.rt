@@ -1,7 +1,7 @@
 //! The checkers, by their reports.
 
 /// A checker, by what it reports of an image.
-#[derive(Clone, Copy, Debug, PartialEq, Eq)]
+#[derive(Clone, Copy, PartialEq, Eq)]
 pub enum Checker {
     /// `icheck`: the blocks, the places that name them, and the free ones.
     Blocks,

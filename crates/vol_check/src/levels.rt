@@ -17,7 +17,7 @@ use vol_layout::{Geometry, number};
 use vol_reports::words::{bad_word, least_word, place_word};
 
 /// A data block, and the number of places of an i-node that name it.
-#[derive(Clone, Copy, Debug)]
+#[derive(Clone, Copy)]
 pub(crate) struct NamedBlock {
     pub(crate) number: u32,
     pub(crate) times: u64,

@@ -13,7 +13,7 @@ use vol_judge::{judge, named_blocks};
 use vol_layout::{Edition, Geometry};
 
 /// The reason why an image wasn't salvaged.
-#[derive(Clone, Copy, Debug, PartialEq, Eq, Error)]
+#[derive(Clone, Copy, Debug, Error)]
 pub enum SalvageFault {
     /// A rule not about the free list is broken: the first of them.
     #[error("unsound, rule {0}")]

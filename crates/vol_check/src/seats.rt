@@ -17,7 +17,7 @@ pub struct CheckSeat {
 }
 
 /// A piece of work, which the seat that drew its number does.
-#[derive(Clone, Copy, Debug, PartialEq, Eq)]
+#[derive(Clone, Copy)]
 pub struct Piece {
     pub number: u64,
 }

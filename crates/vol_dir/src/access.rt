@@ -9,7 +9,7 @@ use pdp_words::Image;
 use vol_layout::{Geometry, inode};
 
 /// An access to a file or directory.
-#[derive(Clone, Copy, Debug, PartialEq, Eq)]
+#[derive(Clone, Copy)]
 pub enum Access {
     /// Reading a file, or listing a directory.
     Read,

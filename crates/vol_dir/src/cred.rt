@@ -1,7 +1,7 @@
 //! Users and groups.
 
 /// The user and group that a call runs as. User 0 passes every permission test.
-#[derive(Clone, Copy, Debug, PartialEq, Eq)]
+#[derive(Clone, Copy, PartialEq, Eq)]
 pub struct Cred {
     /// The user number.
     pub uid: u16,

@@ -19,7 +19,7 @@ use vol_layout::{Geometry, Slot};
 pub(crate) const SLOTS: u32 = 32;
 
 /// The target of a search over the slots of a directory.
-#[derive(Clone, Copy, Debug)]
+#[derive(Clone, Copy)]
 pub(crate) enum Sought<'a> {
     /// The entry with this name.
     Named(&'a [u8]),
@@ -34,7 +34,7 @@ pub(crate) enum Sought<'a> {
 }
 
 /// The slot of a name in a directory, and the i-number that it names.
-#[derive(Clone, Copy, Debug, PartialEq, Eq)]
+#[derive(Clone, Copy)]
 pub struct Entry {
     /// The slot, counted from 0.
     pub slot: u32,

@@ -12,7 +12,7 @@ use vol_layout::i_list::{address, mode};
 use vol_layout::{BlockMap, Geometry};
 
 /// Where the numbers of a run of logical blocks are stored.
-#[derive(Clone, Copy, Debug)]
+#[derive(Clone, Copy)]
 pub(crate) enum PointerRun {
     /// Nowhere: a file can't have these blocks.
     Nowhere,
@@ -23,7 +23,7 @@ pub(crate) enum PointerRun {
 }
 
 /// Logical blocks of a file whose numbers are stored one after the other.
-#[derive(Clone, Copy, Debug)]
+#[derive(Clone, Copy)]
 pub(crate) struct Run {
     /// The first logical block.
     first: u32,
@@ -37,7 +37,7 @@ pub(crate) struct Run {
 
 /// Looks up the numbers of a file's logical blocks. A block-map lookup is made only if the number isn't stored in the
 /// same indirect block as the one before, or in the i-node.
-#[derive(Clone, Copy, Debug)]
+#[derive(Clone, Copy)]
 pub struct BlockNumbers {
     inode: u16,
     form: BlockMap,

@@ -21,7 +21,7 @@ use vol_judge::{Finding, FreeStack, find_fault, find_lost, find_outside, find_tw
 use vol_layout::Geometry;
 
 /// The outcomes of the rules about blocks.
-#[derive(Clone, Copy, Debug)]
+#[derive(Clone, Copy)]
 pub(crate) struct BlockOutcomes {
     /// Rule 5: each number that is named is that of a data block.
     pub zoned: RuleOutcome,

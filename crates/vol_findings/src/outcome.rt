@@ -18,7 +18,7 @@ use vol_judge::{
 use vol_layout::{Edition, Geometry, GeometryFault};
 
 /// The outcome of a rule.
-#[derive(Clone, Copy, Debug, PartialEq, Eq)]
+#[derive(Clone, Copy)]
 pub enum RuleOutcome {
     /// The rule holds.
     Holds,
@@ -29,7 +29,7 @@ pub enum RuleOutcome {
 }
 
 /// The outcomes of the twelve rules, in order.
-#[derive(Clone, Copy, Debug)]
+#[derive(Clone, Copy)]
 pub struct RuleOutcomes {
     /// Rule 1: the image has all blocks of the volume.
     pub whole: RuleOutcome,

@@ -11,7 +11,7 @@ use std::fmt;
 use vol_layout::{Edition, Geometry};
 
 /// A rule and its outcome.
-#[derive(Clone, Copy, Debug, Drop)]
+#[derive(Clone, Copy, Drop)]
 pub struct RuleLine {
     /// The rule.
     pub rule: Rule,

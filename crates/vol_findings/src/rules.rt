@@ -3,7 +3,7 @@ ghost use Rattle.std.specs.Prelude.{◌≡◌};
 ghost use Rattle.vol_findings.specs.Reports.{rule_number, rule_sentence};
 
 /// A rule of soundness.
-#[derive(Clone, Copy, Debug, PartialEq, Eq)]
+#[derive(Clone, Copy)]
 pub enum Rule {
     /// The image has all blocks of the volume.
     Whole,

@@ -10,7 +10,7 @@ use std::alloc::{AllocError, Global};
 use vol_layout::{Geometry, Super, number};
 
 /// The fault that ends a walk over the free list before its end.
-#[derive(Clone, Copy, Debug, PartialEq, Eq)]
+#[derive(Clone, Copy)]
 pub enum FreeFault {
     /// A count above the size of the array.
     TooMany,
@@ -36,7 +36,7 @@ impl FreeFault {
 }
 
 /// The blocks that a walk over the free list met.
-#[derive(Debug, Drop)]
+#[derive(Drop)]
 pub struct FreeBlocks {
     /// The blocks in order: the next to be taken first.
     pub met: Vec<u32>,
@@ -46,7 +46,7 @@ pub struct FreeBlocks {
 
 /// A walk over the free list: from the array in the super-block, from its top down, and then along the chain. The
 /// first fault ends it.
-#[derive(Clone, Copy, Debug)]
+#[derive(Clone, Copy)]
 pub struct FreeWalk {
     /// The byte of the count before the walk's current array.
     head: usize,

@@ -13,7 +13,7 @@ use vol_dir::Cred;
 use vol_volume::Bytes;
 
 /// The options of an import.
-#[derive(Clone, Copy, Debug, PartialEq, Eq)]
+#[derive(Clone, Copy)]
 pub struct ImportOptions {
     /// True if special files are left out: character and block files, FIFOs, and links to those that are left out. Otherwise
     /// the first of them is a fault.

@@ -16,7 +16,7 @@ use vol_volume::{Bytes, Call, Volume};
 const TIMES: u64 = 4_294_967_296;
 
 /// The reason why there are no calls that make the members of an archive.
-#[derive(Debug, Drop)]
+#[derive(Drop)]
 pub enum PlanFault {
     /// No calls make the member at this path of the archive; with [`MemberFault::NoInode`], at this path of the volume.
     Member(Bytes, MemberFault),

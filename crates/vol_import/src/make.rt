@@ -21,7 +21,7 @@ use vol_layout::Edition;
 use vol_volume::{Bytes, Call, MountFault, Volume};
 
 /// The reason why an archive isn't imported.
-#[derive(Debug, Drop)]
+#[derive(Drop)]
 pub enum ImportFault {
     /// The image isn't sound: the first of the twelve rules that it breaks.
     Unsound(u8),

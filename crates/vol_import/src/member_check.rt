@@ -14,7 +14,7 @@ use vol_layout::slot::NAME;
 pub const MOST_PATH_BYTES: usize = 4096;
 
 /// The node that a member is made as.
-#[derive(Clone, Copy, Debug, PartialEq, Eq)]
+#[derive(Clone, Copy)]
 pub enum MadeAs {
     /// A regular file.
     File,
@@ -25,7 +25,7 @@ pub enum MadeAs {
 }
 
 /// The reason why no calls make a member.
-#[derive(Clone, Copy, Debug, PartialEq, Eq, Error)]
+#[derive(Clone, Copy, Debug, Error)]
 pub enum MemberFault {
     /// It is a special file, a symbolic link, or of an unknown kind.
     #[error("no call makes its kind")]

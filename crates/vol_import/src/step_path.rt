@@ -10,7 +10,7 @@ use std::marker::Model;
 
 /// The path of a directory below that of an import: its steps, each after a slash. Ordered by its bytes. Contracts see it as
 /// the list of these.
-#[derive(Debug, Drop)]
+#[derive(Drop)]
 pub(crate) struct StepPath {
     bytes: Vec<u8>,
 }

@@ -5,7 +5,7 @@ ghost use Rattle.vol_inspect.specs.Extents.{single, joins, extended};
 use vol_layout::Geometry;
 
 /// Consecutive blocks that an i-node names by places whose logical blocks are consecutive; or one indirect block.
-#[derive(Clone, Copy, Debug, PartialEq, Eq)]
+#[derive(Clone, Copy)]
 pub struct Extent {
     /// The number of levels of blocks below each block: 0 for data, and 1 to 3 for an indirect block.
     pub level: u8,

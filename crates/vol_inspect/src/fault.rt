@@ -4,7 +4,7 @@ use thiserror::Error;
 use vol_layout::GeometryFault;
 
 /// The reason why nothing of an image is shown.
-#[derive(Clone, Copy, Debug, PartialEq, Eq, Error)]
+#[derive(Clone, Copy, Debug, Error)]
 pub enum InspectFault {
     /// The image breaks rule 1 or rule 2.
     #[error("unsound, {0}")]

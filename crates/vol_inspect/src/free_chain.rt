@@ -12,7 +12,7 @@ use vol_free::{FreeFault, FreeWalk};
 use vol_layout::{Edition, Geometry, Super, number};
 
 /// A link of the free list's chain.
-#[derive(Debug, Drop)]
+#[derive(Drop)]
 pub struct FreeLink {
     /// The block that holds it; the super-block is block 1.
     pub block: u32,
@@ -24,7 +24,7 @@ pub struct FreeLink {
 }
 
 /// The chain of the free list, up to the list's first fault.
-#[derive(Debug, Drop)]
+#[derive(Drop)]
 pub struct ChainReport {
     /// The links, that of the super-block first.
     pub links: Vec<FreeLink>,

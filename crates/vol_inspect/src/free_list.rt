@@ -9,7 +9,7 @@ use vol_free::FreeWalk;
 use vol_layout::Geometry;
 
 /// The status of a block in the free list.
-#[derive(Clone, Copy, Debug, PartialEq, Eq)]
+#[derive(Clone, Copy)]
 pub(crate) enum Listed {
     /// Not in the free list.
     Absent,

@@ -11,7 +11,7 @@ use std::alloc::Global;
 use vol_layout::{Edition, Geometry, Inode, inode};
 
 /// An i-node and the blocks that it names.
-#[derive(Debug, Drop)]
+#[derive(Drop)]
 pub struct InodeReport {
     /// The volume's edition.
     pub edition: Edition,

@@ -18,7 +18,7 @@ use vol_layout::i_list::{address, mode};
 use vol_layout::{BlockMap, Edition, Geometry, number};
 
 /// An owner of a block.
-#[derive(Clone, Copy, Debug, PartialEq, Eq)]
+#[derive(Clone, Copy)]
 pub enum Owner {
     /// None: the volume has no such block.
     Outside,

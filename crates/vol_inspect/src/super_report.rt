@@ -15,7 +15,7 @@ use vol_layout::i_list::kind;
 use vol_layout::{Edition, Flag, Geometry, Kind, Super};
 
 /// The super-block, and the volume that it describes.
-#[derive(Debug, Drop)]
+#[derive(Drop)]
 pub struct SuperReport {
     /// The sizes of the volume.
     pub geometry: Geometry,

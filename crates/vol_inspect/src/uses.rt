@@ -12,7 +12,7 @@ use std::alloc::{AllocError, Global};
 use vol_layout::{Geometry, Kind};
 
 /// The use of a block.
-#[derive(Clone, Copy, Debug, PartialEq, Eq)]
+#[derive(Clone, Copy)]
 pub enum Use {
     /// Block 0, the boot block.
     Boot,

@@ -24,7 +24,7 @@ pub fn is_directory(image: &Image, geometry: &Geometry, i: u16) -> bool
 }
 
 /// A position among the slots of all directories, directory by directory.
-#[derive(Clone, Copy, Debug)]
+#[derive(Clone, Copy)]
 pub struct EntryPosition {
     /// The directory's i-number, from 1 on.
     pub directory: u16,
@@ -33,7 +33,7 @@ pub struct EntryPosition {
 }
 
 /// An entry of a directory, with its position.
-#[derive(Clone, Copy, Debug)]
+#[derive(Clone, Copy)]
 pub struct EntryAt {
     /// The directory's i-number.
     pub directory: u16,

@@ -2,7 +2,7 @@
 use vol_free::FreeFault;
 
 /// The first violation of a rule of soundness. A directory and a slot identify an entry.
-#[derive(Clone, Copy, Debug, PartialEq, Eq)]
+#[derive(Clone, Copy)]
 pub enum Finding {
     /// Rule 1: the image has fewer bytes than a super-block needs, or than its super-block says.
     TooShort,

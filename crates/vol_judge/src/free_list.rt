@@ -19,7 +19,7 @@ use vol_free::FreeWalk;
 use vol_layout::Geometry;
 
 /// The blocks of a free list that is a stack.
-#[derive(Clone, Copy, Debug)]
+#[derive(Clone, Copy)]
 pub struct FreeStack {
     /// The number of free blocks.
     pub count: u32,

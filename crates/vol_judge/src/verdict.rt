@@ -22,7 +22,7 @@ use std::alloc::{AllocError, Global};
 use vol_layout::{Edition, Geometry, GeometryFault};
 
 /// The facts about a sound image that judging it finds.
-#[derive(Clone, Copy, Debug)]
+#[derive(Clone, Copy)]
 pub struct Examined {
     /// Its geometry.
     pub geometry: Geometry,

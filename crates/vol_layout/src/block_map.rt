@@ -6,7 +6,7 @@ use crate::edition::Edition;
 use crate::mode::{Kind, Mode};
 
 /// A block map: how the addresses of an i-node lead to a file's blocks.
-#[derive(Clone, Copy, Debug, PartialEq, Eq)]
+#[derive(Clone, Copy)]
 pub enum BlockMap {
     /// Sixth edition, without the large flag: eight addresses of data blocks.
     Small,
@@ -21,7 +21,7 @@ pub enum BlockMap {
 }
 
 /// The block path of a logical block, from the i-node down: an address, and an entry of each indirect block after it.
-#[derive(Clone, Copy, Debug, PartialEq, Eq)]
+#[derive(Clone, Copy)]
 pub struct BlockPath {
     /// The index of an address of the i-node, from 0.
     pub address: usize,

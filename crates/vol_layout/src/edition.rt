@@ -2,7 +2,7 @@
 ghost use Rattle.std.specs.Prelude.{◌≡◌};
 
 /// An edition of Unix, which has its own volume layout.
-#[derive(Clone, Copy, Debug, PartialEq, Eq)]
+#[derive(Clone, Copy, PartialEq, Eq)]
 pub enum Edition {
     /// The Sixth Edition, of 1975.
     V6,
@@ -11,7 +11,7 @@ pub enum Edition {
 }
 
 /// The constants of an edition.
-#[derive(Clone, Copy, Debug, PartialEq, Eq)]
+#[derive(Clone, Copy)]
 pub struct Constants {
     /// The root's i-number.
     pub root: u16,

@@ -8,7 +8,7 @@ use pdp_words::{BLOCK, Image};
 use thiserror::Error;
 
 /// The sizes of a volume.
-#[derive(Clone, Copy, Debug, PartialEq, Eq)]
+#[derive(Clone, Copy)]
 pub struct Geometry {
     /// The volume's edition.
     pub edition: Edition,
@@ -21,7 +21,7 @@ pub struct Geometry {
 }
 
 /// The reason why an image has no geometry.
-#[derive(Clone, Copy, Debug, PartialEq, Eq, Error)]
+#[derive(Clone, Copy, Debug, Error)]
 pub enum GeometryFault {
     /// The image has fewer than 1024 bytes, or fewer blocks than its super-block says: rule 1.
     #[error("rule 1")]

@@ -5,7 +5,7 @@ use crate::edition::Edition;
 use crate::mode::Mode;
 
 /// The values of an i-node, in either layout.
-#[derive(Clone, Copy, Debug, PartialEq, Eq)]
+#[derive(Clone, Copy)]
 pub struct Inode {
     /// The type and permissions.
     pub mode: Mode,

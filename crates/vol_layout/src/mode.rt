@@ -4,7 +4,7 @@ ghost use Rattle.std.specs.Prelude.{◌≡◌, ◌≤◌, ◌+◌, ◌*◌, ◌/
 use crate::edition::Edition;
 
 /// The kind of an i-node.
-#[derive(Clone, Copy, Debug, PartialEq, Eq)]
+#[derive(Clone, Copy, PartialEq, Eq)]
 pub enum Kind {
     /// The mode is 0.
     Free,
@@ -19,7 +19,7 @@ pub enum Kind {
 }
 
 /// The mode word of an i-node.
-#[derive(Clone, Copy, Debug, PartialEq, Eq)]
+#[derive(Clone, Copy)]
 pub struct Mode {
     /// The word as it is stored.
     pub bits: u16,

@@ -13,7 +13,7 @@ pub const SLOT: usize = 16;
 pub const NAME: usize = 14;
 
 /// A slot of a directory: an i-number, 0 if the slot is empty, and 14 bytes of name.
-#[derive(Clone, Copy, Debug, PartialEq, Eq)]
+#[derive(Clone, Copy)]
 pub struct Slot {
     /// The i-number that the entry names, or 0 if the slot is empty.
     pub inode: u16,

@@ -8,7 +8,7 @@ use crate::numbers::{number, put_number};
 use pdp_words::Image;
 
 /// A flag byte of the super-block, from when the volume was mounted by the system.
-#[derive(Clone, Copy, Debug, PartialEq, Eq)]
+#[derive(Clone, Copy)]
 pub enum Flag {
     /// `s_flock`: the free list was in use.
     FreeLock,
@@ -45,7 +45,7 @@ pub const HEAD_BYTES: usize = 202;
 
 /// The super-block of an image of some edition: each method reads or writes one field, in an image of at least 1024
 /// bytes.
-#[derive(Clone, Copy, Debug, PartialEq, Eq)]
+#[derive(Clone, Copy)]
 pub struct Super {
     /// The edition, which gives the super-block's layout.
     pub edition: Edition,

@@ -3,7 +3,7 @@ ghost use Rattle.std.specs.Prelude.{◌≡◌};
 ghost use Rattle.vol_listing.specs.Depths.{goes_below, is_bare, is_plain};
 
 /// The options of a listing.
-#[derive(Clone, Copy, Debug, PartialEq, Eq)]
+#[derive(Clone, Copy)]
 pub struct ListOptions {
     /// The format of the lines.
     pub lines: Lines,
@@ -24,7 +24,7 @@ impl ListOptions {
 }
 
 /// The depth of a listing. A file is listed by itself at every depth.
-#[derive(Clone, Copy, Debug, PartialEq, Eq)]
+#[derive(Clone, Copy)]
 pub enum Depth {
     /// The directory is listed by itself.
     Itself,
@@ -47,7 +47,7 @@ impl Depth {
 }
 
 /// The format of the lines of a listing.
-#[derive(Clone, Copy, Debug, PartialEq, Eq)]
+#[derive(Clone, Copy)]
 pub enum Lines {
     /// The i-number and the name, on a line.
     Plain,
@@ -70,7 +70,7 @@ impl Lines {
 }
 
 /// The destination of the output.
-#[derive(Clone, Copy, Debug, PartialEq, Eq)]
+#[derive(Clone, Copy)]
 pub enum Screen {
     /// A terminal with this many columns, and whether to use colours.
     Terminal { columns: u16, colours: bool },

@@ -2,7 +2,7 @@
 use thiserror::Error;
 
 /// The reason why a volume wasn't migrated.
-#[derive(Clone, Copy, Debug, PartialEq, Eq, Error)]
+#[derive(Clone, Copy, Debug, Error)]
 pub enum MigrateFault {
     /// The volume is not one of the sixth edition.
     #[error("22 Invalid")]

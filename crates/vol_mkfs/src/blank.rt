@@ -21,7 +21,7 @@ const FIRST_BLOCKS: u32 = 3;
 
 /// The parameters of a new volume: its sizes, in blocks of 512 bytes, the root's user and group, and the time, in seconds
 /// since the beginning of 1970.
-#[derive(Clone, Copy, Debug, PartialEq, Eq)]
+#[derive(Clone, Copy)]
 pub struct NewVolume {
     /// The edition of Unix.
     pub edition: Edition,
@@ -54,7 +54,7 @@ pub enum MkfsFault {
 
 /// A new volume whose bytes aren't in memory: it has only the root, and all other data blocks are free. Only blocks 0, 1
 /// and 2 and the root's block are stored; all others follow from the sizes.
-#[derive(Debug, Drop)]
+#[derive(Drop)]
 pub struct BlankVolume {
     geometry: Geometry,
     first: Image,

@@ -4,7 +4,7 @@ use std::marker::Model;
 use vol_volume::Call;
 
 /// The calls of a request, in their order. A contract sees them as a list.
-#[derive(Debug, Drop)]
+#[derive(Drop)]
 pub struct Calls {
     calls: Vec<Call>,
 }

@@ -3,7 +3,7 @@ use vol_layout::Slot;
 use vol_layout::slot::NAME;
 
 /// The record of an i-number.
-#[derive(Clone, Copy, Debug, PartialEq, Eq)]
+#[derive(Clone, Copy)]
 pub struct KnownNode {
     /// The directory in which its node was last found.
     pub directory: u16,

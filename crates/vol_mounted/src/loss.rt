@@ -12,7 +12,7 @@ use vol_nodes::{look_up, read};
 use vol_serve::attributes::node_attributes;
 
 /// A file that will lose a name.
-#[derive(Debug, Drop)]
+#[derive(Drop)]
 pub(crate) struct Loss {
     /// Its i-number.
     pub(crate) i: u16,

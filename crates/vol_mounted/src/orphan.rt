@@ -9,7 +9,7 @@ use vol_dir::Refusal;
 const TYPE_BITS: u32 = 0o170000;
 
 /// A file that lost its last name while it was open. It is no longer in the volume.
-#[derive(Debug, Drop)]
+#[derive(Drop)]
 pub struct Orphan {
     /// Its node number in the kernel.
     pub(crate) node: u64,
@@ -22,7 +22,7 @@ pub struct Orphan {
 }
 
 /// All files without a name that are still open.
-#[derive(Debug, Drop)]
+#[derive(Drop)]
 pub struct Orphans {
     pub(crate) files: Vec<Orphan>,
 }

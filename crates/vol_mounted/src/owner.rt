@@ -1,7 +1,7 @@
 //! The user that all nodes are shown as.
 
 /// The user and the group that all nodes are shown as.
-#[derive(Clone, Copy, Debug, PartialEq, Eq)]
+#[derive(Clone, Copy)]
 pub struct Owner {
     /// The user.
     pub uid: u32,

@@ -8,7 +8,7 @@ use vol_nodes::NodeFault;
 use vol_serve::errno::RequestRefusal;
 
 /// The reason why a request is refused.
-#[derive(Clone, Copy, Debug, PartialEq, Eq)]
+#[derive(Clone, Copy)]
 pub enum MountedRefusal {
     /// The refusal that a volume served read-only gives too.
     Request(RequestRefusal),

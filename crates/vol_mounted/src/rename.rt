@@ -10,7 +10,7 @@ use vol_nodes::{NodeFault, look_up};
 use vol_volume::Stat;
 
 /// The arguments of a rename.
-#[derive(Clone, Copy, Debug)]
+#[derive(Clone, Copy)]
 pub(crate) struct Renaming<'a> {
     /// The directory of the old name.
     pub(crate) dir: u16,

@@ -18,7 +18,7 @@ use vol_volume::Volume;
 const MOST_WEIGHT: usize = 16 << 20;
 
 /// A mounted volume that is served.
-#[derive(Debug, Drop)]
+#[derive(Drop)]
 pub struct MountedServer {
     /// The volume.
     pub(crate) volume: Volume,

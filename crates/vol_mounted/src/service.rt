@@ -13,7 +13,7 @@ use vol_serve::memory::{MOST_REQUEST, Room};
 use vol_serve::{Replies, Requests, ServeFault};
 
 /// The reason why serving ended before the requests did, or without the image saved.
-#[derive(Clone, Copy, Debug, PartialEq, Eq, Error)]
+#[derive(Clone, Copy, Debug, Error)]
 pub enum MountedFault {
     /// Serving ended before the requests did.
     #[error("{0}")]
@@ -24,7 +24,7 @@ pub enum MountedFault {
 }
 
 /// The room for a request and for its reply.
-#[derive(Debug, Drop)]
+#[derive(Drop)]
 struct Memory {
     request: Vec<u8>,
     room: Room,

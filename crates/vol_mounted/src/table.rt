@@ -12,7 +12,7 @@ use vol_layout::{Edition, Slot};
 const NODES: usize = 65_536;
 
 /// The records of all i-numbers. A contract sees it as their list.
-#[derive(Debug, Drop)]
+#[derive(Drop)]
 pub struct NodeTable {
     nodes: Vec<KnownNode>,
 }

@@ -12,7 +12,7 @@ use vol_layout::{Geometry, Kind, inode};
 use vol_volume::Stat;
 
 /// The device of a special file.
-#[derive(Clone, Copy, Debug, PartialEq, Eq)]
+#[derive(Clone, Copy)]
 pub struct SpecialFile {
     /// True for a block special file, false for a character special file.
     pub is_block: bool,

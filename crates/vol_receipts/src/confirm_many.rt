@@ -10,7 +10,7 @@ use std::alloc::{AllocError, Global};
 use vol_volume::Volume;
 
 /// The finding on one receipt.
-#[derive(Clone, Copy, Debug, PartialEq, Eq)]
+#[derive(Clone, Copy, PartialEq, Eq)]
 pub enum ReceiptStatus {
     /// It agrees with the journal.
     Agrees,
@@ -21,7 +21,7 @@ pub enum ReceiptStatus {
 }
 
 /// Counts of confirmed receipts.
-#[derive(Clone, Copy, Debug, PartialEq, Eq)]
+#[derive(Clone, Copy)]
 pub struct Confirmed {
     /// The number of receipts that agree with the journal.
     pub agree: u64,
@@ -88,7 +88,7 @@ fn find_in_order(
 }
 
 /// The number of a receipt, and the receipt's index.
-#[derive(Clone, Copy, Debug)]
+#[derive(Clone, Copy)]
 struct Numbered {
     at: u64,
     index: usize,

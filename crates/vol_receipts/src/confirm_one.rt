@@ -9,7 +9,7 @@ use thiserror::Error;
 use vol_volume::Volume;
 
 /// The reason why a receipt could be neither confirmed nor denied.
-#[derive(Clone, Copy, Debug, PartialEq, Eq, Error)]
+#[derive(Clone, Copy, Debug, Error)]
 pub enum ConfirmFault {
     /// The receipt's number is below that of the journal's first record: its record was cut.
     #[error("its records were cut")]

@@ -5,7 +5,7 @@ use vol_layout::Edition;
 use vol_volume::{Call, Done, Query, Reply};
 
 /// A call or a query.
-#[derive(Debug, PartialEq, Eq, Drop)]
+#[derive(Drop)]
 pub enum Asked {
     /// A call, which may change the volume.
     Change(Call),
@@ -14,7 +14,7 @@ pub enum Asked {
 }
 
 /// The outcome of a call or query.
-#[derive(Debug, PartialEq, Eq, Drop)]
+#[derive(Drop)]
 pub enum Outcome {
     /// The call was accepted, with this result.
     Accepted(Done),
@@ -25,7 +25,7 @@ pub enum Outcome {
 }
 
 /// A record of one call or query and its outcome.
-#[derive(Debug, PartialEq, Eq, Drop)]
+#[derive(Drop)]
 pub struct Receipt {
     /// The record number of an accepted call. For any other outcome, the number of records when it was given,
     /// including those that were cut: the outcome is the one in the state after them.
@@ -38,7 +38,7 @@ pub struct Receipt {
 
 /// The start of a journal: the bytes that were mounted or left by the last cut, and the number of records cut
 /// so far. Only contracts use it; no value of it is made.
-#[derive(Debug, Drop)]
+#[derive(Drop)]
 pub struct Origin {
     /// The edition of the bytes.
     pub edition: Edition,

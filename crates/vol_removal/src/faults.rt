@@ -6,7 +6,7 @@ use vol_dir::Refusal;
 use vol_volume::{Call, MountFault};
 
 /// The reason why a path isn't removed.
-#[derive(Debug, Drop)]
+#[derive(Drop)]
 pub enum RemovalFault {
     /// The image isn't sound: the first of the twelve rules that it breaks.
     Unsound(u8),

@@ -8,7 +8,7 @@ use vol_layout::Slot;
 
 /// An entry of a directory, with its position. Contracts see its position, its i-number and its name; the bytes after the name
 /// don't count.
-#[derive(Debug, Drop)]
+#[derive(Drop)]
 pub struct EnteredName {
     directory: u16,
     number: u32,

@@ -10,7 +10,7 @@ use vol_layout::i_list::{inode, kind};
 use vol_layout::{Geometry, Kind};
 
 /// The link count of an i-number, which the entry report compares with the number of its entries.
-#[derive(Clone, Copy, Debug, PartialEq, Eq)]
+#[derive(Clone, Copy)]
 pub struct LinkCount {
     /// The link count, or 0 if the i-node is free.
     pub links: u16,

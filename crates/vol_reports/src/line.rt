@@ -3,7 +3,7 @@ use pdp_words::Bytes;
 use vol_free::FreeFault;
 
 /// The kind of one of the totals at the end of a block report.
-#[derive(Clone, Copy, Debug, PartialEq, Eq)]
+#[derive(Clone, Copy)]
 pub enum Total {
     /// Regular files.
     Files,
@@ -22,7 +22,7 @@ pub enum Total {
 }
 
 /// A line of a report.
-#[derive(Debug, Drop)]
+#[derive(Drop)]
 pub enum Line {
     /// The image breaks this rule, 1 or 2, and so has no geometry.
     Rule(u8),

@@ -9,7 +9,7 @@ use std::marker::Model;
 use vol_layout::GeometryFault;
 
 /// The report of a checker. Contracts see it as the list of its lines.
-#[derive(Debug, Drop)]
+#[derive(Drop)]
 pub struct Report {
     lines: Vec<Line>,
 }

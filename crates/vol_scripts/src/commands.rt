@@ -3,7 +3,7 @@ ghost use Rattle.std.specs.Prelude.{◌≡◌};
 ghost use Rattle.vol_scripts.specs.Grammar.{command_word, command_named};
 
 /// The command of a line, which is its fourth word.
-#[derive(Clone, Copy, Debug, PartialEq, Eq)]
+#[derive(Clone, Copy)]
 pub(crate) enum Command {
     Create,
     Mkdir,

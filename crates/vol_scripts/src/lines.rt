@@ -16,7 +16,7 @@ use vol_dir::Cred;
 use vol_volume::{Call, Query};
 
 /// The reason why a line couldn't be read.
-#[derive(Clone, Copy, Debug, PartialEq, Eq)]
+#[derive(Clone, Copy)]
 pub(crate) enum LineFault {
     /// It isn't a line that a script may have.
     Unreadable,

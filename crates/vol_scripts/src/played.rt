@@ -2,7 +2,7 @@
 use vol_receipts::Receipt;
 
 /// The result of one line.
-#[derive(Debug, PartialEq, Eq, Drop)]
+#[derive(Drop)]
 pub enum Played {
     /// The receipt of a call or a query.
     Told(Receipt),

@@ -11,7 +11,7 @@ use std::alloc::{AllocError, Global};
 use vol_views::MOST_VIEWS;
 
 /// The reason why a script couldn't be read.
-#[derive(Debug, PartialEq, Eq, Drop)]
+#[derive(Drop)]
 pub enum ScriptFault {
     /// The first line that can't be read.
     Line {
@@ -96,7 +96,7 @@ fn push_item<T: Drop>(items: &mut Vec<T>, item: T) -> Result<(), ScriptFault>
 }
 
 /// The reason why several scripts couldn't be read.
-#[derive(Debug, PartialEq, Eq, Drop)]
+#[derive(Drop)]
 pub enum ScriptsFault {
     /// The first line that can't be read, by script and line, both numbered from 1.
     Line {

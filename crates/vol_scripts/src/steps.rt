@@ -5,7 +5,7 @@ use std::marker::Model;
 use vol_volume::{Call, Query};
 
 /// A step of a session: one line of a script.
-#[derive(Debug, PartialEq, Eq, Drop)]
+#[derive(Drop)]
 pub enum ScriptStep {
     /// A call.
     Change(Call),
@@ -16,7 +16,7 @@ pub enum ScriptStep {
 }
 
 /// A script, which is played in a thread of its own.
-#[derive(Debug, Drop)]
+#[derive(Drop)]
 pub enum Script {
     /// A script for a session: one step per line.
     Session(Sequence<ScriptStep>),
@@ -25,7 +25,7 @@ pub enum Script {
 }
 
 /// The steps of a script, in order. Contracts see the list.
-#[derive(Debug, Drop)]
+#[derive(Drop)]
 pub struct Sequence<T> {
     items: Vec<T>,
 }

@@ -5,7 +5,7 @@ ghost use Rattle.vol_serve.specs.Errno.{errno};
 use vol_nodes::NodeFault;
 
 /// The reason why a request was refused.
-#[derive(Clone, Copy, Debug, PartialEq, Eq)]
+#[derive(Clone, Copy)]
 pub enum RequestRefusal {
     /// The node can't be used so, or doesn't exist.
     Node(NodeFault),

@@ -14,7 +14,7 @@ use vol_layout::Geometry;
 pub const MOST_REQUEST: usize = 135_168;
 
 /// Room for a reply and its data.
-#[derive(Debug, Drop)]
+#[derive(Drop)]
 pub struct Room {
     /// The reply.
     pub reply: ReplyBuffer,
@@ -33,7 +33,7 @@ impl Room {
 }
 
 /// The memory of a server.
-#[derive(Debug, Drop)]
+#[derive(Drop)]
 pub(crate) struct Memory {
     /// Room for a request.
     pub(crate) request: Vec<u8>,

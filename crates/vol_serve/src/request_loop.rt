@@ -17,7 +17,7 @@ use thiserror::Error;
 use vol_layout::Geometry;
 
 /// The reason why serving ended with requests left.
-#[derive(Clone, Copy, Debug, PartialEq, Eq, Error)]
+#[derive(Clone, Copy, Debug, Error)]
 pub enum ServeFault {
     /// Out of memory, before the first request.
     #[error("out of memory")]

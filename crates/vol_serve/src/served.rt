@@ -8,7 +8,7 @@ use pdp_words::Image;
 use vol_layout::Geometry;
 
 /// A volume that is served.
-#[derive(Debug, Drop)]
+#[derive(Drop)]
 pub(crate) struct Served<'a> {
     /// The image.
     pub(crate) image: &'a Image,

@@ -9,7 +9,7 @@ use crate::messages::{Replies, Requests};
 use std::io::{self, Error, ErrorKind, Read, Write};
 
 /// Requests from a reader.
-#[derive(Debug, Drop)]
+#[derive(Drop)]
 pub struct RequestReader<R> {
     reader: R,
     ended: bool,
@@ -17,7 +17,7 @@ pub struct RequestReader<R> {
 }
 
 /// Replies to a writer.
-#[derive(Debug, Drop)]
+#[derive(Drop)]
 pub struct ReplyWriter<W> {
     writer: W,
     // true if nobody waited for the last reply that was sent

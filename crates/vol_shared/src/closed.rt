@@ -10,7 +10,7 @@ use vol_receipts::{ConfirmFault, Confirmed, Receipt, confirm, confirm_all};
 use vol_volume::Volume;
 
 /// A shared volume after it was closed, with the number of records that its sessions counted.
-#[derive(Debug, Drop)]
+#[derive(Drop)]
 pub struct Closed {
     pub(crate) volume: Volume,
     pub(crate) accepted: u64,

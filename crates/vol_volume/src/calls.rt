@@ -8,7 +8,7 @@ use vol_dir::Cred;
 /// Each variant lists its refusals in the order in which they are checked. A walk is refused if it meets something
 /// that is not a directory (NotDirectory), a directory that doesn't grant execute (Access), or a directory without the
 /// name (NoEntry).
-#[derive(Clone, Debug, PartialEq, Eq, Drop)]
+#[derive(Clone, PartialEq, Eq, Drop)]
 pub enum Call {
     /// Makes an empty regular file. Refused: a path without components (Exists); the walk to the parent; a name that
     /// exists (Exists); a parent that doesn't grant write (Access), or that the new name would make larger than a file may
@@ -141,7 +141,7 @@ pub enum Call {
 }
 
 /// The answer to an accepted call.
-#[derive(Clone, Copy, Debug, PartialEq, Eq)]
+#[derive(Clone, Copy, PartialEq, Eq)]
 pub enum Done {
     /// The i-number of the new file or directory.
     Made(u16),
@@ -152,7 +152,7 @@ pub enum Done {
 }
 
 /// An accepted call and its answer.
-#[derive(Clone, Debug, PartialEq, Eq, Drop)]
+#[derive(Clone, Drop)]
 pub struct Record {
     /// The call.
     pub call: Call,

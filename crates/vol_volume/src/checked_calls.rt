@@ -33,7 +33,7 @@ use vol_layout::Geometry;
 use vol_layout::super_block::SUPER;
 
 /// The answer to a call that was made, and the number of free blocks after it.
-#[derive(Clone, Copy, Debug)]
+#[derive(Clone, Copy)]
 pub(crate) struct Performed {
     /// The answer.
     pub done: Done,
@@ -42,7 +42,7 @@ pub(crate) struct Performed {
 }
 
 /// The caller: the user of a call, and its time.
-#[derive(Clone, Copy, Debug)]
+#[derive(Clone, Copy)]
 pub(crate) struct Caller {
     /// The user and group.
     pub cred: Cred,

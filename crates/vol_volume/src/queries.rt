@@ -11,7 +11,7 @@ use vol_dir::Cred;
 use vol_layout::Kind;
 
 /// A query by a user. Paths start at the root, with or without a leading slash.
-#[derive(Debug, PartialEq, Eq, Drop)]
+#[derive(Drop)]
 pub enum Query {
     /// Asks for the attributes of a node.
     Stat {
@@ -41,7 +41,7 @@ pub enum Query {
 }
 
 /// The reply to a query.
-#[derive(Debug, PartialEq, Eq, Drop)]
+#[derive(Drop)]
 pub enum Reply {
     /// The attributes of a node.
     Stat(Stat),
@@ -52,7 +52,7 @@ pub enum Reply {
 }
 
 /// The attributes of a node. Times are in seconds since the beginning of 1970.
-#[derive(Clone, Copy, Debug, PartialEq, Eq)]
+#[derive(Clone, Copy, PartialEq, Eq)]
 pub struct Stat {
     /// The i-number.
     pub number: u16,
@@ -77,7 +77,7 @@ pub struct Stat {
 }
 
 /// The names in a directory, `.` and `..` among them, each with its i-number. Contracts see it as a list.
-#[derive(Debug, Drop)]
+#[derive(Drop)]
 pub struct Listing {
     entries: Vec<(Bytes, u16)>,
 }

@@ -9,7 +9,7 @@ use std::alloc::{AllocError, Global};
 use std::marker::Model;
 
 /// A volume whose journal has room for one more record, so that recording it takes no memory.
-#[derive(Debug, Drop)]
+#[derive(Drop)]
 pub struct Reserved {
     parts: Parts,
 }

@@ -35,12 +35,12 @@ pub enum MountFault {
 }
 
 /// A cut that would number the next record 2^64 or higher.
-#[derive(Clone, Copy, Debug, PartialEq, Eq, Error)]
+#[derive(Clone, Copy, Debug, Error)]
 #[error("too many records")]
 pub struct TooManyRecords;
 
 /// The parts of a mounted volume.
-#[derive(Debug, Drop)]
+#[derive(Drop)]
 pub(crate) struct Parts {
     /// The volume's geometry.
     pub(crate) geometry: Geometry,
@@ -58,7 +58,7 @@ pub(crate) struct Parts {
 
 /// A mounted volume: a sound image, the bytes that were mounted or left by the last cut, and the journal of the
 /// calls accepted since. The image always reads as exactly the tree that replaying the journal on those bytes gives.
-#[derive(Debug, Drop)]
+#[derive(Drop)]
 pub struct Volume {
     pub(crate) parts: Parts,
 }

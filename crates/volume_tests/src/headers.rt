@@ -88,7 +88,7 @@ fn check_read(
 ) {
     let mut block = [0; 512];
     put_all(&mut block, pieces);
-    assert_eq!(rt; read_header(&block), Ok(header));
+    assert!(rt; read_header(&block) == Ok(header));
     let read = path_of(alloc, &block).expect(rt, "memory for a path");
     assert_eq!(rt; read.as_slice(), path);
     assert_eq!(rt; link_of(&block), link);
@@ -137,7 +137,7 @@ fn headers_are_read(rt: HostRuntime) {
     check_read(&rt, alloc, &GNU_LARGE, b"big.sparse", b"", large);
     let zeros = [0; 512];
     assert!(rt; is_zeros(&zeros));
-    assert_eq!(rt; read_header(&zeros), Err(HeaderFault::Checksum));
+    assert!(rt; read_header(&zeros) == Err(HeaderFault::Checksum));
     let ones = [1; 512];
-    assert_eq!(rt; read_header(&ones), Err(HeaderFault::Magic));
+    assert!(rt; read_header(&ones) == Err(HeaderFault::Magic));
 }

@@ -64,8 +64,10 @@ fn make<R: Wait + Abort>(
     requires { session.old.of ≡ shared.now.of }
     ensures { session.new.of ≡ session.old.of }
 {
-    let receipt = shared.call(rt, alloc, session, call);
-    receipt.expect(rt, "memory for a call")
+    let Ok(receipt) = shared.call(rt, alloc, session, call) else {
+        panic!(rt; "memory for a call")
+    };
+    receipt
 }
 
 /// Runs a query on a shared volume.
@@ -79,8 +81,10 @@ fn ask<R: Wait + Abort>(
     requires { session.old.of ≡ shared.now.of }
     ensures { session.new.of ≡ session.old.of }
 {
-    let receipt = shared.ask(rt, alloc, session, query);
-    receipt.expect(rt, "memory for a query")
+    let Ok(receipt) = shared.ask(rt, alloc, session, query) else {
+        panic!(rt; "memory for a query")
+    };
+    receipt
 }
 
 /// Returns a query for a node's attributes.

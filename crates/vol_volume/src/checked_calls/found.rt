@@ -2,7 +2,7 @@
 use vol_dir::Entry;
 
 /// The place of a new entry in its directory.
-#[derive(Clone, Copy, Debug)]
+#[derive(Clone, Copy)]
 pub(crate) struct EntryPlace {
     /// The slot, counted from 0.
     pub slot: u32,
@@ -11,7 +11,7 @@ pub(crate) struct EntryPlace {
 }
 
 /// An entry to add.
-#[derive(Clone, Copy, Debug)]
+#[derive(Clone, Copy)]
 pub(crate) struct NewEntry<'a> {
     /// The i-number of the directory.
     pub dir: u16,
@@ -22,7 +22,7 @@ pub(crate) struct NewEntry<'a> {
 }
 
 /// An entry to remove.
-#[derive(Clone, Copy, Debug)]
+#[derive(Clone, Copy)]
 pub(crate) struct OldEntry<'a> {
     /// The i-number of the directory.
     pub dir: u16,
@@ -33,7 +33,7 @@ pub(crate) struct OldEntry<'a> {
 }
 
 /// A regular file to write to.
-#[derive(Clone, Copy, Debug)]
+#[derive(Clone, Copy)]
 pub(crate) struct Target {
     /// The i-number of the file.
     pub inode: u16,

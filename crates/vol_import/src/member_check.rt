@@ -4,7 +4,6 @@ ghost use Rattle.std.specs.List.{list_any};
 ghost use Rattle.vol_import.specs.Plan.{is_long_path, names_of, is_long, is_dot_dot, check_path, ends_in_slash, made_as, check_link, owner_of, check};
 
 use crate::archive_members::Member;
-use thiserror::Error;
 use ustar::{MemberKind, ReadHeader, TypeFlag};
 use vol_dir::Cred;
 use vol_layout::Edition;
@@ -25,38 +24,28 @@ pub enum MadeAs {
 }
 
 /// The reason why no calls make a member.
-#[derive(Clone, Copy, Debug, Error)]
+#[derive(Clone, Copy)]
 pub enum MemberFault {
     /// It is a special file, a symbolic link, or of an unknown kind.
-    #[error("no call makes its kind")]
     Kind,
     /// Its path is longer than [`MOST_PATH_BYTES`].
-    #[error("its path is above 4096 bytes")]
     LongPath,
     /// A name in its path is longer than 14 bytes.
-    #[error("a name is above 14 bytes")]
     LongName,
     /// Its path has a name `..`.
-    #[error("its path leads up by ..")]
     DotDot,
     /// It is a link to a path longer than [`MOST_PATH_BYTES`].
-    #[error("it links to a path above 4096 bytes")]
     LongLinkPath,
     /// It is a link to a path with a name longer than 14 bytes.
-    #[error("it links to a name above 14 bytes")]
     LongLink,
     /// It is a link to a path with a name `..`.
-    #[error("it links to a path that leads up by ..")]
     DotDotLink,
     /// The number of its owner or of its group is above the edition's limit: 255 in the sixth, 32,767 in the seventh.
-    #[error("no user or group of the edition")]
     Owner,
     /// The directories of the members before it, and those on the way to it, are more than the volume has i-nodes. The fault
     /// has the member's path in the volume, as that of a refused call does.
-    #[error("more directories than the volume has i-nodes")]
     NoInode,
     /// A field of its header has no number. The fault has the path in the header.
-    #[error("a field of its header is no number")]
     Number,
 }
 

@@ -1,19 +1,15 @@
 //! The reasons why nothing of an image is shown.
 use std::alloc::AllocError;
-use thiserror::Error;
 use vol_layout::GeometryFault;
 
 /// The reason why nothing of an image is shown.
-#[derive(Clone, Copy, Debug, Error)]
+#[derive(Clone, Copy)]
 pub enum InspectFault {
     /// The image breaks rule 1 or rule 2.
-    #[error("unsound, {0}")]
     Unsound(GeometryFault),
     /// The i-number is 0 or past the last.
-    #[error("2 NoEntry")]
     NoEntry,
     /// Memory ran out.
-    #[error("12 NoMemory")]
     NoMemory,
 }
 

@@ -8,18 +8,15 @@ ghost use Rattle.vol_mounted.specs.Turns.{Turn, Turns};
 use crate::host::Host;
 use crate::server::MountedServer;
 use std::alloc::{AllocError, Global};
-use thiserror::Error;
 use vol_serve::memory::{MOST_REQUEST, Room};
 use vol_serve::{Replies, Requests, ServeFault};
 
 /// The reason why serving ended before the requests did, or without the image saved.
-#[derive(Clone, Copy, Debug, Error)]
+#[derive(Clone, Copy)]
 pub enum MountedFault {
     /// Serving ended before the requests did.
-    #[error("{0}")]
     Serve(ServeFault),
     /// The image couldn't be saved at the end.
-    #[error("the image could not be saved")]
     Unsaved,
 }
 

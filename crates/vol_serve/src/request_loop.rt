@@ -13,20 +13,16 @@ use crate::messages::{Replies, Requests};
 use crate::served::Served;
 use pdp_words::Image;
 use std::alloc::Global;
-use thiserror::Error;
 use vol_layout::Geometry;
 
 /// The reason why serving ended with requests left.
-#[derive(Clone, Copy, Debug, Error)]
+#[derive(Clone, Copy)]
 pub enum ServeFault {
     /// Out of memory, before the first request.
-    #[error("out of memory")]
     NoMemory,
     /// A reply couldn't be sent.
-    #[error("a reply could not be sent")]
     Send,
     /// 2^64 - 1 requests were taken.
-    #[error("too many requests")]
     Requests,
 }
 

@@ -1,4 +1,4 @@
--- Calls that a volume accepts, one after another, are made as the commands' definitions say.
+-- If a volume accepts calls one after another, these calls make the resulting bytes, as the commands' definitions require.
 use Rattle.std.proofs.Common.{◌≡◌, ℕ, List, [], ◌∷◌, Option, None, Some, IfSome, inl, inr, refl, sym, ap, subst, ◌∙◌}
 use Rattle.std.specs.Global.{Vec}
 use Rattle.vol_dir.specs.Tree.{State}
@@ -23,12 +23,12 @@ use Rattle.command_faults.specs.declared.answer.Answer.{Answer}
 use Rattle.command_faults.specs.declared.fault.Fault.{Fault}
 use Rattle.command_faults.specs.declared.fault.Fault.TheVariants as faults
 
--- bytes that no call leaves
+-- an image without changes has the same bytes as itself, except for those that calls change
 stays : (geometry : Geometry) (image : List ℕ) → StaysAround geometry image image
 stays geometry image =
     record { len = refl; before = λ k h. refl; flags = λ k from to. refl; rest = λ k from to. refl; behind = λ k from. refl }
 
--- no call is made
+-- without calls, a sound image results in itself
 none_made : (edition : Edition) (image : List ℕ) → IsSound edition image → Makes edition image [] image
 none_made edition image sound = record {
   mounted = sound;
@@ -41,7 +41,7 @@ none_made edition image sound = record {
   left = refl;
 }
 
--- one call is made, and then others
+-- if a volume accepts a call and more calls make the bytes `new` from the result, then all these calls make `new`
 one_made : (old mid : Mounted) (new : List ℕ) (call : Call) (calls : List Call) (done : Done) → IsSound old.edition old.image
     → Accepts old mid call done → Makes old.edition mid.image calls new → Makes old.edition old.image (call ∷ calls) new
 one_made old mid new call calls done sound accepts rest =
@@ -64,7 +64,7 @@ one_made old mid new call calls done sound accepts rest =
       left = (mid.image, accepts.performed, subst (λ (geometry : Geometry). AreLeft geometry mid.image rest.journal new) kept rest.left);
     }
 
--- the bytes that accepted calls leave of a sound volume are made by them
+-- if a sound volume accepts calls one after another, these calls make the resulting bytes
 pub all_made : (old new : Mounted) (calls : List Call) → IsSound old.edition old.image → AreMade old calls new
     → Makes old.edition old.image calls new.image
 unfolding AreMade
@@ -78,13 +78,13 @@ all_made old new (call ∷ calls) sound made =
     one_made old mid new.image call calls made.1 sound accepts
     (subst (λ (edition : Edition). Makes edition mid.image calls new.image) same (all_made mid new calls whole made.3))
 
--- the state after an accepted call
+-- after an accepted call the state is the result of this call's step
 state_after : (old mid : Mounted) (call : Call) (done : Done) → Accepts old mid call done
     → reads_as mid.edition mid.image ≡ step (reads_as old.edition old.image) call done
 state_after old mid call done accepts =
     ap (λ edition. reads_as edition mid.image) accepts.edition ∙ reads_made old.edition old.image mid.image call done accepts.performed
 
--- of calls that a volume accepts up to one, that one is refused
+-- if a volume accepts the calls before one that it refuses, these calls are refused with this refusal
 pub are_refused : (old new : Mounted) (calls : List Call) (refusal : Refusal) (call : Call) → AreStopped old calls new refusal call
     → AreRefused (reads_as old.edition old.image) calls refusal
 unfolding AreStopped
@@ -101,13 +101,13 @@ are_refused old new (first ∷ calls) refusal call stopped =
           )
     ]
 
--- a call that stops others is a reason not to make them
+-- if a call is refused after others were accepted, its refusal is a reason not to make these calls
 pub stopped_reason : (old new : Mounted) (calls : List Call) (refusal : Refusal) (call : Call) → IsSound old.edition old.image
     → AreStopped old calls new refusal call → IsReason old.edition old.image calls (faults.Refused refusal)
 stopped_reason old new calls refusal call sound stopped =
     refused_reason old.edition old.image calls refusal sound (are_refused old new calls refusal call stopped)
 
--- a property of all bytes that a command makes is one of those to save
+-- a property of all bytes that a command may make is also one of the bytes to save
 pub saved_leaves : (makes leaves : List ℕ → Type 0) (is_reason : Fault → Type 0) (said : List ℕ → Type 0) (answer : Answer)
     → ((bytes : List ℕ) → makes bytes → leaves bytes) → Concludes makes is_reason said answer → IfSome answer.image (λ saved. leaves saved.items)
 saved_leaves makes leaves is_reason said answer all does = by answer.image does.made

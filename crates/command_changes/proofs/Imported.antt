@@ -1,4 +1,4 @@
--- The result of importing an archive, from that of making its members.
+-- The result of importing an archive, from the result of making its members.
 use Rattle.std.proofs.Common.{◌≡◌, ◌⊎◌, ℕ, List, None, Some, Ok, Err, IfOk, IfErr, IfSome, Result, IsSome, Option, is_some, false, true≢false, inl, inr, refl, sym, ap, subst, ◌∙◌, arith}
 use Rattle.std.specs.Global.{Vec}
 use Rattle.vol_import.specs.MadeMembers.{HasArchive}
@@ -23,7 +23,7 @@ use Rattle.command_changes.specs.Import.{ImportsArchive, TellsFault}
 use Rattle.command_changes.specs.ImportLines.{archive_status, import_status, left_lines}
 use Rattle.command_changes.specs.declared.import.Remarked.{Remarked}
 
--- no archive that can't be read has status 0
+-- the status of an archive that can't be read isn't 0
 archive_fails : (fault : ArchiveFault) → archive_status fault ≡ 0 → ⊥
 archive_fails (archives.Truncated at) is = omega (arith, is)
 archive_fails (archives.LoneZeroBlock at) is = omega (arith, is)
@@ -32,7 +32,7 @@ archive_fails (archives.Records at) is = omega (arith, is)
 archive_fails (archives.Unsupported at) is = omega (arith, is)
 archive_fails archives.NoMemory is = omega (arith, is)
 
--- no fault has
+-- the status of a fault isn't 0
 fails : (fault : ImportFault) → import_status fault ≡ 0 → ⊥
 fails (faults.Unsound rule) is = omega (arith, is)
 fails (faults.Archive fault) is = archive_fails fault is
@@ -40,37 +40,37 @@ fails (faults.Member path cause) is = omega (arith, is)
 fails (faults.Refused refusal call) is = refusal_fails refusal is
 fails faults.NoMemory is = omega (arith, is)
 
--- out of memory is always a reason
+-- running out of memory is always a possible reason
 no_memory : (edition : Edition) (image : List ℕ) (wanted : Result (List Call) ImportFault) → IsReason edition image wanted faults.NoMemory
 unfolding IsReason
 no_memory edition image wanted = tt
 
--- an import whose lines are made is one
+-- if an import made these bytes, the bytes with lines are those of the import
 pub with_lines_made : (edition : Edition) (image : List ℕ) (wanted : Result (List Call) ImportFault) (bytes : List ℕ) (result : Result Remarked ImportFault)
     → Imports edition image wanted bytes → IfOk result (λ remarked. remarked.bytes.items ≡ bytes)
     → IfOk result (λ remarked. Imports edition image wanted remarked.bytes.items)
 with_lines_made edition image wanted bytes (Ok remarked) made same = subst (Imports edition image wanted) (sym same) made
 with_lines_made edition image wanted bytes (Err fault) made same = tt
 
--- its lines are those of what is left out
+-- the lines are those for the paths that are left out
 pub with_lines_told : (paths left : List (List ℕ)) (result : Result Remarked ImportFault) → paths ≡ left
     → IfOk result (λ remarked. remarked.lines.items ≡ left_lines paths) → IfOk result (λ remarked. remarked.lines.items ≡ left_lines left)
 with_lines_told paths left (Ok remarked) same are = are ∙ ap (λ (left : List (List ℕ)). left_lines left) same
 with_lines_told paths left (Err fault) same are = tt
 
--- without memory for its lines nothing is imported
+-- if memory for the lines runs out, this is a reason not to import the archive
 pub with_lines_failed : (edition : Edition) (image : List ℕ) (wanted : Result (List Call) ImportFault) (result : Result Remarked ImportFault)
     → IfErr result (λ fault. fault ≡ faults.NoMemory) → IfErr result (IsReason edition image wanted)
 with_lines_failed edition image wanted (Ok remarked) same = tt
 with_lines_failed edition image wanted (Err fault) same = subst (IsReason edition image wanted) (sym same) (no_memory edition image wanted)
 
--- a fault that is reported is a reason, if the original one is
+-- if a fault is a reason, the fault that is reported is one too
 told_reason : (edition : Edition) (image : List ℕ) (wanted : Result (List Call) ImportFault) (fault told : ImportFault)
     → IsReason edition image wanted fault → (told ≡ fault) ⊎ (told ≡ faults.NoMemory) → IsReason edition image wanted told
 told_reason edition image wanted fault told reason (inl is) = subst (IsReason edition image wanted) (sym is) reason
 told_reason edition image wanted fault told reason (inr is) = subst (IsReason edition image wanted) (sym is) (no_memory edition image wanted)
 
--- the result if an archive can't be imported
+-- if an archive can't be imported, the result has the status and the line of a reason
 not_imported : (edition : Edition) (image : List ℕ) (wanted : Result (List Call) ImportFault) (lines : List ℕ) (errors : ErrorStream) (fault : ImportFault)
     (answer : Answer) → IsReason edition image wanted fault → answer.image ≡ None
     → TellsFault fault (λ line. line_after answer.fault ≡ line) answer.status → Hears errors answer.fault
@@ -81,7 +81,7 @@ not_imported edition image wanted lines errors fault answer reason none tells he
   refused = λ _. (tells.0, told_reason edition image wanted fault tells.0 reason tells.1, tells.2, subst (says errors) tells.3 hears);
 }
 
--- the result of an outcome is the bytes with their lines, or the status and the line of a reason
+-- the result is the bytes with their lines, or the status and the line of a reason
 pub concluded : (edition : Edition) (image : List ℕ) (wanted : Result (List Call) ImportFault) (lines : List ℕ) (errors : ErrorStream)
     (outcome : Result Remarked ImportFault) (answer : Answer) → IfOk outcome (λ remarked. Imports edition image wanted remarked.bytes.items)
     → IfOk outcome (λ remarked. remarked.lines.items ≡ lines) → IfErr outcome (IsReason edition image wanted)

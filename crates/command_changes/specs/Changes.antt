@@ -27,12 +27,12 @@ use Rattle.command_changes.specs.Touch.{touch_call}
 use Rattle.command_changes.specs.declared.changes.Change.{Change}
 use Rattle.command_changes.specs.declared.changes.Change.TheVariants as changes
 
--- calls are made, and standard output is as it was (this project)
+-- calls are made, and standard output is unchanged (this project)
 abbrev pub Calls : Edition → List ℕ → Streams → Answer → List Call → Type 0
 Calls edition image streams answer calls =
     ChangesVolume edition image calls streams.said answer × Keeps streams.old streams.new × (streams.failed ≡ streams.had_failed)
 
--- calls are made, and standard output is as it was; the tree to save satisfies `leaves` (this project)
+-- calls are made, and standard output is unchanged; the tree to save satisfies `leaves` (this project)
 abbrev pub CallsLeave : Edition → List ℕ → Streams → Answer → List Call → (Tree → Type 0) → Type 0
 CallsLeave edition image streams answer calls leaves =
     ChangesVolume edition image calls streams.said answer
@@ -40,12 +40,13 @@ CallsLeave edition image streams answer calls leaves =
     × (streams.failed ≡ streams.had_failed)
     × IfSome answer.image (λ saved. leaves (reads_as edition saved.items).tree)
 
--- the free list is rebuilt, and standard output is as it was (this project)
+-- the free list is rebuilt, and standard output is unchanged (this project)
 abbrev pub Salvages : Edition → List ℕ → Streams → Answer → Type 0
 Salvages edition image streams answer =
     SalvagesVolume edition image streams.said answer × Keeps streams.old streams.new × (streams.failed ≡ streams.had_failed)
 
--- an archive is imported below a path, each member that the options leave out has a line, and standard output is as it was; the tree to save has the other members, and keeps everything that the image's tree had (this project)
+-- an archive is imported below a path, each member that the options leave out has a line, and standard output is unchanged; the tree to save has the
+-- other members, and keeps everything that the image's tree had (this project)
 abbrev pub ImportsBelow : Edition → List ℕ → List ℕ → Streams → Answer → List ℕ → ImportOptions → ℕ → Type 0
 ImportsBelow edition image archive streams answer path options now =
     ImportsArchive edition image (calls_with options (reads_as edition image).tree archive path now) (left_lines (left_out options (members archive)))
@@ -55,12 +56,15 @@ ImportsBelow edition image archive streams answer path options now =
     × IfSome answer.image (λ saved.
     HasArchive (reads_as edition image).tree (reads_as edition saved.items).tree path now (chosen_members options (members archive)))
 
--- the file or directory at a path is removed, with everything below it, and standard output is as it was (this project)
+-- the file or directory at a path is removed, with everything below it, and standard output is unchanged (this project)
 abbrev pub RemovesBelow : Edition → List ℕ → Streams → Answer → List ℕ → ℕ → Type 0
 RemovesBelow edition image streams answer path now =
     RemovesTree edition image path now streams.said answer × Keeps streams.old streams.new × (streams.failed ≡ streams.had_failed)
 
--- the result of a change, given some bytes: its calls are made, all or none, or the free list is rebuilt. Afterwards the members of the archive that aren't left out are below PATH of `import`, PATH of `put` leads to a file of these bytes, that of `mkdir` to a directory, and so does that of `mkdir -p` unless its last name is `.` or `..`; FROM of `mv` leads nowhere, and its new path to what FROM led to (this project)
+-- the result of a change, with these bytes of its file or archive: its calls are made, all or none, or the free list is rebuilt. Afterwards PATH of
+-- `import` has the members of the archive that aren't left out below it; PATH of `put` leads to a file of these bytes; PATH of `mkdir` leads to a
+-- directory, and so does PATH of `mkdir -p` unless its last name is `.` or `..`; FROM of `mv` leads nowhere, and the new path leads to the file that
+-- FROM led to (this project)
 abbrev pub Changes : Edition → List ℕ → List ℕ → Streams → Answer → Change → Type 0
 Changes edition image given streams answer (changes.Put path file now) =
     CallsLeave edition image streams answer (put_calls (reads_as edition image).tree now path.now given) (λ tree. HasFile tree path.now given)

@@ -13,7 +13,8 @@ abbrev pub TellsFault : ImportFault → (List ℕ → Type 0) → ℕ → Type 0
 TellsFault fault said status =
     (told : ImportFault) × ((told ≡ fault) ⊎ (told ≡ faults.NoMemory)) × (status ≡ import_status told) × said (import_line told)
 
--- the result of importing an archive, given the calls to make, and the lines for what is left out: bytes to save, status 0 and these lines, or the status and the line of a reason (this project)
+-- the result of importing an archive, given the calls to make, and the lines for the members left out: bytes to save, status 0 and these lines, or
+-- the status and the line of a reason (this project)
 pub record ImportsArchive (edition : Edition) (image : List ℕ) (wanted : Result (List Call) ImportFault) (lines : List ℕ) (said : List ℕ → Type 0) (answer : Answer) : Type 0 where
   pub saved : answer.status ≡ 0 ↔ IsSome answer.image
   pub made : IfSome answer.image (λ bytes. Imports edition image wanted bytes.items × said lines)

@@ -42,6 +42,7 @@ IsObstacle image migration fault =
     ((why : MountFault) × IsFaultOf V6 image why × (fault ≡ unmounted why))
     ⊎ ((why : MigrateFault) × IsUnmigrated image migration why × (fault ≡ unmigrated why))
 
--- the result of `migrate`: a volume to save, status 0 and no line; or the status and the line of the reason why the image can't be mounted or migrated (this project)
+-- the result of `migrate`: a volume to save, status 0 and no line; or the status and the line of the reason why the image can't be mounted or
+-- migrated (this project)
 abbrev pub MigratesVolume : List ℕ → Migration → (List ℕ → Type 0) → Answer → Type 0
 MigratesVolume image migration said answer = Concludes (Migrates image migration) (IsObstacle image migration) said answer

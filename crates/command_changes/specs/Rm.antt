@@ -16,7 +16,7 @@ fault_of (removals.Missing refusal) = faults.Refused refusal
 fault_of (removals.Refused refusal call) = faults.Refused refusal
 fault_of removals.NoMemory = no_memory
 
--- the fault of a command that removes a file or directory, by a reason not to (this project)
+-- the fault of a command that can't remove a file or directory, for one of the possible reasons (this project)
 pub record IsCause (edition : Edition) (image path : List ℕ) (now : ℕ) (fault : Fault) : Type 0 where
   pub why : RemovalFault
   pub is : fault ≡ fault_of why

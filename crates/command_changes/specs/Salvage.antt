@@ -14,7 +14,7 @@ abbrev pub unsalvaged : SalvageFault → Fault
 unsalvaged (salvages.Unsound rule) = faults.Unsound rule
 unsalvaged salvages.NoMemory = no_memory
 
--- a reason not to salvage an image: out of memory, or the first rule that it breaks apart from those of the free list (this project)
+-- a reason not to salvage an image: out of memory, or the first rule that it breaks, apart from the rules of the free list (this project)
 abbrev pub IsUnsalvaged : Edition → List ℕ → Fault → Type 0
 IsUnsalvaged edition image fault = (why : SalvageFault) × IsSalvageFault edition image why × (fault ≡ unsalvaged why)
 

@@ -1,4 +1,4 @@
-//! Makes one call on a volume, or several, all or nothing.
+//! Makes one call on a volume, or several calls, all or none.
 ghost use Rattle.std.specs.Prelude.{◌≡◌, ◌++◌, ◌∷◌, [], IfErr, IfOk, OnOk};
 ghost use Rattle.vol_dir.specs.declared.refusal.Refusal.{Refusal};
 ghost use Rattle.vol_judge.specs.Sound.{IsSound};
@@ -16,7 +16,7 @@ use vol_import::make_all;
 use vol_layout::Edition;
 use vol_volume::{Call, Volume};
 
-/// Makes one call on the volume in an image; fails if memory for its words ran out.
+/// Makes one call on the volume in an image. Fails if there was too little memory to build `call`.
 ///
 /// Takes the memory of [`Volume::mount`] and [`Volume::call`].
 pub(crate) fn make(
@@ -31,7 +31,7 @@ pub(crate) fn make(
     conclude(change(alloc, edition, image, call))
 }
 
-/// Makes one call on the volume in an image; fails if memory for its words ran out.
+/// Makes one call on the volume in an image. Fails if there was too little memory to build `call`.
 fn change(
     alloc: Global,
     edition: Edition,

@@ -40,11 +40,10 @@ pub fn do_change<O: Sink, E: Sink>(
     answer
 }
 
-/// Makes a change of the volume in an image, with calls as user 0; `given` has the bytes of the file to put, or of the
-/// archive to import. The answer has the bytes to save and status 0 if all calls were made; otherwise no bytes, and status
-/// 1, or 4 if memory ran out.
+/// Makes a change of the volume in an image, with calls as user 0. `given` holds the bytes of the file to put, or of the archive to import. If all
+/// calls were made, the answer has the bytes to save and status 0; otherwise it has no bytes, and status 1, or 4 if memory ran out.
 ///
-/// Takes memory to mount the image and for the calls, and costs what they do. Takes no right to wait.
+/// Takes memory to mount the image and for the calls, costs as much as the calls, and needs no right to wait.
 pub fn perform(
     alloc: Global,
     edition: Edition,

@@ -26,12 +26,11 @@ pub(crate) struct Remarked {
     pub(crate) lines: Vec<u8>,
 }
 
-/// Adds the members of an archive that the options choose below a path of a volume, all or none. Each member that is left out
-/// has a line. Nothing is saved if the image isn't sound, the archive can't be read, a member can't be made, or a call is
-/// refused. The fault reports the first of these, with the rule, the byte of the archive, or the path, with unprintable bytes
-/// escaped.
+/// Adds the members of an archive below a path of a volume, all or none, except those that the options leave out. Each member that is left out has a
+/// line. Nothing is saved if the image isn't sound, the archive can't be read, a member can't be made, or a call is refused. The fault reports the
+/// first of these, with the rule, the byte of the archive, or the path, with unprintable bytes escaped.
 ///
-/// Takes the memory of [`import_with`], and for the lines.
+/// Takes the memory of [`import_with`], and memory for the lines.
 pub(crate) fn import_archive(
     alloc: Global,
     edition: Edition,
@@ -57,7 +56,7 @@ pub(crate) fn import_archive(
     conclude(alloc, outcome)
 }
 
-/// Adds the members of an archive that the options choose, and returns the volume with the lines about the others.
+/// Adds the members of an archive that the options choose, and returns the volume with the lines about the members that were left out.
 fn import_chosen(
     alloc: Global,
     edition: Edition,

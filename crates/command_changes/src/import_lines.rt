@@ -13,8 +13,7 @@ use vol_dir::Refusal;
 use vol_import::{ArchiveFault, ImportFault, MemberFault};
 use vol_volume::{Bytes, Call};
 
-/// Returns the fault of a command that can't import an archive for this reason, or out of memory if there is none for its
-/// line.
+/// Returns the fault of a command that can't import an archive for this reason, or out of memory if there is too little memory for its line.
 pub(crate) fn fault_of(alloc: Global, why: &ImportFault) -> Fault
     ensures { TellsFault why.now (λ line. fault_line result ≡ line) (fault_status result) }
 {
@@ -150,7 +149,7 @@ fn push_left(alloc: Global, path: &[u8], lines: &mut Vec<u8>) -> Result<(), Allo
     Ok(())
 }
 
-/// Returns a path in a volume, without the first of two slashes that it begins with: those of the root and of a name below it.
+/// Returns a path in a volume. If it begins with two slashes (the root, and a name below it), the first one is dropped.
 fn from_root(path: &[u8]) -> &[u8]
     ensures { result.now ≡ from_root path.now }
 {

@@ -1,4 +1,4 @@
-//! `mkdir` makes a directory; `mkdir -p` also makes the missing ones on the way to it.
+//! `mkdir` makes a directory; `mkdir -p` also makes its missing parent directories.
 ghost use Rattle.std.specs.Prelude.{◌≡◌, ◌<◌, ◌++◌, ◌∷◌, [], IfOk, IfErr, OnOk, length};
 ghost use Rattle.vol_volume.specs.Volume.{reads_as};
 ghost use Rattle.command_faults.specs.ChangeFaults.{Makes, IsReason, ChangesVolume};
@@ -18,7 +18,7 @@ use vol_volume::{Bytes, Call, Volume};
 /// The permissions of a new directory.
 const PERMISSIONS: u16 = 0o755;
 
-/// Returns the call of `mkdir`.
+/// Returns the call that `mkdir` makes.
 pub(crate) fn mkdir_call(alloc: Global, path: &[u8], now: u32) -> Result<Call, AllocError>
     ensures { IfOk result (λ call. call ≡ mkdir_call now path.now) }
 {
@@ -30,11 +30,10 @@ pub(crate) fn mkdir_call(alloc: Global, path: &[u8], now: u32) -> Result<Call, A
     })
 }
 
-/// Makes a directory with permissions 0755, and each missing one on the way to it, for `mkdir -p`. If the directory exists,
-/// no call is made, and the same bytes are saved. A file at the path is refused as `Exists`, and one on the way to it as
-/// `NotDirectory`.
+/// Makes a directory with permissions 0755, and its missing parent directories, for `mkdir -p`. If the directory exists, no call is made, and the
+/// same bytes are saved. A file at the path is refused as `Exists`, and a file in place of a parent directory as `NotDirectory`.
 ///
-/// Takes memory for a copy of the path for each of its names, and walks the path up to each.
+/// Takes memory for a copy of the path for each of its names, and walks the path up to each name.
 pub(crate) fn mkdir_all(
     alloc: Global,
     edition: Edition,
@@ -65,7 +64,7 @@ fn make_directories(
     Ok(volume.unmount())
 }
 
-/// Returns the calls of `mkdir -p`.
+/// Returns the calls that `mkdir -p` makes.
 fn mkdir_all_calls(
     alloc: Global,
     volume: &Volume,

@@ -1,4 +1,4 @@
-//! `mv` gives a file another name.
+//! `mv` moves a file to another name.
 ghost use Rattle.std.specs.Prelude.{◌≡◌, IfOk, IfErr};
 ghost use Rattle.vol_volume.specs.Answer.{answer};
 ghost use Rattle.vol_volume.specs.Volume.{reads_as};
@@ -19,9 +19,9 @@ use vol_dir::Cred;
 use vol_layout::Edition;
 use vol_volume::{Bytes, Call, Volume};
 
-/// Adds a name to a file, and removes the one that it had, for `mv`. If `to` is a directory, the new name is the last
-/// of `from` in it. A directory isn't moved, but refused as `IsDirectory`; a name that exists, even one of the same file, is
-/// refused as `Exists`.
+/// Adds a name to a file, and removes its old name, for `mv`. If `to` is a directory, the new name is in this directory, and is the last name of
+/// `from`. A directory isn't moved, but refused as `IsDirectory`. A new name that exists, even as another name of the same file, is refused as
+/// `Exists`.
 pub(crate) fn mv(
     alloc: Global,
     edition: Edition,
@@ -54,7 +54,7 @@ fn move_file(
     Ok(volume.unmount())
 }
 
-/// Returns the calls of `mv`.
+/// Returns the calls that `mv` makes.
 fn move_calls(
     alloc: Global,
     volume: &Volume,

@@ -45,8 +45,8 @@ pub struct NewFile<'a> {
 /// Empties a file, or makes an empty one, and writes the bytes of `file` into it, for `put`. Nothing is saved unless both
 /// calls are accepted.
 ///
-/// Takes the memory of [`Volume::mount`], and for two copies of the path, which the journal keeps; the file's bytes are in
-/// memory once. Walks the path once per call, and once more first if the file is missing.
+/// Takes the memory of [`Volume::mount`], and memory for two copies of the path, which the journal keeps; the file's bytes are in memory only once.
+/// Walks the path once per call, and once more first if the file is missing.
 pub(crate) fn put(
     alloc: Global,
     edition: Edition,
@@ -106,7 +106,7 @@ fn fill(
     make_call(alloc, volume, write)
 }
 
-/// Empties a file, or makes an empty one if the refusal of the first call says that it is missing.
+/// Empties a file, or makes an empty one if the first call is refused because the file is missing.
 fn empty(alloc: Global, volume: &mut Volume, path: Bytes, now: u32) -> Result<(), Fault>
     ensures accepted { OnOk result ((done : Done) × Accepts volume.old volume.new
         (emptying_by (answer (reads_as volume.old.edition volume.old.image).tree (questions.Stat user path)) now path) done) }
@@ -128,7 +128,7 @@ fn empty(alloc: Global, volume: &mut Volume, path: Bytes, now: u32) -> Result<()
     if !is_missing(refusal) {
         return Err(Fault::Refused(refusal));
     }
-    // The call was handed back with its path.
+    // A refused call is returned, with its path.
     let Call::Truncate { path, .. } = call else {
         unreachable!();
     };
@@ -141,7 +141,7 @@ fn empty(alloc: Global, volume: &mut Volume, path: Bytes, now: u32) -> Result<()
     make_call(alloc, volume, create)
 }
 
-/// True if a refusal means that a name is missing.
+/// True if a refusal reports a missing name.
 fn is_missing(refusal: Refusal) -> bool
     ensures { MatchBool result (refusal ≡ Refusal.NoEntry) (refusal ≢ Refusal.NoEntry) }
 {
@@ -172,13 +172,12 @@ pub fn put_all<O: Sink, E: Sink>(
     answer
 }
 
-/// Puts files into a directory, each as `put` does: a missing file is made with permissions 0644, an existing one is
-/// emptied, and then the bytes are written. All are put, or nothing is saved, and the fault is the rule that the image
-/// breaks, the first name above 14 bytes, or the refusal of a call with its path. If two files have the same name, the
-/// second is refused as `Exists` when the name is new, and otherwise replaces the first. For `put -t`.
+/// Puts files into a directory, each as `put` does, for `put -t`: a missing file is made with permissions 0644, an existing one is emptied, and then
+/// the bytes are written. If one of the files can't be put, nothing is saved, and the fault is the rule that the image breaks, the first name above
+/// 14 bytes, or the refusal of a call with its path. If two files have the same name, the second is refused as `Exists` if the name is new, and
+/// otherwise replaces the first.
 ///
-/// Moves the files' bytes into the calls. Takes memory to mount the image and for two paths per file, and walks the path of
-/// each.
+/// Moves the files' bytes into the calls. Takes memory to mount the image and for two paths per file, and walks each file's path.
 pub fn put_files(
     alloc: Global,
     edition: Edition,
@@ -219,7 +218,7 @@ fn put_into(
     })
 }
 
-/// Returns the calls of `put -t`.
+/// Returns the calls that `put -t` makes.
 fn calls_to_put(
     alloc: Global,
     volume: &Volume,

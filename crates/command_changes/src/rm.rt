@@ -14,7 +14,7 @@ use vol_layout::Edition;
 use vol_removal::{RemovalFault, remove_all};
 use vol_volume::{Bytes, Call};
 
-/// Returns the call of `rm`.
+/// Returns the call that `rm` makes.
 pub(crate) fn unlink_call(alloc: Global, path: &str, now: u32) -> Result<Call, AllocError>
     ensures { IfOk result (λ call. call ≡ asked.Unlink user now path.now) }
 {
@@ -25,9 +25,9 @@ pub(crate) fn unlink_call(alloc: Global, path: &str, now: u32) -> Result<Call, A
     })
 }
 
-/// Removes the file or directory at a path, with everything below it, for `rm -r`. All of it is removed, or nothing is
-/// saved: if the image isn't sound, the path leads nowhere, or a call is refused. The last call is refused for the root and
-/// for a path whose last name is `.` (`Invalid`) or `..` (`NoEntry`, since the directory before it is already removed).
+/// Removes the file or directory at a path, with everything below it, for `rm -r`. If the image isn't sound, the path leads nowhere, or a call is
+/// refused, nothing is saved. The last call is refused for the root and for a path whose last name is `.` (`Invalid`) or `..` (`NoEntry`, since the
+/// directory before it is already removed).
 ///
 /// Takes the memory and time of [`vol_removal::remove_all`].
 pub(crate) fn rm_all(

@@ -11,8 +11,8 @@ use vol_check::SalvageFault;
 use vol_dir::Refusal;
 use vol_layout::Edition;
 
-/// Rebuilds the free list from the data blocks that no file has, if the volume breaks no rule except those of the free list,
-/// for `salvage`. A volume that breaks another rule isn't saved.
+/// Rebuilds the free list from the data blocks that no file uses, if the volume breaks no rule except those of the free list, for `salvage`. A volume
+/// that breaks another rule isn't saved.
 ///
 /// Takes the memory of [`vol_check::salvage`].
 pub(crate) fn salvage(alloc: Global, edition: Edition, image: Vec<u8>) -> Answer

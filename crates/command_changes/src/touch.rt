@@ -1,4 +1,4 @@
-//! `touch` sets the times of a file or directory to that of the call, or makes an empty file.
+//! `touch` sets the times of a file or directory to the time of the call, or makes an empty file.
 ghost use Rattle.std.specs.Prelude.{◌≡◌, ◌∷◌, [], IfOk, IfErr};
 ghost use Rattle.vol_volume.specs.Volume.{reads_as};
 ghost use Rattle.command_faults.specs.ChangeFaults.{Makes, IsReason, ChangesVolume};
@@ -19,7 +19,7 @@ use vol_volume::{Bytes, Call, Volume};
 /// Sets the times of last access and last modification of a file or directory to `now`. If the path leads nowhere,
 /// makes an empty file there, with permissions 0644.
 ///
-/// Takes the memory of [`Volume::mount`], and for two copies of the path. Walks the path twice.
+/// Takes the memory of [`Volume::mount`], and memory for two copies of the path. Walks the path twice.
 pub(crate) fn touch(alloc: Global, edition: Edition, image: Vec<u8>, path: &str, now: u32) -> Answer
     ensures { (errors : ErrorStream) → Hears errors result.fault
         → ChangesVolume edition image.items (touch_call (reads_as edition image.items).tree now path.now ∷ []) (says errors) result }
@@ -44,7 +44,7 @@ fn touch_node(
     Ok(volume.unmount())
 }
 
-/// Returns the call of `touch`.
+/// Returns the call that `touch` makes.
 fn touch_call(alloc: Global, volume: &Volume, path: &[u8], now: u32) -> Result<Call, AllocError>
     ensures { IfOk result (λ call. call ≡ touch_call (reads_as volume.now.edition volume.now.image).tree now path.now) }
 {

@@ -9,7 +9,7 @@ use Rattle.command_faults.specs.declared.fault.Fault.TheVariants as faults
 use Rattle.vol_dir.specs.declared.refusal.Refusal.{Refusal}
 use Rattle.vol_dir.specs.declared.refusal.Refusal.TheVariants as refusals
 
--- a refusal has the status 1 or 4
+-- the status of a refusal is 1 or 4
 pub refusal_few : (refusal : Refusal) → (refusal_status refusal ≡ 1) ⊎ (refusal_status refusal ≡ 4)
 refusal_few refusals.NotOwner = inl refl
 refusal_few refusals.NoEntry = inl refl
@@ -27,7 +27,7 @@ refusal_few refusals.NotRegular = inl refl
 refusal_few refusals.NoInode = inl refl
 refusal_few refusals.BadId = inl refl
 
--- no refusal has the status 0
+-- the status of a refusal isn't 0
 pub refusal_fails : (refusal : Refusal) → refusal_status refusal ≡ 0 → ⊥
 refusal_fails refusal is = elim (refusal_few refusal) [ inl one ↦ omega (arith, is, one) | inr four ↦ omega (arith, is, four) ]
 
@@ -35,7 +35,7 @@ few_of : (n : ℕ) → (n ≡ 1) ⊎ (n ≡ 4) → (1 ≤ n) × (n ≤ 4)
 few_of n (inl is) = (omega (arith, is), omega (arith, is))
 few_of n (inr is) = (omega (arith, is), omega (arith, is))
 
--- a fault has a status of 1 to 4
+-- the status of a fault is 1 to 4
 pub fault_few : (fault : Fault) → (1 ≤ fault_status fault) × (fault_status fault ≤ 4)
 fault_few (faults.Unsound rule) = (omega arith, omega arith)
 fault_few (faults.Refused refusal) = few_of (refusal_status refusal) (refusal_few refusal)
@@ -46,7 +46,7 @@ fault_few (faults.BadLine script number line flaw) = (omega arith, omega arith)
 fault_few (faults.Worded rule lines) = (omega arith, omega arith)
 fault_few faults.Output = (omega arith, omega arith)
 
--- the result of an outcome is the bytes that it has, or the status and the line of its fault
+-- the result has the bytes of the outcome, or the status and the line of its fault
 pub concluded : (makes : List ℕ → Type 0) (is_reason : Fault → Type 0) (errors : ErrorStream) (outcome : Result (Vec ℕ) Fault) (answer : Answer)
     → IfOk outcome (λ bytes. makes bytes.items) → IfErr outcome is_reason
     → IfOk outcome (λ bytes. (answer.image ≡ Some bytes) × (answer.status ≡ 0) × (answer.fault ≡ None))

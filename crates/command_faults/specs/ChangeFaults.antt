@@ -19,13 +19,14 @@ use Rattle.vol_volume.specs.declared.calls.Record.{Record}
 use Rattle.command_faults.specs.declared.answer.Answer.{Answer}
 use Rattle.command_faults.specs.declared.fault.Fault.{Fault}
 
--- the bytes are what recorded calls make of an image, each performed on the result of the one before (this project)
+-- recorded calls, performed on an image one after another, result in these bytes (this project)
 abbrev pub AreLeft : Geometry → List ℕ → List Record → List ℕ → Type 0
 AreLeft geometry image [] bytes = bytes ≡ image
 AreLeft geometry image (entry ∷ entries) bytes =
     (between : List ℕ) × Performs geometry image between entry.call entry.done × AreLeft geometry between entries bytes
 
--- the bytes are a sound image that calls, performed in turn, make of a sound image; only bytes that calls change differ (this project)
+-- the bytes are a sound image, the result of performing these calls one after another on a sound image; only bytes that calls change differ (this
+-- project)
 pub record Makes (edition : Edition) (image : List ℕ) (calls : List Call) (bytes : List ℕ) : Type 0 where
   pub mounted : IsSound edition image
   pub journal : List Record
@@ -36,7 +37,7 @@ pub record Makes (edition : Edition) (image : List ℕ) (calls : List Call) (byt
   pub around : StaysAround (geometry_of edition image) image bytes
   pub left : AreLeft (geometry_of edition image) image journal bytes
 
--- the first of some calls, made one after another, that isn't accepted meets this refusal (this project)
+-- calls are made one after another, and the first one that isn't accepted is refused with this refusal (this project)
 abbrev pub AreRefused : State → List Call → Refusal → Type 0
 AreRefused state [] refusal = ⊥
 AreRefused state (call ∷ calls) refusal = Refuses state call refusal

@@ -10,12 +10,12 @@ use Rattle.command_faults.specs.declared.answer.Answer.{Answer}
 use Rattle.command_faults.specs.declared.fault.Fault.{Fault}
 use Rattle.command_faults.specs.declared.fault.Fault.TheVariants as faults
 
--- the status of a refusal: 1, or 4 for memory (this project)
+-- the status of a refusal: 1, or 4 if memory ran out (this project)
 abbrev pub refusal_status : Refusal → ℕ
 refusal_status refusals.NoMemory = 4
 refusal_status _ = 1
 
--- the exit status for a fault: 1 for a refusal, 2 for a script, 3 for the output, 4 for memory (this project)
+-- the exit status for a fault: 1 for a refusal, 2 for a script that can't be read, 3 if the output failed, 4 if memory ran out (this project)
 abbrev pub fault_status : Fault → ℕ
 fault_status (faults.Unsound rule) = 1
 fault_status (faults.Refused refusal) = refusal_status refusal

@@ -1,4 +1,4 @@
--- The words that a parse found for an argument.
+-- The words that clap found for an argument.
 use Rattle.std.proofs.Common.{◌≡◌, ℕ, List, [], Option, None, Some, option_map, slice_get, unwrap_or, refl, sym}
 use Rattle.std.specs.Borrow.{Bor}
 use Rattle.std.specs.Option.{option_and_then}
@@ -9,7 +9,7 @@ use Rattle.clap.specs.declared.parser.matches.MatchedArg.{MatchedArg}
 use Rattle.clap.specs.declared.parser.matches.ArgMatches.{ArgMatches}
 use Rattle.command_line.specs.CommandLine.{words_by, words_of}
 
--- the first word for an argument is the first of all
+-- the first word that clap returns for an argument is the first of all its words
 pub first_word : (values : ArgMatches) (name : List ℕ) → first_value (found_of values) name ≡ slice_get (words_of values name) 0
 first_word values name = go (matched_of (found_of values) name)
   where
@@ -18,6 +18,6 @@ first_word values name = go (matched_of (found_of values) name)
     go None = refl
     go (Some matched) = sym (slice_get-map (λ (s : Bor (List ℕ)). s.now) matched.vals.items 0)
 
--- the words for the arguments are those of the rows that a parse makes
+-- the words for the arguments are those in the rows that clap makes
 pub words_same : (values : ArgMatches) → words_of values ≡ words_by (rows_of (found_of values))
 words_same values i name = unwrap_or (raw_values-rows (found_of values) name i) []

@@ -30,11 +30,11 @@ abbrev word_of : Edition → List ℕ
 word_of V6 = codes "6"
 word_of V7 = codes "7"
 
--- the names of the editions, through these references
+-- a reference to the names of the editions, made of these references
 abbrev names_at : ℕ × ℕ → ℕ × ℕ → ℕ × ℕ → Bor (List (Bor (List ℕ)))
 names_at p q r = record { ref_ptr = p; now = record { ref_ptr = q; now = codes "6" } ∷ record { ref_ptr = r; now = codes "7" } ∷ [] }
 
--- a property of any references is one of all names of the editions
+-- a property of each of these references is a property of every reference to the names of the editions
 at_names : (P : Bor (List (Bor (List ℕ))) → Type 0) → ((p q r : ℕ × ℕ) → P (names_at p q r)) → (editions : Bor (List (Bor (List ℕ)))) → AreEditions editions → P editions
 at_names P holds editions are = go editions.ref_ptr editions.now are
   where
@@ -49,7 +49,7 @@ at_names P holds editions are = go editions.ref_ptr editions.now are
         (holds p a.ref_ptr b.ref_ptr))
     go p (a ∷ b ∷ c ∷ rest) is = absurd (cc)
 
--- the name of the command that was found, and the words for the arguments of `ls`
+-- the name of the command that clap found, and the words for the arguments of `ls`
 abbrev seen : Option (List ℕ × List Row) → List (List ℕ)
 seen None = []
 seen (Some met) = met.0 ∷ the_word (words_by met.1) (codes "EDITION") ∷ the_word (words_by met.1) (codes "IMAGE") ∷ the_word (words_by met.1) (codes "PATH")
@@ -60,11 +60,11 @@ seen (Some met) = met.0 ∷ the_word (words_by met.1) (codes "EDITION") ∷ the_
 abbrev no_options : List (List ℕ)
 no_options = codes "false" ∷ codes "false" ∷ codes "false" ∷ codes "false" ∷ []
 
--- the name of the command, and the words for the arguments of `ls`, if no option was given
+-- the name of the command, and the words for the arguments of `ls` without options
 abbrev words_of : Edition → List ℕ → List ℕ → List (List ℕ)
 words_of edition image path = codes "ls" ∷ word_of edition ∷ image ∷ path ∷ no_options
 
--- the command line accepts the words of `ls`, and has them for its arguments, and no options
+-- the command line accepts the words of `ls`, and finds these arguments and no options
 abbrev IsTaken : Bor (List (Bor (List ℕ))) → Edition → List ℕ → List ℕ → List ℕ → Type 0
 IsTaken editions edition program image path =
     (faults_of (unixvol_app editions) (program ∷ codes "ls" ∷ word_of edition ∷ image ∷ path ∷ []) ≡ [])
@@ -96,18 +96,18 @@ taken p q r V7 name (x ∷ xs) (y ∷ ys) image path =
     let f : (y == 45) ≡ false = ne_eqb _ _ path in
     (rw (e, e, f, f) (refl {a = []}), rw (e, e, f, f) (refl {a = words_of V7 (x ∷ xs) (y ∷ ys)}))
 
--- equal texts pass the test for that
+-- if two texts are equal, `bytes_eq` is true for them
 same : (one other : List ℕ) → one ≡ other → bytes_eq one other ≡ true
 same one other is = (bytes_eq-Decides one other).1 is
 
--- an edition is the one that its word names
+-- if an edition is named by the word of another, both are the same
 edition_is : (one other : Edition) → IsEditionNamed one (word_of other) → one ≡ other
 edition_is V6 V6 named = refl
 edition_is V6 V7 named = absurd (true≢false (sym (same _ _ named)))
 edition_is V7 V6 named = absurd (true≢false (sym (same _ _ named)))
 edition_is V7 V7 named = refl
 
--- the word of an edition is the one that names it
+-- if a word names an edition, it is the edition's word
 word_is : (edition : Edition) (word : List ℕ) → IsEditionNamed edition word → word ≡ word_of edition
 word_is V6 word named = named
 word_is V7 word named = named
@@ -119,11 +119,11 @@ record HasNoOptions (given : Words) : Type 0 where
   below : first_word (given (codes "recursive")) ≡ codes "false"
   itself : first_word (given (codes "directory")) ≡ codes "false"
 
--- an option whose word says so was not given
+-- if the word of an option is `false`, the option wasn't given
 unset : (words : List (List ℕ)) → first_word words ≡ codes "false" → is_set words ≡ false
 unset words is = ap (λ (word : List ℕ). bytes_eq word (codes "true")) is
 
--- if no option was given, the lines are plain ones
+-- if no option was given, the lines are plain
 plain : (given : Words) (form : Lines) → HasNoOptions given → AreLinesGiven given form → form ≡ lines.Plain
 plain given lines.Plain none are = refl
 plain given lines.Long none are = absurd (true≢false (sym are.1 ∙ unset (given (codes "long")) none.long))
@@ -143,7 +143,7 @@ to_names_given : (given : Words) (depth : Depth) → HasNoOptions given → dept
 to_names_given given depth none is =
     subst (IsDepthGiven given) (sym is) (unset (given (codes "directory")) none.itself, unset (given (codes "recursive")) none.below)
 
--- the invocation of `ls`, by the words for its arguments
+-- if the words for the arguments of `ls` have no option, every invocation that is read from them is that listing
 asks_listing : (clock : Option ℕ) (given : Words) (edition : Edition) (image path : List ℕ) (invocation : Invocation) → bytes_eq (codes "ls") (verb_name (verb_of invocation)) ≡ true
     → the_word given (codes "EDITION") ≡ word_of edition → the_word given (codes "IMAGE") ≡ image → the_word given (codes "PATH") ≡ path → HasNoOptions given
     → IsGiven clock given invocation → IsListing edition image path invocation
@@ -189,7 +189,7 @@ asks_listing clock given edition image path (invocations.Work volume (works.Chec
 asks_listing clock given edition image path (invocations.Work volume (works.Check checkers.Names workers)) test e_is i_is p_is none is = absurd (true≢false (sym test))
 asks_listing clock given edition image path (invocations.Work volume (works.Play scripts journal)) test e_is i_is p_is none is = absurd (true≢false (sym test))
 
--- no option was given, by the words that were found
+-- if clap found the words of `ls` without options, no option was given
 no_options_by : (met : List ℕ × List Row) (edition : Edition) (image path : List ℕ) → seen (Some met) ≡ words_of edition image path
     → HasNoOptions (words_by met.1)
 no_options_by met edition image path is = record {
@@ -199,7 +199,7 @@ no_options_by met edition image path is = record {
   itself = ap (λ (l : List (List ℕ)). slice_index_or l 7 []) is;
 }
 
--- the invocation of `ls`, by the command that was found and the rows of its words
+-- if clap found the command `ls` with its words and no options, every invocation that is read from them is that listing
 listed : (clock : Option ℕ) (met : Option (List ℕ × List Row)) (edition : Edition) (image path : List ℕ) (invocation : Invocation) → seen met ≡ words_of edition image path
     → MetAsks clock met invocation → IsListing edition image path invocation
 listed clock None edition image path invocation is asks = absurd asks
@@ -214,7 +214,7 @@ word_names : (edition : Edition) → IsEditionNamed edition (word_of edition)
 word_names V6 = refl
 word_names V7 = refl
 
--- if the words of `ls` were found, they are that listing
+-- if clap found the command `ls` with its words and no options, they are read as that listing
 listing_asks : (clock : Option ℕ) (met : Option (List ℕ × List Row)) (edition : Edition) (image path : List ℕ) (invocation : Invocation)
     → seen met ≡ words_of edition image path → IsListing edition image path invocation → MetAsks clock met invocation
 listing_asks clock None edition image path invocation is listed = absurd (cc)
@@ -256,7 +256,7 @@ listing_asks clock (Some met) edition image path (invocations.Change v change) i
 listing_asks clock (Some met) edition image path (invocations.Copy v copying) is listed = absurd listed
 listing_asks clock (Some met) edition image path (invocations.Work v work) is listed = absurd listed
 
--- the words of `ls` are a listing, if they have its edition's word
+-- these words of `ls` are read as that listing, and as no other invocation
 abbrev AsksListing : Option ℕ → Bor (List (Bor (List ℕ))) → Edition → List ℕ → List ℕ → List ℕ → List ℕ → Type 0
 AsksListing clock editions edition program image path word = (faults_of (unixvol_app editions) (program ∷ codes "ls" ∷ word ∷ image ∷ path ∷ []) ≡ [])
     × ((invocation : Invocation) → MetAsks clock (command_in (unixvol_app editions) (program ∷ codes "ls" ∷ word ∷ image ∷ path ∷ [])) invocation
@@ -268,7 +268,7 @@ asks clock editions edition program image path t =
     let met = command_in (unixvol_app editions) (program ∷ codes "ls" ∷ word_of edition ∷ image ∷ path ∷ []) in
     (t.0, λ invocation. (listed clock met edition image path invocation t.1, listing_asks clock met edition image path invocation t.1))
 
--- the invocation of the words of `ls`
+-- the words of `ls` are read as a listing, for every edition, file and path
 pub reads_listing : ReadsListing
 reads_listing clock editions are edition program word image path named plain_image plain_path =
     subst (AsksListing clock editions edition program image path) (sym (word_is edition word named))

@@ -1,4 +1,4 @@
--- The steps that build the command line, and what each adds.
+-- The steps that build the command line, and the part of the command line that each step adds.
 use Rattle.std.proofs.Common.{Bool, codes, map, take, length, get_or, Option, Some, None, IsSomeAnd, Result, Ok, Err, IfOk, ◌&&◌, not, is_some, ◌≡◌, ◌<◌, ◌+◌, ◌∙◌, ℕ, true, false, List, ◌∷◌, ◌++◌, [], refl, sym, ap, ap₂}
 use Rattle.std.specs.Borrow.{Bor}
 use Rattle.std.proofs.lemmas.Grind.{fold-append}
@@ -25,7 +25,7 @@ use Rattle.command_words.specs.declared.parameters.Parameter.{Parameter}
 use Rattle.command_words.specs.declared.verbs.Verb.{Verb}
 use Rattle.command_line.specs.Words.{app, argument_rule, bare_program, explain_rule, kind_rule, named_shape, need_rule, program, rule, shape, verb_shape, with_argument, with_arguments, with_command, with_commands}
 
--- the last of ten tests that pass passes
+-- if ten tests pass together, the last one passes
 last : (a b c d e f g h i j : Bool) → (a && (b && (c && (d && (e && (f && (g && (h && (i && j))))))))) ≡ true → j ≡ true
 last a b c d e f g h i j all =
     let from_b = (both a (b && (c && (d && (e && (f && (g && (h && (i && j)))))))) all).1 in
@@ -34,7 +34,7 @@ last a b c d e f g h i j all =
     let from_h = (both g (h && (i && j)) (both f (g && (h && (i && j))) from_f).1).1 in
     (both i j (both h (i && j) from_h).1).1
 
--- an argument that doesn't change how words are read belongs to one command alone
+-- an argument that doesn't change how words are read belongs to one command only
 local : (argument : Arg) → is_simple_arg argument ≡ true → argument.global ≡ false
 local argument simple =
     is_false argument.global
@@ -42,7 +42,7 @@ local argument simple =
     (not (is_some argument.terminator)) (not argument.allow_hyphen_values) (not argument.allow_negative_numbers) (not argument.require_equals)
     (not argument.last) (not argument.global) simple)
 
--- a command with one more argument, whose readable part is known
+-- adding an argument with this rule to a command adds the rule
 adds_rule : (old new : Command) (argument : Arg) (known : Rule) → AddsArg old argument new → rule_of argument ≡ known → known.is_simple ≡ true
     → shape new ≡ with_argument (shape old) known
 unfolding shape with_argument
@@ -50,7 +50,7 @@ adds_rule old new argument known added is simple =
     let simple_argument : is_simple_arg argument ≡ true = ap (λ (r : Rule). r.is_simple) is ∙ simple in
     ap (λ (a : App). a.top) (added.shape (local argument simple_argument)) ∙ ap (λ (r : Rule). record (shape old) { rules = (shape old).rules ++ r ∷ [] }) is
 
--- an argument for a required word, once its number of values is set
+-- setting the number of values turns an argument for a required word into one for one word or more
 ranged : (old : Arg) (range : Option ValueRange) (name : List ℕ) → rule old ≡ need_rule name needs.Once
     → IsSomeAnd range (λ r. r ≡ record { start_inclusive = 1; end_inclusive = usize_max }) → rule (record old { num_vals = range }) ≡ need_rule name needs.Several
 unfolding rule need_rule
@@ -58,12 +58,12 @@ ranged old None name before is = absurd is
 ranged old (Some range) name before is =
     ap (λ (r : Rule). record r { range = Some range }) before ∙ ap (λ (r : ValueRange). record (need_rule name needs.Once) { range = Some r }) is
 
--- an argument for one word or more, from one for a required word
+-- an argument for a required word, with another number of values, is one for one word or more
 pub takes_words : (old new : Arg) (name : List ℕ) → rule old ≡ need_rule name needs.Once → new ≡ record old { num_vals = new.num_vals }
     → IsSomeAnd new.num_vals (λ r. r ≡ record { start_inclusive = 1; end_inclusive = usize_max }) → rule new ≡ need_rule name needs.Several
 takes_words old new name before same is = ap rule same ∙ ranged old new.num_vals name before is
 
--- an argument for an optional word, once its number of values is set
+-- setting the number of values turns an argument for an optional word into one for any number of words
 ranged_maybe : (old : Arg) (range : Option ValueRange) (name : List ℕ) → rule old ≡ need_rule name needs.Maybe
     → IsSomeAnd range (λ r. r ≡ record { start_inclusive = 1; end_inclusive = usize_max }) → rule (record old { num_vals = range }) ≡ need_rule name needs.Any
 unfolding rule need_rule
@@ -71,12 +71,12 @@ ranged_maybe old None name before is = absurd is
 ranged_maybe old (Some range) name before is =
     ap (λ (r : Rule). record r { range = Some range }) before ∙ ap (λ (r : ValueRange). record (need_rule name needs.Maybe) { range = Some r }) is
 
--- an argument for any number of words, from one for an optional word
+-- an argument for an optional word, with another number of values, is one for any number of words
 pub takes_any : (old new : Arg) (name : List ℕ) → rule old ≡ need_rule name needs.Maybe → new ≡ record old { num_vals = new.num_vals }
     → IsSomeAnd new.num_vals (λ r. r ≡ record { start_inclusive = 1; end_inclusive = usize_max }) → rule new ≡ need_rule name needs.Any
 takes_any old new name before same is = ap rule same ∙ ranged_maybe old new.num_vals name before is
 
--- an argument whose words are the names of editions
+-- if an argument gets the names of the editions as its possible values, it has the rule of an argument for an edition
 pub takes_editions : (old new : Arg) (editions : Bor (List (Bor (List ℕ)))) (before : Rule) → rule old ≡ before → new ≡ record old { value_parser = new.value_parser }
     → new.value_parser ≡ Some (parsers.Names editions) → rule new ≡ record before { parser = Some (parsers.Names editions) }
 unfolding rule
@@ -85,7 +85,7 @@ takes_editions old new editions before was same is =
     ∙ (ap (λ (r : Rule). record r { parser = new.value_parser }) was
     ∙ ap (λ (p : Option ValueParser). record before { parser = p }) is)
 
--- the kind of other words changes nothing of an argument
+-- any other kind of words leaves the rule of an argument unchanged
 pub other_kinds : (editions : Bor (List (Bor (List ℕ)))) (kind : WordKind) (before : Rule) → (kind ≡ kinds.Edition → ⊥) → before ≡ kind_rule editions kind before
 other_kinds editions kinds.Edition before other = absurd (other refl)
 other_kinds editions _ before other = refl
@@ -100,7 +100,7 @@ need_simple name needs.Any = refl
 need_simple name (needs.Flag letter) = refl
 need_simple name (needs.Value letter value) = refl
 
--- nor does their kind
+-- the kind of the words of an argument doesn't change how words are read
 kind_simple : (editions : Bor (List (Bor (List ℕ)))) (kind : WordKind) (argument : Rule) → (kind_rule editions kind argument).is_simple ≡ argument.is_simple
 kind_simple editions kinds.Edition argument = refl
 kind_simple editions _ argument = refl
@@ -109,7 +109,7 @@ argument_simple : (editions : Bor (List (Bor (List ℕ)))) (argument : Argument)
 unfolding argument_rule
 argument_simple editions argument = kind_simple editions argument.1 (need_rule argument.0 argument.2) ∙ need_simple argument.0 argument.2
 
--- one more of the arguments that a command takes
+-- the arguments of a command with `i + 1` parameters are those with `i`, followed by one more
 more_arguments : (editions : Bor (List (Bor (List ℕ)))) (begun : Shape) (parameters : List Parameter) (i : ℕ) (other : Parameter) → i < length parameters
     → with_arguments editions begun (map argument_of (take (i + 1) parameters))
     ≡ with_argument (with_arguments editions begun (map argument_of (take i parameters))) (argument_rule editions (argument_of (get_or parameters i other)))
@@ -135,7 +135,7 @@ explain_simple : explain_rule.is_simple ≡ true
 unfolding explain_rule
 explain_simple = need_simple (codes "explain") (needs.Flag None)
 
--- a command with the option of all commands
+-- adding the option of all commands to a command adds its rule
 pub adds_option : {E : Type 0} (old : Command) (result : Result Command E) (option : Arg) (known : Shape) → IfOk result (λ new. AddsArg old option new)
     → rule option ≡ explain_rule → shape old ≡ known → IfOk result (λ new. shape new ≡ with_argument known explain_rule)
 unfolding rule
@@ -143,7 +143,7 @@ adds_option old (Ok new) option known added is was =
     adds_rule old new option explain_rule added is explain_simple ∙ ap (λ (s : Shape). with_argument s explain_rule) was
 adds_option old (Err e) option known added is was = tt
 
--- the program with the option of all commands
+-- adding the option of all commands to the program adds its rule
 pub adds_option_to_program : {E : Type 0} (old : Command) (result : Result Command E) (option : Arg) → IfOk result (λ new. AddsArg old option new)
     → rule option ≡ explain_rule → app old ≡ bare_program → IfOk result (λ new. app new ≡ program)
 unfolding rule app program with_argument
@@ -152,7 +152,7 @@ adds_option_to_program old (Ok new) option added is was =
     added.shape (local option simple_option) ∙ ap₂ with_rule was is
 adds_option_to_program old (Err e) option added is was = tt
 
--- a command with its texts, and no argument
+-- adding texts to a command without arguments doesn't change how its words are read
 pub starts : (new texts more : Command) (about after_help : Bor (List ℕ)) (name : List ℕ) → app_of new ≡ new_app name
     → out-Command texts ≡ record (out-Command new) { about = Some about } → out-Command more ≡ record (out-Command texts) { after_help = Some after_help }
     → shape more ≡ named_shape name
@@ -164,11 +164,11 @@ pub shows_usage : (old new : Command) (usage : Bor (List ℕ)) → out-Command n
 unfolding shape
 shows_usage old new usage is = ap shape_of_fields is
 
--- a command whose arguments don't change how words are read has none that its subcommands take
+-- if the arguments of a command don't change how words are read, none of them is passed on to its subcommands
 no_globals : (command : Command) → (shape_of command).is_plain ≡ true → (out-Command command).has_globals ≡ false
 no_globals command plain = (plain_fields command plain).globals
 
--- a command with arguments doesn't change how words are read
+-- a command with arguments from the table doesn't change how words are read
 arguments_plain : (editions : Bor (List (Bor (List ℕ)))) (before : Shape) (arguments : List Argument) → before.is_plain ≡ true
     → (with_arguments editions before arguments).is_plain ≡ true
 unfolding with_argument
@@ -179,14 +179,14 @@ verb_plain : (editions : Bor (List (Bor (List ℕ)))) (verb : Verb) → (verb_sh
 unfolding verb_shape named_shape with_argument
 verb_plain editions verb = arguments_plain editions (named_shape (verb_name verb)) (arguments_of verb) refl
 
--- one more command
+-- adding a command with this shape to the program adds the shape
 adds_command : (old command new : Command) (before : App) (known : Shape) → AddsSubcommand old command new → shape command ≡ known → known.is_plain ≡ true
     → app old ≡ before → app new ≡ with_command before known
 unfolding shape app with_command
 adds_command old command new before known added is plain was =
     added.shape (no_globals command (ap (λ (s : Shape). s.is_plain) is ∙ plain)) ∙ ap₂ with_subcommand was is
 
--- one more of the commands of the program
+-- the program with `i + 1` commands is the one with `i`, with one more command added
 more_commands : (editions : Bor (List (Bor (List ℕ)))) (begun : App) (verbs : List Verb) (i : ℕ) (other : Verb) → i < length verbs
     → with_commands editions begun (take (i + 1) verbs) ≡ with_command (with_commands editions begun (take i verbs)) (verb_shape editions (get_or verbs i other))
 more_commands editions begun verbs i other inside =
@@ -201,7 +201,7 @@ adds_verb old command new editions begun verbs i other inside added known was =
     adds_command old command new (with_commands editions begun (take i verbs)) (verb_shape editions verb) added known (verb_plain editions verb) was
     ∙ sym (more_commands editions begun verbs i other inside)
 
--- the program with its texts, and no command or option
+-- the program with its version and its texts, before its option and its commands are added, is `bare_program`
 pub starts_program : (new versioned about more asking whole : Command) (version about_text after_help : Bor (List ℕ)) → app_of new ≡ new_app (codes "unixvol")
     → out-Command versioned ≡ record (out-Command new) { version = Some version }
     → out-Command about ≡ record (out-Command versioned) { about = Some about_text }

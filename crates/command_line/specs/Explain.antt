@@ -1,4 +1,4 @@
--- The option `--explain`, which asks for a second line about a fault.
+-- The option `--explain`, which adds a second line to a fault.
 use Rattle.std.specs.Prelude.{◌||◌, ℕ, Bool, false, if◌then◌else◌, List, [], ◌∷◌, codes, drop}
 use Rattle.std.specs.Str.{bytes_eq}
 

@@ -21,7 +21,8 @@ IsListing edition image path (invocations.Look volume (looks.List directory list
     (volume.edition ≡ edition) × (volume.image.now ≡ image) × (directory.now ≡ path) × (listing.lines ≡ lines.Plain) × (listing.depth ≡ depths.Names)
 IsListing edition image path _ = ⊥
 
--- whatever the clock gives, clap accepts `ls`, an edition and two words that don't begin with a hyphen, and they are that listing and no other invocation (this project)
+-- whatever the clock's time, clap accepts `ls`, an edition and two words that don't begin with a hyphen; they are read as that listing and as no
+-- other invocation (this project)
 abbrev pub ReadsListing : Type 0
 ReadsListing = (clock : Option ℕ) (editions : Bor (List (Bor (List ℕ)))) → AreEditions editions → (edition : Edition) (program word image path : List ℕ)
     → IsEditionNamed edition word → IsPlainWord image → IsPlainWord path

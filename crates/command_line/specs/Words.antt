@@ -40,7 +40,7 @@ need_rule name needs.Any = record (new_rule name) { range = Some (record { start
 need_rule name (needs.Flag letter) = record (new_rule name) { long = Some name; short = letter; action = Some actions.SetTrue }
 need_rule name (needs.Value letter value) = record (new_rule name) { long = Some name; short = Some letter; value_names = 1 }
 
--- the argument; an edition's words are one of these texts (this project)
+-- the rule of an argument; for an edition, its words must be among these texts (this project)
 abbrev pub kind_rule : Bor (List (Bor (List ℕ))) → WordKind → Rule → Rule
 kind_rule editions kinds.Edition argument = record argument { parser = Some (parsers.Names editions) }
 kind_rule editions _ argument = argument
@@ -61,7 +61,7 @@ with_argument command argument = record command { rules = command.rules ++ argum
 abbrev pub with_arguments : Bor (List (Bor (List ℕ))) → Shape → List Argument → Shape
 with_arguments editions = fold (λ command argument. with_argument command (argument_rule editions argument))
 
--- the option of the program and of all commands that asks for a second line about a fault (this project)
+-- the option `--explain`, which the program and all commands have (this project)
 unfoldable pub explain_rule : Rule
 explain_rule = need_rule (codes "explain") (needs.Flag None)
 

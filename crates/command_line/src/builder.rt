@@ -104,7 +104,7 @@ fn named<'a>(alloc: Global, verb: Verb) -> Command<'a>
     }
 }
 
-/// Builds the option that asks for a second line about a fault.
+/// Builds the option that prints a second line to explain a fault.
 #[tactic(auto, unfolding(crate::specs::Words::explain_rule))]
 fn explain_option<'a>(alloc: Global) -> Arg<'a>
     ensures { rule result ≡ explain_rule }
@@ -126,7 +126,7 @@ fn needed<'a>(alloc: Global, name: &'a str, help: &'a str, need: Need) -> Arg<'a
     }
 }
 
-/// Builds an argument for a word that is required.
+/// Builds an argument for a required word.
 #[tactic(auto, unfolding(crate::specs::Words::rule, crate::specs::Words::need_rule))]
 fn required<'a>(alloc: Global, name: &'a str, help: &'a str) -> Arg<'a>
     ensures { rule result ≡ need_rule name.entry.now needs.Once }

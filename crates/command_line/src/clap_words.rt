@@ -8,7 +8,7 @@ use std::alloc::{AllocError, Global};
 /// The words that clap found after a command.
 #[derive(Drop)]
 pub(crate) struct ClapWords<'m, 'a> {
-    /// Clap's values for them.
+    /// Clap's values for the arguments.
     pub values: &'m ArgMatches<'a>,
 }
 

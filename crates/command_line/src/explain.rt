@@ -2,8 +2,8 @@
 ghost use Rattle.std.specs.Prelude.{◌≡◌, map, string_bytes};
 ghost use Rattle.command_line.specs.Explain.{asks_to_explain, has_explain};
 
-/// True if one of the words after the first, which is the program's own name, and before a lone `--` is `--explain`. If
-/// clap accepts the words, it is this option; other words may have it too.
+/// True if `--explain` is one of the words after the first, which is the program's own name, and before a lone `--`. If clap accepts the words, it is
+/// this option; words that clap refuses may have it too.
 pub fn asks_to_explain(words: &[String]) -> bool
     ensures { result ≡ asks_to_explain (map string_bytes words.now) }
 {

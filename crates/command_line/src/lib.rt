@@ -25,11 +25,10 @@ pub use command_words::{Copying, Invocation, MadeFile, Serving, VolumeFile, Work
 pub use explain::asks_to_explain;
 pub use reword::reworded;
 
-/// Reads the words of the command line, the first of which is the program's own name. `clock` is the time of the
-/// program's clock, in seconds since the beginning of 1970, if it has one; it is used if a command's time was left out.
-/// The error is clap's, with its text, its stream and its status: of the kind `ValueValidation` if a word isn't valid
-/// for its argument, there is no time, or the words for several files don't fit together; `MissingSubcommand` if there
-/// is no command; `OutOfMemory` if an allocation was refused; and otherwise clap's own for the words.
+/// Reads the words of the command line, the first of which is the program's own name. `clock` is the time of the program's clock, in seconds since
+/// the beginning of 1970, if it has one; it is used if a command's time was left out. The error is clap's, with its text, its stream and its status:
+/// its kind is `ValueValidation` if a word isn't valid for its argument, there is no time, or the words for several files can't be used together;
+/// `MissingSubcommand` if there is no command; `OutOfMemory` if an allocation was refused; and otherwise the kind that clap chooses for the words.
 pub fn read<'a>(
     alloc: Global,
     clock: Option<u32>,
@@ -83,7 +82,7 @@ fn read_command<'a>(
     }
 }
 
-/// Returns the error for a fault, in the words of the help.
+/// Returns the error for a fault, in the same words as the help.
 fn told(alloc: Global, verb: Verb, fault: WordFault<'_>) -> Result<Error, AllocError>
     ensures kind { IfOk result (λ error. kind_of error ≡ clap_kinds.ValueValidation) }
     ensures wrong { IfOk result (λ _. IsWrong fault.entry) }

@@ -15,8 +15,7 @@ const ERROR: &str = "error: ";
 /// The beginning of clap's list of an argument's possible values.
 const VALUES: &str = "\n  [possible values: ";
 
-/// The beginning of clap's tip on an unknown option. The tip is to pass it as a value, where it would usually replace
-/// another word.
+/// The beginning of clap's tip on an unknown option. The tip is to pass the option as a value, which would usually replace another word.
 const VALUE_TIP: &str = "\n  tip: to pass '";
 
 /// The usage that clap appends to a text.
@@ -25,9 +24,9 @@ const USAGE: &str = "\n\nUsage: ";
 /// Clap's name for the first path of a command, if it is missing.
 const PATH: &str = "<PATH>";
 
-/// Rewords an error of clap, with the usage of the command that the words name. It lists the editions if a word isn't
-/// one, leaves out the tip to pass an unknown option as a value, and says that a file is missing if `put` has a
-/// directory but no file. Returns `None` if the error can stay as it is.
+/// Rewords an error of clap, with the usage of the command that the words name. The new text lists the editions if a word isn't one, leaves out the
+/// tip to pass an unknown option as a value, and reports a missing file if `put` has a directory but no file. Returns `None` if the error can stay as
+/// it is.
 pub fn reworded(alloc: Global, words: &[String], error: &Error) -> Result<Option<Error>, AllocError>
     ensures { IfOk result (λ told. IfSome told (λ better. kind_of better ≡ kind_of error.now)) }
 {

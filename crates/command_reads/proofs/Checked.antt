@@ -1,4 +1,4 @@
--- The result of a checker's command, with a report or without.
+-- The result of a checker's command, with a report or out of memory.
 use Rattle.std.proofs.Common.{ℕ, List, Result, Ok, Err, IfOk, OnErr, inl, inr}
 use Rattle.vol_check.specs.SweepReports.{IsReport}
 use Rattle.vol_check.specs.declared.checker.Checker.{Checker}
@@ -8,7 +8,7 @@ use Rattle.command_reads.specs.Checkers.{Checks, IsUnreported, PrintsReport}
 use Rattle.command_faults.specs.Streams.{Streams}
 use Rattle.vol_listing.specs.declared.options.Screen.{Screen}
 
--- the report is printed, or there is none
+-- the report is printed, or memory ran out and nothing is printed
 pub checked : {E : Type 0} (checker : Checker) (edition : Edition) (image : List ℕ) (screen : Screen) (streams : Streams) (status : ℕ) (report : Result (List Line) E)
     → IfOk report (IsReport checker edition image) → IfOk report (λ report. PrintsReport screen streams report status)
     → OnErr report (IsUnreported streams status) → Checks checker edition image screen streams status

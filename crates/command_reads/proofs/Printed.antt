@@ -13,7 +13,7 @@ use Rattle.command_faults.specs.declared.fault.Fault.{Fault}
 use Rattle.command_faults.specs.declared.fault.Fault.TheVariants as faults
 use Rattle.command_reads.specs.Print.{IsTold, Prints, PrintsWith, PrintsOne}
 
--- all bytes of a text were written
+-- if all bytes of a text were written, the text is printed
 pub printed : (wanted : ℕ) (streams : Streams) (text bytes : List ℕ) → bytes ≡ text → Appends streams.old streams.new bytes
     → streams.failed ≡ streams.had_failed → streams.said [] → PrintsWith wanted streams text wanted
 printed wanted streams text bytes is whole working said = inl (record {
@@ -23,7 +23,7 @@ printed wanted streams text bytes is whole working said = inl (record {
   said = said;
 })
 
--- a prefix of a text was written, and standard output failed
+-- if standard output failed after a prefix of a text was written, exactly this prefix was printed
 pub broken : (wanted : ℕ) (streams : Streams) (text bytes : List ℕ) (count status : ℕ) → bytes ≡ text → AppendsFront streams.old streams.new bytes count
     → streams.failed ≡ true → status ≡ 3 → streams.said (fault_line faults.Output) → PrintsWith wanted streams text status
 broken wanted streams text bytes count status is front fails state said = inr (record {
@@ -33,20 +33,20 @@ broken wanted streams text bytes count status is front fails state said = inr (r
   said = said;
 })
 
--- the text is printed, or its fault reported
+-- the text is printed, or its fault is reported
 pub one_of : (IsText : List ℕ → Type 0) (IsFault : Fault → Type 0) (streams : Streams) (status : ℕ) (text : Result (String Global) Fault)
     → IfOk text (λ t. IsText (string_bytes t)) → IfErr text IsFault → IfOk text (λ t. Prints streams (string_bytes t) status)
     → IfErr text (λ fault. IsTold streams fault status) → PrintsOne IsText IsFault streams status
 one_of IsText IsFault streams status (Ok t) is why prints told = inl (string_bytes t, is, prints)
 one_of IsText IsFault streams status (Err fault) is why prints told = inr (fault, why, told)
 
--- the same of a text of any bytes
+-- the same holds for a text of any bytes
 pub one_of_bytes : (IsText : List ℕ → Type 0) (IsFault : Fault → Type 0) (streams : Streams) (status : ℕ) (text : Result (Vec ℕ) Fault)
     → IfOk text (λ t. IsText t.items) → IfErr text IsFault → IfOk text (λ t. Prints streams t.items status)
     → IfErr text (λ fault. IsTold streams fault status) → PrintsOne IsText IsFault streams status
 one_of_bytes IsText IsFault streams status (Ok t) is why prints told = inl (t.items, is, prints)
 one_of_bytes IsText IsFault streams status (Err fault) is why prints told = inr (fault, why, told)
 
--- known bytes that nobody touched stay
+-- if nothing is written, the contents of a stream stay the same
 pub kept_same : (known : Option (List ℕ)) → Keeps known known
 kept_same known = Keeps-refl known

@@ -1,4 +1,4 @@
--- No number of a report is a fraction.
+-- No number in a JSON report is a fraction.
 use Rattle.std.proofs.Common.{◌≡◌, ℕ, Bool, true, false, if◌then◌else◌, List, [], ◌∷◌, codes, map, take, Option, None, Some, refl}
 use Rattle.std.specs.Prelude.{◌&&◌, not}
 use Rattle.std.specs.Result.{is_ok}
@@ -30,47 +30,47 @@ use Rattle.command_reads.specs.declared.super_block.SuperPart.{SuperPart}
 use Rattle.command_reads.specs.declared.super_block.SuperPart.TheVariants as parts
 use Rattle.command_reads.specs.Inode.{inode_data}
 
--- none of a list of numbers
+-- a list of numbers has no fraction
 counts_whole : (ns : List ℕ) → items_have_float (items_of (map count ns)) ≡ false
 counts_whole [] = refl
 counts_whole (n ∷ ns) = counts_whole ns
 
--- none of a list of extents
+-- a list of extents has no fraction
 extents_whole : (es : List Extent) → items_have_float (items_of (map extent_data es)) ≡ false
 extents_whole [] = refl
 extents_whole (e ∷ es) = extents_whole es
 
--- nor one that may be missing
+-- a number that may be missing is no fraction
 optional_whole : (n : Option ℕ) → has_float (count_or_null n) ≡ false
 optional_whole None = refl
 optional_whole (Some n) = refl
 
--- nor one of the fault that ended a walk
+-- the fault that ended a walk has no fraction
 fault_whole : (fault : Option (FreeFault × ℕ)) → has_float (fault_data fault) ≡ false
 fault_whole None = refl
 fault_whole (Some fault) = refl
 
--- nor one of an i-node
+-- the report on an i-node has no fraction
 pub inode_whole : (report : InodeReport) → has_float (inode_data report) ≡ false
 unfolding inode_data
 inode_whole report =
     rw (counts_whole (take (address_count report.edition) report.node.addresses), optional_whole report.node.changed, extents_whole report.extents.items) refl
 
--- nor one of the super-block
+-- the report on the super-block has no fraction
 super_whole : (report : SuperReport) → has_float (super_data report) ≡ false
 unfolding super_data
 super_whole report = rw (fault_whole report.fault, counts_whole report.free.items, counts_whole report.cache.items) refl
 
--- none of a list of links
+-- a list of links has no fraction
 links_whole : (ls : List FreeLink) → items_have_float (items_of (map link_data ls)) ≡ false
 links_whole [] = refl
 links_whole (l ∷ ls) = rw (counts_whole l.numbers.items) (links_whole ls)
 
--- nor one of the chain of the free list
+-- the report on the chain of the free list has no fraction
 pub chain_whole : (report : ChainReport) → has_float (chain_data report) ≡ false
 chain_whole report = rw (fault_whole report.fault, links_whole report.links.items) refl
 
--- nor one of a rule
+-- the position of a violation has no fraction
 spot_whole : (spot : Spot) → has_float (spot_data spot) ≡ false
 spot_whole spots.Image = refl
 spot_whole (spots.Inode i) = refl
@@ -101,16 +101,16 @@ other_whole edition image = either (not (is_ok (geometry_read edition image)) &&
     either true = refl
     either false = refl
 
--- nor one of a report on the rules
+-- the report on the rules has no fraction
 pub report_whole : (edition : Edition) (image : List ℕ) (lines : List RuleLine) → has_float (report_data edition image lines) ≡ false
 report_whole edition image lines = rw (other_whole edition image, rules_whole lines) refl
 
--- nor one of the space of a volume
+-- the report on the space of a volume has no fraction
 space_whole : (report : SuperReport) → has_float (space_data report) ≡ false
 unfolding space_data
 space_whole report = rw (fault_whole report.fault) refl
 
--- nor one of part of the report on the super-block
+-- part of the report on the super-block has no fraction
 pub part_whole : (part : SuperPart) (report : SuperReport) → has_float (part_data part report) ≡ false
 part_whole parts.Fields report = super_whole report
 part_whole parts.Space report = space_whole report

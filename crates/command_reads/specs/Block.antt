@@ -20,6 +20,6 @@ IsBlockText edition image block text =
 abbrev pub IsBlockFault : Edition → List ℕ → ℕ → Fault → Type 0
 IsBlockFault edition image block fault = (why : InspectFault) × InspectsBlock edition image block (Err why) × (fault ≡ uninspected why)
 
--- the owners of a block are shown, or the reason why not is reported (this project)
+-- the owners of a block are shown, or a fault is reported (this project)
 abbrev pub ShowsBlock : Edition → List ℕ → ℕ → Streams → ℕ → Type 0
 ShowsBlock edition image block streams status = PrintsOne (IsBlockText edition image block) (IsBlockFault edition image block) streams status

@@ -17,7 +17,7 @@ use Rattle.command_faults.specs.Faults.{line_of_refusal, line_of_rule}
 use Rattle.command_reads.specs.declared.cat.CatFault.{CatFault}
 use Rattle.command_reads.specs.declared.cat.CatFault.TheVariants as faults
 
--- the exit status for a fault of `cat`: 1 for a refusal, 3 for a file, 4 for memory (this project)
+-- the exit status for a fault of `cat`: 1 for a refusal, 3 if a file failed, 4 if memory ran out (this project)
 abbrev pub cat_status : CatFault → ℕ
 cat_status faults.Device = 3
 cat_status (faults.Writer written) = 3
@@ -73,18 +73,20 @@ abbrev pub file_by : Result Geometry GeometryFault → List ℕ → ℕ → Resu
 file_by (Ok geometry) image i = file_in geometry image i
 file_by (Err fault) image i = Err (faults.Unsound fault)
 
--- the geometry of an image whose file i `cat` prints, or its first refusal: rule 1, rule 2, no such i-node, not a regular file or directory (this project)
+-- the geometry of an image from which `cat` prints file i, or the first refusal: rule 1, rule 2, no i-node with this number, not a regular file or
+-- directory (this project)
 unfoldable pub file_of : Edition → List ℕ → ℕ → Result Geometry CatFault
 file_of edition image i = file_by (geometry_read edition image) image i
 
--- the output and the result of `cat` for an image: file i's body, or as many of its bytes as a writer's fault counts, or a refusal and nothing (this project)
+-- the output and the result of `cat` for an image: the body of file i; or, if the writer failed, as many of its bytes as the fault counts; or
+-- nothing, and a refusal (this project)
 abbrev pub PrintsFile : Option (List ℕ) → Option (List ℕ) → List ℕ → ℕ → Result Geometry CatFault → Result (Unit {0}) CatFault → Type 0
 PrintsFile old new image i (Err fault) result = (result ≡ Err fault) × Keeps old new
 PrintsFile old new image i (Ok geometry) (Ok done) = Appends old new (body geometry image i)
 PrintsFile old new image i (Ok geometry) (Err (faults.Writer written)) = AppendsFront old new (body geometry image i) written
 PrintsFile old new image i (Ok geometry) (Err _) = ⊥
 
--- the effect of `cat` on its reader and its writer: an image that was read whole is shown, and otherwise nothing is written (this project)
+-- the effect of `cat` on its reader and its writer: if the image was read whole, its file is printed; otherwise nothing is written (this project)
 abbrev pub Cats : Option (List ℕ) → Option (List ℕ) → Option (List ℕ) → Option (List ℕ) → Edition → ℕ → Result (Unit {0}) CatFault → Type 0
 Cats had left old new edition i (Err faults.Device) = Keeps old new
 Cats had left old new edition i (Err faults.NoMemory) = Keeps old new

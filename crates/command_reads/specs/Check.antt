@@ -14,19 +14,19 @@ use Rattle.command_reads.specs.Print.{IsTold, PrintsWith}
 use Rattle.command_reads.specs.declared.looks.OutputForm.{OutputForm}
 use Rattle.command_reads.specs.declared.looks.OutputForm.TheVariants as forms
 
--- the status of a check: 0 if all twelve rules hold, else 1, or graded 6 if the image has no geometry (this project)
+-- the status of a check: 0 if all twelve rules hold, else 1, or 6 if the status is graded and the image has no geometry (this project)
 abbrev pub verdict_status : Bool → Bool → Bool → ℕ
 verdict_status graded measured true = 0
 verdict_status graded measured false = if graded && not measured then 6 else 1
 
--- a text is the report on an image as JSON, and the truth value says if all twelve rules hold (this project)
+-- a text is the report on an image as JSON, and `sound` is true if all twelve rules hold (this project)
 pub record IsJsonReport (edition : Edition) (image text : List ℕ) (sound : Bool) : Type 0 where
   pub found : RuleOutcomes
   pub tells : Tells edition image found
   pub words : text ≡ report_json edition image (lines_of found)
   pub verdict : IsTrue sound ↔ IsSound edition image
 
--- a text is the report on an image in some form (this project)
+-- a text is the report on an image in this format (this project)
 abbrev pub IsReportIn : OutputForm → Edition → List ℕ → List ℕ → Bool → Type 0
 IsReportIn forms.Text edition image text sound = IsReport edition image text sound
 IsReportIn forms.Json edition image text sound = IsJsonReport edition image text sound

@@ -46,7 +46,7 @@ abbrev pub IsUnreported : Streams → ℕ → Type 0
 IsUnreported streams status =
     (status ≡ 4) × Keeps streams.old streams.new × (streams.failed ≡ streams.had_failed) × streams.said (fault_line no_memory)
 
--- a report is printed, with the status for its faults; or standard output failed, and has a prefix of it; or memory ran out (this project)
+-- a report is printed, with the status for its faults; or standard output failed after a prefix of it was written; or memory ran out (this project)
 abbrev pub PrintsReport : Screen → Streams → List Line → ℕ → Type 0
 PrintsReport screen streams report status =
     ((status ≡ report_status report) × Appends streams.old streams.new (shown_text screen report)

@@ -18,12 +18,12 @@ use Rattle.command_faults.specs.declared.fault.Fault.{Fault}
 use Rattle.command_reads.specs.Export.{unstarted}
 use Rattle.command_reads.specs.Print.{PrintsOne}
 
--- true if the last name of a path is like a pattern, if there is one (find)
+-- true if the last name of a path matches the pattern, or if there is no pattern (find)
 abbrev pub is_wanted : Option (List ℕ) → List ℕ → Bool
 is_wanted None path = true
 is_wanted (Some pattern) path = is_like pattern (last_name path path)
 
--- the line of an entry met below the directory at a path, if it is wanted: its path, which begins with that one (find)
+-- the line of an entry that the walk found below the directory at a path, if it is wanted: its path, which begins with the directory's (find)
 unfoldable pub found_line : Screen → Option (List ℕ) → List ℕ → MetEntry → List ℕ
 found_line screen pattern top found = if is_wanted pattern found.path then shown screen (joined top found.path) ++ 10 ∷ [] else []
 
@@ -40,7 +40,7 @@ pub data IsFindFault (edition : Edition) (image path : List ℕ) : Fault → Typ
   unbegun : (fault : StartFault) → start_of edition image path ≡ Err fault → IsFindFault edition image path (unstarted fault)
   memory : IsFindFault edition image path no_memory
 
--- the paths of everything below the directory at a path are printed, or the reason why not is reported (find)
+-- the paths of everything below the directory at a path are printed, or a fault is reported (find)
 abbrev pub Finds : Edition → List ℕ → List ℕ → Option (List ℕ) → Screen → Streams → ℕ → Type 0
 Finds edition image path pattern screen streams status =
     PrintsOne (AreFound edition image path pattern screen) (IsFindFault edition image path) streams status

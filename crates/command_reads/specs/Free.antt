@@ -37,12 +37,12 @@ chain_data report =
 abbrev pub chain_json : ChainReport → List ℕ
 chain_json report = compact_text (chain_data report) ++ codes "\n"
 
--- a report on the chain in some form (this project)
+-- a report on the chain in this format (this project)
 abbrev pub chain_in : ChainReport → OutputForm → List ℕ
 chain_in report forms.Text = chain_text report
 chain_in report forms.Json = chain_json report
 
--- the text of the report on the chain of an image's free list, in some form (this project)
+-- the text of the report on the chain of an image's free list, in this format (this project)
 abbrev pub IsChainText : Edition → List ℕ → OutputForm → List ℕ → Type 0
 IsChainText edition image form text = (report : ChainReport) × InspectsChain edition image (Ok report) × (text ≡ chain_in report form)
 
@@ -50,6 +50,6 @@ IsChainText edition image form text = (report : ChainReport) × InspectsChain ed
 abbrev pub IsChainFault : Edition → List ℕ → Fault → Type 0
 IsChainFault edition image fault = (why : InspectFault) × InspectsChain edition image (Err why) × (fault ≡ uninspected why)
 
--- the chain of the free list is shown, or the reason why not is reported (this project)
+-- the chain of the free list is shown, or a fault is reported (this project)
 abbrev pub ShowsFree : Edition → List ℕ → OutputForm → Streams → ℕ → Type 0
 ShowsFree edition image form streams status = PrintsOne (IsChainText edition image form) (IsChainFault edition image) streams status

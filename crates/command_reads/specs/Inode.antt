@@ -49,7 +49,7 @@ inode_data report =
 abbrev pub inode_json : InodeReport → List ℕ
 inode_json report = compact_text (inode_data report) ++ codes "\n"
 
--- members with the number of an i-node, its mode, kind and permissions (this project)
+-- the members of an object, with an i-node's number, mode, kind and permissions added (this project)
 unfoldable pub with_mode : InodeReport → Members → Members
 with_mode report members =
     put (codes "permissions") (count (permissions_of report.node.mode.bits))
@@ -57,7 +57,7 @@ with_mode report members =
     (put (codes "kind") (string (kind_name (kind_of report.edition report.node.mode.bits)))
     (put (codes "i-node") (count report.number) members)))
 
--- members with the link count of an i-node, its owner and group, and its size (this project)
+-- the members of an object, with an i-node's link count, owner, group and size added (this project)
 unfoldable pub with_owner : InodeReport → Members → Members
 with_owner report members =
     put (codes "size") (count report.node.size)
@@ -65,25 +65,25 @@ with_owner report members =
     (put (codes "uid") (count report.node.uid)
     (put (codes "nlink") (count report.node.links) members)))
 
--- members with the times of an i-node (this project)
+-- the members of an object, with an i-node's times added (this project)
 unfoldable pub with_times : InodeReport → Members → Members
 with_times report members =
     put (codes "ctime") (count_or_null report.node.changed)
     (put (codes "mtime") (count report.node.modified)
     (put (codes "atime") (count report.node.accessed) members))
 
--- members with the addresses of an i-node, and its extents (this project)
+-- the members of an object, with an i-node's addresses and extents added (this project)
 unfoldable pub with_places : InodeReport → Members → Members
 with_places report members =
     put (codes "extents") (array (items_of (map extent_data report.extents.items)))
     (put (codes "addr") (counts (take (address_count report.edition) report.node.addresses)) members)
 
--- a report on an i-node in some format (this project)
+-- a report on an i-node in this format (this project)
 abbrev pub inode_in : InodeReport → OutputForm → List ℕ
 inode_in report forms.Text = inode_text report
 inode_in report forms.Json = inode_json report
 
--- the text of the report on an i-node of an image, in some format (this project)
+-- the text of the report on an i-node of an image, in this format (this project)
 abbrev pub IsInodeText : Edition → List ℕ → ℕ → OutputForm → List ℕ → Type 0
 IsInodeText edition image number form text =
     (report : InodeReport) × InspectsInode edition image number (Ok report) × (text ≡ inode_in report form)
@@ -102,7 +102,7 @@ abbrev pub number_under : List ℕ → List ℕ → Result Geometry GeometryFaul
 number_under image path (Ok geometry) = walked_number (walk (tree geometry image) user path)
 number_under image path (Err fault) = Err (unmeasured fault)
 
--- the number of the i-node to which a path leads, walked by user 0 (Lions on namei)
+-- the number of the i-node that a path leads to, walked by user 0 (Lions on namei)
 abbrev pub number_at : Edition → List ℕ → List ℕ → Result ℕ Fault
 number_at edition image path = number_under image path (geometry_read edition image)
 
@@ -111,16 +111,16 @@ abbrev pub number_of : Edition → List ℕ → NodeName → Result ℕ Fault
 number_of edition image (nodes.Number number) = Ok number
 number_of edition image (nodes.Path path) = number_at edition image path.now
 
--- the i-node with a number is shown, or the reason why not is reported (this project)
+-- the i-node with a number is shown, or a fault is reported (this project)
 abbrev pub ShowsNumber : Edition → List ℕ → ℕ → OutputForm → Streams → ℕ → Type 0
 ShowsNumber edition image number form streams status =
     PrintsOne (IsInodeText edition image number form) (IsInodeFault edition image number) streams status
 
--- the i-node whose number was found is shown, or the reason why there is none is reported (this project)
+-- the i-node whose number was found is shown, or a fault is reported (this project)
 abbrev pub ShowsFound : Edition → List ℕ → OutputForm → Streams → ℕ → Result ℕ Fault → Type 0
 ShowsFound edition image form streams status (Ok number) = ShowsNumber edition image number form streams status
 ShowsFound edition image form streams status (Err fault) = IsTold streams fault status
 
--- an i-node is shown, or the reason why not is reported (this project)
+-- an i-node is shown, or a fault is reported (this project)
 abbrev pub ShowsInode : Edition → List ℕ → NodeName → OutputForm → Streams → ℕ → Type 0
 ShowsInode edition image node form streams status = ShowsFound edition image form streams status (number_of edition image node)

@@ -23,7 +23,7 @@ abbrev pub IsFound : Edition → List ℕ → List ℕ → ℕ → Type 0
 IsFound edition image path i =
     (stat : Stat) × (answer_of edition image (queries.Stat user path) ≡ Ok (replies.Stat stat)) × (i ≡ stat.number)
 
--- the query whose refusal a listing reports: List for a bare one, which needs a directory, else Stat (ls, stat)
+-- the query whose refusal a listing reports: List for a bare listing, which needs a directory, else Stat (ls, stat)
 abbrev pub question_by : Bool → List ℕ → Query
 question_by true path = queries.List user path
 question_by false path = queries.Stat user path
@@ -40,7 +40,7 @@ pub record IsListing (edition : Edition) (image path : List ℕ) (listing : List
   pub opened : is_bare listing ≡ true → is_directory (node_at (reads_as edition image).tree inode) ≡ true
   pub listed : IsListingOf (reads_as edition image).tree listing screen (start_of path inode) text
 
--- the file or directory at a path is listed, or the reason why not is reported: out of memory, the first rule that the image breaks, a path that leads nowhere, or, for a bare listing, to no directory (this project)
+-- the file or directory at a path is listed, or a fault is reported: out of memory, the first rule that the image breaks, a path that leads nowhere, or, for a bare listing, to no directory (this project)
 abbrev pub Lists : Edition → List ℕ → List ℕ → ListOptions → Screen → Streams → ℕ → Type 0
 Lists edition image path listing screen streams status =
     PrintsOne (IsListing edition image path listing screen) (IsObstacle edition image (question_of listing path)) streams status

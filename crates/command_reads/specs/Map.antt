@@ -19,7 +19,7 @@ use Rattle.command_reads.specs.declared.looks.Picture.TheVariants as pictures
 use Rattle.vol_listing.specs.declared.options.Screen.{Screen}
 use Rattle.vol_listing.specs.declared.options.Screen.TheVariants as screens
 
--- the number of cells in a row: the columns of a terminal, or 64 if they aren't known (this project)
+-- the number of cells in a row: the columns of a terminal, or 64 if their number isn't available (this project)
 abbrev pub width_on : Screen → ℕ
 width_on (screens.Terminal columns colours) = if columns == 0 then 64 else columns
 width_on screens.Stream = 64
@@ -60,6 +60,6 @@ pub data IsMapFault (edition : Edition) (image : List ℕ) : Fault → Type 0 wh
   unsound : (fault : GeometryFault) → geometry_read edition image ≡ Err fault → IsMapFault edition image (unmeasured fault)
   memory : IsMapFault edition image no_memory
 
--- the block map of a volume is drawn, or the reason why not is reported (this project)
+-- the block map of a volume is drawn, or a fault is reported (this project)
 abbrev pub DrawsMap : Edition → List ℕ → Screen → Picture → Streams → ℕ → Type 0
 DrawsMap edition image screen form streams status = PrintsOne (IsMap edition image screen form) (IsMapFault edition image) streams status

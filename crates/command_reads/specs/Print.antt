@@ -18,7 +18,7 @@ pub record IsToldWith (wanted : ℕ) (streams : Streams) (fault : Fault) (code :
 abbrev pub IsTold : Streams → Fault → ℕ → Type 0
 IsTold streams fault code = IsToldWith (fault_status fault) streams fault code
 
--- standard output failed, which is reported, and it has a prefix of some bytes (this project)
+-- standard output failed after a prefix of these bytes was written, which is reported (this project)
 pub record IsBrokenOff (streams : Streams) (bytes : List ℕ) (code : ℕ) : Type 0 where
   pub status : code ≡ 3
   pub front : (count : ℕ) × AppendsFront streams.old streams.new bytes count
@@ -36,11 +36,11 @@ pub record IsPrintedWith (wanted : ℕ) (streams : Streams) (text : List ℕ) (c
 abbrev pub IsPrinted : Streams → List ℕ → ℕ → Type 0
 IsPrinted streams text code = IsPrintedWith 0 streams text code
 
--- a text is printed, with a status, or standard output has a prefix of it (this project)
+-- a text is printed, with this status; or standard output fails after a prefix of it (this project)
 abbrev pub PrintsWith : ℕ → Streams → List ℕ → ℕ → Type 0
 PrintsWith wanted streams text status = IsPrintedWith wanted streams text status ⊎ IsBrokenOff streams text status
 
--- a text is printed, or standard output has a prefix of it (this project)
+-- a text is printed; or standard output fails after a prefix of it (this project)
 abbrev pub Prints : Streams → List ℕ → ℕ → Type 0
 Prints streams text status = PrintsWith 0 streams text status
 

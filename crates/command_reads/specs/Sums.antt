@@ -23,12 +23,13 @@ use Rattle.command_reads.specs.declared.looks.OutputForm.TheVariants as forms
 abbrev pub plain : ExportOptions
 plain = record { lost = false; graded = false }
 
--- the manifest of entries that were met, in some form (sha256sum; this project)
+-- the manifest of the entries that the walk found, in this format (sha256sum; this project)
 abbrev pub sums_in : Tree → List MetEntry → OutputForm → List ℕ
 sums_in tree founds forms.Text = sums_text tree founds
 sums_in tree founds forms.Json = sums_json tree founds
 
--- a text is the manifest of the directory at a path, which has the entries that an export meets, and lines are the remarks of that export (this project)
+-- a text is the manifest of the directory at a path, with the same entries as an export, and these lines are the remarks of that export (this
+-- project)
 pub record IsManifest (edition : Edition) (image path : List ℕ) (form : OutputForm) (text lines : List ℕ) : Type 0 where
   pub start : ExportStart
   pub begins : start_of edition image path ≡ Ok start
@@ -43,18 +44,18 @@ abbrev pub IsManifestFault : Edition → List ℕ → List ℕ → Fault → Typ
 IsManifestFault edition image path fault =
     (fault ≡ no_memory) ⊎ ((why : StartFault) × (start_of edition image path ≡ Err why) × (fault ≡ unstarted why))
 
--- a text is printed, and lines are reported; the status is 0 if there are none (this project)
+-- a text is printed, and these lines are reported; the status is 0 if there are no lines (this project)
 pub record IsPrintedTelling (streams : Streams) (text lines : List ℕ) (code : ℕ) : Type 0 where
   pub status : code ≡ (if length lines == 0 then 0 else 1)
   pub whole : Appends streams.old streams.new text
   pub working : streams.failed ≡ streams.had_failed
   pub said : streams.said lines
 
--- a text is printed and lines are reported, or standard output has a prefix of the text (this project)
+-- a text is printed and lines are reported; or standard output fails after a prefix of the text (this project)
 abbrev pub PrintsManifest : Streams → List ℕ → List ℕ → ℕ → Type 0
 PrintsManifest streams text lines status = IsPrintedTelling streams text lines status ⊎ IsBrokenOff streams text status
 
--- the manifest of the directory at a path is printed, or the reason why there is none is reported (this project)
+-- the manifest of the directory at a path is printed, or a fault is reported (this project)
 abbrev pub Sums : Edition → List ℕ → List ℕ → OutputForm → Streams → ℕ → Type 0
 Sums edition image path form streams status =
     ((text : List ℕ) × (lines : List ℕ) × IsManifest edition image path form text lines × PrintsManifest streams text lines status)

@@ -70,7 +70,7 @@ abbrev pub part_text : SuperPart → SuperReport → List ℕ
 part_text parts.Fields report = super_text report
 part_text parts.Space report = space_text report
 
--- members with the sizes of a volume, and its time (this project)
+-- the members of an object, with the sizes of a volume, and its time added (this project)
 unfoldable pub with_sizes : SuperReport → Members → Members
 with_sizes report members =
     put (codes "time") (count report.time)
@@ -79,7 +79,7 @@ with_sizes report members =
     (put (codes "fsize") (count report.block_count)
     (put (codes "isize") (count report.list_size) members))))
 
--- members with the flags of a super-block (this project)
+-- the members of an object, with the flags of a super-block added (this project)
 unfoldable pub with_flags : SuperReport → Members → Members
 with_flags report members =
     put (codes "ronly") (count (slice_index report.flags 3))
@@ -87,7 +87,7 @@ with_flags report members =
     (put (codes "ilock") (count (slice_index report.flags 1))
     (put (codes "flock") (count (slice_index report.flags 0)) members)))
 
--- members with the free list (this project)
+-- the members of an object, with the free list added (this project)
 unfoldable pub with_free : SuperReport → Members → Members
 with_free report members =
     put (codes "fault") (fault_data report.fault)
@@ -95,19 +95,19 @@ with_free report members =
     (put (codes "free") (counts report.free.items)
     (put (codes "nfree") (count report.free_count) members)))
 
--- members with the i-number cache and the number of free i-nodes (this project)
+-- the members of an object, with the i-number cache and the number of free i-nodes added (this project)
 unfoldable pub with_cache : SuperReport → Members → Members
 with_cache report members =
     put (codes "free i-nodes") (count report.free_inodes)
     (put (codes "inode") (counts report.cache.items)
     (put (codes "ninode") (count report.cache_count) members))
 
--- part of the report on the super-block in some format: JSON is on one line (RFC 8259)
+-- part of the report on the super-block in this format: JSON is on one line (RFC 8259)
 abbrev pub super_in : SuperReport → SuperPart → OutputForm → List ℕ
 super_in report part forms.Text = part_text part report
 super_in report part forms.Json = compact_text (part_data part report) ++ codes "\n"
 
--- the text of part of the report on the super-block of an image, in some format (this project)
+-- the text of part of the report on the super-block of an image, in this format (this project)
 abbrev pub IsSuperText : Edition → List ℕ → SuperPart → OutputForm → List ℕ → Type 0
 IsSuperText edition image part form text = (report : SuperReport) × InspectsSuper edition image (Ok report) × (text ≡ super_in report part form)
 
@@ -115,6 +115,6 @@ IsSuperText edition image part form text = (report : SuperReport) × InspectsSup
 abbrev pub IsSuperFault : Edition → List ℕ → Fault → Type 0
 IsSuperFault edition image fault = (why : InspectFault) × InspectsSuper edition image (Err why) × (fault ≡ uninspected why)
 
--- part of the report on the super-block is shown, or the reason why not is reported (this project)
+-- part of the report on the super-block is shown, or a fault is reported (this project)
 abbrev pub ShowsSuper : Edition → List ℕ → SuperPart → OutputForm → Streams → ℕ → Type 0
 ShowsSuper edition image part form streams status = PrintsOne (IsSuperText edition image part form) (IsSuperFault edition image) streams status

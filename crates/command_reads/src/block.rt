@@ -14,7 +14,7 @@ use vol_layout::Edition;
 
 /// Shows the owners of a block of an image in which rules 1 and 2 hold, a line each.
 ///
-/// Takes the memory of [`inspect_block`], and for the text.
+/// Takes the memory of [`inspect_block`], and memory for the text.
 pub(crate) fn show_block<O: Sink>(
     alloc: Global,
     edition: Edition,

@@ -1,4 +1,4 @@
-//! `cat`: prints the body of a file, from the image's bytes to the output's.
+//! `cat`: prints the body of a file of an image.
 ghost use Rattle.std.specs.Prelude.{◌≡◌, ◌≢◌, ℕ, ◌≤◌, false, true, Ok, Err, IfErr, OnOk, OnErr, IsErrOf, IsErrAnd, IfOk, MatchOption};
 ghost use Rattle.std.specs.Io.KnownBytes.{Appends};
 ghost use Rattle.pdp_words.specs.Devices.{AppendsFront};
@@ -25,7 +25,7 @@ pub enum CatFault {
     NoMemory,
     /// The image breaks rule 1 or rule 2.
     Unsound(GeometryFault),
-    /// The i-number is 0, past the last, or that of a free i-node.
+    /// The i-number is 0, above the last one, or the number of a free i-node.
     NoEntry,
     /// The i-node is a special file, or its mode isn't one of the edition's.
     NotRegular,
@@ -34,7 +34,7 @@ pub enum CatFault {
 }
 
 impl CatFault {
-    /// Returns the exit status: 1 for a refusal, 3 for a file, 4 for memory.
+    /// Returns the exit status: 1 for a refusal, 3 if a file failed, 4 if memory ran out.
     pub fn status(self) -> u8
         ensures { result ≡ cat_status self }
     {
@@ -80,11 +80,11 @@ impl CatFault {
 /// The size in bytes of the buffer for a file's body.
 const BUFFER: usize = 64 * 1024;
 
-/// Prints the body of i-node `ino` from the image in `reader` to `writer`. A fault of the writer counts the bytes that it
-/// took; with any other fault nothing is written.
+/// Prints the body of i-node `ino` from the image in `reader` to `writer`. If the writer fails, the fault has the number of bytes that it accepted;
+/// with any other fault nothing is written.
 ///
-/// Only loading the image takes memory: the body is copied through a buffer of 64 KiB. Costs the bytes of the image read,
-/// and those of the body written.
+/// Only loading the image takes memory: the body is copied through a buffer of 64 KiB. Costs time for each byte of the image that is read, and for
+/// each byte of the body that is written.
 pub fn cat<R: Source, W: Sink>(
     alloc: Global,
     edition: Edition,
@@ -109,7 +109,7 @@ pub fn cat<R: Source, W: Sink>(
 
 /// Prints the body of i-node `ino` of an image to `writer`, as [`cat`] does.
 ///
-/// Takes no memory: the body is copied through a buffer of 64 KiB. Costs the bytes written.
+/// Takes no memory: the body is copied through a buffer of 64 KiB. Costs time for each byte that is written.
 pub fn print_file<W: Sink>(
     edition: Edition,
     ino: u16,

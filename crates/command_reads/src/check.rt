@@ -14,9 +14,9 @@ use std::alloc::{AllocError, Global};
 use vol_findings::{RuleReport, are_held, check_rules, lines_of, make_report};
 use vol_layout::{Edition, Geometry};
 
-/// Prints for each rule of soundness whether an image keeps it, what breaks it first, or that it can't be checked. The
-/// status is 0 if all twelve hold, else 1, but graded 6 if rule 1 or 2 doesn't; 3 if `output` failed, 4 if memory ran out. The image may be any bytes. Nothing is
-/// printed until everything is known.
+/// Prints for each rule of soundness that an image keeps it, or its first violation, or that it can't be checked. The status is 0 if all twelve rules
+/// hold, else 1, or 6 if the status is graded and rule 1 or 2 is broken; 3 if `output` failed, 4 if memory ran out. The image may be any bytes.
+/// Nothing is printed until the whole report is ready.
 ///
 /// Takes the time and memory of [`make_report`].
 pub(crate) fn check<O: Sink>(
@@ -69,7 +69,7 @@ fn make_json(alloc: Global, edition: Edition, image: &Image) -> Result<RuleRepor
     })
 }
 
-/// Returns the status of a check: 0 if all rules hold, else 1, or graded 6 if the image has no geometry.
+/// Returns the status of a check: 0 if all rules hold, else 1, or 6 if the status is graded and the image has no geometry.
 fn verdict_status(graded: bool, is_measured: bool, is_sound: bool) -> u8
     ensures { result ≡ verdict_status graded is_measured is_sound }
 {

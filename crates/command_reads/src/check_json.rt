@@ -27,7 +27,7 @@ pub(crate) fn report_json(
     line(alloc, &value)
 }
 
-/// Returns that object.
+/// Returns the report of some rules with their outcomes as a JSON object.
 fn report_value(
     alloc: Global,
     edition: Edition,
@@ -46,7 +46,7 @@ fn report_value(
     })
 }
 
-/// Returns the number of the other edition if rules 1 and 2 hold for that alone, else null.
+/// Returns the number of the other edition if rules 1 and 2 hold for that edition only, else null.
 fn other_value(edition: Edition, image: &Image) -> Value
     ensures { view result ≡ other_data edition image.now }
 {
@@ -75,7 +75,7 @@ impl Shown for RuleLine {
     }
 }
 
-/// Returns whether a rule holds, or null if it isn't checked.
+/// Returns whether a rule holds, or null if it can't be checked.
 fn held_value(outcome: RuleOutcome) -> Value
     ensures { view result ≡ held_data outcome }
 {
@@ -86,7 +86,7 @@ fn held_value(outcome: RuleOutcome) -> Value
     }
 }
 
-/// Returns the words for what breaks a rule first, or null.
+/// Returns the words that describe the first violation of a rule, or null.
 fn finding_value(alloc: Global, outcome: RuleOutcome) -> Result<Value, AllocError>
     ensures { IfOk result (λ value. view value ≡ finding_data outcome) }
 {
@@ -99,7 +99,7 @@ fn finding_value(alloc: Global, outcome: RuleOutcome) -> Result<Value, AllocErro
     }
 }
 
-/// Returns the position of what breaks a rule first, or null.
+/// Returns the position of the first violation of a rule, or null.
 fn place_value(alloc: Global, outcome: RuleOutcome) -> Result<Value, AllocError>
     ensures { IfOk result (λ value. view value ≡ place_data outcome) }
 {

@@ -42,8 +42,8 @@ pub fn check<R: Threads + Wait + Sync, O: Sink, E: Sink>(
     ending.status
 }
 
-/// Prints a checker's findings, found by `workers` threads; on a terminal the paths of a name report are escaped. The status
-/// is 0, or 1 if the report has faults, 3 if `output` failed, 4 if memory ran out. Nothing is printed until all is known.
+/// Prints a checker's findings, found by `workers` threads; on a terminal the paths of a name report are escaped. The status is 0, or 1 if the report
+/// has faults, 3 if `output` failed, 4 if memory ran out. Nothing is printed until the whole report is ready.
 ///
 /// Takes memory for the checker and for the text.
 pub fn perform<R: Threads + Wait + Sync, O: Sink>(

@@ -22,16 +22,15 @@ use vol_inspect::lost_inodes;
 use vol_layout::{Edition, Geometry};
 use vol_listing::Screen;
 
-/// Writes an archive of everything below the directory at a path; as an option also of the i-nodes that no entry names, with
-/// everything below them, under `lost+found`. The image must keep rules 1 and 2, and may be any bytes otherwise. The status
-/// is 0 for a sound image whose entries are all in the archive; 1 if the image isn't sound, an entry is left out or the path
-/// leads to no directory, but graded 5 if an entry or an i-node isn't exported, and 6 if the image breaks rule 1 or 2; 3 if
-/// `output` failed, 4 if memory ran out. The fault has a line for each entry that is left out, with unprintable bytes
-/// escaped, for each i-node that no entry names, and for what is wrong with the image. An archive is never written to a
-/// terminal.
+/// Writes an archive of everything below the directory at a path. As an option, the archive also has the i-nodes that no entry names, with everything
+/// below them, under `lost+found`. The image must keep rules 1 and 2, and may be any bytes otherwise. The status is 0 for a sound image whose entries
+/// are all in the archive; 1 if the image isn't sound, an entry is left out or the path leads to no directory. A graded status is 5 instead if an
+/// entry or an i-node isn't exported, and 6 if the image breaks rule 1 or 2. It is 3 if `output` failed, 4 if memory ran out. The fault has a line
+/// for each entry that is left out, with unprintable bytes escaped, for each i-node that no entry names, and for each other flaw of the image. An
+/// archive is never written to a terminal.
 ///
-/// Costs the walk, [`vol_judge::judge`], for an unsound image [`lost_inodes`], and the bytes that are written. All memory
-/// except that of one header at a time is taken before the first byte is written.
+/// Costs the walk, [`vol_judge::judge`], for an unsound image [`lost_inodes`], and writing the bytes. All memory except for one header at a time is
+/// taken before the first byte is written.
 pub(crate) fn export<O: Sink>(
     alloc: Global,
     edition: Edition,
@@ -118,7 +117,7 @@ fn write_below<O: Sink>(
     }
 }
 
-/// Returns everything below a directory, and with `lost` also the i-nodes that no entry names and everything below them.
+/// Returns everything below a directory. With `lost`, also returns the i-nodes that no entry names, with everything below them.
 fn find(
     alloc: Global,
     image: &Image,
@@ -159,7 +158,7 @@ pub(crate) fn ending_with(graded: bool, remarks: Remarks) -> Ending
     }
 }
 
-/// Returns the status of an export with remarks; `is_short` is true if something isn't exported.
+/// Returns the status of an export with remarks. `is_short` is true if something isn't exported.
 fn told_status(graded: bool, is_short: bool) -> u8
     ensures { result ≡ told_status graded is_short }
 {

@@ -18,10 +18,9 @@ use vol_archive::{MetEntry, start_of, walk};
 use vol_layout::Edition;
 use vol_listing::{Screen, joined, push_shown, shown_path};
 
-/// Prints the path of everything below the directory at a path, each on a line, in the order of an export; with a `pattern`
-/// only those whose last name is like it. The image must keep rules 1 and 2, and may be any bytes otherwise. The status is 0;
-/// 1 if the image breaks one of these rules or the path leads to no directory, 3 if `output` failed, 4 if memory ran out.
-/// Nothing is printed before all is known.
+/// Prints the path of everything below the directory at a path, each on a line, in the order of an export. With a `pattern`, prints only paths whose
+/// last name matches it. The image must keep rules 1 and 2, and may be any bytes otherwise. The status is 0; 1 if the image breaks one of these rules
+/// or the path leads to no directory, 3 if `output` failed, 4 if memory ran out. Nothing is printed until the whole output is ready.
 ///
 /// Costs the walk, and takes memory for all paths and for the text.
 pub(crate) fn find<O: Sink>(
@@ -62,7 +61,7 @@ fn find_text(
     }
 }
 
-/// Returns the lines of the entries met below the directory at a path.
+/// Returns the lines of the entries that the walk found below the directory at a path.
 fn found_lines(
     alloc: Global,
     path: &[u8],
@@ -80,7 +79,7 @@ fn found_lines(
     Ok(text)
 }
 
-/// Appends the line of an entry met below the directory at path `top`, if it is wanted.
+/// Appends the line of an entry that the walk found below the directory at path `top`, if it is wanted.
 #[tactic(auto, unfolding(crate::specs::Find::found_line))]
 fn push_found(
     alloc: Global,
@@ -100,7 +99,7 @@ fn push_found(
     Ok(())
 }
 
-/// True if the last name of a path is like a pattern, if there is one.
+/// True if the last name of a path matches the pattern, or if there is no pattern.
 fn is_wanted(pattern: Option<&str>, path: &[u8]) -> bool
     ensures { result ≡ is_wanted (option_map (λ word. word.now) pattern.entry) path.now }
 {

@@ -20,7 +20,7 @@ use vol_listing::json::line;
 /// Shows the chain of the free list of an image in which rules 1 and 2 hold, link by link, as
 /// [`show_super`](crate::super_block::show_super) shows the super-block.
 ///
-/// Takes the memory of [`inspect_chain`], and for the text.
+/// Takes the memory of [`inspect_chain`], and memory for the text.
 pub(crate) fn show_free<O: Sink>(
     alloc: Global,
     edition: Edition,
@@ -52,7 +52,7 @@ fn free_text(
     }
 }
 
-/// Returns the report on the chain in some form.
+/// Returns the report on the chain in this format.
 fn chain_in(alloc: Global, report: &ChainReport, form: OutputForm) -> Result<String, AllocError>
     ensures { IfOk result (λ text. string_bytes text ≡ chain_in report.now form) }
 {

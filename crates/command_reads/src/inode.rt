@@ -18,11 +18,11 @@ use vol_inspect::{InodeReport, inspect_inode, kind_name};
 use vol_layout::{Edition, Geometry};
 use vol_listing::json::{line, put_count};
 
-/// Shows an i-node of an image. The image must keep rules 1 and 2, and may be any bytes otherwise. The status is 0; 1 if the
-/// image breaks one of these rules, has no i-node of this number, or the path leads to none; 3 if `output` failed, 4 if memory ran out. Nothing is
-/// printed until everything is known.
+/// Shows an i-node of an image. The image must keep rules 1 and 2, and may be any bytes otherwise. The status is 0; 1 if the image breaks one of
+/// these rules, has no i-node with this number, or the path leads to none; 3 if `output` failed, 4 if memory ran out. Nothing is printed until the
+/// whole report is ready.
 ///
-/// Takes the memory of [`inspect_inode`], and for the text.
+/// Takes the memory of [`inspect_inode`], and memory for the text.
 pub(crate) fn show_inode<O: Sink>(
     alloc: Global,
     edition: Edition,
@@ -51,7 +51,7 @@ fn number_of(edition: Edition, image: &Image, node: NodeName<'_>) -> Result<u16,
     }
 }
 
-/// Returns the number of the i-node to which a path leads.
+/// Returns the number of the i-node that a path leads to.
 fn number_at(edition: Edition, image: &Image, path: &[u8]) -> Result<u16, Fault>
     ensures { result ≡ number_at edition image.now path.now }
 {
@@ -132,7 +132,7 @@ fn inode_value(alloc: Global, report: &InodeReport) -> Result<Value, AllocError>
     Ok(Value::Object(object))
 }
 
-/// Puts the number of an i-node, its mode, kind and permissions.
+/// Puts an i-node's number, mode, kind and permissions into an object.
 #[tactic(auto, unfolding(crate::specs::Inode::with_mode))]
 fn put_mode(
     alloc: Global,
@@ -149,7 +149,7 @@ fn put_mode(
     put_count(alloc, object, "permissions", u64::from(mode.permissions()))
 }
 
-/// Puts the link count of an i-node, its owner and group, and its size.
+/// Puts an i-node's link count, owner, group and size into an object.
 #[tactic(auto, unfolding(crate::specs::Inode::with_owner))]
 fn put_owner(
     alloc: Global,
@@ -164,7 +164,7 @@ fn put_owner(
     put_count(alloc, object, "size", u64::from(report.node.size))
 }
 
-/// Puts the times of an i-node.
+/// Puts an i-node's times into an object.
 #[tactic(auto, unfolding(crate::specs::Inode::with_times))]
 fn put_times(
     alloc: Global,
@@ -178,7 +178,7 @@ fn put_times(
     put(object, alloc, "ctime", optional(report.node.changed))
 }
 
-/// Puts the addresses of an i-node, and its extents.
+/// Puts an i-node's addresses and extents into an object.
 #[tactic(auto, unfolding(crate::specs::Inode::with_places))]
 fn put_places(
     alloc: Global,

@@ -15,7 +15,7 @@ pub enum Look<'a> {
         path: &'a str,
         form: OutputForm,
     },
-    /// The path of everything below a directory, with a `name` only if its last name is like that pattern.
+    /// The path of everything below a directory; if there is a `name`, only paths whose last name matches that pattern.
     Find {
         path: &'a str,
         name: Option<&'a str>,
@@ -45,7 +45,7 @@ pub enum Look<'a> {
     Map {
         picture: Picture,
     },
-    /// The rules of soundness that hold. With `graded` the status also says that the image has no volume of the edition.
+    /// Whether each rule of soundness holds. With `graded`, the status also reports that the image has no volume of the edition.
     Check {
         graded: bool,
         form: OutputForm,
@@ -62,11 +62,11 @@ pub enum Look<'a> {
 pub struct ExportOptions {
     /// True if the i-nodes that no entry names are exported too.
     pub lost: bool,
-    /// True if the status says whether something isn't exported, and that the image has no volume of the edition.
+    /// True if the status also reports that something isn't exported, or that the image has no volume of the edition.
     pub graded: bool,
 }
 
-/// An i-node by its name.
+/// The name of an i-node on the command line.
 #[derive(Clone, Copy)]
 pub enum NodeName<'a> {
     /// Its number.

@@ -23,14 +23,14 @@ use vol_layout::{Edition, Geometry, Kind};
 use vol_listing::{ListOptions, Screen};
 use vol_volume::{Bytes, Query, Reply, Stat, ask_image};
 
-/// Lists the file or directory at a path of a sound image: the names in a directory, in ascending order of their bytes, each
-/// on a line with its i-number and, if `listing` says so, its i-node's attributes; then, if `listing` says so, the names of
-/// each directory below. A file has one line, unless the listing is bare. Or the same as JSON, with names escaped as on a
-/// terminal. The status is 0; 1 if the image isn't sound, the path leads nowhere, or a bare listing's path leads to no
-/// directory; 3 if `output` failed, 4 if memory ran out. Nothing is printed until everything is known.
+/// Lists the file or directory at a path of a sound image. A directory's names are listed in ascending order of their bytes, each on a line with its
+/// i-number and, if `listing` asks for them, its i-node's attributes; if `listing` asks for it, the names of each directory below follow. A file has
+/// one line, unless the listing is bare. As JSON, the listing has the same contents, with names escaped as on a terminal. The status is 0; 1 if the
+/// image isn't sound, the path leads nowhere, or a bare listing's path leads to no directory; 3 if `output` failed, 4 if memory ran out. Nothing is
+/// printed until the whole output is ready.
 ///
-/// Costs [`examine`], reading each i-node whose attributes are shown, and for each directory walking its path and sorting
-/// its names. Takes memory for these and for the text.
+/// Costs [`examine`], reading each i-node whose attributes are shown, and, for each directory, walking its path and sorting its names. Takes memory
+/// for these and for the text.
 pub(crate) fn list<O: Sink>(
     alloc: Global,
     edition: Edition,

@@ -17,16 +17,16 @@ use vol_listing::Screen;
 /// The greatest number of rows of letters.
 const ROWS: usize = 32;
 
-/// The number of letters in a row if no terminal gives its width.
+/// The number of letters in a row if the width of a terminal isn't available.
 const WIDTH: usize = 64;
 
 /// The number of squares in a row, and the greatest number of rows of squares.
 const SQUARES: usize = 128;
 
-/// Draws the use of each block of an image. The image must keep rules 1 and 2, and may be any bytes otherwise. The status is
-/// 0; 1 if the image breaks one of these rules, 3 if `output` failed, 4 if memory ran out. Nothing is printed until all is
-/// known. Rows are as wide as the terminal; colours are used only on a terminal that wants them. There are at most 32 rows
-/// of letters, or 128 rows of 128 squares, so that a cell represents several blocks of a large volume.
+/// Draws the use of each block of an image. The image must keep rules 1 and 2, and may be any bytes otherwise. The status is 0; 1 if the image breaks
+/// one of these rules, 3 if `output` failed, 4 if memory ran out. Nothing is printed until the whole output is ready. Rows are as wide as the
+/// terminal; colours are used only on a terminal that wants them. There are at most 32 rows of letters, or 128 rows of 128 squares, so a cell
+/// represents several blocks of a large volume.
 ///
 /// Takes the time and memory of [`block_uses`], and memory for the text.
 pub(crate) fn draw_map<O: Sink>(

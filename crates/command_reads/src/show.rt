@@ -37,9 +37,9 @@ pub fn look<O: Sink, E: Sink>(
     ending.status
 }
 
-/// Shows part of an image, which may be any bytes, on `output`. The status is 0; 1 if the image isn't sound enough for the
-/// command, or the named part doesn't exist; 5 or 6 only if the status is graded; 3 if `output` failed, 4 if memory ran out. Costs what the command costs, and
-/// takes no right to wait.
+/// Shows part of an image, which may be any bytes, on `output`. The status is 0; 1 if the image isn't sound enough for the command, or the named part
+/// doesn't exist; 5 or 6 only if the status is graded; 3 if `output` failed, 4 if memory ran out. Costs as much as the command that runs, and needs
+/// no right to wait.
 pub fn perform<O: Sink>(
     alloc: Global,
     edition: Edition,

@@ -15,7 +15,7 @@ use vol_archive::{MetEntry, start_of, walk};
 use vol_layout::{Edition, Geometry};
 use vol_listing::{sums_json, sums_text};
 
-/// The options of the export whose entries a manifest has, and whose remarks are reported.
+/// The options of the export that has the same entries and the same remarks as a manifest.
 const PLAIN: ExportOptions = ExportOptions {
     lost: false,
     graded: false,
@@ -26,18 +26,17 @@ const PLAIN: ExportOptions = ExportOptions {
 struct Manifest {
     /// The text.
     text: Vec<u8>,
-    /// The remarks, as an export has them.
+    /// The remarks, which are the same as an export's.
     remarks: Remarks,
 }
 
-/// Prints a manifest of everything below the directory at a path: each node in the order of an archive, with its path, its
-/// attributes, and the SHA-256 of a regular file's bytes. The image must keep rules 1 and 2, and may be any bytes otherwise. The
-/// status is 0 for a sound image whose entries are all in the manifest; 1 if the image isn't sound, an entry is left out or the
-/// path leads to no directory; 3 if `output` failed, 4 if memory ran out. The fault has the lines of an export's. Nothing is
-/// printed before all is known.
+/// Prints a manifest of everything below the directory at a path: each node in the order of an archive, with its path, its attributes, and the
+/// SHA-256 of a regular file's bytes. The image must keep rules 1 and 2, and may be any bytes otherwise. The status is 0 for a sound image whose
+/// entries are all in the manifest; 1 if the image isn't sound, an entry is left out or the path leads to no directory; 3 if `output` failed, 4 if
+/// memory ran out. The fault has the same lines as an export's. Nothing is printed until the whole manifest is ready.
 ///
-/// Costs the walk, [`vol_judge::judge`], for an unsound image also [`vol_inspect::lost_inodes`], and the bytes of the files.
-/// Takes memory for all paths and for the text.
+/// Costs the walk, [`vol_judge::judge`], for an unsound image also [`vol_inspect::lost_inodes`], and reading the bytes of the files. Takes memory for
+/// all paths and for the text.
 pub(crate) fn sums<O: Sink>(
     alloc: Global,
     edition: Edition,
@@ -77,7 +76,7 @@ fn make_manifest(
     Ok(Manifest { text, remarks })
 }
 
-/// Returns the text of a manifest in some form.
+/// Returns the text of a manifest in this format.
 fn sums_in(
     alloc: Global,
     image: &Image,

@@ -29,7 +29,7 @@ pub(crate) enum SuperPart {
 /// Shows part of the report on the super-block of an image in which rules 1 and 2 hold, as [`show_inode`](crate::inode::show_inode) shows an
 /// i-node.
 ///
-/// Takes the memory of [`inspect_super`], and for the text.
+/// Takes the memory of [`inspect_super`], and memory for the text.
 pub(crate) fn show_super<O: Sink>(
     alloc: Global,
     edition: Edition,
@@ -149,7 +149,7 @@ fn super_value(alloc: Global, report: &SuperReport) -> Result<Value, AllocError>
     Ok(Value::Object(object))
 }
 
-/// Puts the sizes of a volume, and its time.
+/// Puts the sizes of a volume, and its time, into an object.
 #[tactic(auto, unfolding(crate::specs::SuperBlock::with_sizes))]
 fn put_sizes(
     alloc: Global,
@@ -172,7 +172,7 @@ fn put_sizes(
     put_count(alloc, object, "time", u64::from(report.time))
 }
 
-/// Puts the flags of a super-block.
+/// Puts the flags of a super-block into an object.
 #[tactic(auto, unfolding(crate::specs::SuperBlock::with_flags))]
 fn put_flags(
     alloc: Global,
@@ -187,7 +187,7 @@ fn put_flags(
     put_count(alloc, object, "ronly", u64::from(report.flags[3]))
 }
 
-/// Puts the free list; the numbers in the array are in the super-block's order.
+/// Puts the free list into an object; the numbers in the array are in the super-block's order.
 #[tactic(auto, unfolding(crate::specs::SuperBlock::with_free))]
 fn put_free(
     alloc: Global,
@@ -204,7 +204,7 @@ fn put_free(
     put(object, alloc, "fault", fault)
 }
 
-/// Puts the i-number cache and the number of free i-nodes.
+/// Puts the i-number cache and the number of free i-nodes into an object.
 #[tactic(auto, unfolding(crate::specs::SuperBlock::with_cache))]
 fn put_cache(
     alloc: Global,
@@ -219,7 +219,7 @@ fn put_cache(
     put_count(alloc, object, "free i-nodes", u64::from(report.free_inodes))
 }
 
-/// Returns the fault that ended the walk over the free list.
+/// Returns the fault that ended the walk over the free list as a JSON value.
 pub(crate) fn fault_value(
     alloc: Global,
     fault: Option<(FreeFault, u32)>,

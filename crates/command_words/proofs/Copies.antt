@@ -13,29 +13,29 @@ use Rattle.vol_check.specs.declared.checker.Checker.TheVariants as checkers
 use Rattle.command_changes.specs.declared.changes.Change.TheVariants as changes
 use Rattle.command_words.proofs.Values.{no_value}
 
--- one file is put, or several are
+-- one file is put, or several files are
 abbrev IsPut : Option ℕ → Words → Type 0
 IsPut clock given = ((file : List ℕ) × (now : ℕ) × IsFirstWord given (codes "FILE") file × IsMomentGiven clock (given (codes "NOW")) now
     × IsLeftOut given (codes "MORE") × IsLeftOut given (codes "target-directory"))
     ⊎ ((directory : List ℕ) × (files : List (List ℕ)) × (now : ℕ) × (word : Option (List ℕ)) × IsNonEmptyWord given (codes "target-directory") directory
     × AreFilesGiven clock (put_words given) files now word)
 
--- one file is got, or several are
+-- one file is read by `get`, or several files are
 abbrev IsGot : Words → Type 0
 IsGot given = (IsLeftOut given (codes "MORE") × IsLeftOut given (codes "output"))
     ⊎ ((folder : List ℕ) × (paths : List (List ℕ)) × IsNonEmptyWord given (codes "output") folder × ArePathsGiven (get_words given) paths)
 
--- the command is `put`
+-- true if the command is `put`
 is_put : Verb → Bool
 is_put verbs.Put = true
 is_put _ = false
 
--- the command is `get`
+-- true if the command is `get`
 is_get : Verb → Bool
 is_get verbs.Get = true
 is_get _ = false
 
--- the invocations of `put`
+-- every invocation of `put` puts one file or several
 puts : (clock : Option ℕ) (given : Words) (invocation : Invocation) → is_put (verb_of invocation) ≡ true → IsGiven clock given invocation → IsPut clock given
 unfolding is_put
 puts clock given (invocations.Change volume (changes.Put path file now)) put is = inl (file.now, now, is.1.1, is.1.2, is.1.3, is.1.4)
@@ -64,7 +64,7 @@ puts clock given (invocations.Mkfs i volume) put is = absurd (true≢false (sym 
 puts clock given (invocations.Migrate old new migration) put is = absurd (true≢false (sym put))
 puts clock given (invocations.Serve volume serving) put is = absurd (true≢false (sym put))
 
--- the invocations of `get`
+-- every invocation of `get` reads one file or several
 gets : (clock : Option ℕ) (given : Words) (invocation : Invocation) → is_get (verb_of invocation) ≡ true → IsGiven clock given invocation → IsGot given
 unfolding is_get
 gets clock given (invocations.Get volume path) got is = inl (is.1.1, is.1.2)
@@ -103,25 +103,25 @@ gets clock given (invocations.Mkfs i volume) got is = absurd (true≢false (sym 
 gets clock given (invocations.Migrate old new migration) got is = absurd (true≢false (sym got))
 gets clock given (invocations.Serve volume serving) got is = absurd (true≢false (sym got))
 
--- if neither one file nor several are put, there is no invocation
+-- if the words put neither one file nor several, `put` has no invocation
 no_put : (clock : Option ℕ) (given : Words) → (IsPut clock given → ⊥) → AsksForNothing clock verbs.Put given
 unfolding AsksForNothing is_put
 no_put clock given none = λ invocation asks. none (puts clock given invocation (sym (ap is_put asks.0)) asks.1)
 
--- if neither one file nor several are got, there is no invocation
+-- if the words read neither one file nor several, `get` has no invocation
 no_get : (clock : Option ℕ) (given : Words) → (IsGot given → ⊥) → AsksForNothing clock verbs.Get given
 unfolding AsksForNothing is_get
 no_get clock given none = λ invocation asks. none (gets clock given invocation (sym (ap is_get asks.0)) asks.1)
 
--- a word that exists wasn't left out
+-- a word that exists can't have been left out
 both : (first : Option (List ℕ)) (word : List ℕ) → first ≡ Some word → first ≡ None → ⊥
 both first word some none = absurd (cc)
 
--- the first word is one word
+-- two words that are both the first word are equal
 one_word : (first : Option (List ℕ)) (one other : List ℕ) → first ≡ Some one → first ≡ Some other → one ≡ other
 one_word first one other is other_is = cc
 
--- if the option is given and the words aren't files with a time, `put` has no invocation
+-- if `--target-directory` is given and the words aren't files with a time, `put` has no invocation
 pub no_files : (clock : Option ℕ) (given : Words) (directory : List ℕ) → IsFirstWord given (codes "target-directory") directory
     → ((files : List (List ℕ)) (now : ℕ) (word : Option (List ℕ)) → AreFilesGiven clock (put_words given) files now word → ⊥)
     → AsksForNothing clock verbs.Put given
@@ -131,7 +131,7 @@ no_files clock given directory is none = no_put clock given go
     go (inl one) = both _ directory is one.5
     go (inr several) = none several.1 several.2 several.3 several.5
 
--- if the option is given and its word is empty, `put` has no invocation
+-- if `--target-directory` is given and its word is empty, `put` has no invocation
 pub empty_target : (clock : Option ℕ) (given : Words) (directory : List ℕ) → IsFirstWord given (codes "target-directory") directory → directory ≡ []
     → AsksForNothing clock verbs.Put given
 empty_target clock given directory is empty = no_put clock given go
@@ -140,7 +140,7 @@ empty_target clock given directory is empty = no_put clock given go
     go (inl one) = both _ directory is one.5
     go (inr several) = several.4.1 (one_word _ several.0 directory several.4.0 is ∙ empty)
 
--- if the option isn't given and a single file isn't put, `put` has no invocation
+-- if `--target-directory` isn't given and the words aren't those for a single file, `put` has no invocation
 no_one : (clock : Option ℕ) (given : Words) → IsLeftOut given (codes "target-directory")
     → ((file : List ℕ) (now : ℕ) → IsFirstWord given (codes "FILE") file → IsMomentGiven clock (given (codes "NOW")) now → IsLeftOut given (codes "MORE") → ⊥)
     → AsksForNothing clock verbs.Put given
@@ -150,21 +150,21 @@ no_one clock given left none = no_put clock given go
     go (inl one) = none one.0 one.1 one.2 one.3 one.4
     go (inr several) = both _ several.0 several.4.0 left
 
--- if neither the option nor the file is given, `put` has no invocation
+-- if neither `--target-directory` nor the file is given, `put` has no invocation
 pub no_file : (clock : Option ℕ) (given : Words) → IsLeftOut given (codes "target-directory") → IsLeftOut given (codes "FILE") → AsksForNothing clock verbs.Put given
 no_file clock given left none = no_one clock given left (λ file now first moment more. both _ file first none)
 
--- if the option isn't given but more words are, `put` has no invocation
+-- if `--target-directory` isn't given but the words of MORE are, `put` has no invocation
 pub too_many_put : (clock : Option ℕ) (given : Words) → IsLeftOut given (codes "target-directory") → (IsLeftOut given (codes "MORE") → ⊥)
     → AsksForNothing clock verbs.Put given
 too_many_put clock given left many = no_one clock given left (λ file now first moment more. many more)
 
--- if the option isn't given and there is no time, `put` has no invocation
+-- if `--target-directory` isn't given and there is no valid time, `put` has no invocation
 pub no_moment : (clock : Option ℕ) (given : Words) → IsLeftOut given (codes "target-directory") → (IsValue clock kinds.Moment (given (codes "NOW")) → ⊥)
     → AsksForNothing clock verbs.Put given
 no_moment clock given left none = no_one clock given left (λ file now first moment more. none (now, moment))
 
--- if the option is given and the words aren't paths, `get` has no invocation
+-- if `--output` is given and the words aren't paths, `get` has no invocation
 pub no_paths : (clock : Option ℕ) (given : Words) (folder : List ℕ) → IsFirstWord given (codes "output") folder
     → ((paths : List (List ℕ)) → ArePathsGiven (get_words given) paths → ⊥) → AsksForNothing clock verbs.Get given
 no_paths clock given folder is none = no_get clock given go
@@ -173,7 +173,7 @@ no_paths clock given folder is none = no_get clock given go
     go (inl one) = both _ folder is one.1
     go (inr several) = none several.1 several.3
 
--- if the option is given and its word is empty, `get` has no invocation
+-- if `--output` is given and its word is empty, `get` has no invocation
 pub empty_output : (clock : Option ℕ) (given : Words) (folder : List ℕ) → IsFirstWord given (codes "output") folder → folder ≡ []
     → AsksForNothing clock verbs.Get given
 empty_output clock given folder is empty = no_get clock given go
@@ -182,7 +182,7 @@ empty_output clock given folder is empty = no_get clock given go
     go (inl one) = both _ folder is one.1
     go (inr several) = several.2.1 (one_word _ several.0 folder several.2.0 is ∙ empty)
 
--- if the option isn't given but more words are, `get` has no invocation
+-- if `--output` isn't given but the words of MORE are, `get` has no invocation
 pub too_many_got : (clock : Option ℕ) (given : Words) → IsLeftOut given (codes "output") → (IsLeftOut given (codes "MORE") → ⊥)
     → AsksForNothing clock verbs.Get given
 too_many_got clock given left many = no_get clock given go
@@ -191,7 +191,7 @@ too_many_got clock given left many = no_get clock given go
     go (inl one) = many one.0
     go (inr several) = both _ several.0 several.2.0 left
 
--- if the edition isn't valid, a command on a volume has no invocation
+-- if the edition isn't valid, `put` has no invocation
 pub no_edition_put : (clock : Option ℕ) (given : Words) → (IsValue None kinds.Edition (given (codes "EDITION")) → ⊥) → AsksForNothing clock verbs.Put given
 no_edition_put clock given none = no_value clock verbs.Put given (inl none)
 

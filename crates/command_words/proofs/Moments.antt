@@ -1,4 +1,4 @@
--- The time or the number that is meant, if a word was given for it.
+-- The time or the number in the first word that was given for it, if any.
 use Rattle.std.proofs.Common.{◌≡◌, ℕ, List, [], ◌∷◌, Option, Some, None, Result, IfErr, refl, sym, subst}
 use Rattle.std.specs.List.{slice_get}
 use Rattle.std.specs.Option.{ok_or}
@@ -8,23 +8,23 @@ use Rattle.command_words.specs.Invocations.{IsMomentGiven, IsWordIfAny, TellsOf}
 use Rattle.command_words.specs.declared.fault.WordFault.{WordFault}
 use Rattle.command_words.specs.declared.fault.WordFault.TheVariants as faults
 
--- the time that is meant is the one in the first word
+-- if there is a first word and it is this time, the time to use is this one
 pub written : (clock : Option ℕ) (words : List (List ℕ)) (word : List ℕ) → Some word ≡ slice_get words 0 → (now : ℕ) → IsMomentGiven clock words now
     → IsMomentOf word now
 written clock [] word first now given = cc
 written clock (other ∷ more) word first now given = let same : word ≡ other = cc in subst (λ (w : List ℕ). IsMomentOf w now) (sym same) given
 
--- if words are a 16-bit number or none, the first, if any, is such a number
+-- if words are valid for a 16-bit number that may be left out, the first word, if any, is a 16-bit number
 pub first_number : (words : List (List ℕ)) (word : List ℕ) → Some word ≡ slice_get words 0 → IsWordIfAny words → IsNumberUpTo 65535 word
 first_number [] word first if_any = absurd (cc)
 first_number (other ∷ more) word first if_any = let same : word ≡ other = cc in subst (IsNumberUpTo 65535) (sym same) if_any
 
--- a fault names a word that isn't valid
+-- if `wrong` holds, a fault that names a wrong word satisfies `TellsOf`
 pub tells : (wrong : Type 0) (fault : WordFault) → wrong → TellsOf wrong fault
 tells wrong faults.NoMemory is = tt
 tells wrong (faults.Wrong word) is = is
 
--- if a word isn't a time, the fault names it
+-- if a word isn't a time, the fault names this word
 pub refused : (wrong : Type 0) (moment : Option ℕ) (result : Result ℕ WordFault) (fault : WordFault) → result ≡ ok_or moment fault → (moment ≡ None → wrong)
     → IfErr result (TellsOf wrong)
 refused wrong None result fault same none = subst (λ (r : Result ℕ WordFault). IfErr r (TellsOf wrong)) (sym same) (tells wrong fault (none refl))

@@ -5,7 +5,7 @@ use Rattle.command_words.specs.Verbs.{verb_name}
 use Rattle.command_words.specs.declared.verbs.Verb.{Verb}
 use Rattle.command_words.specs.declared.verbs.Verb.TheVariants as verbs
 
--- the command with this name, or another command if the name is that of none of the others
+-- the command with this name; some other command if no command has this name
 abbrev named : List ℕ → Verb
 named text =
     cond (bytes_eq text (codes "cat")) verbs.Cat
@@ -39,7 +39,7 @@ named text =
     (cond (bytes_eq text (codes "play")) verbs.Play
     (cond (bytes_eq text (codes "migrate")) verbs.Migrate verbs.Serve)))))))))))))))))))))))))))))
 
--- a command is found by its name
+-- the command with a command's name is this command
 named_by_its_name : (verb : Verb) → named (verb_name verb) ≡ verb
 named_by_its_name verbs.Cat = refl
 named_by_its_name verbs.Ls = refl

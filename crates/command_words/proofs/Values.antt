@@ -1,4 +1,4 @@
--- Invocations come from words that are valid; a word that isn't gives none.
+-- An invocation can only be read from valid words; if a word isn't valid, there is no invocation.
 use Rattle.std.proofs.Common.{◌≡◌, ◌⊎◌, ◌∙◌, ◌≤◌, ◌∷◌, ℕ, List, [], Option, None, Some, codes, length, map, sym, ap, subst, inl, inr, Result, Ok, Err, IfErr}
 use Rattle.std.specs.Borrow.{Bor}
 use Rattle.std.proofs.lemmas.List.{length-map}
@@ -22,12 +22,12 @@ use Rattle.command_words.specs.declared.invocation.Work.TheVariants as works
 use Rattle.command_words.specs.declared.verbs.Verb.{Verb}
 use Rattle.command_words.proofs.Names.{verb_name-injective}
 
--- a word that names an edition is the name of one
+-- a word that names an edition is `6` or `7`
 edition_value : (edition : Edition) (text : List ℕ) → IsEditionNamed edition text → (text ≡ codes "6") ⊎ (text ≡ codes "7")
 edition_value V6 text is = inl is
 edition_value V7 text is = inr is
 
--- as many words were given as there are scripts
+-- the number of words given for the scripts is the number of scripts, 1 to 64
 scripts_value : (items : List (Bor (List ℕ))) (words : List (List ℕ)) → map (λ script. script.now) items ≡ words → 1 ≤ length items → length items ≤ 64
     → (1 ≤ length words) × (length words ≤ 64)
 scripts_value items words are least most =
@@ -36,18 +36,18 @@ scripts_value items words are least most =
       subst (λ (n : ℕ). n ≤ 64) (sym same_length) most,
     )
 
--- a word that gives a number is one
+-- if a number is read from words, they are valid for a number that may be left out
 word_value : (other number : ℕ) (words : List (List ℕ)) → IsWordOr other words number → IsWordIfAny words
 word_value other number [] is = tt
 word_value other number (word ∷ more) is = is.0
 
--- a word that names an owner is one
+-- if a user and a group are read from words, they are valid for a user and a group that may be left out
 owner_value : (words : List (List ℕ)) (owner : Option Cred) → IsOwnerGiven words owner → IsOwnerIfAny words
 owner_value [] owner is = tt
 owner_value (word ∷ more) None is = absurd is
 owner_value (word ∷ more) (Some owner) is = (is.0.0, is.1.0)
 
--- a word that names an i-node is one
+-- if a word names this i-node, it is valid for an i-node
 node_value : (node : NodeName) (word : List ℕ) → IsNodeGiven word node → IsNodeWord word
 node_value (nodes.Number number) word is = inr is.0.0
 node_value (nodes.Path path) word is = inl is.1
@@ -109,7 +109,7 @@ values_given clock given (invocations.Work volume (works.Play scripts journal)) 
     (edition_value volume.edition _ is.0.0, (tt, (scripts_value scripts.items _ is.1.0 is.1.1 is.1.2, (tt, tt))))
 values_given clock given (invocations.Serve volume serving) is = (edition_value volume.edition _ is.0.0, (tt, (tt, (tt, tt))))
 
--- words that are all valid have none that isn't
+-- if all words are valid, none of them is wrong
 none_wrong : (clock : Option ℕ) (given : Words) (row : List Argument) → AreValues clock given row → IsOneWrong clock given row → ⊥
 none_wrong clock given [] are wrong = wrong
 none_wrong clock given (argument ∷ rest) are (inl wrong) = wrong are.0
@@ -122,24 +122,24 @@ no_value clock verb given wrong = λ invocation asks.
     none_wrong clock given (arguments_of (verb_of invocation)) (values_given clock given invocation asks.1)
     (subst (λ (other : Verb). IsOneWrong clock given (arguments_of other)) asks.0 wrong)
 
--- a fault that names a word that isn't valid means that there is no invocation
+-- if a fault names a word that isn't valid, there is no invocation
 tells_nothing : (clock : Option ℕ) (verb : Verb) (given : Words) (fault : WordFault) → TellsOf (IsOneWrong clock given (arguments_of verb)) fault
     → TellsOf (AsksForNothing clock verb given) fault
 tells_nothing clock verb given faults.NoMemory tells = tt
 tells_nothing clock verb given (faults.Wrong word) tells = no_value clock verb given tells
 
--- the same of an outcome
+-- the same holds for a result that returns the fault
 pub refuses_value : {T : Type 0} (clock : Option ℕ) (verb : Verb) (given : Words) (result : Result T WordFault)
     → IfErr result (TellsOf (IsOneWrong clock given (arguments_of verb))) → IfErr result (TellsOf (AsksForNothing clock verb given))
 refuses_value clock verb given (Ok value) tells = tt
 refuses_value clock verb given (Err fault) tells = tells_nothing clock verb given fault tells
 
--- if a command has no invocation, neither has its name
+-- if a command has no invocation, there is none for its name
 pub names_nothing : (clock : Option ℕ) (verb : Verb) (given : Words) → AsksForNothing clock verb given → (invocation : Invocation)
     → NameAsksFor clock (verb_name verb) given invocation → ⊥
 unfolding AsksForNothing
 names_nothing clock verb given none invocation asks = none invocation (verb_name-injective verb (verb_of invocation) asks.0, asks.1)
 
--- if the name is that of no command, there is no invocation
+-- if no command has this name, there is no invocation
 pub no_command : (clock : Option ℕ) (name : List ℕ) (given : Words) → IsNoCommand name → (invocation : Invocation) → NameAsksFor clock name given invocation → ⊥
 no_command clock name given none invocation asks = none (verb_of invocation) asks.0

@@ -19,11 +19,11 @@ disk_blocks name =
 abbrev pub AreBlocksOf : List ℕ → ℕ → Type 0
 AreBlocksOf text blocks = IsNumberGiven 4294967295 text blocks ⊎ (disk_blocks text ≡ Some blocks)
 
--- a number of blocks limited to that of an i-list: 1 to `most` (this project)
+-- a number of blocks, limited to the sizes that an i-list can have: 1 to `most` (this project)
 abbrev pub list_of : ℕ → ℕ → ℕ
 list_of most blocks = if nat_lt most blocks then most else (if blocks == 0 then 1 else blocks)
 
--- the number of blocks that mkfs gave the i-list of a volume with `blocks` blocks by default (mkfs.c)
+-- the default number of blocks of the i-list that mkfs made for a volume with `blocks` blocks (mkfs.c)
 abbrev pub list_default : Edition → ℕ → ℕ
 list_default V6 blocks = list_of 4095 (blocks / (43 + blocks / 1000))
 list_default V7 blocks = list_of 8187 (blocks / 25)

@@ -72,7 +72,7 @@ IsNonEmptyWord given name word = IsFirstWord given name word × (word ≢ [])
 abbrev pub IsLeftOut : Words → List ℕ → Type 0
 IsLeftOut given name = slice_get (given name) 0 ≡ None
 
--- an option was given: its word says so (clap's SetTrue)
+-- true if an option was given: its word is `true` (clap's SetTrue)
 abbrev pub is_set : List (List ℕ) → Bool
 is_set words = bytes_eq (first_word words) (codes "true")
 
@@ -81,7 +81,7 @@ abbrev pub IsEditionNamed : Edition → List ℕ → Type 0
 IsEditionNamed V6 text = text ≡ codes "6"
 IsEditionNamed V7 text = text ≡ codes "7"
 
--- the time that is meant: the one written, or that of the program's clock if there is no word (this project)
+-- the time to use: the one in the first word, or the time of the program's clock if there is no word (this project)
 abbrev pub IsMomentGiven : Option ℕ → List (List ℕ) → ℕ → Type 0
 IsMomentGiven clock [] now = clock ≡ Some now
 IsMomentGiven clock (word ∷ more) now = IsMomentOf word now
@@ -100,7 +100,7 @@ IsWordIfAny (word ∷ more) = IsNumberUpTo 65535 word
 abbrev pub IsPathWord : List (List ℕ) → Type 0
 IsPathWord words = slice_get words 0 ≢ Some []
 
--- this path is given; if it is left out, it is the root's, the empty one (this project)
+-- this path was given; or it was left out, and this is the empty path, which is the root's (this project)
 abbrev pub IsPathGiven : List (List ℕ) → List ℕ → Type 0
 IsPathGiven words path = (path ≡ first_word words) × IsPathWord words
 
@@ -211,7 +211,8 @@ IsVolumeGiven given volume =
 abbrev pub IsMadeGiven : Words → List ℕ → MadeFile → Type 0
 IsMadeGiven given name file = (file.path.now ≡ the_word given name) × (file.is_new ≡ is_set (given (codes "new")))
 
--- the words describe this new volume: an i-list that was left out has mkfs's default size, and a user or a group is 0 (this project)
+-- the words describe this new volume: an i-list that was left out has mkfs's default size, and a user or a group that was left out is 0 (this
+-- project)
 abbrev pub IsNewVolumeGiven : Option ℕ → Words → NewVolume → Type 0
 IsNewVolumeGiven clock given volume = IsEditionNamed volume.edition (the_word given (codes "EDITION"))
     × AreBlocksOf (the_word given (codes "FSIZE")) volume.blocks
@@ -274,13 +275,14 @@ abbrev pub IsPictureGiven : Words → Picture → Type 0
 IsPictureGiven given pictures.Cells = is_set (given (codes "svg")) ≡ false
 IsPictureGiven given pictures.Svg = is_set (given (codes "svg")) ≡ true
 
--- the words choose this format of lines: JSON if its option is given, else long ones if theirs is (this project)
+-- the words choose this format of lines: JSON if that option is given, else long lines if that option is given (this project)
 abbrev pub AreLinesGiven : Words → Lines → Type 0
 AreLinesGiven given lines.Plain = (is_set (given (codes "json")) ≡ false) × (is_set (given (codes "long")) ≡ false)
 AreLinesGiven given lines.Long = (is_set (given (codes "json")) ≡ false) × (is_set (given (codes "long")) ≡ true)
 AreLinesGiven given lines.Json = is_set (given (codes "json")) ≡ true
 
--- the words choose the depth of a listing: only the directory itself if that option is given, else everything below if that one is (this project)
+-- the words choose the depth of a listing: only the directory itself if that option is given, else everything below if that option is given (this
+-- project)
 abbrev pub IsDepthGiven : Words → Depth → Type 0
 IsDepthGiven given depths.Itself = is_set (given (codes "directory")) ≡ true
 IsDepthGiven given depths.Names = (is_set (given (codes "directory")) ≡ false) × (is_set (given (codes "recursive")) ≡ false)
@@ -311,7 +313,7 @@ put_words given = flat_map given (codes "PATH" ∷ codes "FILE" ∷ codes "NOW" 
 abbrev pub get_words : Words → List (List ℕ)
 get_words given = flat_map given (codes "PATH" ∷ codes "MORE" ∷ [])
 
--- a name, if there is one, before others (this project)
+-- a list of names, after one more name if there is one (this project)
 abbrev pub with_name : Option (List ℕ) → List (List ℕ) → List (List ℕ)
 with_name None names = names
 with_name (Some name) names = name ∷ names
@@ -330,17 +332,18 @@ are_distinct (name ∷ more) = not (list_any (λ other. bytes_eq other name) mor
 abbrev pub are_apart : List (List ℕ) → Bool
 are_apart paths = are_distinct (last_names paths)
 
--- the last of two words or more is this time (this project)
+-- there are two words or more, and the last one is this time (this project)
 abbrev pub EndsInMoment : List (List ℕ) → ℕ → Type 0
 EndsInMoment words now = (2 ≤ length words) × IsMomentOf (get_or words (length words - 1) []) now
 
--- the words are these files followed by the time, if the last of two words or more is one, which is then the time's word; otherwise the time is the clock's, and has no word (this project)
+-- these are the files and the time in some words: if there are two words or more and the last one is a time, the words before it are the files, and
+-- it is the time's word; otherwise all words are files, and the time is the clock's and has no word (this project)
 abbrev pub IsMomentAfter : Option ℕ → List (List ℕ) → List (List ℕ) → ℕ → Option (List ℕ) → Type 0
 IsMomentAfter clock words files now word =
     (EndsInMoment words now × (files ≡ take (length words - 1) words) × (word ≡ slice_get words (length words - 1)))
     ⊎ (((moment : ℕ) → EndsInMoment words moment → ⊥) × (files ≡ words) × (clock ≡ Some now) × (word ≡ None))
 
--- the words are these files, one or more with different last names, and the time that is meant, with its word if it has one (this project)
+-- the words are these files, one or more with different last names, and this time, with its word if it has one (this project)
 abbrev pub AreFilesGiven : Option ℕ → List (List ℕ) → List (List ℕ) → ℕ → Option (List ℕ) → Type 0
 AreFilesGiven clock words files now word = (1 ≤ length files) × (are_apart files ≡ true) × IsMomentAfter clock words files now word
 
@@ -381,19 +384,19 @@ IsGiven clock given (invocations.Copy volume copying) = IsVolumeGiven given volu
 IsGiven clock given (invocations.Work volume work) = IsVolumeGiven given volume × IsWorkGiven given work
 IsGiven clock given (invocations.Serve volume serving) = IsVolumeGiven given volume × IsServingGiven given serving
 
--- the command and the words for its arguments are this invocation (this project)
+-- the command, with the words for its arguments, is read as this invocation (this project)
 abbrev pub AsksFor : Option ℕ → Verb → Words → Invocation → Type 0
 AsksFor clock verb given invocation = (verb ≡ verb_of invocation) × IsGiven clock given invocation
 
--- the command and the words for its arguments aren't an invocation (this project)
+-- the command, with the words for its arguments, isn't read as any invocation (this project)
 unfoldable pub AsksForNothing : Option ℕ → Verb → Words → Type 0
 AsksForNothing clock verb given = (invocation : Invocation) → AsksFor clock verb given invocation → ⊥
 
--- the command with this name and the words for its arguments are this invocation (this project)
+-- the command of this name, with the words for its arguments, is read as this invocation (this project)
 abbrev pub NameAsksFor : Option ℕ → List ℕ → Words → Invocation → Type 0
 NameAsksFor clock name given invocation = (name ≡ verb_name (verb_of invocation)) × IsGiven clock given invocation
 
--- memory ran out, or the fault names a word that isn't valid, and `wrong` holds (this project)
+-- memory ran out; or the fault names a word that isn't valid, and `wrong` holds (this project)
 abbrev pub TellsOf : Type 0 → WordFault → Type 0
 TellsOf wrong faults.NoMemory = Unit {0}
 TellsOf wrong (faults.Wrong word) = wrong

@@ -16,7 +16,7 @@ group_part word = after_first (λ c. c == 58) word
 abbrev pub IsOwnerWord : List ℕ → Type 0
 IsOwnerWord word = IsNumberUpTo 65535 (user_part word) × IsNumberUpTo 65535 (group_part word)
 
--- if there is a word, it has such numbers (this project)
+-- if there is a word, it has a user's number and a group's (this project)
 abbrev pub IsOwnerIfAny : List (List ℕ) → Type 0
 IsOwnerIfAny [] = Unit {0}
 IsOwnerIfAny (word ∷ more) = IsOwnerWord word

@@ -46,7 +46,7 @@ moment = (codes "NOW", kinds.Moment, needs.Maybe)
 abbrev pub maybe_path : Argument
 maybe_path = (codes "PATH", kinds.Text, needs.Maybe)
 
--- the argument `PATH` of what a command changes (this project)
+-- the argument `PATH` of a command that changes the file or directory at this path (this project)
 abbrev pub path : Need → Argument
 path need = (codes "PATH", kinds.Path, need)
 
@@ -70,7 +70,7 @@ lettered name letter = (name, kinds.Flag, needs.Flag (Some letter))
 abbrev pub option : List ℕ → Argument
 option name = (name, kinds.Flag, needs.Flag None)
 
--- the words of a command on a volume in a file: the edition, the file, and these (this project)
+-- the words of a command on a volume in a file: the edition, the file, and these arguments (this project)
 abbrev pub on_volume : List Argument → List Argument
 on_volume more = edition ∷ word (codes "IMAGE") ∷ more
 

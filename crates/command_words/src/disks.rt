@@ -45,7 +45,7 @@ pub(crate) fn list_default(edition: Edition, blocks: u32) -> u16
     }
 }
 
-/// Limits a number of blocks to that of an i-list: 1 to `most`.
+/// Limits a number of blocks to the sizes that an i-list can have: 1 to `most`.
 fn list_of(most: u16, blocks: u32) -> u16
     ensures { result ≡ list_of most blocks }
 {

@@ -16,11 +16,11 @@ pub enum WordFault<'a> {
 /// A word that isn't valid for its argument.
 #[derive(Clone, Copy)]
 pub struct WrongWord<'a> {
-    /// The argument's name.
+    /// The name of the argument.
     pub name: &'a str,
     /// The word given for it.
     pub said: Said<'a>,
-    /// The text that says what is expected.
+    /// The text that describes the expected word.
     pub wanted: &'a str,
 }
 

@@ -71,7 +71,7 @@ pub(crate) fn word_in<'a, G: Given<'a>>(given: &G, name: &'a str) -> Result<u16,
     word_of(text).ok_or(wrong(name, text, texts::WORD))
 }
 
-/// Reads the path of what a command changes, or returns the root's if it was left out.
+/// Reads the path of the file or directory that a command changes, or returns the root's path if it was left out.
 pub(crate) fn path_in<'a, G: Given<'a>>(given: &G) -> Result<&'a str, WordFault<'a>>
     ensures read { IfOk result (λ path. IsPathGiven (G.words given.now (codes "PATH")) path.now) }
     ensures refused { IfErr result (TellsOf (IsPathWord (G.words given.now (codes "PATH")) → ⊥)) }
@@ -181,7 +181,7 @@ fn owner_of_word(text: &str) -> Result<Option<Cred>, WordFault<'_>>
     }
 }
 
-/// Reads the time, or returns the program's clock if it was left out.
+/// Reads the time, or returns the time of the program's clock if it was left out.
 pub(crate) fn moment_in<'a, G: Given<'a>>(
     given: &G,
     clock: Option<u32>,

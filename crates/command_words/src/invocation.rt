@@ -10,7 +10,7 @@ use vol_mkfs::NewVolume;
 pub struct VolumeFile<'a> {
     /// The edition of Unix.
     pub edition: Edition,
-    /// The file.
+    /// The path of its file.
     pub image: &'a str,
 }
 
@@ -68,7 +68,7 @@ pub enum Copying<'a> {
 pub enum Serving {
     /// Read-only.
     ReadOnly,
-    /// With changes; if `is_mine`, all nodes are shown as the caller's.
+    /// With changes; if `is_mine`, all nodes are shown as belonging to the caller.
     Changes { is_mine: bool },
 }
 

@@ -14,7 +14,7 @@ pub enum WordKind {
     Word,
     /// An i-node: a path that begins with a slash, else a 16-bit number.
     Node,
-    /// A 16-bit number, if there is a word.
+    /// A 16-bit number; it may be left out.
     WordOr,
     /// A 32-bit number, or the name of a disk with that many blocks.
     Blocks,
@@ -22,32 +22,32 @@ pub enum WordKind {
     Long,
     /// Permissions, in octal digits.
     Permissions,
-    /// A user and a group, if there is a word: two 16-bit numbers with a colon between them.
+    /// A user and a group: two 16-bit numbers with a colon between them; they may be left out.
     Owner,
     /// A number of threads, 1 to 64.
     Threads,
-    /// A time; without a word, that of the program's clock.
+    /// A time; if it is left out, the time of the program's clock.
     Moment,
     /// The names of 1 to 64 scripts.
     Scripts,
-    /// No word of its own: an option that may be given.
+    /// None: the argument is an option without a value.
     Flag,
 }
 
 /// The number of words that an argument takes.
 #[derive(Clone, Copy)]
 pub enum Need {
-    /// One.
+    /// One word.
     Once,
-    /// One or none.
+    /// One word or none.
     Maybe,
-    /// One or more.
+    /// One word or more.
     Several,
-    /// Any number.
+    /// Any number of words.
     Any,
-    /// None: it is an option with this name, and this letter if there is one.
+    /// None: the argument is an option with this name, and this letter if there is one.
     Flag(Option<char>),
-    /// One or none: it is the value of an option with this name and letter.
+    /// One word or none: the argument is the value of an option with this name and letter.
     Value(char, ValueName),
 }
 
@@ -498,22 +498,22 @@ const NEW: Parameter = Parameter {
     help: texts::NEW_IMAGE,
 };
 
-/// The words of `cat`.
+/// The words that `cat` takes.
 pub static CAT_WORDS: [Parameter; 3] = [EDITION, IMAGE, INO];
 
-/// The words of `ls`.
+/// The words that `ls` takes.
 pub static LS_WORDS: [Parameter; 7] = [EDITION, IMAGE, LISTED, LONG, ALL_BELOW, ITSELF, JSON];
 
-/// The words of `get`.
+/// The words that `get` takes.
 pub static GET_WORDS: [Parameter; 5] = [EDITION, IMAGE, REGULAR, MORE_GOT, OUTPUT];
 
-/// The words of `find`.
+/// The words that `find` takes.
 pub static FIND_WORDS: [Parameter; 4] = [EDITION, IMAGE, SEARCHED, NAME];
 
-/// The words of a checker.
+/// The words that a checker takes.
 pub static CHECKER_WORDS: [Parameter; 3] = [EDITION, IMAGE, WORKERS];
 
-/// The words of `mkfs`.
+/// The words that `mkfs` takes.
 pub static MKFS_WORDS: [Parameter; 8] = [
     EDITION,
     NEW_IMAGE,
@@ -525,62 +525,62 @@ pub static MKFS_WORDS: [Parameter; 8] = [
     UNREPLACED,
 ];
 
-/// The words of `put`.
+/// The words that `put` takes.
 pub static PUT_WORDS: [Parameter; 7] = [EDITION, IMAGE, FIRST_PUT, FILE, PUT_NOW, MORE_PUT, TARGET];
 
-/// The words of `rm`.
+/// The words that `rm` takes.
 pub static RM_WORDS: [Parameter; 5] = [EDITION, IMAGE, NAMED, CALL_NOW, RECURSIVE];
 
-/// The words of `rmdir`.
+/// The words that `rmdir` takes.
 pub static RMDIR_WORDS: [Parameter; 4] = [EDITION, IMAGE, DIRECTORY, CALL_NOW];
 
-/// The words of `mkdir`.
+/// The words that `mkdir` takes.
 pub static MKDIR_WORDS: [Parameter; 5] = [EDITION, IMAGE, DIRECTORY, CALL_NOW, PARENTS];
 
-/// The words of `ln` and `mv`.
+/// The words that `ln` and `mv` take.
 pub static NAMES_WORDS: [Parameter; 5] = [EDITION, IMAGE, FROM, TO, CALL_NOW];
 
-/// The words of `chmod`.
+/// The words that `chmod` takes.
 pub static CHMOD_WORDS: [Parameter; 5] = [EDITION, IMAGE, OWNED, PERM, CALL_NOW];
 
-/// The words of `chown`.
+/// The words that `chown` takes.
 pub static CHOWN_WORDS: [Parameter; 6] = [EDITION, IMAGE, OWNED, NEW_UID, NEW_GID, CALL_NOW];
 
-/// The words of `touch`.
+/// The words that `touch` takes.
 pub static TOUCH_WORDS: [Parameter; 4] = [EDITION, IMAGE, TOUCHED, CALL_NOW];
 
-/// The words of `check`.
+/// The words that `check` takes.
 pub static CHECK_WORDS: [Parameter; 4] = [EDITION, IMAGE, CHECK_GRADED, JSON];
 
-/// The words of `salvage`.
+/// The words that `salvage` takes.
 pub static VOLUME_WORDS: [Parameter; 2] = [EDITION, IMAGE];
 
-/// The words of `play`.
+/// The words that `play` takes.
 pub static PLAY_WORDS: [Parameter; 4] = [EDITION, IMAGE, SCRIPT, JOURNAL];
 
-/// The words of `migrate`.
+/// The words that `migrate` takes.
 pub static MIGRATE_WORDS: [Parameter; 6] = [OLD, NEW, BLOCKS, LIST_BLOCKS, MIGRATED, UNREPLACED];
 
-/// The words of `serve`.
+/// The words that `serve` takes.
 pub static SERVE_WORDS: [Parameter; 4] = [EDITION, IMAGE, READ_ONLY, MINE];
 
-/// The words of `import`.
+/// The words that `import` takes.
 pub static IMPORT_WORDS: [Parameter; 6] = [EDITION, IMAGE, IMPORTED, CALL_NOW, SKIP_SPECIAL, OWNER];
 
-/// The words of `export`.
+/// The words that `export` takes.
 pub static EXPORT_WORDS: [Parameter; 5] = [EDITION, IMAGE, BELOW, LOST, EXPORT_GRADED];
 
-/// The words of `sums`.
+/// The words that `sums` takes.
 pub static SUMS_WORDS: [Parameter; 4] = [EDITION, IMAGE, SUMMED, JSON];
 
-/// The words of `inode`.
+/// The words that `inode` takes.
 pub static INODE_WORDS: [Parameter; 4] = [EDITION, IMAGE, NODE, JSON];
 
-/// The words of `block`.
+/// The words that `block` takes.
 pub static BLOCK_WORDS: [Parameter; 3] = [EDITION, IMAGE, BLOCK];
 
-/// The words of `super`, `free` and `df`.
+/// The words that `super`, `free` and `df` take.
 pub static SUPER_WORDS: [Parameter; 3] = [EDITION, IMAGE, JSON];
 
-/// The words of `map`.
+/// The words that `map` takes.
 pub static MAP_WORDS: [Parameter; 3] = [EDITION, IMAGE, SVG];

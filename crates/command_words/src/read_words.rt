@@ -23,10 +23,9 @@ use vol_import::ImportOptions;
 use vol_listing::{Depth, Lines, ListOptions};
 use vol_mkfs::NewVolume;
 
-/// Reads the words after a command. `clock` is the time of the program's clock, in seconds since the beginning of 1970, if
-/// it has one; it is used if the command's time was left out. Returns a fault if a word isn't valid for its argument, a word
-/// is missing or one too many, there is no time, two files to copy have the same last name, or the place to copy them to is
-/// the empty word.
+/// Reads the words after a command. `clock` is the time of the program's clock, in seconds since the beginning of 1970, if it has one; it is used if
+/// the command's time was left out. Returns a fault if a word isn't valid for its argument, a word is missing, there is one word too many, there is
+/// no time, two files to copy have the same last name, or the directory or folder to copy them to is the empty word.
 pub fn read<'a, G: Given<'a>>(
     alloc: Global,
     verb: Verb,

@@ -48,7 +48,7 @@ const PUT_FILES: [&str; 4] = ["PATH", "FILE", "NOW", "MORE"];
 /// The arguments of `get` whose words are paths, when several files are read.
 const GET_PATHS: [&str; 2] = ["PATH", "MORE"];
 
-/// Returns the files to put, and the time given after them, or that of the program's clock.
+/// Returns the files to put, and the time given after them, or the time of the program's clock if there is none.
 pub(crate) fn files_in<'a, G: Given<'a>>(
     alloc: Global,
     given: &G,
@@ -96,7 +96,7 @@ fn words_in<'a, G: Given<'a>>(
     Ok(words)
 }
 
-/// Returns the files among some words, and the time after them, or that of the program's clock.
+/// Returns the files among some words, and the time after them, or the time of the program's clock if there is none.
 fn with_moment<'a>(words: Vec<&'a str>, clock: Option<u32>) -> Result<PutFiles<'a>, WordFault<'a>>
     ensures read { IfOk result (λ found. IsMomentAfter clock (map (λ word. word.now) words.entry.items) (map (λ file. file.now) found.files.items)
         found.now.seconds (option_map (λ word. word.now) found.now.word)) }
@@ -185,7 +185,7 @@ fn last_names<'a>(alloc: Global, paths: &[&'a str]) -> Result<Vec<&'a str>, Allo
     Ok(names)
 }
 
-/// Returns the first name that equals one before it.
+/// Returns the first name that equals an earlier one.
 ///
 /// Costs sorting the names.
 fn repeated<'a>(alloc: Global, names: &[&'a str]) -> Result<Option<&'a str>, AllocError>

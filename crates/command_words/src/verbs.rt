@@ -172,7 +172,7 @@ impl Verb {
         }
     }
 
-    /// Returns the text on how many paths the command takes before its time, for commands that are often given more.
+    /// Returns the text on the number of paths that the command takes before its time, for commands to which users often pass more.
     pub fn paths(self) -> Option<&'static str> {
         match self {
             Verb::Rm | Verb::Rmdir | Verb::Mkdir => Some(texts::ONE_PATH),
@@ -181,7 +181,7 @@ impl Verb {
         }
     }
 
-    /// Returns a line for the help on what the command does.
+    /// Returns one line for the help, which describes the command.
     pub fn about(self) -> &'static str {
         match self {
             Verb::Cat => texts::CAT_ABOUT,

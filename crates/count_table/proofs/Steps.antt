@@ -1,4 +1,4 @@
--- Each step keeps the rule of the table.
+-- Each step preserves the invariant of the table.
 use Rattle.std.proofs.Common.{◌≡◌, ◌≢◌, ℕ, zero, suc, ◌+◌, ◌-◌, ◌%◌, ◌^◌, ◌<◌, ◌≤◌, List, [], ◌∷◌, ◌++◌, length, set, slice_index, min, replicate, ◌*◌, sym, refl, ap, ◌∙◌, subst, arith, length-set, get_or-set_same, get_or-set_other, ⊎_elim}
 use Rattle.std.proofs.lemmas.Bool.{cases_eq}
 use Rattle.std.proofs.Math.Nat.{mod-add-mod, mod-eq_of_lt}
@@ -14,19 +14,19 @@ use Rattle.count_table.specs.Views.{view, mark, blank, first_view, drew, marked_
 use Rattle.count_table.specs.Rule.{IsWithinParts, Kept, IsStart, IsSummed}
 use Rattle.count_table.proofs.Totals.{total_nil, total_cons, total_append, total_push, total_set, total_part, total_none, total_ones, total_le_at, below_more, below_none, below_ones, past_one, word_bound, amount_here, amount_else, least_nil, least_same, least_here, least_else, total_replicate, least_elses, least_heres}
 
--- a mark on another word adds nothing
+-- a mark for another word adds nothing to the sum
 sum_else : (w i k : ℕ) (log : List Mark) → w ≢ i → sum_at w (mark i k ∷ log) ≡ sum_at w log
 sum_else w i k log ne = let a = total_cons (amount_at w) (mark i k) log in let n = amount_else i w k ne in omega arith
 
--- a blank seat fits
+-- a blank seat satisfies `IsWithinParts`
 blank_fits : (pieces : ℕ) → IsWithinParts pieces blank
 blank_fits pieces = record { empty = λ e. refl; bounded = let n = total_nil (past pieces) in omega arith }
 
--- a seat without draws and marks is within the parts
+-- a seat without draws and marks satisfies `IsWithinParts`
 fresh_fits : (pieces parts : ℕ) → IsWithinParts pieces (view parts [] [])
 fresh_fits pieces parts = record { empty = λ e. ap (λ n. view n [] []) e; bounded = let n = total_nil (past pieces) in omega arith }
 
--- at the start
+-- the invariant holds for a new table
 pub opens : (shape : TableShape) (words : List ℕ) → shape.pieces + shape.seats < 2 ^ 63 → IsStart shape words → Kept shape (opening words [] (first_view shape))
 opens shape words small start = record {
   log = [];
@@ -47,16 +47,16 @@ opens shape words small start = record {
     only (suc id) v e = absurd (some-ne-none v (sym e))
 
 module _ (shape : TableShape) (s : State (Unit {0}) SeatView) (kept : Kept shape s) (id : ℕ) (v : SeatView) (at : get_elem? s.views id ≡ some v) where
-  -- the weights of all seats once this one's view is w
+  -- the total of `g` over all seats changes by the difference of `g` for this seat
   shifts : (g : SeatView → ℕ) (w : SeatView) → total g (set s.views id w) + g v ≡ total g s.views + g w
   shifts g w = total_set g s.views id v w at
 
-  -- each seat still fits
+  -- every seat still satisfies `IsWithinParts` if this seat's new view does
   fit : (w : SeatView) → IsWithinParts shape.pieces w → (j : ℕ) (x : SeatView) → get_elem? (set s.views id w) j ≡ some x → IsWithinParts shape.pieces x
   fit w fits j x e = ⊎_elim (λ (t : (j ≡ id) × (w ≡ x)). subst (IsWithinParts shape.pieces) t.1 fits)
       (λ (t : (j ≢ id) × (get_elem? s.views j ≡ some x)). kept.each j x t.1) (at_set s.views id j w x e)
 
-  -- word 0 is at most the pieces and the seats
+  -- word 0 is at most the number of pieces plus the number of seats
   pub drawn_few : slice_index s.words 0 ≤ shape.pieces + shape.seats
   drawn_few =
       let n = slice_index s.words 0 in
@@ -66,7 +66,7 @@ module _ (shape : TableShape) (s : State (Unit {0}) SeatView) (kept : Kept shape
       let b : below (past shape.pieces) n ≤ shape.seats = omega arith in
       word_bound shape.pieces n shape.seats b
 
-  -- a seat has at most as many draws as there were
+  -- a seat has at most as many draws as word 0 counts
   pub draws_few : length v.draws ≤ slice_index s.words 0
   draws_few =
       let d = kept.drawn (λ k. 1) in
@@ -74,7 +74,7 @@ module _ (shape : TableShape) (s : State (Unit {0}) SeatView) (kept : Kept shape
       let p = total_part (λ (x : SeatView). total (λ k. 1) x.draws) s.views id v at in
       let l = total_ones v.draws in omega arith
 
-  -- a number is drawn
+  -- drawing a piece preserves the invariant
   pub claims : late shape.pieces v.draws < v.parts → Kept shape (stepped s 0 ((slice_index s.words 0 + 1) % 2 ^ 64) id [] (drew v (slice_index s.words 0)) keeps)
   claims early =
       let n = slice_index s.words 0 in
@@ -99,17 +99,17 @@ module _ (shape : TableShape) (s : State (Unit {0}) SeatView) (kept : Kept shape
         });
       }
 
-  -- a view with one more mark fits
+  -- a view with one more mark satisfies `IsWithinParts`
   marked_fits : (m : Mark) → 1 ≤ v.parts → IsWithinParts shape.pieces (marked_view v m)
   marked_fits m some-parts = record { empty = λ e. absurd (omega arith); bounded = (kept.each id v at).bounded }
 
-  -- the weights once a mark is made
+  -- the total of the marks of all seats is the total of the log, after one mark was added to both
   marks_more : (m : Mark) (weight : Mark → ℕ) → total (λ x. total weight x.marks) (set s.views id (marked_view v m)) ≡ total weight (m ∷ kept.log)
   marks_more m weight =
       let h = shifts (λ x. total weight x.marks) (marked_view v m) in let k = kept.marked weight in
       let p = total_push weight v.marks m in let c = total_cons weight m kept.log in omega arith
 
-  -- an amount is added to a count word
+  -- adding an amount to a count preserves the invariant
   pub counts : (i k : ℕ) → 1 ≤ v.parts → 1 ≤ i → i < 1 + shape.counts
       → Kept shape (stepped s i ((slice_index s.words i + k) % 2 ^ 64) id [] (marked_view v (mark i k)) keeps)
   counts i k some-parts low high =
@@ -140,7 +140,7 @@ module _ (shape : TableShape) (s : State (Unit {0}) SeatView) (kept : Kept shape
           ap (λ x. (x + k) % 2 ^ 64) (kept.counted i low high) ∙ (mod-add-mod (sum_at i kept.log) (2 ^ 64) k ∙ ap (λ x. x % 2 ^ 64) (omega arith)
           ∙ ap (λ x. x % 2 ^ 64) (sym a))
 
-  -- a least word falls
+  -- lowering a minimum preserves the invariant
   pub lowers : (i k : ℕ) → 1 ≤ v.parts → 1 + shape.counts ≤ i → i < 1 + (shape.counts + shape.leasts)
       → Kept shape (stepped s i (min (slice_index s.words i) k) id [] (marked_view v (mark i k)) keeps)
   lowers i k some-parts low high =
@@ -164,14 +164,14 @@ module _ (shape : TableShape) (s : State (Unit {0}) SeatView) (kept : Kept shape
         each = fit (marked_view v (mark i k)) (marked_fits (mark i k) some-parts);
       }
 
-  -- the weights once marks are made
+  -- the total of the marks of all seats is the total of the log, after some marks were added to both
   marks_many : (w : SeatView) (new : List Mark) → w.marks ≡ v.marks ++ new → (weight : Mark → ℕ)
       → total (λ x. total weight x.marks) (set s.views id w) ≡ total weight (new ++ kept.log)
   marks_many w new is weight =
       let h = shifts (λ x. total weight x.marks) w in let k = kept.marked weight in
       let p = ap (total weight) is ∙ total_append weight v.marks new in let c = total_append weight new kept.log in omega arith
 
-  -- marks on another word add nothing
+  -- marks for another word add nothing to the sum
   sums_else : (w i k : ℕ) → w ≢ i → sum_at w (replicate k (mark i 1) ++ kept.log) ≡ sum_at w kept.log
   sums_else w i k ne =
       let a = total_append (amount_at w) (replicate k (mark i 1)) kept.log in
@@ -179,7 +179,7 @@ module _ (shape : TableShape) (s : State (Unit {0}) SeatView) (kept : Kept shape
       let z = ap (λ x. k * x) (amount_else i w 1 ne) in
       let n : k * 0 ≡ 0 = grind arith in omega (arith, a, r, z, n)
 
-  -- 1 is added to a count `k` times, in one step
+  -- adding `k` to a count, recorded as `k` marks of 1, preserves the invariant
   pub counts_times : (i k : ℕ) → 1 ≤ v.parts → 1 ≤ i → i < 1 + shape.counts
       → Kept shape (stepped s i ((slice_index s.words i + k) % 2 ^ 64) id [] (counted_view v i k) keeps)
   counts_times i k some-parts low high =
@@ -214,7 +214,7 @@ module _ (shape : TableShape) (s : State (Unit {0}) SeatView) (kept : Kept shape
           ap (λ x. (x + k) % 2 ^ 64) (kept.counted i low high) ∙ (mod-add-mod (sum_at i kept.log) (2 ^ 64) k ∙ ap (λ x. x % 2 ^ 64) (omega arith)
           ∙ ap (λ x. x % 2 ^ 64) (sym all))
 
-  -- a least word falls, for as many marks as the step before made
+  -- lowering a minimum, recorded as many times as the previous step's marks, preserves the invariant
   pub lowers_times : (i k : ℕ) → 1 ≤ v.parts → 1 ≤ v.times → 1 + shape.counts ≤ i → i < 1 + (shape.counts + shape.leasts)
       → Kept shape (stepped s i (min (slice_index s.words i) k) id [] (lowered_view v i k) keeps)
   lowers_times i k some-parts some-times low high =
@@ -245,7 +245,7 @@ module _ (shape : TableShape) (s : State (Unit {0}) SeatView) (kept : Kept shape
           let z = ap (λ x. v.times * x) (amount_else i w k ne) in
           let none : v.times * 0 ≡ 0 = grind arith in omega (arith, a, r, z, none)
 
-  -- one part is cut off a seat that did nothing
+  -- splitting one part off a seat without draws and marks preserves the invariant
   pub splits : 1 ≤ v.parts → v.draws ≡ [] → v.marks ≡ []
       → Kept shape record { words = s.words; homes = s.homes; views = set s.views id (kept_half v) ++ given_half v ∷ [] }
   splits some-parts no-draws no-marks = record {
@@ -266,7 +266,7 @@ module _ (shape : TableShape) (s : State (Unit {0}) SeatView) (kept : Kept shape
       half : IsWithinParts shape.pieces (kept_half v)
       half = subst (λ (t : List ℕ × List Mark). IsWithinParts shape.pieces (view (v.parts - 1) t.0 t.1)) (λ i. (sym no-draws i, sym no-marks i)) (fresh_fits shape.pieces (v.parts - 1))
 
-  -- two seats become one
+  -- joining two seats preserves the invariant
   pub joins : (other : ℕ) (w : SeatView) → (other ≡ id → ⊥) → get_elem? (set s.views id (joined v w)) other ≡ some w
       → Kept shape record { words = s.words; homes = s.homes; views = set (set s.views id (joined v w)) other blank }
   joins other w apart there = record {
@@ -301,7 +301,7 @@ module _ (shape : TableShape) (s : State (Unit {0}) SeatView) (kept : Kept shape
         bounded = let a = first.bounded in let b = second.bounded in let t = total_append (past shape.pieces) v.draws w.draws in omega arith;
       }
 
-  -- the other seats weigh nothing if this one has all parts
+  -- if one seat holds all parts, the total over all seats is the value of this seat
   alone : v.parts ≡ shape.seats → (g : SeatView → ℕ) → g blank ≡ 0 → total g s.views ≡ g v
   alone all g none =
       let rest = set s.views id blank in
@@ -313,7 +313,7 @@ module _ (shape : TableShape) (s : State (Unit {0}) SeatView) (kept : Kept shape
       let is : x ≡ blank = (fit blank (blank_fits shape.pieces) j x e).empty (omega arith) in ap g is ∙ none) in
       let q = shifts g blank in omega arith
 
-  -- the words are given by the marks of a seat that has all parts
+  -- if one seat holds all parts, the words are the sums and minimums of its marks
   pub sums : v.parts ≡ shape.seats → IsSummed shape v s.words
   sums all = record {
     wide = kept.wide;

@@ -1,7 +1,7 @@
-//! A table of counts that threads add to without a lock.
+//! A table of counts that threads update without a lock.
 //!
-//! Word 0 is the number of the next piece of work. After it come words that only grow by sums, and words that keep the least
-//! value given.
+//! Word 0 is the number of the next piece of work. The words after it are counts, which grow by additions, and minimums, which keep the least value
+//! offered.
 #![tactic(auto)]
 
 mod rule;

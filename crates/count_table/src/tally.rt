@@ -11,7 +11,7 @@ use atomic_table::Table;
 use std::alloc::{AllocError, Global};
 
 impl Tally {
-    /// Returns a table of this shape, whose counts are 0 and whose minimums are 2^64 - 1, and one seat for all its parts.
+    /// Returns a table of this shape, with all counts 0 and all minimums 2^64 - 1, and one seat that holds all parts.
     ///
     /// Takes eight bytes for each word.
     pub fn new(alloc: Global, shape: TableShape) -> Result<(Tally, TallySeat), AllocError>
@@ -26,7 +26,7 @@ impl Tally {
         Ok((Tally { table }, seat))
     }
 
-    /// Splits one part off a seat that has done nothing yet.
+    /// Splits one part off a seat that has not made a step yet, and returns the new seat.
     pub fn split(&self, seat: &mut TallySeat) -> TallySeat
         requires own { IsSeatAt self.now seat.old }
         requires parts { 1 ≤ seat.old.me.0.parts }
@@ -39,7 +39,7 @@ impl Tally {
         self.table.shared.split_seat::<Give>(seat)
     }
 
-    /// Joins two seats.
+    /// Joins the seat `other` to `seat`.
     pub fn join(&self, seat: &mut TallySeat, other: TallySeat)
         requires own { IsSeatAt self.now seat.old × IsSeatAt self.now other }
         ensures own { IsSeatAt self.now seat.new }
@@ -48,7 +48,7 @@ impl Tally {
         self.table.shared.join_seat::<Gather>(seat, other);
     }
 
-    /// Draws the next number and returns it.
+    /// Draws the next piece of work and returns its number, which isn't below the number of pieces if no work is left.
     pub fn claim(&self, seat: &mut TallySeat) -> u64
         requires own { IsSeatAt self.now seat.old }
         requires early { late (table_shape self.now).pieces seat.old.me.0.draws < seat.old.me.0.parts }
@@ -59,7 +59,7 @@ impl Tally {
         self.table.shared.fetch_add::<Claim>(seat, 0, 1)
     }
 
-    /// Adds an amount to a count.
+    /// Adds `amount` to the count `word`.
     pub fn count(&self, seat: &mut TallySeat, word: usize, amount: u64)
         requires own { IsSeatAt self.now seat.old }
         requires parts { 1 ≤ seat.old.me.0.parts }
@@ -71,7 +71,7 @@ impl Tally {
         let _found = self.table.shared.fetch_add::<MarkMade>(seat, word, amount);
     }
 
-    /// Adds 1 to a count `times` times, in one step.
+    /// Adds `times` to the count `word`, recorded as `times` marks of 1.
     pub fn count_times(&self, seat: &mut TallySeat, word: usize, times: u64)
         requires own { IsSeatAt self.now seat.old }
         requires parts { 1 ≤ seat.old.me.0.parts }
@@ -83,7 +83,7 @@ impl Tally {
         let _found = self.table.shared.fetch_add::<MarksMade>(seat, word, times);
     }
 
-    /// Lowers a minimum to a value, if that is less, in one step that counts as often as the step before.
+    /// Lowers the minimum `word` to `value` if `value` is less, recorded as many times as the previous step recorded a mark of 1.
     pub fn lower_times(&self, seat: &mut TallySeat, word: usize, value: u64)
         requires own { IsSeatAt self.now seat.old }
         requires parts { 1 ≤ seat.old.me.0.parts }
@@ -99,7 +99,7 @@ impl Tally {
             .fetch_min::<MarksRepeated>(seat, word, value);
     }
 
-    /// Lowers a minimum to a value, if that is less.
+    /// Lowers the minimum `word` to `value` if `value` is less.
     pub fn lower(&self, seat: &mut TallySeat, word: usize, value: u64)
         requires own { IsSeatAt self.now seat.old }
         requires parts { 1 ≤ seat.old.me.0.parts }
@@ -111,7 +111,7 @@ impl Tally {
         let _found = self.table.shared.fetch_min::<MarkMade>(seat, word, value);
     }
 
-    /// Returns the final words; this seat holds all parts.
+    /// Returns the final words. The seat must hold all parts.
     pub fn close(self, seat: TallySeat) -> Summed
         requires own { IsSeatAt self seat }
         requires whole { seat.me.0.parts ≡ (table_shape self).seats }
@@ -124,7 +124,7 @@ impl Tally {
     }
 }
 
-/// Returns the words at the start: 0 for word 0 and the counts, 2^64 - 1 for the minimums.
+/// Returns the initial words: 0 for word 0 and the counts, 2^64 - 1 for the minimums.
 fn first_words(alloc: Global, shape: TableShape) -> Result<Vec<u64>, AllocError>
     requires words { shape.counts + shape.leasts < 2 ^ 48 }
     ensures { IfOk result (λ words. IsStart shape words.items) }

@@ -6,7 +6,7 @@ use crate::rule::{AllCounted, SeatView, TableShape};
 use atomic_table::{Closed, Table};
 use std::alloc::Global;
 
-/// A table of counts. Its steps take no lock.
+/// A table of counts that threads update without a lock.
 #[derive(Drop)]
 pub struct Tally {
     pub(crate) table: Table<(), SeatView, TableShape, AllCounted, Global>,

@@ -1,4 +1,4 @@
--- Requests that are laid out in the order of fuse.h, when they are read.
+-- Requests with their fields in the order of fuse.h, when they are read.
 use Rattle.std.proofs.Common.{◌≡◌, ◌∙◌, sym, ap, refl, eq-eqb, ℕ, ◌+◌, ◌-◌, ◌^◌, ◌<◌, ◌≤◌, ◌==◌, nat_lt, true, false, if◌then◌else◌, append_assoc, Option, List, [], ◌∷◌, ◌++◌, length, length-append, get_or, take, drop, Some, None, arith}
 use Rattle.std.proofs.lemmas.Bool.{le-ltb, lt-ltb, ne_eqb}
 use Rattle.std.proofs.lemmas.List.{take_rest, get_or_append_left}
@@ -17,14 +17,14 @@ use Rattle.fuse_words.specs.declared.operation.Operation.TheVariants.{Init, Dest
 use Rattle.fuse_words.specs.declared.request.Header.{Header}
 use Rattle.fuse_words.proofs.ReadRequests.{read_by}
 
--- a header from its numbers
+-- if the numbers in some bytes are a header's, the bytes are read as this header
 header_as : (bytes : List ℕ) (header : Header) → nat_lt (length bytes) 40 ≡ false → number 4 0 bytes ≡ header.length → number 4 4 bytes ≡ header.opcode
     → number 8 8 bytes ≡ header.unique → number 8 16 bytes ≡ header.node → number 4 24 bytes ≡ header.uid → number 4 28 bytes ≡ header.gid
     → number 4 32 bytes ≡ header.pid → header_of bytes ≡ Some header
 unfolding header_of
 header_as bytes header room l o u n i g p = simp (room, l, o, u, n, i, g, p)
 
--- a header is read back
+-- the bytes of a header are read as this header
 header_back : (header : Header) (body : List ℕ) → FitsHeader header → header_of (header_bytes header ++ body) ≡ Some header
 unfolding header_bytes
 header_back header body h =
@@ -38,18 +38,18 @@ header_back header body h =
     (little_number-reads_back 4 header.gid (drop 32 all) h.gid)
     (little_number-reads_back 4 header.pid (drop 36 all) h.pid)
 
--- the operation in a body, unless it has one name
+-- the operation in a body, if it doesn't have one name
 abbrev operation_without : ℕ → List ℕ → Option Operation
 operation_without opcode body =
     if is_rename opcode then option_map (renamed opcode body) (names_of (drop (struct_size opcode) body))
     else if opcode == 16 then write_of body
     else Some (fields_of opcode body)
 
--- the operation in a body with its whole struct
+-- the operation in a body that has the whole struct
 abbrev operation_with : ℕ → List ℕ → Option Operation
 operation_with opcode body = if is_named opcode then option_map (named opcode body) (name_of (drop (struct_size opcode) body)) else operation_without opcode body
 
--- an operation without a name, with its whole struct
+-- if a body has the whole struct of an operation without a name, the operation is read from its fields
 sized : (opcode : ℕ) (body : List ℕ) (operation : Operation) → struct_size opcode ≤ length body → is_named opcode ≡ false → is_rename opcode ≡ false → (opcode == 16) ≡ false
     → fields_of opcode body ≡ operation → operation_of opcode body ≡ Some operation
 unfolding operation_of
@@ -59,7 +59,7 @@ sized opcode body operation room one two write fields =
     ∙ (ap (λ b. if b then option_map (renamed opcode body) (names_of (drop (struct_size opcode) body)) else (if opcode == 16 then write_of body else Some (fields_of opcode body))) two
     ∙ (ap (λ b. if b then write_of body else Some (fields_of opcode body)) write ∙ ap Some fields)))
 
--- the fields of READ and READDIR
+-- the fields of READ and READDIR are read as this handle, offset and size
 read_fields : (handle offset size : ℕ) (rest : List ℕ) → handle < 2 ^ 64 → offset < 2 ^ 64 → size < 2 ^ 32
     → (number 8 0 (little_bytes 8 handle ++ little_bytes 8 offset ++ little_bytes 4 size ++ rest) ≡ handle)
     × (number 8 8 (little_bytes 8 handle ++ little_bytes 8 offset ++ little_bytes 4 size ++ rest) ≡ offset)
@@ -70,7 +70,7 @@ read_fields handle offset size rest h o s = (
   little_number-reads_back 4 size rest s,
 )
 
--- the place of the NUL after a name
+-- the first NUL in a name's string is after the name's last byte
 nul_at : (name more : List ℕ) → IsString name → position (λ b. b == 0) (name ++ 0 ∷ more) ≡ Some (length name)
 nul_at name more h =
     let first : position_or_len (λ b. b == 0) (name ++ 0 ∷ more) ≡ length name =
@@ -81,18 +81,18 @@ nul_at name more h =
     let len : length (name ++ 0 ∷ more) ≡ length name + length (0 ∷ more) = length-append name (0 ∷ more) in
     simp (first, len, lt-ltb (length name) (length name + length (0 ∷ more)) (omega arith))
 
--- a name is read back
+-- the string of a name is read as this name
 name_back : (name : List ℕ) → IsString name → name_of (string name) ≡ Some name
 name_back name h =
     let whole : length (string name) ≡ length name + 1 = length-append name (0 ∷ []) in
     ap (name_before (string name)) (nul_at name [] h)
     ∙ simp (whole, eq-eqb (length name + 1) (length name + 1) refl, take-append_seam)
 
--- the bytes after the NUL of a name
+-- the bytes after a name's NUL are `more`
 behind_nul : (name more : List ℕ) → drop (length name + 1) (name ++ 0 ∷ more) ≡ more
 behind_nul name more = drop-append-add name (0 ∷ more) 1
 
--- two names are read back
+-- the strings of two names are read as these names
 names_back : (name new_name : List ℕ) → IsString name → IsString new_name → names_of (string name ++ string new_name) ≡ Some (name, new_name)
 names_back name new_name h h' =
     let more : List ℕ = string new_name in
@@ -102,7 +102,7 @@ names_back name new_name h h' =
     ∙ (ap (option_map (λ second. (take (length name) (name ++ 0 ∷ more), second))) (name_back new_name h')
     ∙ ap (λ first. Some (first, new_name)) (take-append_seam name (0 ∷ more)))))
 
--- an operation with one name, after its struct
+-- a struct followed by one name is read as the operation with this name
 one_back : (opcode : ℕ) (front name : List ℕ) (operation : Operation) → length front ≡ struct_size opcode → is_named opcode ≡ true → IsString name
     → named opcode (front ++ string name) name ≡ operation → operation_of opcode (front ++ string name) ≡ Some operation
 unfolding operation_of
@@ -114,7 +114,7 @@ one_back opcode front name operation size one h is =
     ∙ (ap (λ xs. option_map (named opcode body) (name_of xs)) rest
     ∙ (ap (option_map (named opcode body)) (name_back name h) ∙ ap Some is)))
 
--- an operation with two names, after its struct
+-- a struct followed by two names is read as the operation with these names
 two_back : (opcode : ℕ) (front name new_name : List ℕ) (operation : Operation) → length front ≡ struct_size opcode → is_named opcode ≡ false → is_rename opcode ≡ true
     → IsString name → IsString new_name → renamed opcode (front ++ (string name ++ string new_name)) (name, new_name) ≡ operation
     → operation_of opcode (front ++ (string name ++ string new_name)) ≡ Some operation
@@ -129,7 +129,7 @@ two_back opcode front name new_name operation size one two h h' is =
     ∙ (ap (λ xs. option_map (renamed opcode body) (names_of xs)) rest
     ∙ (ap (option_map (renamed opcode body)) (names_back name new_name h h') ∙ ap Some is))))
 
--- WRITE by its numbers and its bytes
+-- A body with the numbers and the bytes of WRITE is read as this WRITE.
 write_by : (body content : List ℕ) (handle offset : ℕ) → 40 ≤ length body → number 4 16 body ≡ length content → number 8 0 body ≡ handle → number 8 8 body ≡ offset
     → drop 40 body ≡ content → operation_of 16 body ≡ Some (Write handle offset content)
 unfolding operation_of
@@ -137,12 +137,12 @@ write_by body content handle offset room size h o rest =
     let some : write_of body ≡ Some (Write handle offset content) = simp (size, h, o, rest, eq-eqb (length content) (length content) refl) in
     ap (λ b. if b then None else write_of body) (le-ltb (length body) 40 room) ∙ some
 
--- the length of SETATTR's body
+-- the body of SETATTR has 88 bytes
 setattr_length : (fields : SetAttrIn) → length (setattr_bytes fields) ≡ 88
 unfolding setattr_bytes
 setattr_length fields = refl
 
--- SETATTR by its fields
+-- The body of SETATTR with these fields is read as these changes.
 changes_back : (changes : AttributeChanges) (body : List ℕ) (fields : SetAttrIn) → IsSetAttr changes body fields → changes_of (setattr_bytes fields) ≡ changes
 unfolding setattr_bytes changes_of
 changes_back changes body fields h =
@@ -158,7 +158,7 @@ changes_back changes body fields h =
       h.asked,
     )
 
--- a body is read back
+-- the body of an operation is read as this operation
 body_back : (operation : Operation) (rest : List ℕ) → FitsBody operation rest → operation_of (opcode_of operation) (body_bytes operation rest) ≡ Some operation
 unfolding body_bytes fields_of named renamed
 body_back (Lookup name) rest h = one_back 1 rest name (Lookup name) (ap length h.1) refl h.0 refl
@@ -214,7 +214,7 @@ body_back Flush rest h = sized 25 rest Flush h refl refl refl refl
 body_back Interrupt rest h = sized 36 rest Interrupt (omega arith) refl refl refl refl
 body_back (Other opcode) rest h = absurd h
 
--- a request is read back
+-- the bytes of a request are read as this request
 pub requests_back : RequestsAreReadBack
 unfolding header_bytes
 requests_back header operation rest fits fits_body opcode len =

@@ -64,7 +64,7 @@ setattr_bytes fields =
     ++ little_bytes 4 fields.gid
     ++ little_bytes 4 fields.unused5
 
--- a body of SETATTR with these fields makes these changes; the fields that are read fit their bytes (fuse_setattr_in)
+-- the body of SETATTR with these fields makes these changes; the values of the fields that are read fit their sizes (fuse_setattr_in)
 pub record IsSetAttr (changes : AttributeChanges) (body : List ℕ) (fields : SetAttrIn) : Type 0 where
   pub valid : fields.valid < 2 ^ 32
   pub size : fields.size < 2 ^ 64
@@ -137,7 +137,7 @@ opcode_of (Other opcode) = opcode
 abbrev pub IsString : List ℕ → Type 0
 IsString name = All (λ b. 0 < b) name
 
--- the fields fit their bytes, the rest of the struct follows, and no name has a NUL (fuse.h)
+-- the values of the fields fit their sizes, the rest of the struct follows, and no name has a NUL (fuse.h)
 abbrev pub FitsBody : Operation → List ℕ → Type 0
 FitsBody (Lookup name) rest = IsString name × (rest ≡ [])
 FitsBody (SetAttr changes) rest = (fields : SetAttrIn) × IsSetAttr changes rest fields
@@ -163,7 +163,7 @@ FitsBody (FsyncDir handle) rest = (handle < 2 ^ 64) × (8 ≤ length rest)
 FitsBody (Other opcode) rest = ⊥
 FitsBody other rest = ⊤
 
--- the numbers of a header fit their bytes (fuse_in_header)
+-- the numbers of a header fit the sizes of their fields (fuse_in_header)
 pub record FitsHeader (header : Header) : Type 0 where
   pub length : header.length < 2 ^ 32
   pub opcode : header.opcode < 2 ^ 32
@@ -177,14 +177,14 @@ pub record FitsHeader (header : Header) : Type 0 where
 abbrev pub request_bytes : Header → Operation → List ℕ → List ℕ
 request_bytes header operation rest = header_bytes header ++ body_bytes operation rest
 
--- a request laid out so is read as that request, if its operation is one of those named here (fuse.h)
+-- a request in this layout is read as that request, unless its operation is `Other` (fuse.h)
 abbrev pub RequestsAreReadBack : Type 0
 RequestsAreReadBack =
     (header : Header) (operation : Operation) (rest : List ℕ) → FitsHeader header → FitsBody operation rest → header.opcode ≡ opcode_of operation
     → header.length ≡ length (request_bytes header operation rest)
     → request_of (request_bytes header operation rest) ≡ Ok (record { header = header; operation = operation })
 
--- replies have 16 bytes of header and their struct, and their headers give this length (fuse.h)
+-- replies have 16 bytes of header and their struct, and this is the length in their headers (fuse.h)
 abbrev pub RepliesHaveTheirLengths : Type 0
 RepliesHaveTheirLengths =
     (unique errno seconds handle flags size : ℕ) (settings : Settings) (entry : EntryReply) (attributes : Attributes) (sizes : Statistics) (content : List ℕ)

@@ -69,11 +69,12 @@ names_of body = names_before body (position (λ b. b == 0) body)
 abbrev pub given : {X : Type 0} → ℕ → ℕ → X → Option X
 given valid flag value = if bit_and valid flag == 0 then None else Some value
 
--- a time of SETATTR: now, if that flag is set (fuse_setattr_in)
+-- a time of SETATTR: the current time, if that flag is set (fuse_setattr_in)
 abbrev pub new_time : ℕ → ℕ → ℕ → NewTime
 new_time valid now seconds = if bit_and valid now == 0 then times.At seconds else times.Now
 
--- SETATTR's changes, by the flags and the values of its fields (FATTR_MODE, FATTR_UID, FATTR_GID, FATTR_SIZE; FATTR_ATIME and FATTR_MTIME, each with its _NOW)
+-- SETATTR's changes, by the flags and the values of its fields (FATTR_MODE, FATTR_UID, FATTR_GID, FATTR_SIZE; FATTR_ATIME and FATTR_MTIME, each with
+-- its _NOW)
 abbrev pub changes_by : ℕ → ℕ → ℕ → ℕ → ℕ → ℕ → ℕ → AttributeChanges
 changes_by valid size accessed modified mode uid gid = record {
   mode = given valid 1 mode;
@@ -112,7 +113,7 @@ renamed opcode body names =
     if opcode == 12 then operations.Rename (number 8 0 body) names.0 names.1
     else operations.Rename2 (number 8 0 body) (number 4 8 body) names.0 names.1
 
--- WRITE, if the body has as many bytes as it says (fuse_write_in)
+-- WRITE, if the body has as many bytes as WRITE's size field counts (fuse_write_in)
 abbrev pub write_of : List ℕ → Option Operation
 write_of body =
     if number 4 16 body == length (drop 40 body) then Some (operations.Write (number 8 0 body) (number 8 8 body) (drop 40 body)) else None
@@ -148,18 +149,18 @@ operation_of opcode body =
     else if opcode == 16 then write_of body
     else Some (fields_of opcode body)
 
--- a request with this header, if it has an operation (this project)
+-- a request with this header, if its body holds an operation (this project)
 abbrev pub with_operation : Header → Option Operation → Result Request RequestFault
 with_operation header None = Err (faults.Body header)
 with_operation header (Some operation) = Ok (record { header = header; operation = operation })
 
--- the request in bytes with this header (one read(2) gives one whole request)
+-- the request in some bytes with this header (one read(2) gives one whole request)
 abbrev pub request_by : List ℕ → Option Header → Result Request RequestFault
 request_by bytes None = Err faults.NoHeader
 request_by bytes (Some header) =
     if header.length == length bytes then with_operation header (operation_of header.opcode (drop 40 bytes))
     else Err (faults.Length header)
 
--- the request in bytes (fuse.h)
+-- the request in some bytes (fuse.h)
 abbrev pub request_of : List ℕ → Result Request RequestFault
 request_of bytes = request_by bytes (header_of bytes)

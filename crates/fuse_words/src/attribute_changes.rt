@@ -4,7 +4,7 @@ ghost use Rattle.fuse_words.specs.Requests.{given, new_time, changes_of};
 
 use crate::request::{u32_at, u64_at};
 
-// Flags of the first field: which of the others count (FATTR_MODE to FATTR_MTIME_NOW).
+// Flags in the first field, each for one of the other fields: a field counts if its flag is set (FATTR_MODE to FATTR_MTIME_NOW).
 const MODE: u32 = 1;
 
 const UID: u32 = 2;
@@ -24,13 +24,13 @@ const MODIFIED_NOW: u32 = 256;
 /// A time to set.
 #[derive(Clone, Copy, Drop)]
 pub enum NewTime {
-    /// The time at which it is set.
+    /// The current time.
     Now,
     /// Whole seconds since the beginning of 1970, as a signed number of 64 bits.
     At(u64),
 }
 
-/// The attributes of a node to set. Those that are `None` stay.
+/// The attributes of a node to set. An attribute that is `None` isn't changed.
 #[derive(Clone, Copy)]
 pub struct AttributeChanges {
     /// Kind and permissions, as in stat(2).
@@ -79,7 +79,7 @@ fn given<T: Drop>(valid: u32, flag: u32, value: T) -> Option<T>
     if valid & flag == 0 { None } else { Some(value) }
 }
 
-/// Returns the time of a field, or `Now` if that flag is set.
+/// Returns the time of a field, or `Now` if the flag `now` is set.
 fn new_time(valid: u32, now: u32, seconds: u64) -> NewTime
     ensures { result ≡ new_time valid now seconds }
 {

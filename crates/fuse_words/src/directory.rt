@@ -38,9 +38,8 @@ impl EntryKind {
     }
 }
 
-/// Appends an entry if `out` then has at most `size` bytes, and returns true if it did. `next_offset` is the
-/// offset at which the kernel reads on after this entry. The kernel refuses a name that is empty or has a
-/// slash.
+/// Appends an entry if `out` then has at most `size` bytes, and returns true if it did. `next_offset` is the offset at which the kernel continues to
+/// read after this entry. The kernel refuses a name that is empty or has a slash.
 pub fn push_entry(
     out: &mut Vec<u8>,
     size: usize,

@@ -1,4 +1,4 @@
-//! The names and the bytes in a request.
+//! The names in a request, and the bytes that it writes.
 ghost use Rattle.std.specs.Prelude.{◌≡◌, ◌==◌};
 ghost use Rattle.std.specs.List.{position};
 ghost use Rattle.fuse_words.specs.Requests.{name_of, names_of};
@@ -11,7 +11,7 @@ pub struct Name<'a> {
     bytes: &'a [u8],
 }
 
-/// The bytes for a file in a request. Contracts see them as their list.
+/// The bytes that a request writes into a file. Contracts see it as the list of the bytes.
 #[derive(Drop)]
 pub struct Content<'a> {
     bytes: &'a [u8],

@@ -8,7 +8,7 @@ pub(crate) const GETATTR: u32 = 3;
 
 pub(crate) const SETATTR: u32 = 4;
 
-/// Makes a symbolic link. It is read as `Other`.
+/// The number of the operation that makes a symbolic link. It is read as `Other`.
 pub const SYMLINK: u32 = 6;
 
 pub(crate) const MKNOD: u32 = 8;

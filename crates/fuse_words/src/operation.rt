@@ -177,8 +177,8 @@ fn struct_size(opcode: u32) -> usize
     }
 }
 
-/// Reads the operation from the body, after the header. Returns `None` if the body is too short or lacks the names that it needs, or
-/// if WRITE has fewer or more bytes than it says.
+/// Reads the operation from the body, which follows the header. Returns `None` if the body is too short or lacks a name, or if WRITE has fewer or
+/// more bytes than its size field.
 #[tactic(auto, unfolding(crate::specs::Requests::operation_of))]
 pub(crate) fn read_operation(opcode: u32, body: &[u8]) -> Option<Operation<'_>>
     ensures { result ≡ operation_of opcode body.now }
@@ -251,7 +251,7 @@ fn read_rename<'a>(opcode: u32, body: &[u8], name: Name<'a>, new_name: Name<'a>)
     }
 }
 
-/// Reads WRITE, or returns `None` if it has fewer or more bytes than it says (`fuse_write_in`).
+/// Reads WRITE, or returns `None` if it has fewer or more bytes than its size field (`fuse_write_in`).
 fn read_write(body: &[u8]) -> Option<Operation<'_>>
     requires { 40 ≤ length body.now }
     ensures { result ≡ write_of body.now }

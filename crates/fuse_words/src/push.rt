@@ -6,7 +6,7 @@ ghost use Rattle.fuse_words.specs.Replies.{reply_header, with_attributes};
 use crate::reply::Attributes;
 use byteorder::{ByteOrder, LittleEndian};
 
-/// Replaces a list by the header of a successful reply, whose body has `size` bytes (`fuse_out_header`).
+/// Replaces a list by the header of a successful reply whose body has `size` bytes (`fuse_out_header`).
 #[tactic(auto, unfolding(crate::specs::Replies::reply_header))]
 pub(crate) fn begin(out: &mut Vec<u8>, unique: u64, size: u32)
     requires size { size < 2 ^ 31 }

@@ -5,7 +5,7 @@ ghost use Rattle.fuse_words.specs.Replies.{no_attributes};
 /// A flag of INIT: the kernel may read ahead.
 pub const ASYNC_READ: u32 = 1;
 
-/// A flag of INIT: a write may have more than one page.
+/// A flag of INIT: a write may have more bytes than one page.
 pub const BIG_WRITES: u32 = 32;
 
 /// A flag of an open file: the kernel may keep the bytes that it has cached.
@@ -29,7 +29,7 @@ pub struct Settings {
     pub max_write: u32,
     /// Nanoseconds between two times: 1,000,000,000 for whole seconds.
     pub time_granularity: u32,
-    /// The greatest number of pages in a request. It counts only with a flag.
+    /// The greatest number of pages in a request. It is used only if a flag of INIT is set.
     pub max_pages: u16,
 }
 
@@ -40,7 +40,7 @@ pub struct Attributes {
     pub ino: u64,
     /// The size in bytes.
     pub size: u64,
-    /// The number of 512-byte blocks that it takes.
+    /// The number of 512-byte blocks that the node takes.
     pub blocks: u64,
     /// The time of the last access.
     pub accessed: u64,
@@ -65,9 +65,9 @@ pub struct Attributes {
 /// A directory entry in LOOKUP's reply.
 #[derive(Clone, Copy)]
 pub struct EntryReply {
-    /// The node, or 0 if there is no such entry.
+    /// The node, or 0 if the entry doesn't exist.
     pub node: u64,
-    /// The node's generation. The same number with another generation is another file.
+    /// The node's generation. The same node number with another generation belongs to another file.
     pub generation: u64,
     /// The number of seconds for which the kernel may keep the name.
     pub name_seconds: u64,
@@ -99,7 +99,7 @@ pub struct Statistics {
 }
 
 impl EntryReply {
-    /// Returns the entry that says that the name doesn't exist, which the kernel may keep for `seconds`.
+    /// Returns the entry for a name that doesn't exist. The kernel may keep it for `seconds`.
     pub fn missing(seconds: u64) -> EntryReply
         ensures { result ≡ record { node = 0; generation = 0; name_seconds = seconds; attribute_seconds = 0; attributes = no_attributes } }
     {

@@ -1,4 +1,4 @@
-//! The buffer in which replies are made. Each is a whole message, to be written at once.
+//! The buffer in which replies are made. Each reply is a whole message, which is written at once.
 ghost use Rattle.std.specs.Prelude.{◌≤◌, vec_capacity};
 
 use crate::push::{begin, push, push_attributes, push_u16, push_u32, push_u64};

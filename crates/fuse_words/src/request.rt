@@ -43,12 +43,12 @@ pub struct Request<'a> {
 /// The reason why bytes aren't a request.
 #[derive(Clone, Copy)]
 pub enum RequestFault {
-    /// There are fewer bytes than in a header.
+    /// There are fewer bytes than a header has.
     NoHeader,
-    /// There are fewer or more bytes than the header says.
+    /// There are fewer or more bytes than the length in the header.
     Length(Header),
-    /// The body is shorter than the operation's struct, or the struct isn't followed by the operation's names, each with a NUL, or by
-    /// as many bytes as WRITE says.
+    /// The body is shorter than the operation's struct, or the struct isn't followed by the operation's names, each with a NUL, or by as many bytes
+    /// as WRITE's size field counts.
     Body(Header),
 }
 
@@ -64,8 +64,7 @@ impl Header {
     }
 }
 
-/// Reads a request's header. Returns `None` if there are fewer bytes than a header has; bytes after the
-/// request don't matter.
+/// Reads a request's header. Returns `None` if there are fewer bytes than a header has. The bytes after the request don't matter.
 #[tactic(auto, unfolding(crate::specs::Requests::header_of))]
 pub fn read_header(bytes: &[u8]) -> Option<Header>
     ensures exact { result ≡ header_of bytes.now }
@@ -85,7 +84,7 @@ pub fn read_header(bytes: &[u8]) -> Option<Header>
     })
 }
 
-/// Reads a request, which takes up all the bytes. Costs the length of its name.
+/// Reads a request, which must take up all the bytes. Costs the length of its name.
 pub fn read_request(bytes: &[u8]) -> Result<Request<'_>, RequestFault>
     ensures { result ≡ request_of bytes.now }
 {

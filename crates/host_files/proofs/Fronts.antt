@@ -1,4 +1,4 @@
--- The part of a file that its volume has.
+-- The part of a file that belongs to its volume.
 use Rattle.std.proofs.Common.{◌≡◌, ◌∙◌, ◌+◌, ◌-◌, ◌*◌, ◌<◌, ◌≤◌, ◌++◌, ℕ, true, false, List, [], length, take, Option, Result, Ok, Err, OnErr, inl, inr, refl, sym, ap, subst, arith}
 use Rattle.std.proofs.lemmas.Bool.{cases_lt}
 use Rattle.std.proofs.lemmas.Bool.Decides.{nat_tests}
@@ -14,24 +14,24 @@ use Rattle.vol_layout.specs.declared.edition.Edition.{Edition}
 use Rattle.vol_layout.specs.declared.edition.Edition.TheVariants.{V6, V7}
 use Rattle.host_files.specs.ReadParts.{IsEndless, IsReadOn, IsSkipped, IsVolumeRead}
 
--- the facts that hold whatever the result is
+-- a fact that always holds also holds if the result is an error
 pub on_err : {T E : Type 0} (result : Result T E) (P : Type 0) → P → OnErr result P
 on_err (Ok x) P p = tt
 on_err (Err e) P p = p
 
--- two prefixes are lost, one after the other
+-- if two prefixes of a source are lost one after the other, so is the prefix made of both
 pub loses_both : (a b c : Option (List ℕ)) → LosesFront a b → LosesFront b c → LosesFront a c
 loses_both a b c one other = (one.0 ++ other.0, Consumes-trans a b c one.0 other.0 one.1 other.1)
 
 word_front : (head more : List ℕ) (at : ℕ) → at + 2 ≤ length head → word (head ++ more) at ≡ word head at
 word_front head more at within = rw (get_or_append_left head more 0 at (omega arith), get_or_append_left head more 0 (at + 1) (omega arith)) refl
 
--- the super-block in the first 1024 bytes gives the number of blocks
+-- the number of blocks that a super-block records depends only on the first 1024 bytes
 pub count_front : (edition : Edition) (head more : List ℕ) → 1024 ≤ length head → block_count edition (head ++ more) ≡ block_count edition head
 count_front V6 head more within = word_front head more 514 (omega arith)
 count_front V7 head more within = rw (word_front head more 514 (omega arith), word_front head more 516 (omega arith)) refl
 
--- an image is whole if all its blocks are read, and otherwise the source is at its end
+-- if the bytes were read up to the end of the volume's last block or of the source, they satisfy `IsReadFar`
 pub read_far : (edition : Edition) (a b c : Option (List ℕ)) (none head all : List ℕ) (blocks : ℕ) → none ≡ [] → IsReadOn a b none head 1024 → 1024 ≤ length head
     → blocks ≡ block_count edition head → IsReadOn b c head all (512 * blocks) → IsVolumeRead edition a c all
 read_far edition a b c none head all blocks empty first enough count on =
@@ -51,7 +51,7 @@ read_far edition a b c none head all blocks empty first enough count on =
       inl refl,
     )
 
--- a source that ends before the super-block does is read whole
+-- if a source ends before the super-block does, the whole source was read
 pub read_short : (edition : Edition) (a b : Option (List ℕ)) (none head : List ℕ) → none ≡ [] → IsReadOn a b none head 1024 → length head < 1024
     → IsVolumeRead edition a b head
 read_short edition a b none head empty first short =
@@ -61,12 +61,12 @@ read_short edition a b none head empty first short =
       inl refl,
     )
 
--- each edition's greatest volume has more than one block
+-- the largest volume of each edition has more than one block
 pub more_than_one : (edition : Edition) → 1 < (constants edition).block_limit
 more_than_one V6 = omega arith
 more_than_one V7 = omega arith
 
--- an image whose super-block gives more blocks than any volume has, and that ends before them, is its first 1024 bytes
+-- if the super-block records more blocks than any volume has and the source ends before the largest volume does, the image is its first 1024 bytes
 pub read_ended : (edition : Edition) (a b c : Option (List ℕ)) (none head : List ℕ) (blocks limit : ℕ) → none ≡ [] → IsReadOn a b none head 1024 → 1024 ≤ length head
     → blocks ≡ block_count edition head → limit ≡ (constants edition).block_limit → limit < blocks → 1 < limit → IsSkipped (512 * (limit - 1)) b c true
     → IsVolumeRead edition a c head
@@ -90,7 +90,7 @@ read_ended edition a b c none head blocks limit empty first enough count most ov
       ),
     )
 
--- one that continues past them is none
+-- if the super-block records more blocks than any volume has and the source continues past the largest volume, it isn't an image
 pub read_endless : (edition : Edition) (a b c : Option (List ℕ)) (none head : List ℕ) (blocks : ℕ) → none ≡ [] → IsReadOn a b none head 1024 → 1024 ≤ length head
     → blocks ≡ block_count edition head → (constants edition).block_limit < blocks → IsSkipped (512 * ((constants edition).block_limit - 1)) b c false
     → IsEndless edition a c

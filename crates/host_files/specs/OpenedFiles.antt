@@ -1,4 +1,4 @@
--- The file from which the image of a changing command is read.
+-- The file of an image that a command changes.
 use Rattle.std.specs.Prelude.{◌≢◌, ℕ, List, Option}
 use Rattle.vol_layout.specs.declared.edition.Edition.{Edition}
 use Rattle.host_files.specs.ReadParts.{IsReadUpTo, up_to_kept}
@@ -11,12 +11,13 @@ use Rattle.host_files.specs.declared.image_file.Try.TheVariants.{Open}
 abbrev pub OpensTo : {F : Type 0} → (F → Stamp → Type 0) → F → Stamp → Type 0
 OpensTo had file stamp = had file stamp × (stamp.kind ≢ kinds.Stream)
 
--- if a try opened a file, the file opens with its stamp (this project)
+-- if a try opened a file, the system reported this stamp for it, and it isn't a pipe, socket or terminal (this project)
 abbrev pub IsOpenTo : {F : Type 0} → (F → Stamp → Type 0) → Try F → Type 0
 IsOpenTo had (Open file stamp) = OpensTo had file stamp
 IsOpenTo had _ = Unit {0}
 
--- some file, which opens with this stamp, gave this image from then on: all that it had left, if it is a regular file, and otherwise its volume's (this project)
+-- this image was read from an open file for which the system reported this stamp: the whole rest of a regular file, or else the image of a volume
+-- (this project)
 abbrev pub IsOpened : {F : Type 0} → Edition → (F → Option (List ℕ)) → (F → Stamp → Type 0) → List ℕ → Stamp → Type 0
 IsOpened {F} edition remaining had image stamp =
     (old : F) × (new : F) × OpensTo had old stamp × IsReadUpTo (up_to_kept edition stamp.kind) (remaining old) (remaining new) image

@@ -11,13 +11,14 @@ use Rattle.host_files.specs.declared.image_file.FileKind.TheVariants as kinds
 use Rattle.host_files.specs.declared.volume_front.UpTo.{UpTo}
 use Rattle.host_files.specs.declared.volume_front.UpTo.TheVariants.{End, Volume, Archive}
 
--- `read` was taken from the source: all that it had, or at most as many bytes as the super-block gives the volume (this project)
+-- `read` was read from the source: the whole source, or at most as many blocks as the super-block records (this project)
 pub record IsReadFar (edition : Edition) (old new : Option (List ℕ)) (read : List ℕ) : Type 0 where
   pub front : Consumes old new read
   pub whole : (is_whole edition read ≡ true) ⊎ IsAtEnd new
   pub bound : length read ≤ max 1024 (512 * block_count edition read)
 
--- the image is the bytes read; or its first 1024 bytes, only if the super-block gives more blocks than any volume has, and then rule 1 holds for neither (this project)
+-- the image is the bytes read; or it is their first 1024 bytes, only if the super-block records more blocks than any volume has, and then rule 1
+-- holds for neither (this project)
 abbrev pub IsImageOf : Edition → List ℕ → List ℕ → Type 0
 IsImageOf edition read image =
     (image ≡ read)
@@ -25,34 +26,35 @@ IsImageOf edition read image =
     × (is_whole edition read ≡ false)
     × (is_whole edition image ≡ false))
 
--- the image in the bytes read (this project)
+-- the image was read from the source as a volume (this project)
 abbrev pub IsVolumeRead : Edition → Option (List ℕ) → Option (List ℕ) → List ℕ → Type 0
 IsVolumeRead edition old new image = (read : List ℕ) × IsReadFar edition old new read × IsImageOf edition read image
 
--- a file was read up to this point, and gave these bytes (this project)
+-- these bytes were read from a file, up to this end (this project)
 abbrev pub IsReadUpTo : UpTo → Option (List ℕ) → Option (List ℕ) → List ℕ → Type 0
 IsReadUpTo End old new bytes = IsReadWhole old new bytes
 IsReadUpTo (Volume edition) old new bytes = IsVolumeRead edition old new bytes
 IsReadUpTo (Archive blocks) old new bytes = IsArchiveRead blocks old new bytes
 
--- the point up to which the file of an image to change is read: a regular file to its end, as the bytes after the volume are kept (this project)
+-- the end of the part that is read from the file of an image to change: a regular file is read whole, since the bytes after the volume are saved too
+-- (this project)
 abbrev pub up_to_kept : Edition → FileKind → UpTo
 up_to_kept edition kinds.Regular = End
 up_to_kept edition _ = Volume edition
 
--- more bytes were taken from the source than any volume has, and their super-block gives more blocks than that (this project)
+-- more bytes were read from the source than any volume has, and their super-block records more blocks than any volume has (this project)
 abbrev pub IsEndless : Edition → Option (List ℕ) → Option (List ℕ) → Type 0
 IsEndless edition old new =
     (read : List ℕ) × Consumes old new read × ((constants edition).block_limit < block_count edition read)
     × (512 * (constants edition).block_limit < length read)
 
--- a file that was read up to this point is longer than it can be (this project)
+-- a file that was read up to this end is longer than allowed (this project)
 abbrev pub IsPast : UpTo → Option (List ℕ) → Option (List ℕ) → Type 0
 IsPast End old new = ⊥
 IsPast (Volume edition) old new = IsEndless edition old new
 IsPast (Archive blocks) old new = IsLong blocks old new
 
--- some bytes were taken from the source after others, up to `most` in all, or to its end (this project)
+-- some bytes were read from the source and appended to others, up to `most` in all, or up to the source's end (this project)
 pub record IsReadOn (old new : Option (List ℕ)) (before after : List ℕ) (most : ℕ) : Type 0 where
   pub more : List ℕ
   pub front : Consumes old new more
@@ -60,7 +62,7 @@ pub record IsReadOn (old new : Option (List ℕ)) (before after : List ℕ) (mos
   pub bound : length after ≤ max most (length before)
   pub end : length after < most → IsAtEnd new
 
--- `most` bytes were taken from the source; or fewer, and all, if that was its end (this project)
+-- `most` bytes were read from the source; or fewer, if the source ended (this project)
 abbrev pub IsSkipped : ℕ → Option (List ℕ) → Option (List ℕ) → Bool → Type 0
 IsSkipped most old new ended =
     (lost : List ℕ) × Consumes old new lost × (ended ≡ true → IsAtEnd new × (length lost < most)) × (ended ≡ false → length lost ≡ most)

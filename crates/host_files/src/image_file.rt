@@ -17,7 +17,7 @@ const TRIES: u32 = 3000;
 /// The pause between two tries, in milliseconds: half a minute in all.
 const PAUSE: u64 = 10;
 
-/// The number of tries, about a second, before a message reports the wait.
+/// The number of tries after which a message reports the wait: about a second.
 const PATIENCE: u32 = 100;
 
 /// The kind of a file.
@@ -25,16 +25,16 @@ const PATIENCE: u32 = 100;
 pub enum FileKind {
     /// A regular file.
     Regular,
-    /// A block or character device, but no terminal.
+    /// A block or character device that isn't a terminal.
     Device,
     /// A directory.
     Directory,
-    /// A pipe, a socket or a terminal: bytes that were read from it are gone.
+    /// A pipe, a socket or a terminal: bytes that were read from it can't be read again.
     Stream,
 }
 
 impl FileKind {
-    /// Returns the kind that the system reports. A terminal counts as a device here.
+    /// Returns the kind that the system reports. Here a terminal counts as a device.
     fn of(metadata: &Metadata) -> FileKind
         ensures regular { (result ≡ FileKind.Regular) ↔ IsFile (file_type metadata.now) }
         ensures directory { (result ≡ FileKind.Directory) ↔ IsDir (file_type metadata.now) }
@@ -52,26 +52,26 @@ impl FileKind {
     }
 }
 
-/// The identity of a file and of its contents: two equal stamps belong to one file that hasn't changed, unless it was written twice
-/// within one tick of its clock and kept its size.
+/// The identity of a file and of its contents: two equal stamps belong to one file that hasn't changed, unless it was written twice within one tick
+/// of its clock without a change of its size.
 #[derive(Clone, Copy, PartialEq, Eq)]
 pub struct Stamp {
     /// The kind of the file.
     pub kind: FileKind,
-    /// The device that it is on.
+    /// The device that the file is on.
     pub device: u64,
-    /// Its i-number on the device.
+    /// The file's i-number on the device.
     pub ino: u64,
-    /// Its size in bytes.
+    /// The file's size in bytes.
     pub size: u64,
-    /// Its time of modification, in seconds since 1970.
+    /// The time of the file's last modification, in seconds since 1970.
     pub seconds: i64,
     /// The nanoseconds of that time.
     pub nanoseconds: i64,
 }
 
 impl Stamp {
-    /// Returns the stamp of a file, from what the system reports.
+    /// Returns the stamp of a file, from the metadata that the system reports.
     fn of(metadata: &Metadata) -> Stamp
         ensures regular { (result.kind ≡ FileKind.Regular) ↔ IsFile (file_type metadata.now) }
         ensures directory { (result.kind ≡ FileKind.Directory) ↔ IsDir (file_type metadata.now) }
@@ -110,22 +110,22 @@ pub trait ImageFiles: Files {
     fn stamp_of(&self, file: &Self::File) -> io::Result<Stamp>
         ensures { IfOk result (had file.now) };
 
-    /// Returns the present stamp of the file at `path`. A symbolic link is followed; a terminal counts as a device.
+    /// Returns the present stamp of the file at `path`. Symbolic links are followed; a terminal counts as a device.
     fn stamp_at(&self, path: &str) -> io::Result<Stamp>
         ensures { IfOk result stood };
 
-    /// Returns the stamp of the name `path` itself: a symbolic link isn't followed, and counts as a stream.
+    /// Returns the stamp of the name `path` itself: symbolic links aren't followed, and count as streams.
     fn stamp_of_name(&self, path: &str) -> io::Result<Stamp>;
 
     /// True if something exists at `path`, even a symbolic link that leads nowhere. A path that can't be examined counts as existing.
     fn is_there(&self, path: &str) -> bool
         ensures { stands path.now result };
 
-    /// Gives an open file to a user, a group or both. True if the system allowed it.
+    /// Changes the user, the group or both of an open file. True if the system allowed it.
     fn give(&self, file: &Self::File, user: Option<u32>, group: Option<u32>) -> bool;
 
-    /// Locks an open file for this program alone, until all its handles are closed. False if another program has it locked; true also
-    /// if the file's system has no such locks.
+    /// Locks an open file for this program alone, until all its handles are closed. False if another program has it locked; true also if the file's
+    /// system has no locks.
     fn try_lock(&self, file: &Self::File) -> bool;
 }
 
@@ -186,7 +186,7 @@ pub enum OpenFault {
     Unread(io::Error),
     /// It is a pipe, a socket or a terminal.
     Stream(io::Error),
-    /// Another program kept it locked for half a minute.
+    /// Another program had it locked for half a minute.
     Locked(io::Error),
 }
 
@@ -206,7 +206,7 @@ enum Try<F> {
     Busy,
 }
 
-/// Checks that the file of an image can be opened for a change, and closes it again. Waits for no lock.
+/// Checks that the file of an image can be opened for a change, and closes it again. Doesn't wait for a lock.
 pub fn expect_image<R: ImageFiles>(rt: &R, path: &str) -> Result<(), OpenFault> {
     match open_kept(rt, path) {
         Ok(Some(_)) => Ok(()),
@@ -215,8 +215,8 @@ pub fn expect_image<R: ImageFiles>(rt: &R, path: &str) -> Result<(), OpenFault> 
     }
 }
 
-/// Opens the file of an image for a change, locks it, and returns it with its stamp. The lock ends when the file is closed. Waits at
-/// most half a minute while another program has the file locked; if `is_watched`, a line on standard error says so after a second.
+/// Opens the file of an image for a change, locks it, and returns it with its stamp. The lock ends when the file is closed. Waits at most half a
+/// minute while another program has the file locked; if `is_watched`, a line on standard error reports this after a second.
 pub fn open_image<R: ImageFiles + Clock + Eprint>(
     rt: &R,
     path: &str,
@@ -253,8 +253,8 @@ fn try_open<R: ImageFiles>(rt: &R, path: &str) -> io::Result<Try<R::File>>
     Ok(Try::Busy)
 }
 
-/// Opens a file and returns it with its stamp, unless it is a pipe, a socket or a terminal. A pipe isn't opened, since that could wait
-/// for its other end.
+/// Opens a file and returns it with its stamp, unless it is a pipe, a socket or a terminal. A pipe isn't opened, since that could wait for the other
+/// end of the pipe.
 fn open_kept<R: ImageFiles>(rt: &R, path: &str) -> io::Result<Option<(R::File, Stamp)>>
     ensures { IfOk result (λ kept. IfSome kept (λ opened. OpensTo R.had opened.0 opened.1)) }
 {

@@ -4,14 +4,14 @@ ghost use Rattle.std.specs.Prelude.{◌≡◌, false};
 use pdp_words::{FromRead, IntoWrite, Sink, Source};
 use std::io::{self, Read, Write};
 
-/// A source or a sink that forwards to another, and keeps its last error.
+/// A source or a sink that forwards to another one, and keeps its last error.
 #[derive(Drop)]
 pub struct Noted<D> {
     device: D,
     error: Option<io::Error>,
 }
 
-/// Returns a source of the bytes that `reader` has left, as [`FromRead::new`] does. It has not failed.
+/// Returns a source of the bytes that `reader` has left, as [`FromRead::new`] does. The source hasn't failed.
 pub fn noted_reader<R: Read>(reader: R) -> Noted<FromRead<R>>
     ensures bytes { ⟦<Noted<FromRead<R>> as Source>⟧.remaining result ≡ R.remaining reader }
     ensures fresh { ⟦<Noted<FromRead<R>> as Source>⟧.failed result ≡ false }
@@ -22,7 +22,7 @@ pub fn noted_reader<R: Read>(reader: R) -> Noted<FromRead<R>>
     }
 }
 
-/// Returns a sink into `writer`, after the bytes that it holds, as [`IntoWrite::new`] does. It has not failed.
+/// Returns a sink into `writer`, after the bytes that it holds, as [`IntoWrite::new`] does. The sink hasn't failed.
 pub fn noted_writer<W: Write>(writer: W) -> Noted<IntoWrite<W>>
     ensures bytes { ⟦<Noted<IntoWrite<W>> as Sink>⟧.contents result ≡ W.contents writer }
     ensures fresh { ⟦<Noted<IntoWrite<W>> as Sink>⟧.failed result ≡ false }

@@ -1,4 +1,4 @@
-//! Saves an image in a file, so that a failure leaves the old file.
+//! Saves an image in a file so that a failure leaves the old file unchanged.
 ghost use Rattle.std.specs.Prelude.{◌≡◌, true, IfOk, IfSome, OnErr, OnOk};
 ghost use Rattle.std.specs.Path.{path_bytes, path_buf_bytes};
 ghost use Rattle.host_files.specs.Save.{IsBeside, Grows, Saves, IsPlaced, Holds};
@@ -15,7 +15,7 @@ use vol_mkfs::BlankVolume;
 /// The number of names that are tried for the new file.
 const TRIES: u32 = 1000;
 
-/// The greatest number of symbolic links that are followed in a row: as many as the system follows.
+/// The greatest number of symbolic links that are followed in a row, which is the same as the system's.
 const MOST_LINKS: u32 = 40;
 
 /// The message for a file whose stamp has changed since it was read.
@@ -24,7 +24,7 @@ const CHANGED: &str = "it has changed since it was read";
 /// The message for a file that another program has replaced.
 const REPLACED: &str = "another program has put another file in its place";
 
-/// The message for a new file whose name another program gave to something else.
+/// The message if another program gave the new file's name to something else.
 const MOVED: &str = "another program moved the new file that was to take its place";
 
 /// The message for a new file that another program has locked.
@@ -36,10 +36,11 @@ const TOO_MANY_LINKS: &str = "more than 40 symbolic links lead on from it";
 /// The message for a folder in which no new file can be made.
 const NO_NAME: &str = "beside it .unixvol-0 to .unixvol-999 are all there";
 
-/// The permissions of a new file that will get those of an old one: until then it is private.
+/// The permissions of a new file until it gets the old file's: only its owner may use it.
 const PRIVATE: u32 = 0o600;
 
-/// The permissions that a new file takes over from the old one. An image isn't run, so it never runs with its owner's rights.
+/// The permissions that a new file takes over from the old one. The bits that run a program with its owner's rights aren't among them, since an image
+/// isn't run.
 const RIGHTS: u32 = 0o777;
 
 /// The content to save in a file.
@@ -74,7 +75,7 @@ enum Place<F> {
 pub struct HeldFile<F> {
     /// The file.
     pub file: F,
-    /// Its stamp when it was last read or saved.
+    /// The stamp of the file when it was last read or saved.
     pub stamp: Stamp,
 }
 
@@ -91,17 +92,17 @@ impl Content<'_> {
     }
 }
 
-/// Saves a content in the file `path`. Its bytes are written to a new file in the same folder, which then replaces the old one. The
-/// new file gets the old one's owner, group and permissions if the system allows it; otherwise it is the caller's, without the rights
-/// of a group that it can't have. So a failure leaves the old file as it was, and no new one. A symbolic link is followed. Anything
-/// but a regular file, such as a device or a pipe, is written in place.
+/// Saves a content in the file `path`. Its bytes are written to a new file in the same folder, which then replaces the old one. The new file gets the
+/// old one's owner, group and permissions if the system allows it; otherwise it belongs to the caller, without the rights of a group that it can't
+/// have. If this fails, the old file is unchanged, and there is no new one. A symbolic link is followed. Anything but a regular file, such as a
+/// device or a pipe, is written in place.
 ///
-/// If the content was made from what the file had, `read` is the stamp that it had then. The stamp must be the same just before the
-/// new file replaces it or the first byte is written.
+/// If the content was made from the contents of the file, `read` is the stamp that the file had then. The stamp must be the same just before the new
+/// file replaces the file or the first byte is written.
 ///
-/// The error is the system's if a file can't be opened, written, synchronised or renamed; `ResourceBusy` if the stamp differs, or
-/// another program gave the new file's name to something else; `FilesystemLoop` past 40 symbolic links; `AlreadyExists` if a thousand
-/// names of new files were taken; `OutOfMemory` if an allocation was refused.
+/// The error is the system's if a file can't be opened, written, synchronised or renamed; `ResourceBusy` if the stamp differs, or another program
+/// gave the new file's name to something else; `FilesystemLoop` if there are more than 40 symbolic links; `AlreadyExists` if all thousand names of
+/// new files are in use; `OutOfMemory` if an allocation was refused.
 pub fn save_file<R: ImageFiles + AllocGlobal>(
     rt: &R,
     path: &str,
@@ -115,11 +116,11 @@ pub fn save_file<R: ImageFiles + AllocGlobal>(
     Ok(())
 }
 
-/// Saves a content in the file `path`, from which `held` was opened and locked, as [`save_file`] does with the stamp of `held`. The new file
-/// is locked before it replaces the old one, and is held from then on, so no other command comes between two saves. A file that
-/// isn't regular stays held.
+/// Saves a content in the file `path`, as [`save_file`] does with the stamp of `held`. `held` was opened at `path` and is locked. The new file is
+/// locked before it replaces the old one, and then replaces it in `held`, so no other command can run between two saves. A file that isn't regular
+/// stays in `held`.
 ///
-/// The errors are those of [`save_file`], and leave `held` unchanged.
+/// The errors are the same as for [`save_file`]; after an error `held` is unchanged.
 pub fn save_held<R: ImageFiles + AllocGlobal>(
     rt: &R,
     path: &str,
@@ -138,7 +139,7 @@ pub fn save_held<R: ImageFiles + AllocGlobal>(
     Ok(())
 }
 
-/// Saves a content in the file `path`, as [`save_file`] does, and returns its place.
+/// Saves a content in the file `path`, as [`save_file`] does, and returns the file in which it was saved.
 fn put_content<R: ImageFiles + AllocGlobal>(
     rt: &R,
     path: &str,
@@ -193,7 +194,7 @@ fn expect_same(one: Stamp, other: Stamp) -> io::Result<()> {
     }
 }
 
-/// Fails if another file than `old` is at `path`, or, if there is no old one, if any file is.
+/// Fails if the file at `path` isn't `old`, or, if `old` is `None`, if there is any file at `path`.
 fn expect_there<R: ImageFiles>(rt: &R, path: &str, old: Option<&Replaced>) -> io::Result<()> {
     match old {
         Some(old) => expect_same(old.stamp, rt.stamp_of_name(path)?),
@@ -202,7 +203,8 @@ fn expect_there<R: ImageFiles>(rt: &R, path: &str, old: Option<&Replaced>) -> io
     }
 }
 
-/// Follows the symbolic links from `path` to a file or to nothing, and returns that path; `path` itself if it isn't a link.
+/// Follows the symbolic links from `path` until a path that isn't a link, and returns that path, which is `path` itself if it isn't a link. There may
+/// be no file at its end.
 fn end_of_links<R: Files + AllocGlobal>(rt: &R, path: &str) -> io::Result<PathBuf> {
     let mut place = PathBuf::from_str(rt.alloc(), path)?;
     for _ in 0..=MOST_LINKS {
@@ -215,9 +217,8 @@ fn end_of_links<R: Files + AllocGlobal>(rt: &R, path: &str) -> io::Result<PathBu
     Err(io::Error::new(ErrorKind::FilesystemLoop, TOO_MANY_LINKS))
 }
 
-/// True if `path`, or the end of its symbolic links, names a pipe or a socket: opening a pipe for writing waits until another program
-/// reads from it. A path that the system can't examine counts as none, and so does a pipe without a name, as `/dev/stdout` may lead
-/// to.
+/// True if `path`, or the end of its symbolic links, is a pipe or a socket: opening a pipe for writing waits until another program reads from it.
+/// False if the system can't examine the path, and for a pipe without a name, to which `/dev/stdout` may lead.
 pub fn is_pipe<R: ImageFiles + AllocGlobal>(rt: &R, path: &str) -> bool {
     let Ok(place) = end_of_links(rt, path) else {
         return false;
@@ -228,14 +229,14 @@ pub fn is_pipe<R: ImageFiles + AllocGlobal>(rt: &R, path: &str) -> bool {
     }
 }
 
-/// True if the system's error for reading a link means that the path is not a link: it is another file, or doesn't exist.
+/// True if the system's error for reading a link means that the path isn't a link: it is another kind of file, or doesn't exist.
 fn is_end(error: io::Error) -> bool {
     let kind = error.kind();
     kind == ErrorKind::InvalidInput || kind == ErrorKind::NotFound
 }
 
-/// Replaces `path`, which isn't a symbolic link and must still have the stamp `read`, if one is given, by a new file with this content.
-/// Returns the new file, locked.
+/// Replaces the file at `path` by a new file with this content, and returns the new file, locked. `path` isn't a symbolic link, and must still have
+/// the stamp `read`, if one is given.
 fn replace<R: ImageFiles + AllocGlobal>(
     rt: &R,
     path: Path<'_>,
@@ -261,8 +262,8 @@ fn replace<R: ImageFiles + AllocGlobal>(
     }
 }
 
-/// Locks the new file, open as `file` and named `beside`, renames it to `path`, and returns it with its stamp. Each of the two names must
-/// still belong to the same file, and the old file must still have the stamp `read`.
+/// Locks the new file, which is open as `file` and named `beside`, renames it to `path`, and returns it with its stamp. Both names must still belong
+/// to the same files as before, and the old file must still have the stamp `read`.
 fn rename_over<R: ImageFiles>(
     rt: &R,
     file: R::File,
@@ -289,7 +290,7 @@ fn rename_over<R: ImageFiles>(
     Ok((file, stamp))
 }
 
-/// Synchronises the folder of `path`, if the system allows it: the image is complete in any case.
+/// Synchronises the folder of `path`, if the system allows it. The image is complete in any case.
 fn sync_folder<R: Files>(rt: &R, path: Path<'_>) {
     let folder = match path.parent() {
         Some(folder) if folder.as_str() != "" => folder,
@@ -324,7 +325,7 @@ fn new_file<R: Files + AllocGlobal>(
     Err(io::Error::new(ErrorKind::AlreadyExists, NO_NAME))
 }
 
-/// Fills the new file `file`, makes sure that its bytes are on the disk, and returns the file.
+/// Fills the new file `file`, waits until its bytes are on the disk, and returns the file.
 fn fill<R: ImageFiles>(
     rt: &R,
     file: R::File,
@@ -341,8 +342,8 @@ fn fill<R: ImageFiles>(
     Ok(file)
 }
 
-/// Gives an open file the owner, group and permissions of an old one. Only the super-user can give a file to another user; others
-/// remain its owner, and can only choose one of their groups.
+/// Changes the owner, group and permissions of an open file to those of an old file. Only the super-user can change a file's owner; other users stay
+/// its owner, and can only choose one of their groups.
 fn keep_owner<R: ImageFiles>(rt: &R, file: &R::File, old: &Metadata) -> io::Result<()> {
     let new = file.metadata()?;
     let mut mode = old.permissions().mode() & RIGHTS;
@@ -355,8 +356,7 @@ fn keep_owner<R: ImageFiles>(rt: &R, file: &R::File, old: &Metadata) -> io::Resu
     file.set_permissions(Permissions::from_mode(mode))
 }
 
-/// Returns the permissions of a file that can't have its old group: none for the new group, and for others only those that the old
-/// group had too.
+/// Returns the permissions of a file that can't have its old group: the new group gets none, and other users only those that the old group had too.
 fn without_group(mode: u32) -> u32 {
     (mode & 0o700) | (mode & (mode >> 3) & 0o007)
 }
@@ -367,13 +367,13 @@ fn write_in_place<F: Write + OpenFile + Drop>(file: F, content: Content<'_>) -> 
 {
     let file = write(file, content)?;
     match file.sync_all() {
-        // A pipe or a terminal has no disk.
+        // A pipe or a terminal can't be synchronised.
         Err(error) if error.kind() != ErrorKind::InvalidInput => Err(error),
         _ => Ok(file),
     }
 }
 
-/// Writes a content after the bytes that a file has taken, and returns the file.
+/// Writes a content after the bytes that a file holds, and returns the file.
 fn write<F: Write + Drop>(file: F, content: Content<'_>) -> io::Result<F>
     ensures { IfOk result (λ written. Grows content.entry (F.contents file) (F.contents written)) }
 {
@@ -384,7 +384,7 @@ fn write<F: Write + Drop>(file: F, content: Content<'_>) -> io::Result<F>
     }
 }
 
-/// Returns the error for a file that didn't take all bytes: the system's, unless that would mean that the program's memory ran out.
+/// Returns the error for a file that couldn't be written completely: the system's, unless it would mean that this program ran out of memory.
 fn unwritten(error: Option<io::Error>) -> io::Error {
     match error {
         Some(error) if error.kind() != ErrorKind::OutOfMemory => error,

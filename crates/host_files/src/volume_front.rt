@@ -1,4 +1,4 @@
-//! Reads the image or the archive in a file, and no further.
+//! Reads the image or the archive in a file, and nothing after it.
 ghost use Rattle.std.specs.Prelude.{◌≡◌, false, true, IfOk, OnErr, OnOk, IsErrOf};
 ghost use Rattle.pdp_words.specs.Devices.{LosesFront};
 ghost use Rattle.host_files.specs.ReadParts.{IsEndless, IsPast, IsReadOn, IsReadUpTo, IsSkipped, IsVolumeRead, up_to_kept};
@@ -10,20 +10,20 @@ use std::alloc::Global;
 use std::io;
 use vol_layout::{Edition, Super};
 
-/// The point up to which a file is read.
+/// The end of the part of a file that is read.
 #[derive(Clone, Copy)]
 pub enum UpTo {
-    /// To its end.
+    /// The end of the file.
     End,
-    /// Up to the last block of the volume in it.
+    /// The last block of the volume in the file.
     Volume(Edition),
-    /// Up to the end of the archive in it, which has at most this many blocks.
+    /// The end of the archive in the file, which has at most this many blocks.
     Archive(u32),
 }
 
 impl UpTo {
-    /// Returns the point up to which the file of an image to change is read. A regular file is read whole, since the bytes after its
-    /// volume are kept.
+    /// Returns the end of the part that is read from the file of an image to change. A regular file is read whole, since the bytes after its volume
+    /// are saved too.
     pub fn kept(edition: Edition, kind: FileKind) -> UpTo
         ensures { result ≡ up_to_kept edition kind }
     {
@@ -41,17 +41,18 @@ pub enum FrontFault {
     Device,
     /// An allocation was refused.
     NoMemory,
-    /// Its super-block gives more blocks than any volume has, and it continues past them; or its archive has more blocks than it may.
+    /// The super-block records more blocks than any volume has, and the file continues past them; or the archive in the file has more blocks than
+    /// allowed.
     Endless,
 }
 
 /// The greatest number of bytes in one read.
 pub(crate) const PIECE: usize = 64 * 1024;
 
-/// The end of the super-block.
+/// The number of bytes up to the end of the super-block.
 const HEAD: usize = 1024;
 
-/// Reads a source up to `up_to`. Whatever is returned, the bytes that were read are gone from the source.
+/// Reads a source up to the end that `up_to` names. Whatever the result, the bytes that were read are no longer in the source.
 pub fn read_up_to<S: Source>(
     alloc: Global,
     up_to: UpTo,
@@ -74,11 +75,11 @@ pub fn read_up_to<S: Source>(
     }
 }
 
-/// Reads the image of a volume up to the last block that its super-block gives, or to the source's end. If that is more blocks than
-/// any volume of the edition has, the bytes after the super-block are read and dropped: if the source ends before it has one block
-/// more than the greatest volume, the image breaks rule 1; otherwise it is a fault.
+/// Reads the image of a volume up to the last block that its super-block records, or to the source's end. If it records more blocks than any volume
+/// of the edition has, the bytes after the super-block are read and dropped: if the source ends before it has one block more than the largest volume,
+/// the image breaks rule 1; otherwise this is a fault.
 ///
-/// Takes memory as `pdp_words::load` does, for the bytes that are kept.
+/// Takes memory as `pdp_words::load` does, for the bytes that are returned.
 fn read_volume<S: Source>(
     alloc: Global,
     edition: Edition,
@@ -109,7 +110,7 @@ fn read_volume<S: Source>(
     }
 }
 
-/// Appends bytes from the source to `bytes`, until there are `most` or the source ends.
+/// Appends bytes from the source to `bytes`, until `bytes` has `most` or the source ends.
 pub(crate) fn read_on<S: Source>(
     mut bytes: Vec<u8>,
     most: usize,
@@ -142,7 +143,7 @@ pub(crate) fn read_on<S: Source>(
     Ok(bytes)
 }
 
-/// Reads up to `most` bytes and drops them. True if the source is then at its end.
+/// Reads up to `most` bytes and drops them. True if the source has then reached its end.
 pub(crate) fn skip<S: Source>(source: &mut S, most: usize) -> io::Result<bool>
     ensures ok { IfOk result (IsSkipped most (S.remaining source.old) (S.remaining source.new)) }
     ensures front { OnErr result (LosesFront (S.remaining source.old) (S.remaining source.new)) }

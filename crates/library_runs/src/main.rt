@@ -5,8 +5,8 @@
 //! library_runs views lock|view|views|calls COUNT VIEWS BLOCKS BYTES
 //! library_runs refused volume|sessions|views
 //!
-//! More tasks may follow, each after the word `+`. Prints a line for each. Ends with status 1 if a word can't be read, a
-//! line can't be printed, or, but for `refused`, memory ran out or a call was refused.
+//! More tasks may follow, each after the word `+`. Prints a line for each. Ends with status 1 if a word can't be read or a line can't be printed; for
+//! all tasks but `refused`, also if memory ran out or a call was refused.
 #![tactic(auto)]
 
 mod calls;
@@ -29,7 +29,7 @@ fn number(words: &[String], k: usize) -> Option<u32> {
     words.get(k)?.as_str().parse::<u32>().ok()
 }
 
-/// Does a task, whose first word is its name, and returns its output.
+/// Runs a task, whose first word is its name, and returns its output.
 fn perform<R: AllocGlobal + Threads + Wait + Sync, I: Read>(
     rt: &R,
     words: &[String],
@@ -53,7 +53,7 @@ fn words<R: Env + AllocGlobal>(rt: &R) -> Option<Vec<String>> {
     env::args(rt).ok()?.collect::<Vec<String>>(rt.alloc()).ok()
 }
 
-/// Does the tasks that the words name, and prints their output.
+/// Runs the tasks that the words name, and prints their output.
 fn run<R: Env + AllocGlobal + Threads + Wait + Sync, I: Read + Drop, O: Write + Drop>(
     rt: &R,
     input: I,

@@ -12,7 +12,7 @@ use vol_volume::{Bytes, Call, Volume, mkfs};
 /// The path of the file.
 const FILE: &[u8] = b"/file";
 
-/// The number of calls after which a session that writes without pause cuts the journal, and checks whether to stop.
+/// The number of calls after which a session that writes again and again cuts the journal, and checks whether to stop.
 const UNCUT: u64 = 100;
 
 /// Returns a new volume of the seventh edition, mounted.
@@ -35,7 +35,7 @@ fn write_file(alloc: Global, length: u32) -> Option<Call> {
     Some(write(2, bytes_of(alloc, FILE)?, Bytes::from_vec(bytes)))
 }
 
-/// Returns `None` if a receipt is that of a refusal.
+/// Returns `None` if a receipt reports a refusal.
 fn accepted(receipt: Receipt) -> Option<()> {
     match receipt.outcome {
         Outcome::Accepted(_) | Outcome::Answered(_) => Some(()),
@@ -96,8 +96,7 @@ pub(crate) fn call_session<R: Wait>(
     Some(count)
 }
 
-/// Writes `length` bytes of the file with a session until it is stopped. Returns `None` if memory ran out or a call was
-/// refused.
+/// Writes `length` bytes of the file with a session, again and again, until it is stopped. Returns `None` if memory ran out or a call was refused.
 pub(crate) fn write_on<R: Wait>(
     rt: &R,
     alloc: Global,

@@ -11,7 +11,7 @@ use std::thread::Threads;
 use vol_shared::{MOST_VIEWS, Session, Shared, View};
 use vol_volume::Volume;
 
-/// Makes the task's calls with one session of a volume without views.
+/// Makes the task's calls with one session on a volume without views.
 pub(crate) fn share<R: Wait>(rt: &R, alloc: Global, volume: Volume, task: Task) -> Option<u64> {
     let Ok((shared, mut sessions)) = Shared::open(alloc, volume, 1) else {
         return None;
@@ -21,7 +21,7 @@ pub(crate) fn share<R: Wait>(rt: &R, alloc: Global, volume: Volume, task: Task) 
     done
 }
 
-/// Does a task on a volume with two sessions and `views` views.
+/// Runs a task on a volume with two sessions and `views` views.
 pub(crate) fn share_published<R: Threads + Wait + Sync>(
     rt: &R,
     alloc: Global,
@@ -40,7 +40,7 @@ pub(crate) fn share_published<R: Threads + Wait + Sync>(
     done
 }
 
-/// Does a task with two sessions and with views, which are all handed back.
+/// Runs a task with two sessions and with views, and returns all of them.
 fn perform<R: Threads + Wait + Sync>(
     rt: &R,
     alloc: Global,
@@ -85,7 +85,7 @@ fn call_last<R: Wait>(
     done
 }
 
-/// Makes the task's queries with the last session but one, while the last writes the file.
+/// Makes the task's queries with the last session but one, while the last session writes the file.
 #[tactic(auto, using(vol_shared::proofs::Prefixes::all_pushed, vol_shared::proofs::Lists::all_last, vol_shared::proofs::Lists::all_prefix))]
 fn ask_last<R: Threads + Wait + Sync>(
     rt: &R,
@@ -214,9 +214,8 @@ fn watch_beside<R: Threads + Wait + Sync>(
     (wrote.and(done), view, writer)
 }
 
-/// Makes the task's queries with every fourth view, each on a thread of its own. The three views between two of them are
-/// idle: they keep those apart in memory, so that no thread writes where another reads, as if each view were allocated by
-/// its thread.
+/// Makes the task's queries with every fourth view, each on its own thread. The three views between two of them are idle: they separate the two in
+/// memory, so that no thread writes where another reads, as if each view were allocated by its thread.
 fn ask_all<R: Threads + Sync>(
     rt: &R,
     alloc: Global,

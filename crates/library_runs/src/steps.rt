@@ -1,4 +1,4 @@
-//! Bytes, calls and queries. Each allocation that is refused is tried again, so that one refusal ends nothing.
+//! Bytes, calls and queries. Each refused allocation is tried again, so that one refusal doesn't end the run.
 use std::alloc::Global;
 use vol_dir::Cred;
 use vol_volume::{Bytes, Call, Query};
@@ -37,7 +37,7 @@ pub(crate) fn write(now: u32, path: Bytes, bytes: Bytes) -> Call {
     }
 }
 
-/// A query by its kind.
+/// The kind of a query.
 #[derive(Clone, Copy)]
 pub(crate) enum Kind {
     /// The first 1,024 bytes of a file.

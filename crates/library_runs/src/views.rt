@@ -2,12 +2,11 @@
 //!
 //! views lock|view|views|calls COUNT VIEWS BLOCKS BYTES
 //!
-//! Makes a volume of the seventh edition of BLOCKS blocks with one file in it, and shares it between two sessions and VIEWS
-//! views, at most 16. With `lock` one session queries the file's attributes COUNT times, and with `view` the last view does,
-//! while the other session writes BYTES bytes of the file without pause until that is done. With `views` VIEWS views, at
-//! most 4, make COUNT queries each, on threads of their own, and nothing is written. With `calls` one session writes BYTES
-//! bytes of the file COUNT times; without views the volume is opened without publishing. Prints the number of answered
-//! queries or, with `calls`, of accepted calls.
+//! Makes a volume of the seventh edition of BLOCKS blocks with one file in it, and shares it between two sessions and VIEWS views, at most 16. With
+//! `lock` one session queries the file's attributes COUNT times, and with `view` the last view does, while the other session writes BYTES bytes of
+//! the file again and again until that is done. With `views` VIEWS views, at most 4, make COUNT queries each, on their own threads, and nothing is
+//! written. With `calls` one session writes BYTES bytes of the file COUNT times; without views the volume is opened without publishing. Prints the
+//! number of answered queries or, with `calls`, of accepted calls.
 use crate::number;
 use crate::queries::new_volume_with_file;
 use crate::sessions::{share, share_published};
@@ -58,7 +57,7 @@ impl Task {
         })
     }
 
-    /// Does the task with a new volume, and returns the output.
+    /// Runs the task with a new volume, and returns the output.
     pub(crate) fn run<R: Threads + Wait + Sync>(self, rt: &R, alloc: Global) -> Option<Vec<u8>> {
         let volume = new_volume_with_file(alloc, self.blocks)?;
         let done = match self.job {

@@ -1,26 +1,26 @@
--- Patterns and names, byte for byte.
+-- Matching patterns with names, byte by byte.
 use Rattle.std.proofs.Common.{◌≡◌, ◌≢◌, ◌≤◌, ◌-◌, ◌∙◌, ℕ, ◌||◌, ◌==◌, Bool, true, false, List, [], ◌∷◌, zero, suc, true≢false, refl, ap, sym, arith, length, take, drop, get_or}
 use Rattle.std.proofs.lemmas.Bool.{ne_eqb}
 use Rattle.std.proofs.lemmas.List.{take_all}
 use Rattle.name_patterns.specs.Like.{ends_like, is_like, last_name, stands_for}
 
--- an alternative that is there twice
+-- `(a || b) || b` is `a || b`
 twice : (a b : Bool) → ((a || b) || b) ≡ (a || b)
 twice true b = refl
 twice false true = refl
 twice false false = refl
 
--- leaving out bytes twice is leaving them out once
+-- removing bytes from the start of a name twice is the same as once
 ends_twice : (like : List ℕ → Bool) (name : List ℕ) → ends_like (ends_like like) name ≡ ends_like like name
 unfolding ends_like
 ends_twice like [] = refl
 ends_twice like (c ∷ name) = ap (λ b. (like (c ∷ name) || ends_like like name) || b) (ends_twice like name) ∙ twice (like (c ∷ name)) (ends_like like name)
 
--- the bytes after the first
+-- a list without its first item is its rest
 tail_is : (c : ℕ) (xs : List ℕ) (k : ℕ) → k ≡ length (c ∷ xs) - 1 → take k (drop 1 (c ∷ xs)) ≡ xs
 tail_is c xs k is = take_all k xs (omega (arith, is))
 
--- a length that isn't, or is, 0
+-- a length that isn't 0 is at least 1
 pub some_of : (n : ℕ) (b : Bool) → b ≡ (n == 0) → b ≡ false → 1 ≤ n
 some_of zero b is not = absurd (true≢false (sym is ∙ not))
 some_of (suc n) b is not = omega arith
@@ -29,20 +29,20 @@ pub none_of : (n : ℕ) (b : Bool) → b ≡ (n == 0) → b ≡ true → n ≡ 0
 none_of zero b is so = refl
 none_of (suc n) b is so = absurd (true≢false (sym so ∙ (is ∙ ne_eqb (suc n) 0 (λ e. absurd (omega (arith, e))))))
 
--- the names that a pattern without bytes is like
+-- an empty pattern matches only the empty name
 pub at_none : (pattern name : List ℕ) → length pattern ≡ 0 → is_like pattern name ≡ (length name == 0)
 unfolding is_like
 at_none [] name none = refl
 at_none (p ∷ pattern) name none = absurd (omega arith)
 
--- those that a pattern with a `*` at its beginning is like
+-- a pattern that begins with `*` matches a name if its rest matches some end of the name
 pub at_star : (pattern name : List ℕ) (k : ℕ) → k ≡ length pattern - 1 → 1 ≤ length pattern → get_or pattern 0 0 ≡ 42
     → is_like pattern name ≡ ends_like (is_like (take k (drop 1 pattern))) name
 unfolding is_like
 at_star [] name k same some is = absurd (omega arith)
 at_star (p ∷ pattern) name k same some is = rw (tail_is p pattern k same, is) refl
 
--- those that a pattern with another byte at its beginning is like
+-- a pattern that begins with another byte doesn't match the empty name
 pub at_short : (pattern name : List ℕ) → 1 ≤ length pattern → get_or pattern 0 0 ≢ 42 → length name ≡ 0 → is_like pattern name ≡ false
 unfolding is_like
 at_short [] name some not none = absurd (omega arith)
@@ -64,7 +64,7 @@ at_next [] name k j sk sj some more not stands = absurd (omega arith)
 at_next (p ∷ pattern) [] k j sk sj some more not stands = absurd (omega arith)
 at_next (p ∷ pattern) (c ∷ name) k j sk sj some more not stands = rw (ne_eqb p 42 not, tail_is p pattern k sk, tail_is c name j sj, stands) refl
 
--- what a name ends with
+-- if a whole name is accepted, some end of it is
 pub ends_here : (like : List ℕ → Bool) (name : List ℕ) → like name ≡ true → ends_like like name ≡ true
 unfolding ends_like
 ends_here like [] is = is
@@ -81,28 +81,28 @@ unfolding ends_like
 ends_next like [] k same some is = absurd (omega arith)
 ends_next like (c ∷ name) k same some is = rw (tail_is c name k same, is) refl
 
--- a name that ends like a pattern with a `*` at its beginning ends like the rest
+-- a pattern that begins with `*` matches some end of a name if and only if its rest does
 pub after_star : (pattern name : List ℕ) (k : ℕ) → k ≡ length pattern - 1 → 1 ≤ length pattern → get_or pattern 0 0 ≡ 42
     → ends_like (is_like (take k (drop 1 pattern))) name ≡ ends_like (is_like pattern) name
 unfolding is_like
 after_star [] name k same some is = absurd (omega arith)
 after_star (p ∷ pattern) name k same some is = rw (tail_is p pattern k same, is) (sym (ends_twice (is_like pattern) name))
 
--- a slash begins a new name
+-- after a slash, the last name starts anew
 pub at_slash : (name rest : List ℕ) (k : ℕ) → k ≡ length rest - 1 → 1 ≤ length rest → get_or rest 0 0 ≡ 47
     → last_name (take k (drop 1 rest)) (take k (drop 1 rest)) ≡ last_name name rest
 unfolding last_name
 at_slash name [] k same some is = absurd (omega arith)
 at_slash name (c ∷ rest) k same some is = rw (tail_is c rest k same, is) refl
 
--- any other byte goes on with a name
+-- any other byte belongs to the current name
 pub at_byte : (name rest : List ℕ) (k : ℕ) → k ≡ length rest - 1 → 1 ≤ length rest → get_or rest 0 0 ≢ 47
     → last_name name (take k (drop 1 rest)) ≡ last_name name rest
 unfolding last_name
 at_byte name [] k same some not = absurd (omega arith)
 at_byte name (c ∷ rest) k same some not = rw (tail_is c rest k same, ne_eqb c 47 not) refl
 
--- at the end of a path its name is known
+-- at the end of a path, the current name is the last name
 pub at_end : (name rest : List ℕ) → length rest ≡ 0 → last_name name rest ≡ name
 unfolding last_name
 at_end name [] none = refl

@@ -1,12 +1,12 @@
-//! Patterns for names.
+//! Patterns that match names.
 #![tactic(auto)]
 
 ghost use Rattle.std.specs.Prelude.{◌≡◌, ◌≤◌, ℕ, List, length};
 ghost use Rattle.name_patterns.specs.Like.{ends_like, is_like, last_name, stands_for};
 
-/// True if a name is like a pattern: a `*` stands for any bytes or none, a `?` for one byte, and every other byte for itself.
+/// True if the pattern matches the name: a `*` matches any number of bytes, a `?` matches one byte, and every other byte matches itself.
 ///
-/// Costs at most two to the length of the name, whatever the pattern, and calls itself no deeper than twice that length.
+/// Costs at most 2^n steps for a name of n bytes, whatever the pattern. The recursion is at most 2n calls deep.
 #[cycle(like)]
 pub fn is_like(pattern: &[u8], name: &[u8]) -> bool
     ensures { result ≡ is_like pattern.now name.now }
@@ -27,14 +27,14 @@ pub fn is_like(pattern: &[u8], name: &[u8]) -> bool
     is_like(rest, &name[1..])
 }
 
-/// True if a byte of a pattern, other than `*`, stands for a byte of a name.
+/// True if a byte of a pattern, other than `*`, matches a byte of a name.
 fn stands_for(first: u8, byte: u8) -> bool
     ensures { result ≡ stands_for first byte }
 {
     first == b'?' || first == byte
 }
 
-/// True if a name without its first bytes, of any number, is like a pattern.
+/// True if the pattern matches some end of the name: the whole name, or the name without any number of its first bytes.
 #[cycle(like)]
 fn ends_like(pattern: &[u8], name: &[u8]) -> bool
     ensures { result ≡ ends_like (is_like pattern.now) name.now }
@@ -48,7 +48,7 @@ fn ends_like(pattern: &[u8], name: &[u8]) -> bool
     ends_like(pattern, &name[1..])
 }
 
-/// Returns a pattern without the `*` at its beginning.
+/// Returns the pattern without the `*` bytes at its start.
 fn after_stars(pattern: &[u8]) -> &[u8]
     ensures like { (name : List ℕ) → ends_like (is_like result.now) name ≡ ends_like (is_like pattern.now) name }
     ensures length { length result.now ≤ length pattern.now }
@@ -60,7 +60,7 @@ fn after_stars(pattern: &[u8]) -> &[u8]
     rest
 }
 
-/// Returns the last name of a path: what follows its last slash, or all of it.
+/// Returns the last name of a path: the part after its last slash, or the whole path if it has no slash.
 pub fn last_name(path: &[u8]) -> &[u8]
     ensures { result.now ≡ last_name path.now path.now }
 {

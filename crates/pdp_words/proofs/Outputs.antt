@@ -6,14 +6,14 @@ use Rattle.std.proofs.Common.{◌≡◌, ℕ, ◌+◌, ◌-◌, ◌≤◌, ◌�
 use Rattle.std.proofs.lemmas.List.{take-take}
 use Rattle.std.proofs.Math.Seq.{take-add}
 
--- the first m bytes of a piece that begins after n bytes follow these
+-- the first `n + m` bytes of a list are its first `n` bytes followed by the first `m` bytes of the piece that begins after them
 take_on : (bytes : List ℕ) (n count m : ℕ) → m ≤ count
     → take (n + m) bytes ≡ take n bytes ++ take m (slice_range bytes n (n + count))
 take_on bytes n count m h =
     let whole : m ≤ n + count - n = omega arith in
     take-add n m bytes ∙ ap (λ xs. take n bytes ++ xs) (sym (take-take m (n + count - n) (drop n bytes) whole))
 
--- if the first n bytes were written, and then the first m of the piece after them, the first n + m were
+-- writing the first `n` bytes, and then the first `m` bytes of the piece after them, writes the first `n + m` bytes
 pub Appends-more : (a b c : Option (List ℕ)) (bytes piece : List ℕ) (n count m : ℕ) → m ≤ count
     → piece ≡ slice_range bytes n (n + count) → Appends a b (take n bytes) → Appends b c (take m piece)
     → Appends a c (take (n + m) bytes)

@@ -1,4 +1,4 @@
--- Numbers as the PDP-11 stores them, and the bytes that a write keeps.
+-- Numbers as the PDP-11 stores them, and the bytes that a write leaves unchanged.
 use Rattle.std.specs.Prelude.{◌≡◌, ℕ, ◌+◌, ◌*◌, ◌<◌, ◌≤◌, List, length, slice_index, slice_range}
 
 -- a word: two bytes, the low one first (PDP-11)
@@ -13,7 +13,7 @@ long bytes at = 65536 * word bytes at + word bytes (at + 2)
 abbrev pub addr3 : List ℕ → ℕ → ℕ
 addr3 bytes at = 65536 * slice_index bytes at + slice_index bytes (at + 1) + 256 * slice_index bytes (at + 2)
 
--- the two lists have the same length, and the same bytes below `from` and from `to` on (a write's frame)
+-- the two lists have the same length, and the same bytes except those at `from..to` (a frame)
 pub record SameOutside (old new : List ℕ) (from to : ℕ) : Type 0 where
   pub len : length new ≡ length old
   pub below : (k : ℕ) → k < from → slice_index new k ≡ slice_index old k

@@ -1,4 +1,4 @@
-//! Bytes that are passed on as one value: a path, or a part of a file.
+//! Bytes that are passed on as one value, such as a path or a part of a file.
 ghost use Rattle.std.specs.Prelude.{◌≡◌, ◌==◌, IfOk};
 ghost use Rattle.std.specs.Cmp.Lexicographic.{pointwise};
 ghost use Rattle.std.specs.Cmp.Rules.{comparing};
@@ -7,7 +7,7 @@ ghost use Rattle.std.proofs.Common.{rules};
 use std::alloc::{AllocError, Global};
 use std::marker::Model;
 
-/// Some bytes: a path, data to write, or data read. Contracts see them as a list.
+/// Some bytes: a path, data to write, or data read. In contracts they are a list.
 #[derive(Clone, Drop)]
 pub struct Bytes {
     bytes: Vec<u8>,
@@ -22,21 +22,21 @@ impl Model for Bytes {
 }
 
 impl Bytes {
-    /// Wraps these bytes, without a copy.
+    /// Wraps a vector, without a copy.
     pub fn from_vec(bytes: Vec<u8>) -> Bytes
         ensures { result ≡ bytes.items }
     {
         Bytes { bytes }
     }
 
-    /// Copies these bytes.
+    /// Copies a slice.
     pub fn from_slice(alloc: Global, bytes: &[u8]) -> Result<Bytes, AllocError>
         ensures { IfOk result (λ copy. copy ≡ bytes.now) }
     {
         Ok(Bytes::from_vec(Vec::from_slice(alloc, bytes)?))
     }
 
-    /// Returns the bytes, without a copy.
+    /// Returns the bytes as a vector, without a copy.
     pub fn into_vec(self) -> Vec<u8>
         ensures { result.items ≡ self }
     {
@@ -56,7 +56,7 @@ impl PartialEq for Bytes {
 
     ghost laws = { Prim.search (comparing, rules) };
 
-    /// True if both have the same bytes.
+    /// True if the bytes are the same.
     fn eq(&self, other: &Bytes) -> bool {
         self.as_slice() == other.as_slice()
     }

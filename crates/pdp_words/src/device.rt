@@ -8,15 +8,14 @@ use std::io::{self, ErrorKind};
 
 /// A device that bytes are read from.
 pub trait Source {
-    // the bytes that reads will return from here on, if they are known
+    // the bytes that later reads will return, if they are known
     ghost remaining: { Self → Option (List ℕ) };
 
     // true if a read has returned an error
     ghost failed: { Self → Bool };
 
-    /// Reads bytes to the front of `buf`, as many as it likes, and returns their number. It is 0 only at the end, or if
-    /// `buf` is empty. An error consumes nothing and makes `failed` true; it is never `Interrupted`, after which a read is
-    /// retried.
+    /// Reads any number of bytes into the front of `buf`, and returns this number. It is 0 only at the end, or if `buf` is empty. An error consumes
+    /// nothing and makes `failed` true. It is never `Interrupted`: an interrupted read is retried.
     fn read(&mut self, buf: &mut [u8]) -> io::Result<usize>
         ensures bound { ReadsAtMost result buf.new }
         ensures bytes { ReadConsumes (remaining self.old) (remaining self.new) result buf.new }
@@ -29,8 +28,8 @@ pub trait Source {
         ensures { result ≡ failed self.now };
 }
 
-/// A device that bytes are written to. Its contents after several writes are their bytes in turn, so the `written` of a
-/// fault counts the bytes that the device took, from the first one of the call.
+/// A device that bytes are written to. After several writes it holds their bytes one after another, so the `written` of a fault counts the bytes
+/// written since the start of the call.
 pub trait Sink {
     // the bytes that the device holds, if they are known
     ghost contents: { Self → Option (List ℕ) };
@@ -38,8 +37,8 @@ pub trait Sink {
     // true if a write has returned an error
     ghost failed: { Self → Bool };
 
-    /// Takes bytes from the front of `buf`, and returns their number: at least one, unless `buf` is empty. An error takes
-    /// nothing and makes `failed` true; it is never `Interrupted`, after which a write is retried.
+    /// Writes bytes from the front of `buf`, and returns their number, which is at least one unless `buf` is empty. An error writes nothing and makes
+    /// `failed` true. It is never `Interrupted`: an interrupted write is retried.
     fn write(&mut self, buf: &[u8]) -> io::Result<usize>
         ensures bound { WritesAtMost result buf.now }
         ensures bytes { WriteAppends (contents self.old) (contents self.new) result buf.now }

@@ -8,8 +8,8 @@ ghost use Rattle.pdp_words.specs.Adapters.{reader_in, has_read_failed};
 use crate::device::Source;
 use std::io::{self, Error, ErrorKind, Read};
 
-/// A source of a reader's bytes. A read that a signal interrupts is retried; after 2^64 - 1 interrupts the call returns
-/// `TimedOut`, so that every call ends. To lend a reader only, use `FromRead::new(&mut reader)`.
+/// A source that returns a reader's bytes. A read that a signal interrupts is retried; after 2^64 - 1 interrupts the call returns `TimedOut`, so that
+/// every call ends. To only borrow a reader, use `FromRead::new(&mut reader)`.
 #[derive(Drop)]
 pub struct FromRead<R> {
     reader: R,
@@ -17,7 +17,7 @@ pub struct FromRead<R> {
 }
 
 impl<R: Read> FromRead<R> {
-    /// Returns a source of the bytes that `reader` has left. It has not failed.
+    /// Returns a source of the bytes that `reader` has left, with `failed` false.
     pub fn new(reader: R) -> FromRead<R>
         ensures reader { reader_in result ≡ reader }
         ensures bytes { ⟦<FromRead<R> as Source>⟧.remaining result ≡ R.remaining reader }
@@ -56,7 +56,7 @@ impl<R: Read> Source for FromRead<R> {
     }
 }
 
-// Does one read, and retries it if a signal interrupts it.
+// Reads once, and again if a signal interrupts the read.
 fn read_uninterrupted<R: Read>(reader: &mut R, buf: &mut [u8]) -> io::Result<usize>
     ensures bound { ReadsAtMost result buf.new }
     ensures bytes { ReadConsumes (R.remaining reader.old) (R.remaining reader.new) result buf.new }

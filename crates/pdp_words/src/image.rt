@@ -8,7 +8,7 @@ use std::marker::Model;
 /// The number of bytes in a block.
 pub const BLOCK: usize = 512;
 
-/// The bytes of a volume, from byte 0. Contracts see it as the list of its bytes.
+/// The bytes of a volume, from byte 0. In contracts an image is the list of its bytes.
 #[derive(Drop)]
 pub struct Image {
     bytes: Vec<u8>,
@@ -44,8 +44,8 @@ impl Image {
         self.bytes.len()
     }
 
-    /// Does nothing, and tells a proof that the length is a `usize`. A proof sees the image as a list; with this it knows
-    /// that no position in the image overflows.
+    /// Does nothing; its contract states that the length is a `usize`. In proofs an image is a list, and this shows that no position in the image
+    /// overflows.
     pub fn fits_in_memory(&self)
         ensures { length self.now < 2 ^ 64 }
     {
@@ -163,7 +163,7 @@ impl Image {
         words::put_addr3(&mut self.bytes, at, value);
     }
 
-    /// Writes bytes from byte `at` on. One copy.
+    /// Writes bytes at byte `at`, as one copy.
     pub fn put_bytes(&mut self, at: usize, bytes: &[u8])
         requires { at + length bytes.now ≤ length self.old }
         ensures put { slice_range self.new at (at + length bytes.now) ≡ bytes.now }
@@ -172,7 +172,7 @@ impl Image {
         words::put_bytes(&mut self.bytes, at, bytes);
     }
 
-    /// Copies the `count` bytes at byte `from` to byte `to`, as they were before; the two ranges may overlap. One copy.
+    /// Copies `count` bytes from byte `from` to byte `to`, as one copy. The two ranges may overlap.
     pub fn copy_within(&mut self, from: usize, count: usize, to: usize)
         requires from { from + count ≤ length self.old }
         requires to { to + count ≤ length self.old }

@@ -8,10 +8,9 @@ ghost use Rattle.pdp_words.specs.Adapters.{writer_in, has_write_failed};
 use crate::device::Sink;
 use std::io::{self, Error, ErrorKind, Write};
 
-/// A sink into a writer. A write that a signal interrupts is retried; after 2^64 - 1 interrupts the call returns
-/// `TimedOut`, so that every call ends. A write that takes none of some bytes is an error, since retrying it might never
-/// end. The writer isn't flushed: its owner calls `Write::flush` after the last write, and handles its error. To lend a
-/// writer only, use `IntoWrite::new(&mut writer)`.
+/// A sink that writes to a writer. A write that a signal interrupts is retried; after 2^64 - 1 interrupts the call returns `TimedOut`, so that every
+/// call ends. A write that accepts none of the bytes is an error, since retrying it might never end. The writer isn't flushed: its owner calls
+/// `Write::flush` after the last write, and handles its error. To only borrow a writer, use `IntoWrite::new(&mut writer)`.
 #[derive(Drop)]
 pub struct IntoWrite<W> {
     writer: W,
@@ -19,7 +18,7 @@ pub struct IntoWrite<W> {
 }
 
 impl<W: Write> IntoWrite<W> {
-    /// Returns a sink into `writer`, after the bytes that it holds. It has not failed.
+    /// Returns a sink that writes to `writer`, after the bytes that it already holds, with `failed` false.
     pub fn new(writer: W) -> IntoWrite<W>
         ensures writer { writer_in result ≡ writer }
         ensures bytes { ⟦<IntoWrite<W> as Sink>⟧.contents result ≡ W.contents writer }
@@ -58,7 +57,7 @@ impl<W: Write> Sink for IntoWrite<W> {
     }
 }
 
-// Does one write, and retries it if a signal interrupts it. Taking none of some bytes is an error.
+// Writes once, and again if a signal interrupts the write. A write that accepts none of the bytes is an error.
 fn write_uninterrupted<W: Write>(writer: &mut W, buf: &[u8]) -> io::Result<usize>
     ensures bound { WritesAtMost result buf.now }
     ensures bytes { WriteAppends (W.contents writer.old) (W.contents writer.new) result buf.now }

@@ -1,5 +1,5 @@
-//! Bytes as the PDP-11 saw them: words, longs and three-byte addresses, the image of a volume, and the devices that an
-//! image is loaded from and saved to. Also bytes that are passed on as one value.
+//! Bytes as the PDP-11 stores them: words, longs and three-byte addresses. Also the image of a volume, the devices that it is loaded from and saved
+//! to, and bytes that are passed on as one value.
 #![tactic(auto)]
 
 pub mod bytes;

@@ -13,20 +13,20 @@ pub enum LoadFault {
     /// The source returned an error.
     #[error("the image could not be read")]
     Device,
-    /// Memory ran out.
+    /// Out of memory.
     #[error("out of memory")]
     NoMemory,
 }
 
-/// The number of bytes that one read asks for.
+/// The number of bytes requested by one read.
 const PIECE: usize = 64 * 1024;
 
-/// Loads an image from the bytes of `source` up to its end. Returns `Device` if the source fails, and `NoMemory` if memory
-/// runs out; either way the source has lost the bytes read so far.
+/// Loads an image from all bytes of `source`, up to its end. Returns `Device` if the source fails, and `NoMemory` if memory runs out; the bytes read
+/// so far are lost in both cases.
 ///
-/// Takes memory for the image alone. Its vector doubles as it grows, so its capacity is at most twice the image's bytes, of
-/// which those that were read are resident. If the allocator has to move it, the old vector exists next to the new one
-/// meanwhile, so at most twice the image is resident. A buffer of 64 KiB is on the stack.
+/// Takes memory only for the image. Its vector doubles as it grows, so its capacity is at most twice the size of the image, and only the bytes read
+/// are resident. If the allocator has to move the vector, the old and the new one exist at the same time, so at most twice the size of the image is
+/// resident. A buffer of 64 KiB is on the stack.
 pub fn load<S: Source>(alloc: Global, source: &mut S) -> Result<Image, LoadFault>
     requires { S.failed source.old ≡ false }
     ensures ok { IfOk result (λ image. IsReadWhole (S.remaining source.old) (S.remaining source.new) image) }
@@ -38,8 +38,8 @@ pub fn load<S: Source>(alloc: Global, source: &mut S) -> Result<Image, LoadFault
     load_with_capacity(alloc, 0, source)
 }
 
-/// Loads an image as [`load`] does, into a vector with room for `capacity` bytes from the start, which doesn't grow if the
-/// source has no more. Returns `NoMemory` also if there is no memory for that room.
+/// Loads an image as [`load`] does, into a vector with an initial capacity of `capacity` bytes, which doesn't grow if the source has no more bytes.
+/// Also returns `NoMemory` if this capacity can't be allocated.
 pub fn load_with_capacity<S: Source>(
     alloc: Global,
     capacity: usize,

@@ -7,16 +7,16 @@ use crate::device::Sink;
 use crate::image::Image;
 use thiserror::Error;
 
-/// The sink returned an error after some bytes.
+/// The error of a sink, possibly after some bytes were written.
 #[derive(Debug, Clone, Copy, PartialEq, Eq, Error)]
 #[error("the device failed after {written} bytes")]
 pub struct SaveFault {
-    /// The number of bytes that the sink took before the error, from the first of the call.
+    /// The number of bytes written before the error, counted from the start of the call.
     pub written: u64,
 }
 
-/// Writes `bytes` to `sink`, in as many writes as it takes. Fails only if the sink fails, and then the sink took exactly
-/// the first `written` bytes. Takes no memory.
+/// Writes `bytes` to `sink`, in as many writes as needed. Fails only if the sink fails; then exactly the first `written` bytes were written. Takes no
+/// memory.
 pub fn write_all<W: Sink>(sink: &mut W, bytes: &[u8]) -> Result<(), SaveFault>
     ensures ok { OnOk result (Appends (W.contents sink.old) (W.contents sink.new) bytes.now) }
     ensures working { OnOk result (W.failed sink.new ≡ W.failed sink.old) }

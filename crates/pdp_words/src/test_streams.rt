@@ -1,5 +1,4 @@
-//! Readers and writers for tests: they move their bytes in pieces, and one of their calls may fail. `FromRead` and
-//! `IntoWrite` make devices of them.
+//! Readers and writers for tests. They read or write in pieces, and one of their calls may fail. `FromRead` and `IntoWrite` make devices of them.
 ghost use Rattle.std.specs.Prelude.{◌≡◌, ◌-◌, ◌<◌, Some, None, Ok, [], min, length, take, IfSome, IsErrAnd, IsOk, MatchResult};
 ghost use Rattle.std.specs.IoError.{error_kind};
 ghost use Rattle.std.specs.Io.{ReadsAtMost, WritesAtMost};
@@ -9,7 +8,7 @@ ghost use Rattle.pdp_words.specs.Mishaps.{due, not_due};
 use std::alloc::Global;
 use std::io::{self, Error, ErrorKind, Read, Write};
 
-/// A mishap that happens in place of one call, after `left` calls that succeed.
+/// A failure of one call, after `left` calls that succeed.
 #[derive(Clone, Copy)]
 pub struct Mishap<T> {
     pub left: u64,
@@ -17,7 +16,7 @@ pub struct Mishap<T> {
 }
 
 impl<T: Copy> Mishap<T> {
-    // Returns the mishap of this call, if there is one.
+    // Counts one call, and returns the failure if it is this call that fails.
     fn at_this_call(&mut self) -> Option<T>
         ensures now { result ≡ due self.old.left self.old.kind }
         ensures later { self.new.kind ≡ not_due self.old.left self.old.kind }
@@ -34,17 +33,17 @@ impl<T: Copy> Mishap<T> {
 /// A reader that returns at most `piece` bytes per read.
 #[derive(Drop)]
 pub struct ScriptedReader<'a> {
-    /// The bytes that it has left.
+    /// The bytes left to read.
     pub rest: &'a [u8],
     /// The greatest number of bytes per read, one or more.
     pub piece: usize,
-    /// The kind of the error that one read returns.
+    /// The error that one read returns.
     pub mishap: Mishap<ErrorKind>,
     pub ghost moves: { 0 < piece },
 }
 
 impl<'a> ScriptedReader<'a> {
-    /// Returns a reader of `bytes`, all of whose reads succeed.
+    /// Returns a reader of `bytes` whose reads all succeed.
     pub fn new(bytes: &'a [u8], piece: usize) -> ScriptedReader<'a>
         requires { 0 < piece }
         ensures bytes { result.rest.now ≡ bytes.now }
@@ -61,7 +60,7 @@ impl<'a> ScriptedReader<'a> {
         }
     }
 
-    /// Returns the same reader, except that read number `at`, counted from 0, returns an error of that kind.
+    /// Makes read number `at`, counted from 0, return an error of this kind.
     pub fn failing_at(self, at: u64, kind: ErrorKind) -> ScriptedReader<'a>
         ensures bytes { result.rest.now ≡ self.entry.rest.now }
         ensures piece { result.piece ≡ self.entry.piece }
@@ -103,30 +102,29 @@ impl<'a> Read for ScriptedReader<'a> {
     }
 }
 
-/// The mishap of one write.
+/// The failure of one write.
 #[derive(Clone, Copy)]
 pub enum WriteMishap {
     /// The write returns an error of this kind.
     Error(ErrorKind),
-    /// The write takes no byte, and reports that.
+    /// The write returns 0.
     TakesNone,
 }
 
-/// A writer that takes at most `piece` bytes per write.
+/// A writer that accepts at most `piece` bytes per write.
 #[derive(Drop)]
 pub struct ScriptedWriter {
-    /// The bytes that it took.
+    /// The bytes written so far.
     pub taken: Vec<u8>,
     /// The greatest number of bytes per write, one or more.
     pub piece: usize,
-    /// The mishap of one write.
+    /// The failure of one write.
     pub mishap: Mishap<WriteMishap>,
     pub ghost moves: { 0 < piece },
 }
 
 impl ScriptedWriter {
-    /// Returns a writer that has taken nothing, all of whose writes succeed. It takes memory as it writes; if memory runs
-    /// out, the write returns an error.
+    /// Returns an empty writer whose writes all succeed. It takes memory as it is written to; if memory runs out, the write returns an error.
     pub fn new(alloc: Global, piece: usize) -> ScriptedWriter
         requires { 0 < piece }
         ensures taken { result.taken.items ≡ [] }
@@ -143,7 +141,7 @@ impl ScriptedWriter {
         }
     }
 
-    /// Returns the same writer, except that write number `at`, counted from 0, has the mishap `kind`.
+    /// Makes write number `at`, counted from 0, fail as `kind`.
     pub fn failing_at(self, at: u64, kind: WriteMishap) -> ScriptedWriter
         ensures taken { result.taken ≡ self.taken }
         ensures piece { result.piece ≡ self.piece }

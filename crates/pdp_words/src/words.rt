@@ -69,7 +69,7 @@ pub fn put_byte(bytes: &mut [u8], at: usize, value: u8)
     bytes[at] = value;
 }
 
-/// Writes bytes from byte `at` on. One copy.
+/// Writes bytes at byte `at`, as one copy.
 pub fn put_bytes(bytes: &mut [u8], at: usize, value: &[u8])
     requires { at + length value.now ≤ length bytes.old }
     ensures put { slice_range bytes.new at (at + length value.now) ≡ value.now }
@@ -78,7 +78,7 @@ pub fn put_bytes(bytes: &mut [u8], at: usize, value: &[u8])
     bytes[at..at + value.len()].copy_from_slice(value);
 }
 
-/// Copies the `count` bytes at byte `from` to byte `to`, as they were before; the two ranges may overlap. One copy.
+/// Copies `count` bytes from byte `from` to byte `to`, as one copy. The two ranges may overlap.
 pub fn copy_within(bytes: &mut [u8], from: usize, count: usize, to: usize)
     requires from { from + count ≤ length bytes.old }
     requires to { to + count ≤ length bytes.old }

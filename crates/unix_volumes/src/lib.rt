@@ -19,10 +19,9 @@
 //! sharing: it takes all sessions and views, and returns the volume as a [`Closed`], which confirms each receipt against the
 //! journal.
 //!
-//! **Checking.** [`icheck`], [`dcheck`] and [`ncheck`] give the reports of the programs of these names, for any image, with 1 to
-//! 64 threads; a [`Sweep`] is such a check in steps. [`judge`] returns the first broken rule, and [`rules`] lists what breaks
-//! each of them. [`salvage`] rebuilds the free list if nothing else is wrong, and [`migrate`] turns a volume of the sixth edition
-//! into one of the seventh.
+//! **Checking.** [`icheck`], [`dcheck`] and [`ncheck`] return the reports of the programs of these names, for any image, with 1 to 64 threads; a
+//! [`Sweep`] is such a check in steps. [`judge`] returns the first broken rule, and [`rules`] lists what breaks each of them. [`salvage`] rebuilds
+//! the free list if nothing else is wrong, and [`migrate`] turns a volume of the sixth edition into one of the seventh.
 //!
 //! **Archives.** [`export`] writes everything below a directory as a tar archive, and [`import`] adds an archive's members to a
 //! volume; [`import_with`] may leave out special files, and give all members to one owner.

@@ -2,11 +2,12 @@
 use Rattle.std.proofs.Common.{◌≡◌, ◌⊎◌, ◌∙◌, Bool, false, ℕ, List, Option, inl, inr, subst}
 use Rattle.command_faults.specs.Streams.{Gets, Streams}
 
--- the two streams, before and after
+-- the two output streams, before and after
 abbrev pub streams_of : Option (List ℕ) → Option (List ℕ) → Bool → Bool → Option (List ℕ) → Option (List ℕ) → Bool → Streams
 streams_of old new had_failed failed errors told untold = record { old = old; new = new; had_failed = had_failed; failed = failed; said = Gets untold errors told }
 
--- a fact of a run from the contents of its writers, which have not failed, is one of it from the contents of the streams
+-- a fact about a run that starts with the contents of its two writers, which have not failed, also holds for the contents of the streams that they
+-- write to
 pub begun : (P : Streams → Type 0) (output errors old was : Option (List ℕ)) (had_failed : Bool) (new told : Option (List ℕ)) (failed untold : Bool)
     → old ≡ output → was ≡ errors → had_failed ≡ false → P (streams_of old new had_failed failed was told untold)
     → P (streams_of output new false failed errors told untold)
@@ -15,12 +16,12 @@ begun P output errors old was had_failed new told failed untold held heard fresh
     (subst (λ e. P (streams_of old new false failed e told untold)) heard
     (subst (λ had. P (streams_of old new had failed was told untold)) fresh holds))
 
--- the status at the end of a run that may have printed something is that of `finish_printed`
+-- if a run ends with the status of `finish_printed`, this is the run's own status or 3
 pub ended_printed : (status finished end : ℕ) → end ≡ finished → (finished ≡ status) ⊎ (finished ≡ 3) → (end ≡ status) ⊎ (end ≡ 3)
 ended_printed status finished end is (inl same) = inl (is ∙ same)
 ended_printed status finished end is (inr file) = inr (is ∙ file)
 
--- the status at the end of a run is that of `finish`
+-- if a run ends with the status of `finish`, this is the run's own status, or 3 instead of 0
 pub ended : (status finished end : ℕ) → end ≡ finished → (finished ≡ status) ⊎ ((status ≡ 0) × (finished ≡ 3)) → (end ≡ status) ⊎ ((status ≡ 0) × (end ≡ 3))
 ended status finished end is (inl same) = inl (is ∙ same)
 ended status finished end is (inr kept) = inr (kept.0, is ∙ kept.1)

@@ -10,11 +10,11 @@ use Rattle.vol_reports.specs.declared.line.Line.{Line}
 use Rattle.unixvol.specs.Runs.{IsEnd, IsUnread, RunsCheck, host_files}
 use Rattle.host_files.specs.declared.image_file.Stamp.{Stamp}
 
--- the end of a run without a file or memory
+-- a run whose status is 3 or 4 ends as `IsEnd` requires
 ends_badly : (streams : Streams) (status : ℕ) → (3 ≤ status) → (status ≤ 4) → IsEnd streams status
 ends_badly streams status least most = record { within = most; whole = λ e. absurd (omega (arith, least, e)) }
 
--- the status of a report is 0 or 1
+-- the status of a report is at most 4
 status_short : (faults : Bool) → (if faults then 1 else 0) ≤ 4
 status_short true = omega arith
 status_short false = omega arith
@@ -36,7 +36,7 @@ ends_unread : {F : Type 0} (remaining : F → Option (List ℕ)) (streams : Stre
 ends_unread remaining streams status (inl is) = ends_badly streams status (omega (arith, is)) (omega (arith, is))
 ends_unread remaining streams status (inr memory) = ends_badly streams status (omega (arith, memory.0)) (omega (arith, memory.0))
 
--- a checker's run ends with a status of at most 4, and with 0 only if all was printed and no fault was reported
+-- a checker's run ends with a status of at most 4, and with 0 only if everything was printed and no fault was reported
 pub ends_checked : {F : Type 0} (remaining contents : F → Option (List ℕ)) (had : F → Stamp → Type 0) (stood : Stamp → Type 0) (streams : Streams)
     (screen : Screen) (edition : Edition) (checker : Checker) (status : ℕ) → RunsCheck streams (host_files remaining contents had stood) screen edition checker status
     → IsEnd streams status

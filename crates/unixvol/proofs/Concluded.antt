@@ -1,4 +1,4 @@
--- The end of a run that saves a command's result, or of one that reads no file.
+-- The end of a run that saves a command's result, and of a run that can't read a file.
 use Rattle.std.proofs.Common.{◌≡◌, ◌∙◌, Bool, true, false, true≢false, ℕ, ◌≤◌, List, [], Option, None, Some, IsSome, IfSome, Result, inl, inr, refl, sym, subst, arith}
 use Rattle.std.specs.Global.{Vec}
 use Rattle.std.specs.Io.KnownBytes.{Keeps}
@@ -24,7 +24,7 @@ use Rattle.command_reads.specs.declared.get.GetFault.TheVariants.{Volume, File}
 use Rattle.unixvol.specs.Copies.{ReadSaved}
 use Rattle.unixvol.specs.Runs.{EndsSaved, Ends, IsUnread, but_remarks}
 
--- a run that reads no file ends
+-- if a file can't be read, the run ends as `Ends` requires
 pub ends_unread : {F : Type 0} (remaining : F → Option (List ℕ)) (streams : Streams) (status : ℕ) → IsUnread remaining status
     → Keeps streams.old streams.new → Ends streams status
 ends_unread remaining streams status (inl is) kept =
@@ -32,7 +32,7 @@ ends_unread remaining streams status (inl is) kept =
 ends_unread remaining streams status (inr memory) kept =
     record { within = omega (arith, memory.0); silent = λ _ _. kept; whole = λ e. absurd (omega (arith, memory.0, e)) }
 
--- a run ends with the status of an answer, or that of a file; nothing was printed, and if it is 0 no fault was reported
+-- if an answer's status is at most 4, nothing was printed, and an answer with status 0 reports no fault, the run ends as `Ends` requires
 pub ends_answer : (streams : Streams) (taken : List ℕ → Type 0) (answer : Answer) (status : ℕ) → answer.status ≤ 4
     → (answer.status ≡ 0 → streams.said []) → Keeps streams.old streams.new → streams.failed ≡ streams.had_failed → EndsSaved taken answer status
     → Ends streams status
@@ -47,22 +47,22 @@ ends_answer streams taken answer status few quiet unprinted unused (inr file) = 
   whole = λ e. absurd (elim file.1 [ inl three ↦ omega (arith, three, e) | inr four ↦ omega (arith, four, e) ]);
 }
 
--- a run that may report something with status 0 ends as another one
+-- a run that ends as `Ends` requires also does so without the requirement on the reports of a change
 pub ends_remarked : (may : Bool) (streams : Streams) (status : ℕ) → Ends streams status → Ends (but_remarks may streams) status
 ends_remarked true streams status ends = record { within = ends.within; silent = ends.silent; whole = λ e. ((ends.whole e).0, tt) }
 ends_remarked false streams status ends = ends
 
--- if something was made, this is what is reported
+-- if something was made, the reports are those for this case
 quiet : {A : Type 0} (makes : A → Type 0) (reported : Type 0) (made : Option A) → IsSome made → IfSome made (λ a. makes a × reported) → reported
 quiet makes reported (Some a) some given = given.1
 quiet makes reported None some given = absurd (true≢false (sym some))
 
--- the status of an answer is at most 4, if that of each reason is
+-- the status is at most 4 if it is 0 when something was made, and at most 4 otherwise
 few : {A : Type 0} (made : Option A) (status : ℕ) → (IsSome made → status ≡ 0) → (made ≡ None → status ≤ 4) → status ≤ 4
 few (Some a) status zero some_few = let is = zero refl in omega (arith, is)
 few None status zero some_few = some_few refl
 
--- the end of a command that makes bytes
+-- if a command makes bytes and they are saved, or it reports a reason, its run ends as `Ends` requires
 pub ends_concluded : (makes : List ℕ → Type 0) (is_reason : Fault → Type 0) (streams : Streams) (taken : List ℕ → Type 0) (answer : Answer) (status : ℕ)
     → Concludes makes is_reason streams.said answer → Keeps streams.old streams.new → streams.failed ≡ streams.had_failed
     → EndsSaved taken answer status → Ends streams status
@@ -90,7 +90,7 @@ import_few (imports.Member path cause) = omega arith
 import_few (imports.Refused refusal call) = refusal_within refusal
 import_few imports.NoMemory = omega arith
 
--- the end of an import
+-- if an archive is imported and the result is saved, and the lines leave nothing to report, the run ends as `Ends` requires
 pub ends_imported : (edition : Edition) (image : List ℕ) (wanted : Result (List Call) ImportFault) (lines : List ℕ) (said : List ℕ → Type 0) (streams : Streams)
     (taken : List ℕ → Type 0) (answer : Answer) (status : ℕ) → ImportsArchive edition image wanted lines said answer → (said lines → streams.said [])
     → Keeps streams.old streams.new → streams.failed ≡ streams.had_failed → EndsSaved taken answer status → Ends streams status
@@ -110,7 +110,7 @@ quiet_got : (P Q : List FileRead → Type 0) (said : List ℕ → Type 0) (files
 quiet_got P Q said (Some files) some given = given.2
 quiet_got P Q said None some given = absurd (true≢false (sym some))
 
--- the end of reading files and saving them
+-- if files are read and saved, the run ends as `Ends` requires
 pub ends_got : (edition : Edition) (image : List ℕ) (paths : List (List ℕ)) (streams : Streams) (taken : List ℕ → Type 0) (read : FilesRead) (status : ℕ)
     → GetsFiles edition image paths streams.said read → Keeps streams.old streams.new → streams.failed ≡ streams.had_failed → ReadSaved taken read status
     → Ends streams status

@@ -17,7 +17,7 @@ file_name file = file.name.now
 abbrev path_name : Bor (List ℕ) → List ℕ
 path_name path = name_of path.now
 
--- the names with one more file
+-- if the files so far have the last names of the first `k` paths, then with one more file they have the last names of the first `k + 1` paths
 pub names_more : (paths : List (Bor (List ℕ))) (k : ℕ) (d : Bor (List ℕ)) (old new : List NewFile) (file : NewFile) → k < length paths
     → map file_name old ≡ map path_name (take k paths) → new ≡ old ++ file ∷ [] → file.name.now ≡ name_of (get_or paths k d).now
     → map file_name new ≡ map path_name (take (k + 1) paths)
@@ -27,13 +27,13 @@ names_more paths k d old new file within was is named =
     ∙ ap (λ (name : List ℕ). map path_name (take k paths) ++ name ∷ []) named
     ∙ sym (ap (map path_name) (take_more paths k d within) ∙ map-append path_name (take k paths) (get_or paths k d ∷ []))
 
--- the files were saved, if the status says so
+-- if the status is 0, the files were saved
 pub saved_one : (status : ℕ) (P : Type 0) → ((status ≡ 0) × P) ⊎ IsStatusOfFileOrMemory status → status ≡ 0 → P
 saved_one status P (inl own) is = own.1
 saved_one status P (inr (inl three)) is = absurd (omega (arith, three, is))
 saved_one status P (inr (inr four)) is = absurd (omega (arith, four, is))
 
--- the status after files that were read were saved
+-- the status after the files that were read were saved satisfies `ReadSaved`
 pub read_saved : (taken : List ℕ → Type 0) (read : FilesRead) (files : Vec FileRead) (given : List FileRead) (status : ℕ) → read.files ≡ Some files
     → given ≡ files.items → ((status ≡ read.status) × AreSaved taken given) ⊎ IsStatusOfFileOrMemory status → ReadSaved taken read status
 read_saved taken read files given status is same (inl saved) =

@@ -21,7 +21,7 @@ use Rattle.vol_volume.specs.declared.queries.Query.{Query}
 use Rattle.unixvol.specs.Runs.{EndsSaved, Ends, IsUngiven, IsUnread, but_remarks, may_remark}
 use Rattle.unixvol.proofs.Concluded.{ends_concluded, ends_imported, ends_unread}
 
--- nothing was printed for a fault that isn't the output's
+-- if the status isn't 3, the fault isn't a failure of standard output, and nothing was printed
 kept_by : (edition : Edition) (image : List ℕ) (query : Query) (streams : Streams) (status : ℕ) (fault : Fault)
     → Prints edition image query streams.old streams.new streams.had_failed streams.failed (Err fault) → status ≢ 3
     → (faults.Output ≡ fault → status ≡ 3) → Keeps streams.old streams.new
@@ -34,12 +34,12 @@ kept_by edition image query streams status (faults.BadLine script number line fl
 kept_by edition image query streams status (faults.Worded rule lines) printed other is = printed.2
 kept_by edition image query streams status faults.Output printed other is = absurd (other (is refl))
 
--- a status is 0, or it isn't
+-- a status is at most 4 if it is so whenever it isn't 0
 few_by : (status : ℕ) → (status ≢ 0 → status ≤ 4) → status ≤ 4
 few_by zero other = omega arith
 few_by (suc n) other = other (λ e. omega (arith, e))
 
--- the end of a command that prints an answer
+-- if a command prints the answer to a query, its run ends as `Ends` requires
 pub ends_shown : (edition : Edition) (image : List ℕ) (query : Query) (streams : Streams) (status : ℕ)
     → Asks edition image streams status query → Ends streams status
 ends_shown edition image query streams status asks = record {
@@ -50,7 +50,7 @@ ends_shown edition image query streams status asks = record {
   whole = λ e. let shown = asks.shown e in (shown.0.0, shown.1);
 }
 
--- the end of an import
+-- if an archive is imported and the result is saved, the run ends as `Ends` requires, apart from the report of members left out
 ends_import : (edition : Edition) (image given path : List ℕ) (options : ImportOptions) (now : ℕ) (streams : Streams) (taken : List ℕ → Type 0) (answer : Answer)
     (status : ℕ) → ImportsBelow edition image given streams answer path options now → EndsSaved taken answer status
     → Ends (but_remarks options.skip_special streams) status
@@ -62,7 +62,7 @@ ends_import edition image given path options now streams taken answer status doe
         ends_imported edition image _ _ streams.said streams taken answer status does.0
         (subst (λ (paths : List (List ℕ)). streams.said (left_lines paths)) (none_left options (members given) is)) does.1 does.2 saved
 
--- the end of a change
+-- if a change is made and saved, the run ends as `Ends` requires, apart from what the change may report
 pub ends_change : (edition : Edition) (image given : List ℕ) (streams : Streams) (taken : List ℕ → Type 0) (answer : Answer) (status : ℕ) (change : Change)
     → Changes edition image given streams answer change → EndsSaved taken answer status
     → Ends (but_remarks (may_remark change) streams) status
@@ -93,7 +93,7 @@ ends_change edition image given streams taken answer status (changes.Touch path 
 ends_change edition image given streams taken answer status changes.Salvage does saved =
     ends_concluded _ _ streams taken answer status does.0 does.1 does.2 saved
 
--- the end of a change whose bytes aren't read
+-- if the bytes that a change needs can't be read, the run ends as `Ends` requires
 pub ends_ungiven : {F G : Type 0} (remaining : F → Option (List ℕ)) (heard : G → Option (List ℕ)) (streams : Streams) (status : ℕ) (change : Change)
     → IsUngiven (IsUnread remaining) (IsUnread heard) change status → Keeps streams.old streams.new → Ends streams status
 ends_ungiven remaining heard streams status (changes.Put path file now) ungiven kept = ends_unread remaining streams status ungiven kept

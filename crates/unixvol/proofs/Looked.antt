@@ -28,7 +28,7 @@ use Rattle.vol_listing.specs.declared.options.Screen.TheVariants as screens
 use Rattle.unixvol.specs.Runs.{IsEndWithin, IsUnread, RunsLook, highest_status, host_files}
 use Rattle.host_files.specs.declared.image_file.Stamp.{Stamp}
 
--- the end of a run with a fault
+-- a run with a status from 1 to `most` ends as `IsEndWithin` requires
 ends_badly : (most : ℕ) (streams : Streams) (status : ℕ) → 1 ≤ status → status ≤ most → IsEndWithin most streams status
 ends_badly most streams status least within = record { within = within; whole = λ e. absurd (omega (arith, least, e)) }
 
@@ -51,19 +51,19 @@ ends_one : (IsText : List ℕ → Type 0) (IsFault : Fault → Type 0) (streams 
 ends_one IsText IsFault streams status (inl (text, is, prints)) = ends_prints 4 0 streams text status (omega arith) (omega arith) prints
 ends_one IsText IsFault streams status (inr (fault, is, told)) = ends_told 4 streams fault status (omega arith) told
 
--- the highest status is at least 4
+-- the highest status, graded or not, is at least 4
 most_few : (graded : Bool) → 4 ≤ (if graded then 6 else 4)
 most_few true = omega arith
 most_few false = omega arith
 
--- the bounds of the status of an export with remarks
+-- the status of an export with remarks is at least 1, and at most 6 if it is graded, else 4
 told_few : (graded short : Bool) → (1 ≤ told_status graded short) × (told_status graded short ≤ (if graded then 6 else 4))
 told_few true true = (omega arith, omega arith)
 told_few true false = (omega arith, omega arith)
 told_few false true = (omega arith, omega arith)
 told_few false false = (omega arith, omega arith)
 
--- an archive that was written whole ends with 0 only if there are no remarks
+-- an export that was written whole, and whose status is 0 if it has no remarks and `told` otherwise, satisfies `IsEndWithin`
 ends_lines : (most told : ℕ) (streams : Streams) (status : ℕ) (lines : List ℕ) → 1 ≤ told → told ≤ most → streams.failed ≡ streams.had_failed → streams.said lines
     → status ≡ (if length lines == 0 then 0 else told) → IsEndWithin most streams status
 ends_lines most told streams status [] least within working said is = record { within = omega (arith, is); whole = λ e. (working, said) }
@@ -93,7 +93,7 @@ ends_to edition image start options streams status screens.Stream exports = ends
 ends_to edition image start options streams status (screens.Terminal columns colours) told =
     ends_told (most_of options) streams _ status (most_few options.graded) told
 
--- the bounds of the status of an export that can't start
+-- the status of an export that can't start is at least 1, and at most 6 if it is graded, else 4
 unstarted_few : (graded : Bool) (fault : StartFault) → (1 ≤ unstarted_status graded fault) × (unstarted_status graded fault ≤ (if graded then 6 else 4))
 unstarted_few true (starts.Unsound fault) = (omega arith, omega arith)
 unstarted_few false (starts.Unsound fault) = (omega arith, omega arith)
@@ -168,7 +168,8 @@ ends_unread : {F : Type 0} (remaining : F → Option (List ℕ)) (most : ℕ) (s
 ends_unread remaining most streams status few (inl is) = ends_badly most streams status (omega (arith, is)) (omega (arith, is, few))
 ends_unread remaining most streams status few (inr memory) = ends_badly most streams status (omega (arith, memory.0)) (omega (arith, memory.0, few))
 
--- a command that shows part of an image ends with a status of at most 4, or 6 if it is graded, and with 0 only if all was printed and no fault was reported
+-- a command that shows part of an image ends with a status of at most 4, or 6 if it is graded, and with 0 only if everything was printed and no fault
+-- was reported
 pub ends_looked : {F : Type 0} (remaining contents : F → Option (List ℕ)) (had : F → Stamp → Type 0) (stood : Stamp → Type 0) (streams : Streams)
     (screen : Screen) (edition : Edition) (look : Look) (status : ℕ) → RunsLook streams (host_files remaining contents had stood) screen edition look status
     → IsEndWithin (highest_status look) streams status

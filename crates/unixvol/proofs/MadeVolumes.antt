@@ -1,4 +1,4 @@
--- The result of a run of `mkfs`, from what it made and whether that was saved.
+-- The result of a run of `mkfs`, from the volume that was made and whether it was saved.
 use Rattle.std.proofs.Common.{◌≡◌, ◌≢◌, ◌↔◌, ◌⊎◌, ◌∙◌, ℕ, zero, suc, ◌≤◌, Bool, true≢false, true, false, List, [], Option, None, Some, IsSome, IfSome, inl, inr, sym, subst, arith}
 use Rattle.std.specs.Io.KnownBytes.{Keeps}
 use Rattle.vol_mkfs.specs.Blank.{Blank, blank_of, IsMade}
@@ -12,32 +12,32 @@ use Rattle.command_changes.specs.declared.mkfs.MadeVolume.{MadeVolume}
 use Rattle.vol_mkfs.specs.declared.blank.NewVolume.{NewVolume}
 use Rattle.unixvol.specs.Runs.{IsStatusOfFileOrMemory, MadeSaved, RunsMkfs}
 
--- the requested volume was taken, if one was made and taken
+-- if the volume that was made is the requested one and it was saved, the requested one was saved
 taken_whole : (made : Option Blank) (wanted : Blank) (taken : List ℕ → Type 0) → IfSome made (λ blank. blank ≡ wanted)
     → IfSome made (λ blank. (bytes : List ℕ) × IsMade blank bytes × taken bytes) → IsSome made
     → (bytes : List ℕ) × IsMade wanted bytes × taken bytes
 taken_whole None wanted taken is took some = absurd (true≢false (sym some))
 taken_whole (Some blank) wanted taken is took some = (took.0, subst (λ b. IsMade b took.0) is took.1, took.2)
 
--- the statuses of `mkfs` are 0, 1 and 4
+-- the status of `mkfs` is at most 4 and isn't 2, if it is 0, 1 or 4
 own_within : (status : ℕ) → (status ≢ 0 → status ≢ 1 → status ≡ 4) → (status ≤ 4) × (status ≢ 2)
 own_within zero other = (omega arith, λ e. omega arith)
 own_within (suc zero) other = (omega arith, λ e. omega arith)
 own_within (suc (suc n)) other =
     let four : suc (suc n) ≡ 4 = other (λ e. omega arith) (λ e. omega arith) in (omega arith, λ e. omega arith)
 
--- the statuses if a file can't be read or written, or memory ran out, are 3 and 4
+-- the status if a file can't be read or written, or memory ran out, is 3 or 4
 file_within : (status : ℕ) → IsStatusOfFileOrMemory status → (3 ≤ status) × (status ≤ 4)
 file_within status file = elim file [ inl e ↦ (omega arith, omega arith) | inr e ↦ (omega arith, omega arith) ]
 
--- the line that is printed is that of the status
+-- the line that is printed is the one for the status
 pub told_at : (volume : NewVolume) (status known : ℕ) (fault : Option Fault) (errors : ErrorStream)
     → line_after fault ≡ mkfs_line_at (is_size volume.edition volume.blocks volume.list_blocks) status → Hears errors fault → status ≡ known
     → says errors (mkfs_line_at (is_size volume.edition volume.blocks volume.list_blocks) known)
 told_at volume status known fault errors line hears is =
     subst (λ n. says errors (mkfs_line_at (is_size volume.edition volume.blocks volume.list_blocks) n)) is (subst (says errors) line hears)
 
--- the result of `mkfs`, whether the volume was saved or not
+-- the result of `mkfs` satisfies `RunsMkfs`, whether the volume was saved or not
 pub runs_by : (streams : Streams) (taken : List ℕ → Type 0) (volume : NewVolume) (made : MadeVolume) (status : ℕ)
     → IfSome made.volume (λ blank. blank ≡ blank_of volume)
     → (made.status ≡ 0 ↔ IsSome made.volume)

@@ -48,7 +48,7 @@ printed_few : (scripts : List (Vec Played)) (confirmed : Option Confirmed) → p
 printed_few scripts (Some confirmed) = scripts_few 0 scripts (omega arith)
 printed_few scripts None = omega arith
 
--- an answer ends: its status is at most 4; if it is 0, no output failed and no fault was reported
+-- the end of an answer: its status is at most 4; if it is 0, no output failed and no fault was reported
 record Answered (streams : Streams) (answer : Answer) : Type 0 where
   within : answer.status ≤ 4
   whole : answer.status ≡ 0 → (streams.failed ≡ streams.had_failed) × streams.said []
@@ -92,7 +92,7 @@ ends_unread : {F : Type 0} (remaining : F → Option (List ℕ)) (streams : Stre
 ends_unread remaining streams status (inl is) = record { within = omega (arith, is); whole = λ e. absurd (omega (arith, is, e)) }
 ends_unread remaining streams status (inr memory) = record { within = omega (arith, memory.0); whole = λ e. absurd (omega (arith, memory.0, e)) }
 
--- a play's run ends with a status of at most 4, and with 0 only if all was printed and no fault was reported
+-- a play's run ends with a status of at most 4, and with 0 only if everything was printed and no fault was reported
 pub ends_played : {F : Type 0} (remaining contents : F → Option (List ℕ)) (had : F → Stamp → Type 0) (stood : Stamp → Type 0) (streams : Streams)
     (edition : Edition) (count : ℕ) (journal : Bool) (status : ℕ) → RunsPlay streams (host_files remaining contents had stood) edition count journal status → IsEnd streams status
 ends_played remaining contents had stood streams edition count journal status (inl nothing) = ends_unread remaining streams status nothing.0

@@ -1,4 +1,4 @@
--- The images that a mounted server saved, as members that only clauses read.
+-- The images that a mounted server saved, as elements of a list that only contracts refer to.
 use Rattle.std.proofs.Common.{◌≡◌, ◌≢◌, ℕ, List, [], map, All, Option, Some, Result, Err, get_or, ap, subst}
 use Rattle.std.proofs.lemmas.List.Elements.{All-map}
 use Rattle.vol_volume.specs.Volume.{Mounted}
@@ -8,7 +8,8 @@ use Rattle.vol_mounted.specs.declared.server.MountedServer.{MountedServer}
 use Rattle.vol_mounted.specs.declared.service.MountedFault.{MountedFault}
 use Rattle.vol_mounted.specs.declared.service.MountedFault.TheVariants.{Unsaved}
 
--- a server that begins without a saved image: its turns are those from no image on, each image was taken, and the last one is the volume's
+-- if a server starts with an empty list of saved images, its turns save these images in order, each of them was written to a file, and the last one
+-- is the volume's
 pub saved_by : {T : Type 0} (taken : List ℕ → Type 0) (value : T → List ℕ) → ((member : T) → ∥ taken (value member) ∥₁) → (before after : List T)
     → before ≡ [] → (old new : MountedServer) (volume : Mounted) → volume_in old ≡ volume
     → (had_taken were_taken had_sent were_sent : Option (List (List ℕ))) (ended : Result (Unit {0}) MountedFault)

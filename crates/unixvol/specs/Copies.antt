@@ -24,7 +24,7 @@ use Rattle.host_files.specs.declared.image_file.Stamp.{Stamp}
 abbrev pub name_of : List ℕ → List ℕ
 name_of path = unwrap_or (path_file_name path) []
 
--- files gave the bytes of new files, which have these names (this project)
+-- bytes read from files are new files, which have these names (this project)
 abbrev pub AreGiven : (List ℕ → Type 0) → List (List ℕ) → List NewFile → Type 0
 AreGiven given names news =
     All (λ (file : NewFile). given file.bytes.items) news × (map (λ (file : NewFile). file.name.now) news ≡ names)
@@ -33,21 +33,24 @@ AreGiven given names news =
 abbrev pub Standing : Type 1
 Standing = List ℕ → Bool → Type 0
 
--- the word that was read as the time, if any, isn't a file's path: the system reported that nothing exists there (this project)
+-- the word that was read as the time, if any, isn't also a file's path: the system reported that nothing exists there (this project)
 abbrev pub IsMomentAlone : Standing → Moment → Type 0
 IsMomentAlone stands now = IfSome now.word (λ word. stands word.now false)
 
--- this word was read as the time, and is the path of a file too: the system reported that something exists there (this project)
+-- this word was read as the time, and is also the path of a file: the system reported that something exists there (this project)
 abbrev pub IsFileToo : Standing → Moment → Bor (List ℕ) → Type 0
 IsFileToo stands now word = (now.word ≡ Some word) × stands word.now true
 
--- nothing is done, with the status of words that can't be read: one of them was read as the time, and may be meant as one of the files; and nothing is printed (this project)
+-- nothing is done or printed, and the status is the one for words that can't be read: the word that was read as the time may be meant as one of the
+-- files (this project)
 abbrev pub LeavesMoment : Streams → Standing → Moment → ℕ → Type 0
 LeavesMoment streams stands now status =
     (status ≡ 2) × ((word : Bor (List ℕ)) × IsFileToo stands now word)
     × Keeps streams.old streams.new × (streams.failed ≡ streams.had_failed) × streams.said []
 
--- files with these names are put into a directory: nothing is done; or files gave their bytes, these are put into an image that may be changed and that a file gave, and the result of the calls is saved if the system reported that some file had the stamp of the one that was read (this project)
+-- files with these names are put into a directory: nothing is done; or their bytes are read from files and put into an image, which is read from a
+-- file and may be changed, and the result of the calls is saved if the system reported that some file had the stamp of the image's file (this
+-- project)
 abbrev pub PutsFiles : Streams → HostFiles → Edition → List ℕ → List (List ℕ) → ℕ → ℕ → Type 0
 PutsFiles streams files edition directory names now status =
     RunsNothing streams files status
@@ -55,22 +58,25 @@ PutsFiles streams files edition directory names now status =
     × ImportsArchive edition image (told (calls_to_put (reads_as edition image).tree now directory news)) [] streams.said answer
     × Keeps streams.old streams.new × (streams.failed ≡ streams.had_failed) × EndsSaved (λ saved. files.taken saved × files.stood stamp) answer status)
 
--- several files are to be put at a time: if the word that was read as the time is a file's path too, nothing is done; otherwise they are put (this project)
+-- several files are put at a time: if the word that was read as the time is also a file's path, nothing is done; otherwise the files are put (this
+-- project)
 abbrev pub RunsPut : Streams → HostFiles → Standing → Edition → List ℕ → List (List ℕ) → Moment → ℕ → Type 0
 RunsPut streams files stands edition directory names now status =
     LeavesMoment streams stands now status
     ⊎ (IsMomentAlone stands now × PutsFiles streams files edition directory names now.seconds status)
 
--- each of these files was saved: a file of the host took all its bytes (this project)
+-- all bytes of each of these files were written to a file of the host (this project)
 abbrev pub AreSaved : (List ℕ → Type 0) → List FileRead → Type 0
 AreSaved taken files = All (λ (file : FileRead). taken file.bytes.items) files
 
--- the status after files of a volume were read: its own if all were saved, if they were read, or that of a file (this project)
+-- the status after files were read from a volume: the status of the reading if each file that was read was saved; otherwise the status of a file
+-- (this project)
 abbrev pub ReadSaved : (List ℕ → Type 0) → FilesRead → ℕ → Type 0
 ReadSaved taken read status =
     ((status ≡ read.status) × IfSome read.files (λ files. AreSaved taken files.items)) ⊎ (IsSome read.files × IsStatusOfFileOrMemory status)
 
--- the files at these paths of a volume are copied to the host: nothing is done; or those of an image that a file gave are read, nothing is printed, and each is saved once all are read (this project)
+-- the files at these paths of a volume are copied to the host: nothing is done; or nothing is printed, the files are read from an image, which is
+-- read from a file, and each is saved once all are read (this project)
 abbrev pub RunsGet : Streams → HostFiles → Edition → List (List ℕ) → ℕ → Type 0
 RunsGet streams files edition paths status =
     RunsNothing streams files status
@@ -83,7 +89,7 @@ RunsCopy streams files stands edition (copyings.Put directory paths now) status 
     RunsPut streams files stands edition directory.now (map (λ path. name_of path.now) paths.items) now status
 RunsCopy streams files stands edition (copyings.Get folder paths) status = RunsGet streams files edition (map (λ path. path.now) paths.items) status
 
--- the copying of several files runs to its end, as a plain command does (this project)
+-- a command that copies several files runs to its end, as a plain command does (this project)
 abbrev pub CopiesToEnd : HostFiles → Standing → Option (List ℕ) → Option (List ℕ) → Edition → Copying → ℕ → Type 0
 CopiesToEnd files stands output errors edition copying end =
     (new : Option (List ℕ)) × (failed : Bool) × (told : Option (List ℕ)) × (untold : Bool) × (status : ℕ)

@@ -1,4 +1,4 @@
--- The result of a run of the program, from the bytes that its files give.
+-- The result of a run of the program, from the bytes that it reads from files.
 use Rattle.std.specs.Prelude.{All, length, ◌≡◌, ◌≢◌, ◌⊎◌, ◌↔◌, ◌≤◌, ℕ, false, true, List, [], Option, IsSome, IfSome, Result, Ok, Err, IsErrAnd, Bool, if◌then◌else◌}
 use Rattle.std.specs.Io.KnownBytes.{Keeps}
 use Rattle.clap.specs.Words.{kind_of}
@@ -45,27 +45,30 @@ use Rattle.host_files.specs.declared.volume_front.UpTo.TheVariants.{End, Volume,
 use Rattle.host_files.specs.Save.{IsTaken}
 use Rattle.host_files.specs.declared.image_file.Stamp.{Stamp}
 
--- some file, which was read up to this point, gave these bytes (std::io::Read)
+-- these bytes were read from some file, up to this end (std::io::Read)
 abbrev pub Gave : {F : Type 0} → UpTo → (F → Option (List ℕ)) → List ℕ → Type 0
 Gave {F} up_to remaining bytes = (old : F) × (new : F) × IsReadUpTo up_to (remaining old) (remaining new) bytes
 
--- some file gave these bytes, all that it had left (std::io::Read)
+-- these bytes were read from some file, which had no more left (std::io::Read)
 abbrev pub GaveBytes : {F : Type 0} → (F → Option (List ℕ)) → List ℕ → Type 0
 GaveBytes remaining bytes = Gave End remaining bytes
 
--- some file gave this archive, of at most `blocks` blocks, and what followed it, if anything, may be left (std::io::Read)
+-- this archive, of at most `blocks` blocks, was read from some file; the bytes after it, if any, may not have been read (std::io::Read)
 abbrev pub GaveArchive : {F : Type 0} → (F → Option (List ℕ)) → List ℕ → Type 0
 GaveArchive remaining archive = (blocks : ℕ) × Gave (Archive blocks) remaining archive
 
--- some file gave this image of a volume, or all that it had (std::io::Read)
+-- this image of a volume, or the whole rest of the file, was read from some file (std::io::Read)
 abbrev pub GaveImage : {F : Type 0} → Edition → (F → Option (List ℕ)) → List ℕ → Type 0
 GaveImage edition remaining image = Gave (Volume edition) remaining image ⊎ Gave End remaining image
 
--- a file isn't read, with this status: 3 if it can't be opened, can't be read to the end, is longer than the greatest volume or has a longer archive than it may, or may not be changed; or 4 for out of memory, after some file was open and gave at most a prefix of its bytes (this project)
+-- a file isn't read, with this status: 3 if it can't be opened, can't be read to the end, is longer than the largest volume, has an archive that is
+-- too long, or may not be changed; 4 if memory ran out, after some file was opened and at most a prefix of its bytes was read (this project)
 abbrev pub IsUnread : {F : Type 0} → (F → Option (List ℕ)) → ℕ → Type 0
 IsUnread {F} remaining status = (status ≡ 3) ⊎ ((status ≡ 4) × (old : F) × (new : F) × LosesFront (remaining old) (remaining new))
 
--- the effects of files on the program: none could be read, with this status; one gave these bytes; one gave this image of a volume of an edition; the same, or all that it had; one that will be changed gave such an image, and had this stamp before; one took these bytes; some path had this stamp (this project)
+-- the effects of files on the program: none could be read, with this status; these bytes were read from one; this image of a volume of an edition was
+-- read from one; this image or the whole file was read from one; such an image was read from a file that will be changed and that had this stamp
+-- before; these bytes were written to one; the file at some path had this stamp (this project)
 pub record HostFiles : Type 1 where
   pub unread : ℕ → Type 0
   pub given : List ℕ → Type 0
@@ -75,7 +78,7 @@ pub record HostFiles : Type 1 where
   pub taken : List ℕ → Type 0
   pub stood : Stamp → Type 0
 
--- the effects of files, from what is known of them (std::io::Read and Write)
+-- the effects of files, from the contracts of reading and writing (std::io::Read and Write)
 abbrev pub host_files : {F : Type 0} → (F → Option (List ℕ)) → (F → Option (List ℕ)) → (F → Stamp → Type 0) → (Stamp → Type 0) → HostFiles
 host_files remaining contents had stood =
     record {
@@ -92,12 +95,13 @@ host_files remaining contents had stood =
 abbrev pub IsStatusOfFileOrMemory : ℕ → Type 0
 IsStatusOfFileOrMemory status = (status ≡ 3) ⊎ (status ≡ 4)
 
--- the status after `cat`: 0, or that of its fault (this project)
+-- the status after `cat`: 0, or the status of its fault (this project)
 abbrev pub status_after : Result (Unit {0}) CatFault → ℕ
 status_after (Ok done) = 0
 status_after (Err fault) = cat_status fault
 
--- `cat` prints: nothing if a file isn't read; or, from an image that a file gave, its output, whether standard output failed (if its fault is a writer's, and otherwise no more than before), and the status (this project)
+-- the output of `cat`, whether standard output failed, and the status: if the image isn't read, nothing is printed; otherwise, `cat` prints from an
+-- image that was read from a file, standard output failed if the fault is the writer's, and is otherwise as before (this project)
 abbrev pub PrintsBody : (ℕ → Type 0) → (List ℕ → Type 0) → Option (List ℕ) → Option (List ℕ) → Bool → Bool → Edition → ℕ → ℕ → Type 0
 PrintsBody unread shown old new had_failed failed edition i status =
     (unread status × Keeps old new × (failed ≡ had_failed))
@@ -110,7 +114,8 @@ abbrev pub RunsCat : Streams → HostFiles → Edition → ℕ → ℕ → Type 
 RunsCat streams files edition i status =
     PrintsBody files.unread (files.shown edition) streams.old streams.new streams.had_failed streams.failed edition i status × (status ≡ 0 → streams.failed ≡ streams.had_failed) × streams.said []
 
--- `mkfs` runs: nothing is printed; it is refused exactly if its numbers aren't a volume's, with the line for that; any other line is that of memory, with its status; and if it succeeds, a file took the volume (this project)
+-- `mkfs` runs: nothing is printed; the status is 1 exactly if its numbers can't be a volume's, with the line for that; any other line is the one for
+-- out of memory, with its status; and if it succeeds, the volume was written to a file (this project)
 pub record RunsMkfs (streams : Streams) (taken : List ℕ → Type 0) (volume : NewVolume) (status : ℕ) : Type 0 where
   pub unprinted : Keeps streams.old streams.new
   pub unused : streams.failed ≡ streams.had_failed
@@ -125,16 +130,16 @@ pub record RunsMkfs (streams : Streams) (taken : List ℕ → Type 0) (volume : 
   pub unsaved : status ≡ 3 → streams.said []
   pub wanting : status ≡ 4 → streams.said [] ⊎ streams.said (mkfs_line_at (is_size volume.edition volume.blocks volume.list_blocks) 4)
 
--- the status after an answer: its own if its image, if any, was saved; 3 or 4 if the saving failed (this project)
+-- the status after an answer: the answer's own if its image, if any, was saved; 3 or 4 if saving failed (this project)
 abbrev pub EndsSaved : (List ℕ → Type 0) → Answer → ℕ → Type 0
 EndsSaved taken answer status =
     ((status ≡ answer.status) × IfSome answer.image (λ bytes. taken bytes.items)) ⊎ (IsSome answer.image × IsStatusOfFileOrMemory status)
 
--- the status after a play: as after another command that saves; and if it was that of an output that failed, it still is (this project)
+-- the status after a play: as after another command that saves; if standard output failed, the status for that remains (this project)
 abbrev pub EndsPlayed : (List ℕ → Type 0) → Answer → ℕ → Type 0
 EndsPlayed taken answer status = EndsSaved taken answer status × (answer.status ≡ 3 → status ≡ 3)
 
--- the status after `mkfs`: its own if the volume that it made, if any, was taken, or that of a file (this project)
+-- the status after `mkfs`: its own if the volume that it made, if any, was saved; otherwise the status of a file (this project)
 abbrev pub MadeSaved : (List ℕ → Type 0) → MadeVolume → ℕ → Type 0
 MadeSaved taken made status =
     ((status ≡ made.status) × IfSome made.volume (λ blank. (bytes : List ℕ) × IsMade blank bytes × taken bytes))
@@ -145,24 +150,26 @@ abbrev pub RunsNothing : Streams → HostFiles → ℕ → Type 0
 RunsNothing streams files status =
     files.unread status × Keeps streams.old streams.new × (streams.failed ≡ streams.had_failed) × streams.said []
 
--- `migrate` runs: nothing is done; or the volume in an image that a file gave is migrated, nothing is printed, and the result is saved (this project)
+-- `migrate` runs: nothing is done; or the volume in an image, which is read from a file, is migrated, nothing is printed, and the result is saved
+-- (this project)
 abbrev pub RunsMigrate : Streams → HostFiles → Migration → ℕ → Type 0
 RunsMigrate streams files migration status =
     RunsNothing streams files status
     ⊎ ((image : List ℕ) × (answer : Answer) × files.shown V6 image × MigratesVolume image migration streams.said answer
     × Keeps streams.old streams.new × (streams.failed ≡ streams.had_failed) × EndsSaved files.taken answer status)
 
--- `get` runs: nothing is done; or the file at a path of an image that a file gave is printed (this project)
+-- `get` runs: nothing is done; or the file at a path of an image, which is read from a file, is printed (this project)
 abbrev pub RunsGetOne : Streams → HostFiles → Edition → List ℕ → ℕ → Type 0
 RunsGetOne streams files edition path status =
     RunsNothing streams files status ⊎ ((image : List ℕ) × files.shown edition image × GetsFile edition image path streams status)
 
--- a checker runs: nothing is done; or its findings on an image that a file gave are printed (this project)
+-- a checker runs: nothing is done; or its findings on an image, which is read from a file, are printed (this project)
 abbrev pub RunsCheck : Streams → HostFiles → Screen → Edition → Checker → ℕ → Type 0
 RunsCheck streams files screen edition checker status =
     RunsNothing streams files status ⊎ ((image : List ℕ) × files.shown edition image × Checks checker edition image screen streams status)
 
--- `count` scripts are played: nothing is done; or files gave them, they are played on an image that may be changed and that a file gave, and the volume is saved if the system reported that some file had the stamp of the one that was read (this project)
+-- `count` scripts are played: nothing is done; or they are read from files and played on an image, which is read from a file and may be changed, and
+-- the volume is saved if the system reported that some file had the stamp of the image's file (this project)
 abbrev pub RunsPlay : Streams → HostFiles → Edition → ℕ → Bool → ℕ → Type 0
 RunsPlay streams files edition count journal status =
     RunsNothing streams files status
@@ -175,14 +182,15 @@ abbrev pub RunsWork : Streams → HostFiles → Screen → Edition → Work → 
 RunsWork streams files screen edition (works.Check checker workers) status = RunsCheck streams files screen edition checker status
 RunsWork streams files screen edition (works.Play scripts journal) status = RunsPlay streams files edition (length scripts.items) journal status
 
--- the screen is a terminal with at least one column if the system says that standard output is a terminal, and otherwise none (this project)
+-- the screen is a terminal with at least one column if the system reports that standard output is a terminal; otherwise it is no terminal (this
+-- project)
 abbrev pub IsShownBy : Bool → Screen → Type 0
 IsShownBy true (screens.Terminal columns colours) = 1 ≤ columns
 IsShownBy true screens.Stream = ⊥
 IsShownBy false (screens.Terminal columns colours) = ⊥
 IsShownBy false screens.Stream = Unit {0}
 
--- the image to show; `check` may see the whole file, since it also looks at the sizes of the other edition (this project)
+-- the image to show; for `check` it may be the whole file, since `check` also looks at the sizes of the other edition (this project)
 abbrev pub IsSeen : HostFiles → Edition → Look → List ℕ → Type 0
 IsSeen files edition (looks.Check graded form) image = files.checked edition image
 IsSeen files edition (looks.List path listing) image = files.shown edition image
@@ -196,21 +204,21 @@ IsSeen files edition (looks.Df form) image = files.shown edition image
 IsSeen files edition (looks.Find path name) image = files.shown edition image
 IsSeen files edition (looks.Map picture) image = files.shown edition image
 
--- part of an image is shown: nothing is done; or it is shown from an image that a file gave (this project)
+-- part of an image is shown: nothing is done; or it is shown from an image that was read from a file (this project)
 abbrev pub RunsLook : Streams → HostFiles → Screen → Edition → Look → ℕ → Type 0
 RunsLook streams files screen edition look status =
     RunsNothing streams files status ⊎ ((image : List ℕ) × IsSeen files edition look image × Looks edition image screen streams status look)
 
--- the effects of standard input on the program: it couldn't be read, with this status; it gave this archive (this project)
+-- the effects of standard input on the program: it couldn't be read, with this status; or this archive was read from it (this project)
 pub record HostInput : Type 1 where
   pub unread : ℕ → Type 0
   pub given : List ℕ → Type 0
 
--- the effects of standard input, from what is known of it (std::io::Read)
+-- the effects of standard input, from the contract of reading (std::io::Read)
 abbrev pub host_input : {F : Type 0} → (F → Option (List ℕ)) → HostInput
 host_input remaining = record { unread = IsUnread remaining; given = GaveArchive remaining }
 
--- the bytes that a change needs aren't read, with this status: those of the file to put, or of the archive on standard input (this project)
+-- the bytes that a change needs, from the file to put or from the archive on standard input, aren't read, with this status (this project)
 abbrev pub IsUngiven : (ℕ → Type 0) → (ℕ → Type 0) → Change → ℕ → Type 0
 IsUngiven unread unheard (changes.Put path file now) status = unread status
 IsUngiven unread unheard (changes.Import path options now) status = unheard status
@@ -221,22 +229,23 @@ abbrev pub TakesNothing : Streams → HostFiles → HostInput → Change → ℕ
 TakesNothing streams files input change status =
     IsUngiven files.unread input.unread change status × Keeps streams.old streams.new × (streams.failed ≡ streams.had_failed) × streams.said []
 
--- a file gave the bytes to put, and standard input the archive to import; other changes need no bytes (this project)
+-- the bytes to put were read from a file, and the archive to import from standard input; other changes need no bytes (this project)
 abbrev pub IsGivenTo : (List ℕ → Type 0) → (List ℕ → Type 0) → Change → List ℕ → Type 0
 IsGivenTo given heard (changes.Put path file now) bytes = given bytes
 IsGivenTo given heard (changes.Import path options now) bytes = heard bytes
 IsGivenTo given heard _ bytes = Unit {0}
 
--- true if a change imports an archive from standard input, which is a terminal and gives none (this project)
+-- true if a change imports an archive from standard input, and standard input is a terminal (this project)
 abbrev pub wants_terminal : Bool → Change → Bool
 wants_terminal is_terminal (changes.Import path options now) = is_terminal
 wants_terminal is_terminal _ = false
 
--- nothing is done, since an archive is needed from a terminal: the status is that of a file that can't be read, and nothing is printed (this project)
+-- nothing is done or printed, since an archive is needed from a terminal; the status is the one for a file that can't be read (this project)
 abbrev pub LeavesTerminal : Streams → ℕ → Type 0
 LeavesTerminal streams status = (status ≡ 3) × Keeps streams.old streams.new × (streams.failed ≡ streams.had_failed) × streams.said []
 
--- a volume is changed: nothing is done; or it is changed in an image that may be changed and that a file gave, with the bytes that were given, and the result is saved if the system reported that some file had the stamp of the one that was read (this project)
+-- a volume is changed: nothing is done; or it is changed, with the bytes that were read for it, in an image which is read from a file and may be
+-- changed, and the result is saved if the system reported that some file had the stamp of the image's file (this project)
 abbrev pub ChangesImage : Streams → HostFiles → HostInput → Edition → Change → ℕ → Type 0
 ChangesImage streams files input edition change status =
     RunsNothing streams files status ⊎ (TakesNothing streams files input change status
@@ -258,7 +267,7 @@ IsPlainCommand (invocations.Work volume work) = ⊥
 IsPlainCommand (invocations.Serve volume serving) = ⊥
 IsPlainCommand _ = Unit {0}
 
--- a plain command runs: its output, what files give and take, and the status; other commands run elsewhere (this project)
+-- a plain command runs: its output, the bytes read from files and written to them, and the status; other commands aren't run here (this project)
 abbrev pub Runs : Streams → HostFiles → ℕ → Invocation → Type 0
 Runs streams files status (invocations.Cat volume i) = RunsCat streams files volume.edition i status
 Runs streams files status (invocations.Get volume path) = RunsGetOne streams files volume.edition path.now status
@@ -270,7 +279,8 @@ Runs streams files status (invocations.Copy volume copying) = ⊥
 Runs streams files status (invocations.Work volume work) = ⊥
 Runs streams files status (invocations.Serve volume serving) = ⊥
 
--- the result of an error of the command line: the status by its kind, which is 3 only if standard output failed, and no line of a command (this project)
+-- the result of an error of the command line: the status for its kind, which is 3 only if standard output failed; a command's own line isn't printed
+-- (this project)
 pub record Tells (streams : Streams) (kind : ErrorKind) (status : ℕ) : Type 0 where
   pub memory : kind ≡ kinds.OutOfMemory → status ≡ 4
   pub mistake : kind ≢ kinds.OutOfMemory → kind ≢ kinds.DisplayHelp → kind ≢ kinds.DisplayVersion → status ≡ 2
@@ -278,18 +288,20 @@ pub record Tells (streams : Streams) (kind : ErrorKind) (status : ℕ) : Type 0 
   pub failed : status ≡ 3 → streams.failed ≡ true
   pub quiet : streams.said []
 
--- the words that were read run: their invocation is carried out, or they are refused, with the status for that (this project)
+-- the words that were read run: their invocation is carried out; or they are refused, with the status for that (this project)
 abbrev pub RunsRead : Streams → HostFiles → ℕ → Result Invocation Error → Type 0
 RunsRead streams files status (Ok invocation) = Runs streams files status invocation
 RunsRead streams files status (Err error) = Tells streams (kind_of error) status
 
--- a run ends: the status is at most 4; nothing was printed, unless it is 0 or 3; if it is 0, no output failed and no fault was reported (this project)
+-- a run ends: the status is at most 4; something was printed only if it is 0 or 3; if it is 0, no output failed and no fault was reported (this
+-- project)
 pub record Ends (streams : Streams) (status : ℕ) : Type 0 where
   pub within : status ≤ 4
   pub silent : status ≢ 0 → status ≢ 3 → Keeps streams.old streams.new
   pub whole : status ≡ 0 → (streams.failed ≡ streams.had_failed) × streams.said []
 
--- the program runs to its end, from the contents of its two streams: their contents afterwards, whether they failed, and the status of the run, which is the exit status, or 3 is in place of 0 (this project)
+-- the program runs to its end, from the contents of its two streams: their contents afterwards, whether they failed, and the status of the run, which
+-- is also the exit status unless the run's is 0 and the exit status is 3 (this project)
 abbrev pub RunsToEnd : HostFiles → Option (List ℕ) → Option (List ℕ) → Result Invocation Error → ℕ → Type 0
 RunsToEnd files output errors read end =
     (new : Option (List ℕ)) × (failed : Bool) × (told : Option (List ℕ)) × (untold : Bool) × (status : ℕ)
@@ -302,7 +314,7 @@ pub record IsEndWithin (most : ℕ) (streams : Streams) (status : ℕ) : Type 0 
   pub within : status ≤ most
   pub whole : status ≡ 0 → (streams.failed ≡ streams.had_failed) × streams.said []
 
--- such a run ends with a status of at most 4 (this project)
+-- a run that may have printed something with any status ends with a status of at most 4 (this project)
 abbrev pub IsEnd : Streams → ℕ → Type 0
 IsEnd streams status = IsEndWithin 4 streams status
 
@@ -320,7 +332,8 @@ highest_status (looks.Find path name) = 4
 highest_status (looks.Map picture) = 4
 highest_status (looks.List path listing) = 4
 
--- work with several threads runs to its end, from the contents of the program's two streams: their contents afterwards, whether they failed, and the status of the run, which is the exit status, or 3 is in place of another (this project)
+-- work with several threads runs to its end, from the contents of the program's two streams: their contents afterwards, whether they failed, and the
+-- status of the run, which is also the exit status unless that is 3 (this project)
 abbrev pub WorksToEnd : HostFiles → Screen → Option (List ℕ) → Option (List ℕ) → Edition → Work → ℕ → Type 0
 WorksToEnd files screen output errors edition work end =
     (new : Option (List ℕ)) × (failed : Bool) × (told : Option (List ℕ)) × (untold : Bool) × (status : ℕ)
@@ -336,17 +349,17 @@ LooksToEnd files screen output errors edition look end =
     × IsEndWithin (highest_status look) (record { old = output; new = new; had_failed = false; failed = failed; said = Gets untold errors told }) status
     × ((end ≡ status) ⊎ (end ≡ 3))
 
--- true if a change may report something though it succeeds: an import that leaves members out reports them (this project)
+-- true if a change may succeed and still report something: an import reports the members that it leaves out (this project)
 abbrev pub may_remark : Change → Bool
 may_remark (changes.Import path options now) = options.skip_special
 may_remark _ = false
 
--- the streams, of which nothing is said of the reports if a change may succeed with some (this project)
+-- the streams; if a change may succeed and report something, nothing is required of the reported lines (this project)
 abbrev pub but_remarks : Bool → Streams → Streams
 but_remarks true streams = record streams { said = λ bytes. Unit {0} }
 but_remarks false streams = streams
 
--- a change runs to its end, as a plain command does, but for the report of members left out (this project)
+-- a change runs to its end, as a plain command does, except that it may report members left out (this project)
 abbrev pub ChangesToEnd : HostFiles → HostInput → Bool → Option (List ℕ) → Option (List ℕ) → Edition → Change → ℕ → Type 0
 ChangesToEnd files input is_terminal output errors edition change end =
     (new : Option (List ℕ)) × (failed : Bool) × (told : Option (List ℕ)) × (untold : Bool) × (status : ℕ)

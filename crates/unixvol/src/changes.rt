@@ -1,4 +1,4 @@
-//! The commands that change a volume: the files they open and save.
+//! The commands that change a volume: opening and saving their files.
 ghost use Rattle.std.specs.Prelude.{◌≡◌, ◌+◌, ◌*◌, ◌/◌, ◌^◌, ◌≤◌, min, ℕ, Bool, IfErr, IfOk, List, Option};
 ghost use Rattle.std.specs.Process.{exit_status};
 ghost use Rattle.command_faults.specs.Streams.{ErrorStream, Hears, still};
@@ -20,22 +20,22 @@ use std::io::{self, Read, Write};
 use std::process::ExitCode;
 use std::rt::Clock;
 
-/// The message for a terminal as standard input, where an archive is needed.
+/// The message if an archive is needed from standard input, but standard input is a terminal.
 const TERMINAL: &str = "it is a terminal, which gives no archive";
 
-/// The number of blocks that an archive may have for an image of any size: 64 MiB.
+/// The number of blocks that an archive may have with an image of any size: 64 MiB.
 const LEAST_ROOM: u32 = 131_072;
 
-/// The number of blocks that it may also have for each block of the image: a member may have some blocks of headers, and
-/// take an i-node and a name.
+/// The number of further blocks that an archive may have for each block of the image: a member may have several header blocks, and use an i-node and
+/// a directory entry.
 const ROOM: u32 = 64;
 
 /// More blocks than any volume has.
 const GREATEST: u64 = 1 << 24;
 
-/// Changes the volume in a file, and returns the exit code. An archive is read from `input`, which is standard input; if this is a
-/// terminal, nothing is opened. A fault is one line on standard error, to which `errors` writes too. Nothing is written to `output`,
-/// which is standard output.
+/// Changes the volume in a file, and returns the exit code. An archive is read from `input`, which is standard input; if this is a terminal, nothing
+/// is opened. A fault is printed as one line on standard error; `errors` writes to standard error too. Nothing is written to `output`, which is
+/// standard output.
 pub fn run_to_end<
     R: ImageFiles + Clock + Eprint + AllocGlobal,
     I: Read + Drop,
@@ -61,7 +61,8 @@ pub fn run_to_end<
     ExitCode::from(finish(host, output, ending.status))
 }
 
-/// Changes the volume in a file, saves it, and returns how the run ends; sets the words for bytes to import that are compressed.
+/// Changes the volume in a file, saves it, and returns the result of the run. If the bytes to import are a compressed file, sets `packed` to the
+/// message for it.
 fn run<R: ImageFiles + Clock + Eprint + AllocGlobal, I: Read + Drop>(
     host: &Surroundings<'_, R>,
     input: I,
@@ -116,7 +117,7 @@ fn wants_terminal(is_terminal: bool, change: Change<'_>) -> bool
     }
 }
 
-/// Returns the bytes of the file to put, or of the archive to import; none for another change.
+/// Returns the bytes of the file to put, or of the archive to import; empty for another change.
 fn given_to<R: ImageFiles + Eprint + AllocGlobal, I: Read + Drop>(
     host: &Surroundings<'_, R>,
     image: &str,
@@ -136,8 +137,8 @@ fn given_to<R: ImageFiles + Eprint + AllocGlobal, I: Read + Drop>(
     }
 }
 
-/// Returns the number of blocks that an archive may have to be imported into the image at a path. An image that isn't a regular file
-/// counts as the greatest volume.
+/// Returns the number of blocks that an archive may have if it is imported into the image at a path. If the image isn't a regular file, this is the
+/// number for the largest volume.
 fn archive_room<R: ImageFiles>(rt: &R, path: &str) -> u32
     ensures { 131072 ≤ result }
 {
@@ -147,7 +148,7 @@ fn archive_room<R: ImageFiles>(rt: &R, path: &str) -> u32
     }
 }
 
-/// Returns the number of blocks that an archive may have to be imported into an image of `size` bytes.
+/// Returns the number of blocks that an archive may have if it is imported into an image of `size` bytes.
 fn room_for(size: u64) -> u32
     ensures { result ≡ 131072 + 64 * min (size / 512) (2 ^ 24) }
 {

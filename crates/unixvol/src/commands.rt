@@ -1,4 +1,4 @@
-//! `cat`, `get`, `mkfs` and `migrate`, which print all or nothing: the files they open and save.
+//! `cat`, `get`, `mkfs` and `migrate`, which print all of their output or nothing: opening and saving their files.
 ghost use Rattle.std.specs.Prelude.{◌≡◌, ◌≢◌, ◌≤◌, ℕ, Bool, List, Option, IfOk};
 ghost use Rattle.std.specs.Io.KnownBytes.{Keeps};
 ghost use Rattle.std.specs.Process.{exit_status};
@@ -28,8 +28,8 @@ use std::rt::Clock;
 use vol_layout::Edition;
 use vol_mkfs::NewVolume;
 
-/// Runs the command line that was read, and returns the exit code. Output is written to `output`, which is standard output; a fault is
-/// one line on standard error, or clap's text. `errors` writes to standard error too.
+/// Runs the command line that was read, and returns the exit code. Output is written to `output`, which is standard output; a fault is printed as one
+/// line on standard error, or as clap's text. `errors` writes to standard error too.
 pub fn run_to_end<R: ImageFiles + Clock + Eprint + AllocGlobal, O: Write + Drop, E: Write + Drop>(
     host: &Surroundings<'_, R>,
     output: O,
@@ -47,7 +47,7 @@ pub fn run_to_end<R: ImageFiles + Clock + Eprint + AllocGlobal, O: Write + Drop,
     ExitCode::from(finish(host, output.into_inner().into_inner(), ending.status))
 }
 
-/// Runs the command line that was read, and returns how the run ends if [`finish`] succeeds.
+/// Runs the command line that was read, and returns the result of the run, which holds if [`finish`] succeeds.
 fn run<R: ImageFiles + Clock + Eprint + AllocGlobal, O: Sink>(
     host: &Surroundings<'_, R>,
     output: &mut O,
@@ -68,7 +68,7 @@ fn run<R: ImageFiles + Clock + Eprint + AllocGlobal, O: Sink>(
     }
 }
 
-/// Runs a command, and returns how the run ends.
+/// Runs a command, and returns the result of the run.
 fn carry_out<R: ImageFiles + Clock + Eprint + AllocGlobal, O: Sink>(
     host: &Surroundings<'_, R>,
     output: &mut O,
@@ -123,7 +123,7 @@ fn run_cat<R: ImageFiles + Eprint + AllocGlobal, O: Sink>(
     }
 }
 
-/// Makes a new volume, saves it in a file, and returns how the run ends.
+/// Makes a new volume, saves it in a file, and returns the result of the run.
 fn run_mkfs<R: ImageFiles + Clock + Eprint + AllocGlobal>(
     host: &Surroundings<'_, R>,
     image: MadeFile<'_>,
@@ -140,7 +140,7 @@ fn run_mkfs<R: ImageFiles + Clock + Eprint + AllocGlobal>(
     }
 }
 
-/// Makes a volume of the seventh edition from the one in the file `old`, saves it in a file, and returns how the run ends.
+/// Makes a volume of the seventh edition from the one in the file `old`, saves it in a file, and returns the result of the run.
 fn run_migrate<R: ImageFiles + Clock + Eprint + AllocGlobal>(
     host: &Surroundings<'_, R>,
     old: &str,

@@ -1,4 +1,4 @@
-//! The commands that copy several files between the host and a volume: the files they open and save.
+//! The commands that copy several files between the host and a volume: opening and saving their files.
 ghost use Rattle.std.specs.Prelude.{◌≡◌, ◌≢◌, ◌⊎◌, ℕ, All, Bool, IfErr, IfOk, IfSome, List, None, Option, map};
 ghost use Rattle.std.specs.Process.{exit_status};
 ghost use Rattle.command_faults.specs.Streams.{ErrorStream, Hears, still};
@@ -27,11 +27,11 @@ use std::path::Path;
 use std::process::ExitCode;
 use std::rt::Clock;
 
-/// The message for a name in the folder that belongs to a pipe or a socket.
+/// The message if a file's name in the folder belongs to a pipe or a socket.
 const PIPE: &str = "it is a pipe or a socket, which keeps no file";
 
-/// Copies several files between the host and the volume in a file, and returns the exit code. A fault is one line on standard error,
-/// to which `errors` writes too. Nothing is written to `output`, which is standard output.
+/// Copies several files between the host and the volume in a file, and returns the exit code. A fault is printed as one line on standard error;
+/// `errors` writes to standard error too. Nothing is written to `output`, which is standard output.
 pub fn run_to_end<R: ImageFiles + Clock + Eprint + AllocGlobal, O: Write + Drop, E: Write + Drop>(
     host: &Surroundings<'_, R>,
     output: O,
@@ -49,7 +49,7 @@ pub fn run_to_end<R: ImageFiles + Clock + Eprint + AllocGlobal, O: Write + Drop,
     ExitCode::from(finish(host, output, ending.status))
 }
 
-/// Copies several files, and returns how the run ends.
+/// Copies several files, and returns the result of the run.
 fn run<R: ImageFiles + Clock + Eprint + AllocGlobal>(
     host: &Surroundings<'_, R>,
     volume: VolumeFile<'_>,
@@ -70,8 +70,8 @@ fn run<R: ImageFiles + Clock + Eprint + AllocGlobal>(
     }
 }
 
-/// Puts the files at some paths into a directory of the volume in a file, saves the volume, and returns how the run ends. If a file
-/// exists at the word that was read as the time, the word may be meant as one of the files: then nothing is opened.
+/// Puts the files at some paths into a directory of the volume in a file, saves the volume, and returns the result of the run. If the word that was
+/// read as the time is also the path of an existing file, it may be meant as one of the files: then nothing is opened.
 fn run_put<R: ImageFiles + Clock + Eprint + AllocGlobal>(
     host: &Surroundings<'_, R>,
     volume: VolumeFile<'_>,
@@ -120,7 +120,7 @@ fn run_put<R: ImageFiles + Clock + Eprint + AllocGlobal>(
     }
 }
 
-/// Returns the word that was read as the time, if a file exists at it as a path.
+/// Returns the word that was read as the time, if it is also the path of an existing file.
 fn moment_file<'a, R: ImageFiles>(rt: &R, now: Moment<'a>) -> Option<&'a str>
     ensures some { IfSome result (IsFileToo R.stands now.entry) }
     ensures none { result ≡ None → IsMomentAlone R.stands now.entry }
@@ -129,8 +129,8 @@ fn moment_file<'a, R: ImageFiles>(rt: &R, now: Moment<'a>) -> Option<&'a str>
     if rt.is_there(word) { Some(word) } else { None }
 }
 
-/// Reads the files at some paths, in order, each with the last name of its path. If one can't be read, prints the fault and returns
-/// the status.
+/// Reads the files at some paths, in order, and names each by the last name of its path. If one can't be read, prints the fault and returns the
+/// status.
 fn read_named<'a, R: Files + Eprint + AllocGlobal>(
     host: &Surroundings<'_, R>,
     paths: &[&'a str],
@@ -157,8 +157,8 @@ fn name_of(path: &str) -> &str
     Path::new(path).file_name().unwrap_or("")
 }
 
-/// Reads the files at some paths of the volume in a file, then saves each in a folder under its last name, and returns how the run
-/// ends. Never replaces the file of the volume, whatever its path.
+/// Reads the files at some paths of the volume in a file, then saves each in a folder under its last name, and returns the result of the run. The
+/// volume's own file is never replaced, whatever its path.
 fn run_get<R: ImageFiles + Clock + Eprint + AllocGlobal>(
     host: &Surroundings<'_, R>,
     volume: VolumeFile<'_>,
@@ -187,7 +187,7 @@ fn run_get<R: ImageFiles + Clock + Eprint + AllocGlobal>(
     }
 }
 
-/// Saves the files that were read from a volume in a folder, if they were, and returns the exit status.
+/// If files were read from a volume, saves them in a folder. Returns the exit status.
 fn save_read<R: ImageFiles + Clock + Eprint + AllocGlobal>(
     host: &Surroundings<'_, R>,
     folder: &str,
@@ -202,8 +202,8 @@ fn save_read<R: ImageFiles + Clock + Eprint + AllocGlobal>(
     }
 }
 
-/// Saves files of a volume in a folder, each under the last name of its path, and returns the exit status: `status`, or that of the
-/// first file that can't be saved, after which no other is.
+/// Saves files of a volume in a folder, each under the last name of its path. Returns the exit status: `status`, or the status of the first file that
+/// can't be saved; the files after that one aren't saved.
 fn save_files<R: ImageFiles + Clock + Eprint + AllocGlobal>(
     host: &Surroundings<'_, R>,
     folder: &str,
@@ -222,8 +222,8 @@ fn save_files<R: ImageFiles + Clock + Eprint + AllocGlobal>(
     status
 }
 
-/// Saves a file of a volume in a folder, under the last name of its path, and returns the exit status. A pipe or a socket with this
-/// name is left alone.
+/// Saves a file of a volume in a folder, under the last name of its path, and returns the exit status. A pipe or a socket with this name isn't
+/// replaced.
 fn save_file_read<R: ImageFiles + Clock + Eprint + AllocGlobal>(
     host: &Surroundings<'_, R>,
     folder: &str,

@@ -1,4 +1,4 @@
-//! Messages for failures, and their statuses.
+//! Messages for failures, and their exit statuses.
 ghost use Rattle.std.specs.Prelude.{◌≡◌, ◌≢◌, ◌⊎◌, ◌≤◌, true};
 ghost use Rattle.std.specs.Io.KnownBytes.{Keeps};
 ghost use Rattle.std.specs.IoError.{error_kind};
@@ -23,7 +23,7 @@ use host_files::ImageFiles;
 use pdp_words::{Sink, write_all};
 use std::io::{self, Write};
 
-/// The name of standard output and standard input in the line of a fault.
+/// The name of standard input and standard output in a fault's line.
 const STREAM: &str = "-";
 
 /// A file, or one of the standard streams.
@@ -38,7 +38,7 @@ pub enum NamedFile<'a> {
 }
 
 impl<'a> NamedFile<'a> {
-    /// Returns its name in the line of a fault.
+    /// Returns the name in a fault's line.
     fn name(self) -> &'a str {
         match self {
             NamedFile::File(path) => path,
@@ -46,7 +46,7 @@ impl<'a> NamedFile<'a> {
         }
     }
 
-    /// Returns its name in the second line.
+    /// Returns the name in the second line, which explains the fault.
     fn in_words(self) -> &'a str {
         match self {
             NamedFile::File(path) => path,
@@ -84,7 +84,7 @@ pub fn explain_unwritten<R: Eprint + AllocGlobal>(
     BAD_FILE
 }
 
-/// Prints that the word which was read as the time is the path of a file too, and returns the status.
+/// Prints that the word which was read as the time is also the path of a file, and returns the status.
 pub fn explain_moment<R: Eprint>(host: &Surroundings<'_, R>, word: &str) -> u8
     ensures { result ≡ 2 }
 {
@@ -94,12 +94,12 @@ pub fn explain_moment<R: Eprint>(host: &Surroundings<'_, R>, word: &str) -> u8
     BAD_COMMAND_LINE
 }
 
-/// Returns the reason why a device failed: its last error, if that is known.
+/// Returns the reason why a device failed: its last error, if one is available.
 pub fn reason_of(error: Option<io::Error>) -> io::Error {
     error.unwrap_or(io::Error::from(io::ErrorKind::Other))
 }
 
-/// Prints the second line for a file that failed, if it is wanted.
+/// Prints the second line for a file that failed, if the user asked for it.
 fn tell_why<R: Eprint + AllocGlobal>(
     host: &Surroundings<'_, R>,
     file: NamedFile<'_>,
@@ -113,7 +113,7 @@ fn tell_why<R: Eprint + AllocGlobal>(
     }
 }
 
-/// Prints the line of a fault, if a run had one, and its second line, if that is wanted.
+/// Prints the line of a fault, if a run had one, and the second line, if the user asked for it.
 pub fn tell_fault<R: ImageFiles + Eprint + AllocGlobal, E: Sink>(
     host: &Surroundings<'_, R>,
     errors: &mut E,
@@ -127,8 +127,8 @@ pub fn tell_fault<R: ImageFiles + Eprint + AllocGlobal, E: Sink>(
     explain(host, fault, output, subject);
 }
 
-/// Prints the second line of a run, if it is wanted: the system's error if standard output failed, else the meaning of the fault. A
-/// fault in words has no second line; if memory for it runs out, it is left out.
+/// Prints the second line of a run, if the user asked for it: the system's error if standard output failed, else the meaning of the fault. A fault in
+/// words has no second line. If memory runs out, the second line is left out.
 fn explain<R: ImageFiles + Eprint + AllocGlobal>(
     host: &Surroundings<'_, R>,
     fault: &Option<Fault>,
@@ -186,7 +186,7 @@ pub fn explain_cat<R: ImageFiles + Eprint + AllocGlobal>(
     fault.status()
 }
 
-/// Prints the text for a wrong command line, or the requested help, and returns its status.
+/// Prints the text for a wrong command line, or the requested help, and returns the exit status.
 pub fn explain_command_line<R: Eprint + AllocGlobal, O: Sink>(
     host: &Surroundings<'_, R>,
     output: &mut O,
@@ -218,7 +218,7 @@ pub fn explain_command_line<R: Eprint + AllocGlobal, O: Sink>(
     }
 }
 
-/// Prints the text for a mistake on the command line, reworded if that is better.
+/// Prints the text for a mistake on the command line, reworded if there is a better text.
 fn tell_mistake<R: Eprint + AllocGlobal>(host: &Surroundings<'_, R>, error: &clap::Error) {
     let _ = match reworded(host.rt.alloc(), host.words, error) {
         Ok(Some(better)) => host.rt.eprint(&better),
@@ -234,7 +234,7 @@ fn explain_unshown<R: Eprint>(host: &Surroundings<'_, R>) -> u8
     BAD_FILE
 }
 
-/// Flushes standard output after a run with status 0, and returns the exit status.
+/// Flushes standard output if the status is 0, and returns the exit status.
 pub fn finish<R: Eprint + AllocGlobal, W: Write + Drop>(
     host: &Surroundings<'_, R>,
     output: W,
@@ -262,7 +262,7 @@ pub fn finish_printed<R: Eprint + AllocGlobal, W: Write + Drop>(
     status
 }
 
-/// Flushes standard output, and returns `status`, or that of a failure.
+/// Flushes standard output, and returns `status`, or the status of a failure.
 fn flush<R: Eprint + AllocGlobal, W: Write + Drop>(
     host: &Surroundings<'_, R>,
     mut output: W,
@@ -276,8 +276,8 @@ fn flush<R: Eprint + AllocGlobal, W: Write + Drop>(
     }
 }
 
-/// Prints why the words of the command line can't be read, and returns the status. `place` is the number of the word that isn't UTF-8,
-/// if it is known: 1 is the first word after the program's name.
+/// Prints why the words of the command line can't be read, and returns the status. `place` is the number of the word that isn't UTF-8, if it could be
+/// found: 1 is the first word after the program's name.
 pub fn explain_words(rt: &impl Eprint, error: &io::Error, place: Option<usize>) -> u8
     ensures memory { error_kind error.now ≡ io_kinds.OutOfMemory → result ≡ 4 }
     ensures mistake { error_kind error.now ≢ io_kinds.OutOfMemory → result ≡ 2 }

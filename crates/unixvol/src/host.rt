@@ -1,6 +1,6 @@
-//! The system, and the user's wishes for messages.
+//! The system, and the user's choices for messages.
 
-/// The system that the program runs on, and the user's preferences for messages.
+/// The system that the program runs on, and the user's choices for messages.
 #[derive(Clone, Copy)]
 pub struct Surroundings<'a, R> {
     /// The system.
@@ -9,6 +9,6 @@ pub struct Surroundings<'a, R> {
     pub words: &'a [String],
     /// True if standard error is a terminal, where a user reads the messages.
     pub is_watched: bool,
-    /// True if a second line explains the line of a fault.
+    /// True if a second line explains each fault.
     pub explains: bool,
 }

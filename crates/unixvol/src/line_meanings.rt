@@ -4,7 +4,7 @@ use command_faults::{LineFlaw, WordForm};
 use escaped_text::push_escaped;
 use std::alloc::{AllocError, Global};
 
-/// The greatest number of a word's bytes that are shown.
+/// The greatest number of bytes of a word that are shown.
 const MOST_SHOWN: usize = 40;
 
 /// Returns the meaning of a script's line that can't be read, without the script's name.
@@ -39,7 +39,7 @@ pub fn line_meaning(
     }
 }
 
-/// Returns a word with its column, counted from 1. Of a long word only the beginning is shown.
+/// Returns a word with its column, counted from 1. Only the beginning of a long word is shown.
 fn named_word(alloc: Global, at: u64, word: &[u8]) -> Result<String, AllocError> {
     let column = at.saturating_add(1);
     if word.is_empty() {
@@ -53,7 +53,7 @@ fn named_word(alloc: Global, at: u64, word: &[u8]) -> Result<String, AllocError>
     format!(in alloc; "the word `{text}{dots}` at column {column}")
 }
 
-/// Returns what a word of a form is, in words.
+/// Describes the form that a word must have.
 fn form_in_words(form: WordForm) -> &'static str {
     match form {
         WordForm::Number => "a number up to 4294967295",

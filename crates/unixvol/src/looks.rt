@@ -1,4 +1,4 @@
-//! The commands that show part of an image, sound or not, which may print something with any status; and `get`, which prints all or
+//! The commands that show part of an image, sound or not, which may print something with any status; and `get`, which prints the whole file or
 //! nothing.
 ghost use Rattle.std.specs.Prelude.{◌≡◌, ◌≤◌, IfErr, IfOk};
 ghost use Rattle.std.specs.Process.{exit_status};
@@ -21,10 +21,10 @@ use std::io::Write;
 use std::process::ExitCode;
 use vol_listing::Screen;
 
-/// The width of a terminal if COLUMNS doesn't give it.
+/// The width of a terminal if COLUMNS doesn't set it.
 const COLUMNS: u16 = 80;
 
-/// Returns the screen of standard output: a terminal, with the width in the variable COLUMNS, or no terminal.
+/// Returns the screen that standard output writes to: a terminal, with the width in the variable COLUMNS, or no terminal.
 pub fn screen<R: Env + AllocGlobal>(rt: &R, is_terminal: bool) -> Screen
     ensures { IsShownBy is_terminal result }
 {
@@ -37,7 +37,7 @@ pub fn screen<R: Env + AllocGlobal>(rt: &R, is_terminal: bool) -> Screen
     }
 }
 
-/// True unless the variable NO_COLOR is set and not empty, or TERM says that the terminal is a dumb one.
+/// True unless the variable NO_COLOR is set and not empty, or TERM is `dumb`.
 fn has_colours<R: Env + AllocGlobal>(rt: &R) -> bool {
     let refused = match env::var(rt, "NO_COLOR") {
         Ok(text) => !text.is_empty(),
@@ -65,8 +65,8 @@ fn terminal_width<R: Env + AllocGlobal>(rt: &R) -> u16
     if columns == 0 { COLUMNS } else { columns }
 }
 
-/// Shows part of the image in a file, and returns the exit code. Output is written to `output`, which is standard output, as `screen`
-/// shows it; a fault is one line on standard error, to which `errors` writes too.
+/// Shows part of the image in a file, and returns the exit code. Output is written to `output`, which is standard output, as `screen` shows it; a
+/// fault is printed as one line on standard error. `errors` writes to standard error too.
 pub fn run_to_end<R: ImageFiles + Eprint + AllocGlobal, O: Write + Drop, E: Write + Drop>(
     host: &Surroundings<'_, R>,
     screen: Screen,
@@ -92,7 +92,7 @@ pub fn run_to_end<R: ImageFiles + Eprint + AllocGlobal, O: Write + Drop, E: Writ
     ExitCode::from(finish_printed(host, output.into_inner().into_inner(), ending.status))
 }
 
-/// Shows part of the image in a file, and returns how the run ends if [`finish_printed`] succeeds.
+/// Shows part of the image in a file, and returns the result of the run, which holds if [`finish_printed`] succeeds.
 fn run<R: ImageFiles + Eprint + AllocGlobal, O: Sink>(
     host: &Surroundings<'_, R>,
     screen: Screen,
@@ -141,7 +141,7 @@ fn read_seen<R: ImageFiles + Eprint + AllocGlobal>(
     }
 }
 
-/// Prints the file at a path of the volume in a file, and returns how the run ends.
+/// Prints the file at a path of the volume in a file, and returns the result of the run.
 pub fn run_get<R: ImageFiles + Eprint + AllocGlobal, O: Sink>(
     host: &Surroundings<'_, R>,
     output: &mut O,

@@ -27,9 +27,9 @@ use std::process::ExitCode;
 use std::rt::Clock;
 use std::time::{SystemTime, UNIX_EPOCH};
 
-/// Reads the words of the command line, and continues in one of six functions, so that each has only the rights it needs: only
-/// commands with several threads may wait, only those that show part of an image may print something and fail, only a change and a
-/// server read standard input, and only those that copy files to the host save several files.
+/// Reads the words of the command line, and continues in one of six functions. Each has only the rights that it needs: only commands with several
+/// threads may wait, only those that show part of an image may print something and fail, only a change and a server read standard input, and only
+/// those that copy files to the host save several files.
 fn main(rt: HostRuntime) -> ExitCode {
     let words = match words::words(&rt) {
         Ok(words) => words,
@@ -78,8 +78,8 @@ fn main(rt: HostRuntime) -> ExitCode {
     }
 }
 
-/// Returns the clock's time, in seconds since the beginning of 1970, or `None` if the clock can't be read, or is before 1970 or after
-/// 2106.
+/// Returns the time of the system's clock, in seconds since the beginning of 1970. Returns `None` if the clock can't be read, or is before 1970 or
+/// after 2106.
 fn moment<R: Clock>(rt: &R) -> Option<u32> {
     let now = SystemTime::now(rt).ok()?;
     let since = now.duration_since(UNIX_EPOCH).ok()?;

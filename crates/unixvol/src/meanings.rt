@@ -17,10 +17,10 @@ pub const NO_MEMORY: &str = "there was too little memory for this";
 const BAD_ID: &str =
     "the user or the group is above the edition's highest, 255 in the sixth and 32767 in the seventh";
 
-/// The text for an export that wrote no byte.
+/// The text for an export that wrote nothing.
 const NOTHING_EXPORTED: &str = "; nothing is exported";
 
-/// The rules of soundness, in the order of their numbers.
+/// The twelve rules of soundness, in the order of their numbers.
 static RULES: [Rule; 12] = [
     Rule::Whole,
     Rule::Bounded,
@@ -36,8 +36,8 @@ static RULES: [Rule; 12] = [
     Rule::Links,
 ];
 
-/// Returns the meaning of a fault, with the subject of the command; `sizes` are those in the image, if they are known. Returns `None`
-/// for other faults in words, as `export` and `import` have for entries and members.
+/// Returns the meaning of a fault, with the subject of the command. `sizes` are the sizes in the image, if available. Returns `None` for other faults
+/// in words, such as those of `export` and `import`.
 pub fn meaning_of(
     alloc: Global,
     fault: &Fault,
@@ -77,7 +77,7 @@ pub fn meaning_of(
     }
 }
 
-/// Returns the second line of a fault, without the program's name: its subject and its meaning.
+/// Returns the second line of a fault, without the program's name: the subject and the meaning.
 fn meaning(alloc: Global, about: String, words: &str) -> Result<Option<String>, AllocError> {
     Ok(Some(format!(in alloc; "{about}: {words}")?))
 }
@@ -118,7 +118,7 @@ fn rule_meaning(
     Ok(Some(text))
 }
 
-/// Returns the sizes in an image that breaks rule 1 or rule 2, and the edition that it may be of.
+/// Describes the sizes in an image that breaks rule 1 or rule 2, and the edition that the image may belong to.
 fn sizes_meaning(alloc: Global, rule: Rule, sizes: Option<Sizes>) -> Result<String, AllocError> {
     let mut text = String::new(alloc);
     let Some(sizes) = sizes else {
@@ -170,7 +170,7 @@ fn script_at<'a>(scripts: &'a [&'a str], number: u64) -> Option<&'a str> {
     scripts.get(place).copied()
 }
 
-/// Returns the meaning of a refusal for a member or a file that the first line names.
+/// Returns the meaning of a refusal whose first line names a member or a file.
 fn named_meaning(
     alloc: Global,
     refusal: Refusal,
@@ -184,7 +184,7 @@ fn named_meaning(
     Ok(Some(format!(in alloc; "{named}: {words}")?))
 }
 
-/// Returns the meaning of a refusal, with the subject of the command.
+/// Returns the meaning of a refusal, after the subject of the command.
 fn refusal_meaning(
     alloc: Global,
     refusal: Refusal,
@@ -219,8 +219,7 @@ fn about_in(alloc: Global, subject: Subject<'_>) -> Result<String, AllocError> {
     }
 }
 
-/// Returns a word of the command line as a terminal can show it: unchanged, or with all unprintable bytes escaped if it has control
-/// characters.
+/// Returns a word of the command line so that a terminal can show it: unchanged, or with all unprintable bytes escaped if it has control characters.
 pub fn shown(alloc: Global, word: &str) -> Result<String, AllocError> {
     let mut text = String::new(alloc);
     if !word.chars().any(|character| character.is_control()) {

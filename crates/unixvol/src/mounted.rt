@@ -1,4 +1,4 @@
-//! `serve` without `--read-only`: a volume that is mounted, served with changes, and saved in its file.
+//! `serve` without `--read-only`: mounts a volume, serves it with changes, and saves it in its file.
 ghost use Rattle.std.specs.Prelude.{IfErr, Some, map};
 ghost use Rattle.command_faults.specs.Streams.{heard, says};
 ghost use Rattle.host_files.specs.Save.{IsTaken};
@@ -28,7 +28,7 @@ use vol_volume::Volume;
 /// A folder that belongs to the user and the group of the program.
 const OWN_FOLDER: &str = "/proc/self";
 
-/// An image that a file took, for clauses alone: it has no bytes.
+/// An image that was saved. It has no bytes: only contracts refer to it.
 #[derive(Drop)]
 struct SavedImage<R: ImageFiles> {
     marker: PhantomData<R>,
@@ -36,24 +36,24 @@ struct SavedImage<R: ImageFiles> {
     ghost taken: { ∥ IsTaken R.File.contents image.value ∥₁ },
 }
 
-/// The file in which a volume that is served is saved.
+/// The file in which the served volume is saved.
 #[derive(Drop)]
 struct ImageSaver<'a, R: ImageFiles> {
     /// The system.
     host: &'a Surroundings<'a, R>,
-    /// Its path.
+    /// The file's path.
     path: &'a str,
-    /// The file, locked.
+    /// The file, which is locked.
     held: HeldFile<R::File>,
-    /// True if the last save that failed did so since memory ran out.
+    /// True if the last save that failed ran out of memory.
     ran_out: bool,
-    /// The images saved so far, the first one first.
+    /// The images saved so far, in order.
     saved: Vec<SavedImage<R>>,
 }
 
-/// Mounts the volume in a file, which stays locked, and serves it with changes until the requests end. It is saved in its file when the
-/// kernel asks for it, and at the end. The inner result is that of serving; the outer error is the status if nothing was served, or if
-/// the volume couldn't be saved at the end. A line has been printed for it.
+/// Mounts the volume in a file, which stays locked, and serves it with changes until the requests end. The volume is saved in its file when the
+/// kernel asks for it, and at the end. The inner result is the server's; the outer error is the exit status if nothing was served, or if the volume
+/// couldn't be saved at the end. Its line has been printed.
 pub fn run<R: ImageFiles + Clock + Eprint + AllocGlobal, Q: Requests, P: Replies, E: Sink>(
     host: &Surroundings<'_, R>,
     requests: &mut Q,
@@ -96,7 +96,7 @@ pub fn run<R: ImageFiles + Clock + Eprint + AllocGlobal, Q: Requests, P: Replies
     result_of(served, saver.ran_out)
 }
 
-/// Returns the user and the group of the program, if all nodes are shown as theirs. If the system doesn't report them, prints the fault
+/// Returns the user and the group of the program, if all nodes are shown as belonging to them. If the system doesn't report them, prints the fault
 /// and returns the status.
 fn owner<R: ImageFiles + Eprint + AllocGlobal>(
     host: &Surroundings<'_, R>,
@@ -136,7 +136,7 @@ fn mount_or_tell<R: ImageFiles + Eprint + AllocGlobal, E: Sink>(
     }
 }
 
-/// Returns the result of a run by that of its server. `ran_out` is true if the image couldn't be saved since memory ran out.
+/// Returns the result of a run, from the result of its server. `ran_out` is true if the image couldn't be saved because memory ran out.
 fn result_of(served: Result<(), MountedFault>, ran_out: bool) -> Result<Result<(), ServeFault>, u8>
     ensures { EndsMounted served result }
 {
@@ -152,7 +152,7 @@ impl<R: ImageFiles + Clock + Eprint + AllocGlobal> vol_mounted::Host for ImageSa
     ghost saved = { λ saver. Some (map (λ saved. saved.image.value) saver.saved.items) };
 
     fn seconds(&self) -> u32 {
-        // A clock that can't be read is at the beginning.
+        // If the clock can't be read, the time is the beginning of 1970.
         moment(self.host.rt).unwrap_or(0)
     }
 

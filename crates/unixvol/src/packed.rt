@@ -1,6 +1,6 @@
-//! Archives that are compressed, which `import` doesn't read.
+//! Compressed archives, which `import` doesn't read.
 
-/// The first bytes of compressed files, with the words for them.
+/// The first bytes of compressed files, each with a message.
 static MAGICS: [(&[u8], &str); 5] = [
     (
         b"\x1F\x8B",
@@ -21,7 +21,7 @@ static MAGICS: [(&[u8], &str); 5] = [
     (b"PK\x03\x04", "it is a zip file, and no archive of tar"),
 ];
 
-/// Returns the words for a compressed file, by its first bytes.
+/// Returns the message for a compressed file, which is recognized by its first bytes.
 pub fn packed_words(bytes: &[u8]) -> Option<&'static str> {
     let found = MAGICS.iter().find(|magic| bytes.starts_with(magic.0))?;
     Some(found.1)

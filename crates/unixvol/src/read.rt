@@ -1,4 +1,4 @@
-//! Reads files to their ends, or up to the end of the volume or the archive in them.
+//! Reads files to their ends, or to the end of the volume or archive in them.
 ghost use Rattle.std.specs.Prelude.{◌≡◌, ◌⊎◌, false, true, All, Err, IfErr, IfOk, IsErrOf, Ok, OnErr, length};
 ghost use Rattle.pdp_words.specs.Devices.{LosesFront};
 ghost use Rattle.host_files.specs.OpenedFiles.{IsOpened};
@@ -18,10 +18,10 @@ use std::io::{self, Read};
 use std::rt::Clock;
 use vol_layout::Edition;
 
-/// The message for a file that has more blocks than any volume of its edition, according to its super-block too.
+/// The message for a file that has more blocks than any volume of its edition, and whose super-block records more as well.
 const ENDLESS: &str = "it has more blocks than any volume, and its super-block says so";
 
-/// The message for an archive that has more bytes than it may.
+/// The message for an archive that is longer than is allowed for the image.
 const LONG: &str = "its archive has more bytes than an image of this size could take";
 
 /// A file that was read.
@@ -55,8 +55,8 @@ pub fn read_volume<R: Files + Eprint + AllocGlobal>(
     read_so_far(host, UpTo::Volume(volume.edition), volume.image)
 }
 
-/// Reads the image for `check`: the whole of a regular file, whose volume may be of the other edition; otherwise the image of the
-/// volume. If it can't be read, prints the fault and returns the status.
+/// Reads the image for `check`. A regular file is read whole, since its volume may be of the other edition; of another file, only the image of the
+/// volume is read. If it can't be read, prints the fault and returns the status.
 pub fn read_checked<R: ImageFiles + Eprint + AllocGlobal>(
     host: &Surroundings<'_, R>,
     volume: VolumeFile<'_>,
@@ -74,7 +74,7 @@ pub fn read_checked<R: ImageFiles + Eprint + AllocGlobal>(
     }
 }
 
-/// Reads a file up to `up_to`. If it can't be read, prints the fault and returns the status.
+/// Reads a file up to the end named by `up_to`. If it can't be read, prints the fault and returns the status.
 fn read_so_far<R: Files + Eprint + AllocGlobal>(
     host: &Surroundings<'_, R>,
     up_to: UpTo,
@@ -129,12 +129,12 @@ pub fn read_stamped<R: ImageFiles + Eprint + AllocGlobal>(
     }
 }
 
-/// The state of a command that changes an image, once it has begun.
+/// The state of a command that has begun to change an image.
 #[derive(Drop)]
 pub struct Begun<F, G> {
-    /// The bytes that it needs besides the image.
+    /// The bytes that the command needs besides the image.
     pub given: G,
-    /// The image; of a regular file, with the bytes after its volume.
+    /// The image. If the file is a regular one, the bytes after the volume are included.
     pub image: Vec<u8>,
     /// The stamp of the image's file before it was read.
     pub stamp: Stamp,
@@ -142,9 +142,9 @@ pub struct Begun<F, G> {
     pub locked: F,
 }
 
-/// Begins a command that changes the volume in a file: reads the other bytes that it needs, with `read_given`, which may wait, and
-/// only then locks the image and reads it. First it checks that the image can be opened. If something can't be read, or the
-/// image may not be changed, prints the fault and returns the status.
+/// Begins a command that changes the volume in a file. First checks that the image can be opened; then reads the other bytes that the command needs,
+/// with `read_given`, which may wait; and only then locks the image and reads it. If something can't be read, or the image may not be changed, prints
+/// the fault and returns the status.
 pub fn begin<
     R: ImageFiles + Clock + Eprint + AllocGlobal,
     G: Drop,
@@ -173,8 +173,7 @@ pub fn begin<
     })
 }
 
-/// Reads the image to change, and returns it with its stamp. If it can't be read, or may not be changed, prints the fault and returns
-/// the status.
+/// Reads the image to change, and returns it with its stamp. If it can't be read, or may not be changed, prints the fault and returns the status.
 fn read_image<R: ImageFiles + Clock + Eprint + AllocGlobal>(
     host: &Surroundings<'_, R>,
     volume: VolumeFile<'_>,
@@ -206,7 +205,7 @@ fn explain_unopened<R: Eprint + AllocGlobal>(
     }
 }
 
-/// Reads an open file up to `up_to`. If it can't be read, prints the fault and returns the status.
+/// Reads an open file up to the end named by `up_to`. If it can't be read, prints the fault and returns the status.
 pub fn read_open<R: Eprint + AllocGlobal, F: Read + Drop>(
     host: &Surroundings<'_, R>,
     named: NamedFile<'_>,
@@ -224,8 +223,8 @@ pub fn read_open<R: Eprint + AllocGlobal, F: Read + Drop>(
     })
 }
 
-/// Reads a source up to `up_to`. If it can't be read, prints the fault and returns the status: that of a file only if the source
-/// failed or is longer than it may be, that of memory only if it didn't fail.
+/// Reads a source up to the end named by `up_to`. If it can't be read, prints the fault and returns the status: the status of a file only if the
+/// source failed or is too long, and the status of memory only if the source didn't fail.
 fn read_source<R: Eprint + AllocGlobal, S: Source>(
     host: &Surroundings<'_, R>,
     named: NamedFile<'_>,
@@ -250,7 +249,7 @@ fn read_source<R: Eprint + AllocGlobal, S: Source>(
     }
 }
 
-/// Returns the message for a file that is longer than it may be.
+/// Returns the message for a file that is too long.
 fn past(up_to: UpTo) -> &'static str {
     match up_to {
         UpTo::Archive(_) => LONG,

@@ -1,4 +1,4 @@
-//! The contents of a file that is replaced.
+//! The contents of a file before it is replaced.
 ghost use Rattle.std.specs.Prelude.{◌≤◌};
 ghost use Rattle.vol_layout.specs.Geometry.{Fits};
 
@@ -34,10 +34,10 @@ pub struct HeldVolume {
     files: u16,
 }
 
-/// Returns the contents of the regular file at a path, for a message once it is replaced. Returns `None` if nobody reads the message,
-/// if there is no such file, or if it can't be read.
+/// Returns the contents of the regular file at a path, so that a message can describe them once the file is replaced. Returns `None` if nobody reads
+/// the message, if there is no such file, or if it can't be read.
 ///
-/// Reads the file, and takes memory for it and for judging whether a volume is sound.
+/// Reads the whole file, and takes memory for it and for judging whether a volume is sound.
 pub fn held_at<R: ImageFiles + AllocGlobal>(
     host: &Surroundings<'_, R>,
     path: &str,
@@ -54,7 +54,7 @@ pub fn held_at<R: ImageFiles + AllocGlobal>(
     held_in(host, &image).ok()
 }
 
-/// Returns what some bytes hold; if they are volumes of both editions, prefers a sound one.
+/// Describes the contents of a file. If they are a volume of either edition, prefers the sound one.
 fn held_in<R: AllocGlobal>(host: &Surroundings<'_, R>, image: &Image) -> Result<Held, AllocError> {
     let sixth = volume_in(host, Edition::V6, image)?;
     let seventh = volume_in(host, Edition::V7, image)?;
@@ -67,13 +67,13 @@ fn held_in<R: AllocGlobal>(host: &Surroundings<'_, R>, image: &Image) -> Result<
 }
 
 impl HeldVolume {
-    /// Returns the other volume if that is sound, else this one.
+    /// Returns the other volume if it is sound, else this one.
     fn or_sound(self, other: HeldVolume) -> HeldVolume {
         if other.is_sound { other } else { self }
     }
 }
 
-/// Returns the volume of an edition in some bytes, if rules 1 and 2 hold for it.
+/// Returns the volume of an edition in some bytes, if they keep rules 1 and 2.
 fn volume_in<R: AllocGlobal>(
     host: &Surroundings<'_, R>,
     edition: Edition,
@@ -114,7 +114,7 @@ fn is_file(image: &Image, geometry: &Geometry, i: u16) -> bool
     matches!(kind(image, geometry, i), vol_layout::Kind::Regular)
 }
 
-/// Prints the old contents of a file that was replaced, if the status says that it was, and if they are known.
+/// Prints the old contents of a file, if the status says that the file was replaced, and if the contents are available.
 pub fn tell_replaced<R: Eprint + AllocGlobal>(
     host: &Surroundings<'_, R>,
     path: &str,

@@ -14,11 +14,10 @@ use host_files::{Content, FileKind, ImageFiles, OpenFault, Stamp, open_image, sa
 use std::io;
 use std::rt::Clock;
 
-/// The message for a file that holds the volume from which another file is made.
+/// The message if the file to write holds the volume that was read.
 const OLD_VOLUME: &str = "it holds the volume that was read, which is kept";
 
-/// Saves the result of a command in the file `image`, if there is one and the file still has the stamp `read`, and returns the exit
-/// status.
+/// Saves the result of a command in the file `image`, if there is a result and the file still has the stamp `read`. Returns the exit status.
 pub fn save_answer<R: ImageFiles + Eprint + AllocGlobal>(
     host: &Surroundings<'_, R>,
     image: &str,
@@ -39,8 +38,8 @@ pub fn save_answer<R: ImageFiles + Eprint + AllocGlobal>(
     }
 }
 
-/// Saves the volume on which scripts were played in the file `image`, as [`save_answer`] does. If standard output failed, the exit
-/// status is 3 even if saving fails too, and its line is the only one.
+/// Saves the volume on which scripts were played in the file `image`, as [`save_answer`] does. If standard output failed, the exit status is 3 even
+/// if saving fails too, and only the line for standard output is printed.
 pub fn save_played<R: ImageFiles + Eprint + AllocGlobal>(
     host: &Surroundings<'_, R>,
     image: &str,
@@ -61,8 +60,8 @@ pub fn save_played<R: ImageFiles + Eprint + AllocGlobal>(
 /// The message for a file that exists and must not be replaced.
 const THERE: &str = "it is there already, and --new replaces no file";
 
-/// Saves the result of `mkfs` in a file, if there is one, and returns the exit status. A regular file that exists is locked meanwhile,
-/// if it can be opened.
+/// Saves the result of `mkfs` in a file, if there is one, and returns the exit status. An existing regular file is locked meanwhile, if it can be
+/// opened.
 pub fn save_made<R: ImageFiles + Clock + Eprint + AllocGlobal>(
     host: &Surroundings<'_, R>,
     file: MadeFile<'_>,
@@ -115,7 +114,7 @@ pub fn save_migrated<R: ImageFiles + Clock + Eprint + AllocGlobal>(
     }
 }
 
-/// Saves bytes in the file `path` as [`save_new`] does, and reports what was replaced.
+/// Saves bytes in the file `path` as [`save_new`] does, and reports the contents that were replaced.
 fn save_over<R: ImageFiles + Clock + Eprint + AllocGlobal>(
     host: &Surroundings<'_, R>,
     path: &str,
@@ -131,8 +130,8 @@ fn save_over<R: ImageFiles + Clock + Eprint + AllocGlobal>(
     saved
 }
 
-/// Saves bytes in the file `path`, and returns the exit status: `status` if they are saved. The file with the stamp `old`, from which
-/// they were made, isn't replaced, whatever its path. A regular file that exists is locked meanwhile, if it can be opened.
+/// Saves bytes in the file `path`, and returns the exit status: `status` if they are saved. The bytes were made from the file with the stamp `old`;
+/// that file isn't replaced, whatever its path. An existing regular file is locked meanwhile, if it can be opened.
 pub fn save_new<R: ImageFiles + Clock + Eprint + AllocGlobal>(
     host: &Surroundings<'_, R>,
     path: &str,
@@ -152,7 +151,7 @@ pub fn save_new<R: ImageFiles + Clock + Eprint + AllocGlobal>(
     save(host, path, None, Content::Bytes(bytes), status)
 }
 
-/// True if the file with a stamp is at `path`, or at the end of its symbolic links.
+/// True if the file with a stamp is at `path`, perhaps through symbolic links.
 fn stands_at<R: ImageFiles>(rt: &R, path: &str, stamp: Stamp) -> bool {
     match rt.stamp_at(path) {
         Ok(there) => there.is_of(stamp),
@@ -160,8 +159,8 @@ fn stands_at<R: ImageFiles>(rt: &R, path: &str, stamp: Stamp) -> bool {
     }
 }
 
-/// Locks the regular file that will be replaced, if there is one that can be opened. If another program keeps it locked for half a
-/// minute, prints that it can't be written, and returns the status.
+/// Locks the regular file that will be replaced, if there is one that can be opened. If another program keeps it locked for half a minute, prints
+/// that it can't be written, and returns the status.
 fn lock_replaced<R: ImageFiles + Clock + Eprint + AllocGlobal>(
     host: &Surroundings<'_, R>,
     path: &str,
@@ -175,8 +174,7 @@ fn lock_replaced<R: ImageFiles + Clock + Eprint + AllocGlobal>(
     }
 }
 
-/// Saves a content in the file `path`, if that still has the stamp `read`, if one is given, and returns the exit status: `status` if
-/// it is saved.
+/// Saves a content in the file `path`, and returns the exit status: `status` if it is saved. If a stamp `read` is given, the file must still have it.
 fn save<R: ImageFiles + Eprint + AllocGlobal>(
     host: &Surroundings<'_, R>,
     path: &str,

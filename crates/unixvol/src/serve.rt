@@ -27,13 +27,12 @@ use vol_judge::judge;
 use vol_layout::Geometry;
 use vol_serve::{Replies, ReplyWriter, RequestReader, Requests, ServeFault, serve};
 
-/// The error of a read of /dev/fuse once the volume is unmounted (ENODEV).
+/// The error that reading /dev/fuse returns once the volume is unmounted (ENODEV).
 const UNMOUNTED: i32 = 19;
 
-/// Serves the volume in a file, and returns the exit code. Requests come from `input`, which is standard input, one with each read,
-/// and replies are written to `output`, which is standard output, one with each write, until the input ends or the system reports that
-/// the volume is unmounted. A fault, or the first rule that the image breaks, is one line on standard error, to which `errors` writes
-/// too.
+/// Serves the volume in a file, and returns the exit code. Each read of `input`, which is standard input, returns one request; each reply is written
+/// with one write to `output`, which is standard output. This ends when the input ends, or when the system reports that the volume is unmounted. A
+/// fault, or the first rule that the image breaks, is printed as one line on standard error; `errors` writes to standard error too.
 pub fn run_to_end<
     R: ImageFiles + Clock + Eprint + AllocGlobal,
     I: Read + Drop,
@@ -64,8 +63,8 @@ pub fn run_to_end<
     ExitCode::from(status_of(host, outcome, input, output))
 }
 
-/// Serves the volume in a file. The inner result is that of serving; the outer error is the status if nothing was served, or if what was
-/// changed isn't saved.
+/// Serves the volume in a file. The inner result is the server's; the outer error is the exit status if nothing was served, or if the changes
+/// couldn't be saved.
 fn run<R: ImageFiles + Clock + Eprint + AllocGlobal, Q: Requests, P: Replies, E: Sink>(
     host: &Surroundings<'_, R>,
     requests: &mut Q,
@@ -101,8 +100,8 @@ fn run_read_only<R: ImageFiles + Eprint + AllocGlobal, Q: Requests, P: Replies, 
     Ok(serve(host.rt.alloc(), &image, &geometry, requests, replies))
 }
 
-/// Returns the geometry of an image that can be served. Prints the line of the first rule that the image breaks, if any. If that is
-/// rule 1 or 2, or memory ran out, which is printed too, returns the status.
+/// Returns the geometry of an image that can be served. Prints the line of the first rule that the image breaks, if any. If that rule is 1 or 2,
+/// returns the status as an error. If memory ran out, prints that and returns its status.
 fn measure<R: ImageFiles + Eprint + AllocGlobal, E: Sink>(
     host: &Surroundings<'_, R>,
     errors: &mut E,
@@ -135,8 +134,8 @@ fn broken(least: Option<u8>) -> Option<Fault>
     }
 }
 
-/// Returns the exit status. `input` is the error that ended the requests, if any, and `output` that of a reply that couldn't be
-/// written. Prints that a stream failed, or that memory ran out.
+/// Returns the exit status. `input` is the error that ended the requests, if any, and `output` is the error of a reply that couldn't be written.
+/// Prints that a stream failed, or that memory ran out.
 fn status_of<R: Eprint + AllocGlobal>(
     host: &Surroundings<'_, R>,
     outcome: Result<Result<(), ServeFault>, u8>,
@@ -154,7 +153,7 @@ fn status_of<R: Eprint + AllocGlobal>(
     }
 }
 
-/// Returns the status after the last request. Prints the fault if a read failed, except because the volume was unmounted.
+/// Returns the status after the last request. If a read failed, prints the fault, unless the volume was unmounted.
 fn status_at_end<R: Eprint + AllocGlobal>(
     host: &Surroundings<'_, R>,
     input: Option<io::Error>,

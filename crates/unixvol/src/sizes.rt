@@ -1,4 +1,4 @@
-//! The sizes in the file of an image.
+//! The sizes of an image in a file.
 
 use host_files::{FileKind, ImageFiles, UpTo, noted_reader, read_up_to};
 use pdp_words::{BLOCK, Image};
@@ -6,23 +6,23 @@ use std::fs;
 use vol_findings::other_edition;
 use vol_layout::{Edition, Geometry, Super};
 
-/// The end of the super-block.
+/// The number of bytes up to the end of the super-block.
 const HEAD: usize = 2 * BLOCK;
 
-/// The sizes in the file of an image.
+/// The sizes of an image in a file.
 #[derive(Clone, Copy)]
 pub struct Sizes {
-    /// The number of its whole blocks.
+    /// The number of whole blocks in the file.
     pub blocks: u64,
-    /// The number of blocks that its super-block gives, if it has one.
+    /// The number of blocks that its super-block records, if it has a super-block.
     pub said: Option<u32>,
     /// The other edition, if rules 1 and 2 hold for it.
     pub other: Option<Edition>,
 }
 
-/// Returns the sizes in a regular file that holds an image of an edition, or `None` for another file, or one that can't be read.
+/// Returns the sizes of an image of an edition in a regular file. Returns `None` if the file isn't regular, or can't be read.
 ///
-/// Reads it up to the last block that its super-block gives in the other edition, and takes memory for that.
+/// Reads the file up to the last block that its super-block records in the other edition, and takes memory for that.
 pub fn sizes_in<R: ImageFiles + AllocGlobal>(
     rt: &R,
     path: &str,
@@ -42,7 +42,7 @@ pub fn sizes_in<R: ImageFiles + AllocGlobal>(
     })
 }
 
-/// Returns the number of blocks that the super-block of an image gives, if it has one.
+/// Returns the number of blocks that the super-block of an image records, if it has a super-block.
 fn said_in(edition: Edition, image: &Image) -> Option<u32> {
     if image.len() < HEAD {
         return None;

@@ -12,13 +12,13 @@ use vol_layout::Edition;
 pub struct Subject<'a> {
     /// The command.
     pub verb: Verb,
-    /// The file of the image that it reads, or else makes.
+    /// The file that holds the image to read, or else the image to make.
     pub image: &'a str,
-    /// The edition assumed for this image.
+    /// The edition that the user named for this image.
     pub edition: Edition,
     /// The part of the image that it works on.
     pub about: About<'a>,
-    /// The words for the bytes on standard input, if they are compressed.
+    /// The message for the bytes on standard input, if they are a compressed file.
     pub packed: Option<&'static str>,
 }
 
@@ -46,8 +46,8 @@ impl<'a> Subject<'a> {
         }
     }
 
-    /// Returns the subject of a command that one thread runs and that prints all or nothing; `None` for the others, and for `cat`,
-    /// which prints its faults itself.
+    /// Returns the subject of a command that runs in one thread and prints all of its output or nothing. Returns `None` for other commands, and for
+    /// `cat`, which prints its own faults.
     fn of_plain(invocation: &Invocation<'a>) -> Option<Subject<'a>> {
         match invocation {
             Invocation::Get { volume, path } => {
@@ -82,7 +82,7 @@ impl<'a> Subject<'a> {
         }
     }
 
-    /// Returns the subject with the words for compressed bytes.
+    /// Returns the subject with the message for compressed bytes.
     pub fn with_packed(self, packed: Option<&'static str>) -> Subject<'a> {
         Subject { packed, ..self }
     }
@@ -142,7 +142,7 @@ impl<'a> Subject<'a> {
         Subject::new(volume, verb, about)
     }
 
-    /// Returns the subject of copying several files; a line for one of them names that file itself.
+    /// Returns the subject of copying several files. A line about one of the files names that file instead.
     pub fn of_copying(volume: VolumeFile<'a>, copying: &Copying<'a>) -> Subject<'a> {
         let (verb, about) = match copying {
             Copying::Put { directory, .. } => (Verb::Put, About::Path(directory)),

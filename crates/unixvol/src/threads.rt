@@ -1,4 +1,4 @@
-//! The commands that several threads run. Their contracts hold if they return.
+//! The commands that run in several threads. Their contracts say nothing about runs that don't return.
 ghost use Rattle.std.specs.Prelude.{◌≡◌, ◌⊎◌, ◌≤◌, All, IfErr, IfOk, length};
 ghost use Rattle.std.specs.Process.{exit_status};
 ghost use Rattle.command_words.specs.Invocations.{IsWorkable};
@@ -24,8 +24,8 @@ use std::thread::Threads;
 use vol_check::{Checker, MOST_WORKERS, Open};
 use vol_listing::Screen;
 
-/// Runs a command with several threads on the volume in a file, and returns the exit code. Output is written to `output`, which is
-/// standard output, as `screen` shows it; a fault is one line on standard error, to which `errors` writes too.
+/// Runs a command with several threads on the volume in a file, and returns the exit code. Output is written to `output`, which is standard output,
+/// as `screen` shows it; a fault is printed as one line on standard error. `errors` writes to standard error too.
 pub fn run_to_end<
     R: ImageFiles + Clock + Eprint + AllocGlobal + Threads + Wait + Sync,
     O: Write + Drop,
@@ -56,7 +56,7 @@ pub fn run_to_end<
     ExitCode::from(finish_printed(host, output.into_inner().into_inner(), ending.status))
 }
 
-/// Runs a command with several threads on the volume in a file, and returns how the run ends if [`finish_printed`] succeeds.
+/// Runs a command with several threads on the volume in a file, and returns the result of the run, which holds if [`finish_printed`] succeeds.
 fn run<R: ImageFiles + Clock + Eprint + AllocGlobal + Threads + Wait + Sync, O: Sink>(
     host: &Surroundings<'_, R>,
     screen: Screen,
@@ -78,7 +78,7 @@ fn run<R: ImageFiles + Clock + Eprint + AllocGlobal + Threads + Wait + Sync, O: 
     }
 }
 
-/// Prints a checker's findings on the volume in a file, found by `workers` threads, and returns how the run ends.
+/// Prints a checker's findings on the volume in a file, found by `workers` threads, and returns the result of the run.
 fn run_check<R: ImageFiles + Eprint + AllocGlobal + Threads + Wait + Sync, O: Sink>(
     host: &Surroundings<'_, R>,
     screen: Screen,
@@ -113,8 +113,7 @@ fn run_check<R: ImageFiles + Eprint + AllocGlobal + Threads + Wait + Sync, O: Si
     )
 }
 
-/// Plays the scripts in some files on the volume in a file, each in a thread of its own, saves the volume, and returns how the run
-/// ends.
+/// Plays the scripts in some files on the volume in a file, each in its own thread, saves the volume, and returns the result of the run.
 fn run_play<R: ImageFiles + Clock + Eprint + AllocGlobal + Threads + Wait + Sync, O: Sink>(
     host: &Surroundings<'_, R>,
     output: &mut O,

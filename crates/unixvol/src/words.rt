@@ -10,8 +10,8 @@ pub fn words<R: Env + AllocGlobal>(rt: &R) -> io::Result<Vec<String>> {
     Ok(env::args(rt)?.collect(rt.alloc())?)
 }
 
-/// Returns the number of the first word that isn't UTF-8; the program's own name has number 0. Returns `None` if all are UTF-8,
-/// or if memory ran out.
+/// Returns the number of the first word that isn't UTF-8; the program's own name has the number 0. Returns `None` if all words are UTF-8, or if
+/// memory ran out.
 pub fn place_of_no_text<R: Env + AllocGlobal>(rt: &R) -> Option<usize> {
     for place in 0..usize::MAX {
         match is_text(rt, rt.alloc(), place) {
@@ -23,10 +23,10 @@ pub fn place_of_no_text<R: Env + AllocGlobal>(rt: &R) -> Option<usize> {
     None
 }
 
-/// The size in bytes of the first buffer into which a word is read.
+/// The size in bytes of the first buffer for a word.
 const ROOM: usize = 256;
 
-/// True if the word with a number is UTF-8. Returns `None` if there is no such word.
+/// True if the word with this number is UTF-8. Returns `None` if there is no word with this number.
 fn is_text<R: Env>(rt: &R, alloc: Global, place: usize) -> Result<Option<bool>, AllocError> {
     let mut room = ROOM;
     for _ in 0..usize::BITS {

@@ -1,4 +1,4 @@
--- A loose box and a sealed volume own what a box at the same types owns.
+-- A `Loose` and a `Sealed` own the same as a box of the same types.
 use mir.Syntax.{impl, tnil, dnil}
 use mathlib.Core.List.{[]}
 use denote.Signature.{Slot, plain}

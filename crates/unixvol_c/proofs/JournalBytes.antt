@@ -1,4 +1,4 @@
--- Counting a journal's bytes.
+-- Counting the bytes of a journal.
 use Rattle.std.proofs.Common.{◌≡◌, ℕ, ◌+◌, ◌^◌, ◌≤◌, ◌∷◌, ◌++◌, [], length, Option, None, Some, IfSome, IfNone, ap, sym, ◌∙◌, arith}
 use Rattle.std.proofs.lemmas.List.{length-append}
 use Rattle.std.proofs.lemmas.List.Sums.{sum_by-append}
@@ -8,7 +8,7 @@ use Rattle.vol_volume.specs.declared.calls.Done.{Done}
 use Rattle.vol_volume.specs.declared.calls.Record.{Record}
 use Rattle.unixvol_c.specs.Opened.{CanCut, HasGrowth, IsCounted, call_bytes, journal_bytes}
 
--- a journal with one more record has that record's bytes in addition
+-- an accepted call adds the bytes of its record to the bytes of the journal
 more_bytes : (old new : Mounted) (call : Call) (done : Done) → Accepts old new call done
     → journal_bytes new.journal ≡ journal_bytes old.journal + call_bytes call
 more_bytes old new call done accepts =
@@ -17,7 +17,7 @@ more_bytes old new call done accepts =
     sum_by-append (λ (r : Record). call_bytes r.call) old.journal (entry ∷ []) in
     ap journal_bytes accepts.journal ∙ sums ∙ ap (λ n. journal_bytes old.journal + n) (omega arith)
 
--- and if it can be cut, so could the one without
+-- if the journal can be cut after a call, it could be cut before
 could_cut : (old new : Mounted) (call : Call) (done : Done) → Accepts old new call done → CanCut new → CanCut old
 could_cut old new call done accepts can =
     let entry : Record = record { call = call; done = done } in
@@ -25,7 +25,7 @@ could_cut old new call done accepts can =
     let first = accepts.first in
     omega arith
 
--- the count of a journal continues with each accepted call
+-- after an accepted call, the count of the journal is the old count and the bytes of the call's record
 pub growth_after : (old new : Mounted) (call : Call) (done : Done) (growth : ℕ) (grown : Option ℕ) → IsCounted old growth → Accepts old new call done
     → IfSome grown (λ sum. sum ≡ growth + call_bytes call) → IfNone grown (2 ^ 64 ≤ growth + call_bytes call) → HasGrowth new grown
 growth_after old new call done growth (Some sum) counted accepts some none =

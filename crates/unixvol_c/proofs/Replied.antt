@@ -13,23 +13,23 @@ use Rattle.vol_volume.specs.declared.queries.Reply.{Reply}
 use Rattle.vol_volume.specs.declared.queries.Reply.TheVariants as replies
 use Rattle.unixvol_c.specs.Calls.{Replies}
 
--- so is an outcome that is a reply
+-- an outcome, if it is a reply, is of its query's kind
 abbrev pub RepliesIfOk : Query → Result Reply Refusal → Type 0
 RepliesIfOk query (Ok reply) = Replies query reply
 RepliesIfOk query (Err refusal) = Unit {0}
 
--- the node that a walk leads to, if it isn't refused
+-- if the reply for each node is of the query's kind, so is the reply for the node that a walk leads to
 by_walk : (query : Query) (refusal : Option Refusal) (walked : Result ℕ Refusal) (reply : ℕ → Reply) → ((i : ℕ) → Replies query (reply i))
     → RepliesIfOk query (refused_or refusal (reply_at walked reply))
 by_walk query (Some refusal) walked reply each = tt
 by_walk query None (Err refusal) reply each = tt
 by_walk query None (Ok i) reply each = each i
 
--- no more bytes are read than the query's length
+-- `read_bytes` returns at most `len` bytes
 few_bytes : (bytes : List ℕ) (offset len : ℕ) → length (read_bytes bytes offset len) ≤ len
 few_bytes bytes offset len = omega (arith, length-take len (drop offset bytes))
 
--- an answer that is a reply is of the query's kind
+-- the answer to a query, if it is a reply, is of the query's kind
 answered : (tree : Tree) (query : Query) → RepliesIfOk query (answer tree query)
 unfolding reply_of
 answered tree (queries.Stat cred path) =
@@ -40,6 +40,6 @@ answered tree (queries.Read cred path offset len) =
 answered tree (queries.List cred path) =
     by_walk (queries.List cred path) (query_refusal tree (queries.List cred path)) (walk tree cred path) (λ i. replies.Names (names_at tree i)) (λ i. tt)
 
--- a reply to a query is of its kind
+-- a reply to a query is of the query's kind
 pub replies_alike : (tree : Tree) (query : Query) (reply : Reply) → Answers tree query (Ok reply) → Replies query reply
 replies_alike tree query reply answers = subst (RepliesIfOk query) (sym answers) (answered tree query)

@@ -1,4 +1,4 @@
--- The exports' effects on the volume that a handle holds.
+-- The effects of the functions on the volume that a handle holds.
 use Rattle.std.specs.Prelude.{◌≡◌, ◌≢◌, ◌↔◌, ◌≤◌, length, ℕ, ℤ, pos, nat_eq, if◌then◌else◌, Option, None, Some, Result, Err}
 use Rattle.vol_dir.specs.Refusals.{number_of}
 use Rattle.vol_dir.specs.declared.refusal.Refusal.{Refusal}
@@ -26,14 +26,15 @@ edition_of n = if nat_eq n 6 then V6 else V7
 abbrev pub IsNoEdition : ℕ → Type 0
 IsNoEdition n = (n ≢ 6) × (n ≢ 7)
 
--- DONE if an export has done its work, CLOSED exactly if the handle is closed, else NO_MEMORY or a refusal's number, and nothing has changed (this project)
+-- DONE if a function has done its work; CLOSED exactly if the handle is closed; else NO_MEMORY or a refusal's number, and nothing has changed (this
+-- project)
 pub record Returns (held : Option Opened) (done : Type 0) (is_refusal : ℤ → Type 0) (same : Type 0) (result : ℤ) : Type 0 where
   pub succeeded : result ≡ DONE → done
   pub refused : result ≢ DONE → result ≢ NO_MEMORY → result ≢ CLOSED → is_refusal result
   pub closed : result ≡ CLOSED ↔ held ≡ None
   pub unchanged : result ≢ DONE → same
 
--- a query on the volume held has this outcome (this project)
+-- a query on the volume of a handle has this outcome (this project)
 abbrev pub IsAnswered : Option Opened → Query → Result Reply Refusal → Type 0
 IsAnswered None query outcome = ⊥
 IsAnswered (Some held) query outcome = Answers (reads_as held.volume.edition held.volume.image).tree query outcome
@@ -45,45 +46,45 @@ Replies (queries.Read cred path offset len) (replies.Bytes bytes) = length bytes
 Replies (queries.List cred path) (replies.Names names) = Unit {0}
 Replies _ _ = ⊥
 
--- a query on the volume held is refused, and this is the number of the refusal (this project)
+-- a query on the volume of a handle is refused, and this is the number of the refusal (this project)
 pub record RefusesQuery (held : Option Opened) (query : Query) (number : ℤ) : Type 0 where
   pub refusal : Refusal
   pub numbered : number ≡ pos (number_of refusal)
   pub answered : IsAnswered held query (Err refusal)
 
--- the volume held before accepted a call, and is held after it, its journal cut if it has grown too large; the kept answer stays (this project)
+-- the old volume accepted a call, and the new one is the result, its journal cut if it had grown too large; the stored answer stays (this project)
 pub record IsMade (old new : Opened) (call : Call) (done : Done) : Type 0 where
   pub made : Mounted
   pub accepted : Accepts old.volume made call done
   pub trimmed : new.volume ≡ trimmed made
   pub answer : new.answer ≡ old.answer
 
--- a call makes a node (this project)
+-- a call makes a new node (this project)
 abbrev pub MakesNode : Call → Type 0
 MakesNode (calls.Create cred now path perm) = Unit {0}
 MakesNode (calls.Mkdir cred now path perm) = Unit {0}
 MakesNode _ = ⊥
 
--- the volume that a handle held accepted a call, and the handle holds it after (this project)
+-- the volume of a handle accepted a call, and the handle holds the resulting volume (this project)
 abbrev pub Makes : Option Opened → Option Opened → Call → Done → Type 0
 Makes (Some old) (Some new) call done = IsMade old new call done
 Makes _ _ call done = ⊥
 
--- a call on the volume held is refused so (this project)
+-- a call on the volume of a handle is refused with this refusal (this project)
 abbrev pub IsRefused : Option Opened → Call → Refusal → Type 0
 IsRefused None call refusal = ⊥
 IsRefused (Some held) call refusal = Refuses (reads_as held.volume.edition held.volume.image) call refusal
 
--- a call on the volume held is refused, and this is the number of the refusal (this project)
+-- a call on the volume of a handle is refused, and this is the number of the refusal (this project)
 pub record RefusesCall (held : Option Opened) (call : Call) (number : ℤ) : Type 0 where
   pub refusal : Refusal
   pub numbered : number ≡ pos (number_of refusal)
   pub refused : IsRefused held call refusal
 
--- an export makes a call on the volume held (this project)
+-- a function makes a call on the volume of a handle (this project)
 abbrev pub ReturnsCall : Option Opened → Option Opened → Call → ℤ → Type 0
 ReturnsCall old new call result = Returns old ((done : Done) × Makes old new call done) (RefusesCall old call) (new ≡ old) result
 
--- an export makes a call that makes a node, and sets the caller's number to its i-number (this project)
+-- a function makes a call for a new node, and sets the caller's number to its i-number (this project)
 abbrev pub ReturnsNode : Option Opened → Option Opened → Call → ℕ → ℕ → ℤ → Type 0
 ReturnsNode old new call before after result = Returns old (Makes old new call (Made after)) (RefusesCall old call) ((new ≡ old) × (after ≡ before)) result

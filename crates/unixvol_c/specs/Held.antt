@@ -14,6 +14,6 @@ abbrev pub held_owns : Global → Ptr → Option the_row.Denot → Fml
 held_owns alloc p None = ftrue
 held_owns alloc p (Some x) = box_owns (ghosts.dealloc_token alloc) the_row p x
 
--- the volume held can be stored as a ghost field (this project)
+-- the volume of a handle can be stored as a ghost field (this project)
 abbrev pub held_coded : Coded (Option the_row.Denot)
 held_coded = coded_option the_row.coded

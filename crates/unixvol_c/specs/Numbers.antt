@@ -1,7 +1,7 @@
--- The meanings of the numbers that exports return.
+-- The meanings of the numbers that the functions return.
 use Rattle.std.specs.Prelude.{ℕ, nat_eq, nat_lt, if◌then◌else◌, codes, List}
 
--- the name of a refusal by its number, and of 0 (this project)
+-- the name of a refusal by its number, or the text for 0 (this project)
 abbrev pub refusal_text : ℕ → List ℕ
 refusal_text number =
     if nat_eq number 0 then codes "done"
@@ -39,7 +39,7 @@ rule_text number =
     else if nat_eq number 212 then codes "unsound, rule 12"
     else codes "unknown"
 
--- the text of another number (this project)
+-- the text of a number that is neither a refusal's nor a broken rule's (this project)
 abbrev pub own_text : ℕ → List ℕ
 own_text number =
     if nat_eq number 300 then codes "closed"
@@ -50,6 +50,6 @@ own_text number =
     else if nat_eq number 305 then codes "no such report"
     else codes "unknown"
 
--- the text of a number that an export returned (this project)
+-- the text of a number that a function returned (this project)
 abbrev pub number_text : ℕ → List ℕ
 number_text number = if nat_lt number 200 then refusal_text number else if nat_lt number 300 then rule_text number else own_text number

@@ -47,7 +47,8 @@ pub record TellsNode (held : Option Opened) (query : Query) (node : Node) : Type
 abbrev pub entry_of : List ℕ × ℕ → ListedName
 entry_of name = record { inode = name.1; name = padded_name (take 14 name.0) }
 
--- the query for names is answered: the buffer has as many as it has room for, its rest stays, and the count is of all (this project)
+-- the query for names is answered: the buffer has as many names as it has room for, the rest of it is unchanged, and the count is of all names (this
+-- project)
 pub record TellsNames (held : Option Opened) (query : Query) (old new : List ListedName) (count : ℕ) : Type 0 where
   pub names : List (List ℕ × ℕ)
   pub answered : IsAnswered held query (Ok (replies.Names names))

@@ -20,7 +20,7 @@ use Rattle.vol_archive.specs.declared.export_tree.StartFault.TheVariants.{Unsoun
 use Rattle.vol_archive.specs.declared.met_entries.MetEntry.{MetEntry}
 use Rattle.unixvol_c.specs.Opened.{Opened}
 
--- the contents before and after have this relation (this project)
+-- the handle is open before and after, and this relation holds between its contents (this project)
 abbrev pub BothHeld : Option Opened → Option Opened → (Opened → Opened → Type 0) → Type 0
 BothHeld (Some old) (Some new) relation = relation old new
 BothHeld _ _ relation = ⊥
@@ -36,38 +36,38 @@ pub record IsReportText (checker : Checker) (edition : Edition) (image text : Li
   pub report : IsReport checker edition image lines
   pub words : text ≡ report_text lines
 
--- the report with this letter is the kept answer, and the volume stays (this project)
+-- the report with this letter is stored as the answer, and the volume is unchanged (this project)
 pub record KeepsReport (letter : ℕ) (old new : Opened) : Type 0 where
   pub checker : Checker
   pub named : checker_of letter ≡ Some checker
   pub report : IsReportText checker old.volume.edition old.volume.image new.answer
   pub volume : new.volume ≡ old.volume
 
--- the number of entries found that aren't members of an archive (this project)
+-- the number of entries that the walk found and that aren't members of an archive (this project)
 abbrev pub left_out : List MetEntry → ℕ
 left_out founds = count_by (λ (found : MetEntry). not (is_kept found.role)) founds
 
--- the bytes are the archive of the entries found from a start on, and `count` of them are left out (POSIX ustar)
+-- the bytes are the archive of the entries that the walk found below a starting directory, and `count` of these are left out (POSIX ustar)
 pub record IsArchive (start : ExportStart) (image bytes : List ℕ) (count : ℕ) : Type 0 where
   pub founds : List MetEntry
   pub walked : IsWalk start.geometry image start.inode founds
   pub members : bytes ≡ archive_bytes start.geometry image founds
   pub counted : count ≡ left_out founds
 
--- the archive of the contents of the directory at a path is the kept answer, and the volume stays (this project)
+-- the archive of the contents of the directory at a path is stored as the answer, and the volume is unchanged (this project)
 pub record KeepsArchive (path : List ℕ) (count : ℕ) (old new : Opened) : Type 0 where
   pub start : ExportStart
   pub begun : start_of old.volume.edition old.volume.image path ≡ Ok start
   pub archive : IsArchive start old.volume.image new.answer count
   pub volume : new.volume ≡ old.volume
 
--- the number of the reason why there is nothing to export (this project)
+-- the number for the reason why there is nothing to export (this project)
 abbrev pub start_number : StartFault → ℕ
 start_number (Unsound Short) = 201
 start_number (Unsound Bounds) = 202
 start_number (Refused refusal) = number_of refusal
 
--- there is no start at a path, and this is the number of the reason (this project)
+-- no export can start at a path, and this is the number for the reason (this project)
 abbrev pub IsNoStart : List ℕ → Opened → ℤ → Type 0
 IsNoStart path held number =
     (fault : StartFault) × (start_of held.volume.edition held.volume.image path ≡ Err fault) × (number ≡ pos (start_number fault))

@@ -1,4 +1,4 @@
-//! Answers of unknown length: they are kept in the handle, and copied out.
+//! Answers whose length isn't known before: they are stored in the handle, and copied from there.
 ghost use Rattle.std.specs.Prelude.{◌≡◌, ◌≢◌, ◌↔◌, ◌⊎◌, ◌-◌, pos, None, IsSomeAnd, IfSome, IfOk, length, min, take, drop};
 ghost use Rattle.vol_layout.specs.Geometry.{Fits};
 ghost use Rattle.vol_dir.specs.Entries.{IsDirectory};
@@ -19,7 +19,7 @@ use vol_check::{CheckSeat, Checker, Sweep};
 use vol_layout::{Edition, GeometryFault};
 use vol_reports::Report;
 
-/// Keeps a checker's report on the volume: that of `icheck` for the letter `i`, of `dcheck` for `d`, of `ncheck` for
+/// Stores a checker's report on the volume as the handle's answer: the report of `icheck` for the letter `i`, of `dcheck` for `d`, of `ncheck` for
 /// `n`. It is the text that the program prints.
 ///
 /// Takes the time and memory of the checker with one thread, and memory for the text.
@@ -37,10 +37,10 @@ pub extern "C" fn unixvol_report(alloc: Global, handle: &mut Handle, letter: u8)
     answer
 }
 
-/// Keeps a tar archive of everything below a directory, and sets `left_out` to the number of entries that are left
-/// out because a header has no room for their paths. The empty path is the root.
+/// Stores a tar archive of everything below a directory as the handle's answer, and sets `left_out` to the number of entries that are left out
+/// because a header has no room for their paths. The empty path is the root.
 ///
-/// Costs the walk over the tree; takes memory for all paths and for the archive.
+/// Costs the walk over the tree. Takes memory for all paths and for the archive.
 #[unsafe(no_mangle)]
 pub extern "C" fn unixvol_export(
     alloc: Global,
@@ -59,7 +59,7 @@ pub extern "C" fn unixvol_export(
     answer
 }
 
-/// Sets `count` to the number of bytes of the kept answer. Takes no memory.
+/// Sets `count` to the number of bytes of the stored answer. Takes no memory.
 #[unsafe(no_mangle)]
 pub extern "C" fn unixvol_answer_size(alloc: Global, handle: &mut Handle, count: &mut usize) -> i32
     ensures closed { handle.old.sealed.held ≡ None → (result ≡ CLOSED) × (count.new ≡ count.old) }
@@ -74,8 +74,7 @@ pub extern "C" fn unixvol_answer_size(alloc: Global, handle: &mut Handle, count:
     DONE
 }
 
-/// Copies bytes of the kept answer from an offset on: as many as the buffer has room for, fewer at the end. Takes no
-/// memory.
+/// Copies bytes of the stored answer, starting at an offset: as many as the buffer has room for, fewer at the end. Takes no memory.
 #[unsafe(no_mangle)]
 pub extern "C" fn unixvol_answer(
     alloc: Global,
@@ -99,7 +98,7 @@ pub extern "C" fn unixvol_answer(
     DONE
 }
 
-/// Copies bytes from an offset on, as many as there are and fit, and returns their number.
+/// Copies bytes, starting at an offset, as many as are available and fit in the buffer, and returns their number.
 fn copy_from(bytes: &[u8], from: usize, into: &mut [u8]) -> usize
     ensures count { result ≡ min (length into.old) (length bytes.now - from) }
     ensures bytes { take result into.new ≡ take result (drop from bytes.now) }
@@ -112,7 +111,7 @@ fn copy_from(bytes: &[u8], from: usize, into: &mut [u8]) -> usize
     put_bytes(&bytes[from..from + count], into)
 }
 
-/// Keeps the report of a checker.
+/// Stores the report of a checker.
 fn keep_report(alloc: Global, held: &mut OpenVolume, letter: u8) -> i32
     ensures kept { result ≡ DONE → KeepsReport letter held.old held.new }
     ensures unnamed { result ≡ NO_REPORT ↔ checker_of letter ≡ None }
@@ -175,7 +174,7 @@ fn report(
     sweep.finish(alloc, seats)
 }
 
-/// Runs steps of the sweep until none is left, or memory runs out.
+/// Runs the steps of the sweep until none is left, or memory runs out.
 fn run(alloc: Global, sweep: &Sweep, image: &Image, seat: &mut CheckSeat)
     requires own { IsSeatIn sweep.now seat.old }
     requires layout { IsFor sweep.now image.now }
@@ -192,7 +191,7 @@ struct Archive {
     left_out: usize,
 }
 
-/// Keeps the archive of everything below a directory.
+/// Stores the archive of everything below a directory.
 fn keep_archive(alloc: Global, held: &mut OpenVolume, path: &[u8], left_out: &mut usize) -> i32
     ensures kept { result ≡ DONE → KeepsArchive path.now left_out.new held.old held.new }
     ensures refused { result ≢ DONE → result ≢ NO_MEMORY → IsNoStart path.now held.old result }
@@ -216,7 +215,7 @@ fn keep_archive(alloc: Global, held: &mut OpenVolume, path: &[u8], left_out: &mu
     DONE
 }
 
-/// Returns the archive of everything below a start.
+/// Returns the archive of everything below a starting directory.
 fn archive_of(alloc: Global, image: &Image, start: &ExportStart) -> Result<Archive, AllocError>
     requires fits { Fits start.now.geometry image.now }
     requires directory { IsDirectory start.now.geometry image.now start.now.inode }
@@ -236,7 +235,7 @@ fn archive_of(alloc: Global, image: &Image, start: &ExportStart) -> Result<Archi
     })
 }
 
-/// Returns the number of the reason why there is nothing to export.
+/// Returns the number for the reason why there is nothing to export.
 fn start_number(fault: StartFault) -> i32
     ensures number { result ≡ pos (start_number fault) }
     ensures few { (result ≢ DONE) × (result ≢ CLOSED) }

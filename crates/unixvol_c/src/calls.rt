@@ -13,7 +13,7 @@ use vol_volume::{Bytes, Call, Done};
 
 /// Makes an empty regular file, and sets `inode` to its i-number.
 ///
-/// Each call here takes memory for its bytes and for the journal, and costs what `Volume::call` does.
+/// Each function of this module that makes a call takes memory for the call's bytes and for the journal, and costs as much as `Volume::call`.
 #[unsafe(no_mangle)]
 pub extern "C" fn unixvol_create(
     alloc: Global,
@@ -69,7 +69,7 @@ pub extern "C" fn unixvol_mkdir(
     make_node(alloc, handle, call, inode)
 }
 
-/// Gives a node other than a directory another name.
+/// Adds another name to a node other than a directory.
 #[unsafe(no_mangle)]
 pub extern "C" fn unixvol_link(
     alloc: Global,
@@ -98,7 +98,7 @@ pub extern "C" fn unixvol_link(
     make(alloc, handle, call)
 }
 
-/// Removes a name of a node other than a directory; the last name frees the node.
+/// Removes a name of a node other than a directory; removing the last name frees the node.
 #[unsafe(no_mangle)]
 pub extern "C" fn unixvol_unlink(
     alloc: Global,
@@ -195,7 +195,7 @@ pub extern "C" fn unixvol_truncate(
     make(alloc, handle, call)
 }
 
-/// Gives a node other permission bits.
+/// Changes the permission bits of a node.
 #[unsafe(no_mangle)]
 pub extern "C" fn unixvol_chmod(
     alloc: Global,
@@ -249,7 +249,7 @@ pub extern "C" fn unixvol_chown(
     make(alloc, handle, call)
 }
 
-/// Sets the times of a node's last reading and of the last change of its contents.
+/// Sets the times of a node's last access and of the last change of its contents.
 #[unsafe(no_mangle)]
 pub extern "C" fn unixvol_times(
     alloc: Global,
@@ -277,8 +277,8 @@ pub extern "C" fn unixvol_times(
     make(alloc, handle, call)
 }
 
-/// Cuts the journal: the present image becomes its start, and the records are freed. Each call does so by itself once
-/// the journal counts more than an eighth of the image's bytes. Takes no memory.
+/// Cuts the journal: the present image becomes its start, and the records are freed. Calls do this themselves once the journal counts as more than an
+/// eighth of the image's bytes. Takes no memory.
 #[unsafe(no_mangle)]
 pub extern "C" fn unixvol_cut(alloc: Global, handle: &mut Handle) -> i32
     ensures closed { handle.old.sealed.held ≡ None → (result ≡ CLOSED) × (handle.new.sealed.held ≡ None) }
@@ -295,7 +295,7 @@ pub extern "C" fn unixvol_cut(alloc: Global, handle: &mut Handle) -> i32
     if is_cut { DONE } else { TOO_MANY }
 }
 
-/// Makes a call that makes a node, on the volume of a handle, and sets `inode` to the node's i-number.
+/// Makes a call for a new node, on the volume of a handle, and sets `inode` to the node's i-number.
 fn make_node(alloc: Global, handle: &mut Handle, call: Call, inode: &mut u16) -> i32
     requires { MakesNode call }
     ensures { ReturnsNode handle.old.sealed.held handle.new.sealed.held call inode.old inode.new result }
@@ -330,7 +330,7 @@ fn make(alloc: Global, handle: &mut Handle, call: Call) -> i32
     }
 }
 
-/// Returns the number for bytes that were not copied, since memory ran out: a closed handle comes first.
+/// Returns the number for bytes that couldn't be copied because memory ran out; if the handle is closed, the number for this instead.
 pub(crate) fn not_copied(handle: &Handle) -> i32
     ensures closed { result ≡ CLOSED ↔ handle.now.sealed.held ≡ None }
     ensures others { (result ≡ CLOSED) ⊎ (result ≡ NO_MEMORY) }

@@ -36,7 +36,7 @@ impl Handle {
         }
     }
 
-    /// True if it holds a volume.
+    /// True if the handle holds a volume.
     pub(crate) fn is_open(&self) -> bool
         ensures { result ≡ is_some self.now.sealed.held }
     {
@@ -56,7 +56,7 @@ impl Handle {
         }
     }
 
-    /// Takes the volume out, and leaves the handle closed.
+    /// Takes the volume out of the handle, which is closed afterwards.
     pub(crate) fn take(&mut self, alloc: Global) -> Option<Box<OpenVolume>>
         ensures some { IfSome result (λ volume. self.old.sealed.held ≡ Some volume.value) }
         ensures none { IsNone result → self.old.sealed.held ≡ None }
@@ -65,7 +65,7 @@ impl Handle {
         replace(self, Handle::closed(alloc)).into_box()
     }
 
-    /// Holds this volume, and frees the one held before.
+    /// Puts a volume into the handle, and frees the one that it held before.
     pub(crate) fn put(&mut self, volume: Box<OpenVolume>)
         ensures { self.new.sealed.held ≡ Some volume.value }
     {

@@ -51,7 +51,7 @@ pub const NO_ROOM: i32 = 302;
 /// No volume can have these sizes.
 pub const BOUNDS: i32 = 303;
 
-/// The journal can't be cut: its records' numbers would reach 2^64.
+/// The journal can't be cut, since a record's number would reach 2^64.
 pub const TOO_MANY: i32 = 304;
 
 /// No checker has this letter.

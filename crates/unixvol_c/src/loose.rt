@@ -17,7 +17,7 @@ impl<T, A: Allocator> Model for Loose<T, A> {
 }
 
 impl<T, A: Allocator> Loose<T, A> {
-    /// Takes a box apart.
+    /// Splits a box into its parts.
     pub fn of(b: Box<T, A>) -> Loose<T, A>
     where
         T: Drop,
@@ -27,7 +27,7 @@ impl<T, A: Allocator> Loose<T, A> {
         Loose { ptr, alloc }
     }
 
-    /// Puts the box together again.
+    /// Returns the box again.
     pub fn into_box(self) -> Box<T, A>
         ensures { result.value ≡ self.value }
     {

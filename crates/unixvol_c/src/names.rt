@@ -1,12 +1,12 @@
-//! The meanings of the numbers that exports return.
+//! The meanings of the numbers that the functions return.
 ghost use Rattle.std.specs.Prelude.{◌≡◌, ◌<◌, ◌≤◌, length, take, drop};
 ghost use Rattle.unixvol_c.specs.Numbers.{number_text, own_text, refusal_text, rule_text};
 
 use crate::queries::put_text;
 use crate::{DONE, NO_ROOM};
 
-/// Puts the text of a number that an export returned into a buffer, such as `NoEntry` or `unsound, rule 7`, and sets
-/// `count` to its length. If the buffer is too short, sets only `count`. Takes no memory.
+/// Puts the text of a number that a function returned, such as `NoEntry` or `unsound, rule 7`, into a buffer, and sets `count` to its length. If the
+/// buffer is too short, sets only `count`. Takes no memory.
 #[unsafe(no_mangle)]
 pub extern "C" fn unixvol_name(number: u16, into: &mut [u8], count: &mut usize) -> i32
     ensures count { count.new ≡ length (number_text number) }
@@ -30,7 +30,7 @@ fn number_text(number: u16) -> &'static str
     }
 }
 
-/// Returns the name of a refusal, or the text of 0.
+/// Returns the name of a refusal, or the text for 0.
 fn refusal_text(number: u16) -> &'static str
     ensures { result.now ≡ refusal_text number }
 {
@@ -76,7 +76,7 @@ fn rule_text(number: u16) -> &'static str
     }
 }
 
-/// Returns the text of another number.
+/// Returns the text of a number that is neither a refusal's nor a broken rule's.
 fn own_text(number: u16) -> &'static str
     ensures { result.now ≡ own_text number }
 {

@@ -43,8 +43,8 @@ pub extern "C" fn unixvol_open(alloc: Global, handle: &mut Handle, edition: u8, 
     }
 }
 
-/// Makes a new volume of `blocks` blocks, `list_blocks` of them for the i-list, and opens a handle on it; the volume
-/// held before is freed. The root belongs to `uid` and `gid`, and all times are `now`.
+/// Makes a new volume of `blocks` blocks, `list_blocks` of them for the i-list, and opens a handle on it; the volume that the handle held before is
+/// freed. The root belongs to `uid` and `gid`, and all times are `now`.
 ///
 /// Takes memory for two copies of its bytes, and to judge them.
 #[unsafe(no_mangle)]
@@ -163,7 +163,7 @@ fn copy_image(volume: &Volume, into: &mut [u8]) -> i32
     DONE
 }
 
-/// Holds a volume that was just mounted, and frees the one held before.
+/// Puts a volume that was just mounted into the handle, and frees the one that it held before.
 fn hold(alloc: Global, handle: &mut Handle, volume: Volume) -> Result<(), AllocError>
     requires { volume.journal ≡ [] }
     ensures held { OnOk result (handle.new.sealed.held ≡ Some (opened volume)) }

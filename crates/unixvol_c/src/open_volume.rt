@@ -10,15 +10,14 @@ use std::marker::Model;
 use vol_dir::Refusal;
 use vol_volume::{Call, Done, Volume};
 
-/// The number of bytes that a record of the journal counts, besides those of its paths and those that it writes.
+/// The number of bytes that each record of the journal counts as, besides the bytes of its paths and those that it writes.
 const RECORD: usize = 128;
 
-/// An open volume, whose journal is cut as soon as it counts more than an eighth of the image's bytes; and the last answer
-/// of unknown length.
+/// An open volume, and the last answer of unknown length. The journal is cut as soon as it counts as more than an eighth of the image's bytes.
 #[derive(Drop)]
 pub struct OpenVolume {
     volume: Volume,
-    /// The number of bytes that the journal counts.
+    /// The number of bytes that the journal counts as.
     growth: usize,
     answer: Vec<u8>,
 }
@@ -69,21 +68,21 @@ impl OpenVolume {
         Ok(done)
     }
 
-    /// Returns the kept answer.
+    /// Returns the stored answer.
     pub(crate) fn answer(&self) -> &[u8]
         ensures { result.now ≡ self.now.answer }
     {
         &self.answer
     }
 
-    /// Keeps an answer, instead of the one before.
+    /// Stores an answer in place of the one before.
     pub(crate) fn keep(&mut self, answer: Vec<u8>)
         ensures { self.new ≡ record self.old { answer = answer.items } }
     {
         self.answer = answer;
     }
 
-    /// Cuts the journal, as [`Volume::cut`] does; false if it can't be cut.
+    /// Cuts the journal, as [`Volume::cut`] does. Returns false if it can't be cut.
     pub(crate) fn cut(&mut self) -> bool
         ensures cut { CanCut self.old.volume → (result ≡ true) × (self.new ≡ record self.old { volume = after_cut self.old.volume }) }
         ensures stays { 2 ^ 64 ≤ self.old.volume.first + length self.old.volume.journal → (result ≡ false) × (self.new ≡ self.old) }
@@ -96,8 +95,8 @@ impl OpenVolume {
     }
 }
 
-/// Cuts the journal of a volume if it counts more than an eighth of the image's bytes, and returns the number of bytes that
-/// it then counts. If the number of the next record would reach 2^64, nothing is cut.
+/// Cuts the journal of a volume if it counts as more than an eighth of the image's bytes, and returns the number of bytes that it then counts as. If
+/// the number of the next record would reach 2^64, nothing is cut.
 fn trim(volume: &mut Volume, growth: Option<usize>) -> usize
     requires { HasGrowth volume.old growth }
     ensures trimmed { volume.new ≡ trimmed volume.old }
@@ -112,7 +111,7 @@ fn trim(volume: &mut Volume, growth: Option<usize>) -> usize
     if cut(volume) { 0 } else { usize::MAX }
 }
 
-/// Cuts the journal of a volume; false if the number of the next record would reach 2^64.
+/// Cuts the journal of a volume. Returns false if the number of the next record would reach 2^64.
 fn cut(volume: &mut Volume) -> bool
     ensures cut { CanCut volume.old → (result ≡ true) × (volume.new ≡ after_cut volume.old) }
     ensures stays { 2 ^ 64 ≤ volume.old.first + length volume.old.journal → (result ≡ false) × (volume.new ≡ volume.old) }
@@ -123,7 +122,7 @@ fn cut(volume: &mut Volume) -> bool
     is_cut
 }
 
-/// Returns the number of bytes that a journal counts with one more call, or `None` from 2^64 on.
+/// Returns the number of bytes that a journal counts as with one more call, or `None` if it is 2^64 or more.
 fn grown(growth: usize, call: &Call) -> Option<usize>
     ensures some { IfSome result (λ sum. sum ≡ growth + call_bytes call.now) }
     ensures none { IfNone result (2 ^ 64 ≤ growth + call_bytes call.now) }
@@ -135,7 +134,7 @@ fn grown(growth: usize, call: &Call) -> Option<usize>
         .checked_add(second)
 }
 
-/// Returns the number of bytes in a call: those of its path, and those that it writes or of its second path.
+/// Returns two numbers of bytes of a call: the length of its first path, and the length of its second path or of the bytes that it writes.
 fn lengths(call: &Call) -> (usize, usize)
     ensures { 128 + result.0 + result.1 ≡ call_bytes call.now }
 {

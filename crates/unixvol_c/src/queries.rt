@@ -43,7 +43,7 @@ pub extern "C" fn unixvol_stat(
     }
 }
 
-/// Reads bytes of a regular file from an offset on: as many as the buffer has room for, fewer at the file's end.
+/// Reads bytes of a regular file, starting at an offset: as many as the buffer has room for, fewer at the file's end.
 ///
 /// Takes memory for the path and for the bytes.
 #[unsafe(no_mangle)]
@@ -85,8 +85,8 @@ pub extern "C" fn unixvol_read(
     }
 }
 
-/// Copies the names in a directory, in ascending order of their bytes, as many as the buffer has room for, and sets
-/// `count` to the number of all.
+/// Copies the names in a directory, in ascending order of their bytes, as many as the buffer has room for, and sets `count` to the number of all
+/// names.
 ///
 /// Takes memory for the path and for the names.
 #[unsafe(no_mangle)]
@@ -178,7 +178,7 @@ pub(crate) fn put_text(text: &[u8], into: &mut [u8], count: &mut usize) -> i32
     DONE
 }
 
-/// Puts names into a buffer, as many as it has room for, and returns the number of all.
+/// Puts names into a buffer, as many as it has room for, and returns the number of all names.
 fn put_names(names: &[(Bytes, u16)], into: &mut [ListedName]) -> usize
     ensures count { result ≡ length names.now }
     ensures front { into.new ≡ map entry_of (take (length into.old) names.now) ++ drop (length names.now) into.old }

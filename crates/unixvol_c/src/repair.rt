@@ -1,4 +1,4 @@
-//! Damaged images: the rules that they break, and rebuilding the free list.
+//! Damaged images: finding the rules that they break, and rebuilding the free list.
 ghost use Rattle.std.specs.Prelude.{◌≡◌, ◌≢◌, ◌↔◌, ◌⊎◌, ◌+◌, ◌<◌, ◌≤◌, pos, ℕ, List, false, IfOk, length, take, drop};
 ghost use Rattle.vol_judge.specs.Sound.{IsLeastBroken};
 ghost use Rattle.vol_check.specs.SalvagedImages.{IsSalvaged};
@@ -16,7 +16,7 @@ use vol_findings::make_report;
 /// Puts the finding for each of the twelve rules into a buffer, one line each, and sets `count` to the number of
 /// bytes. The image may be any bytes. If the buffer is too short, sets only `count`.
 ///
-/// Costs checking each rule; takes memory for a copy, for that, and for the text, which is about a thousand bytes.
+/// Costs checking each rule. Takes memory for a copy, for the checks, and for the text, which is about a thousand bytes.
 #[unsafe(no_mangle)]
 pub extern "C" fn unixvol_explain(
     alloc: Global,
@@ -45,9 +45,8 @@ pub extern "C" fn unixvol_explain(
     put_text(report.text.as_bytes(), into, count)
 }
 
-/// Rebuilds the free list of an image, in place, if the image breaks no rule except those of the free list. The image
-/// is then sound, and its files and directories are as they were. Otherwise returns 200 plus the number of the first
-/// other rule that it breaks.
+/// Rebuilds the free list of an image, in place, if the image breaks no rule except those of the free list. The image is then sound, and its files
+/// and directories are unchanged. Otherwise returns 200 plus the number of the first other rule that it breaks.
 ///
 /// Takes memory for a copy, to judge it, and two bytes for each block.
 #[unsafe(no_mangle)]

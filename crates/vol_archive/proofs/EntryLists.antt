@@ -26,20 +26,20 @@ use Rattle.vol_archive.specs.Walk.{is_plain, path_below, entry_below, pending_be
 use Rattle.vol_archive.specs.declared.pending.Pending.{Pending}
 use Rattle.vol_archive.proofs.Each.{Each, each_append, each_both}
 
--- a name is cut at 14 bytes
+-- a name has at most 14 bytes
 abbrev pub IsShort : List ℕ → Type 0
 IsShort name = length name ≤ 14
 
--- the name in a slot, if there is one, is
+-- the name in a slot, if there is one, has at most 14 bytes
 abbrev IsShortIn : Option (List ℕ × ℕ) → Type 0
 IsShortIn None = T true
 IsShortIn (Some entry) = IsShort entry.0
 
--- the bytes of a name are no more than those that it is read from
+-- the name read from at most 14 bytes has at most 14 bytes
 short_name : (bytes : List ℕ) → length bytes ≤ 14 → IsShort (name_of bytes)
 short_name bytes h = omega (arith, length-take (position_or_len (λ c. c == 0) bytes) bytes)
 
--- the name in a slot is short
+-- the name in a slot of a directory has at most 14 bytes
 short_at : (geometry : Geometry) (image : List ℕ) (d s : ℕ) → IsShortIn (entry_at geometry image d s)
 unfolding entry_at
 short_at geometry image d s =
@@ -57,7 +57,7 @@ short_at geometry image d s =
     ranged : (bytes : List ℕ) (at : ℕ) → length (slice_range bytes (at + 2) (at + 16)) ≤ 14
     ranged bytes at = omega (arith, length-take ((at + 16) - (at + 2)) (drop (at + 2) bytes))
 
--- a name that is put among short ones
+-- putting a short name into a map of short names gives a map of short names
 short_put : (name : List ℕ) (i : ℕ) (names : Names) → IsShort name → Each (λ (e : List ℕ × ℕ). IsShort e.0) names
     → Each (λ (e : List ℕ × ℕ). IsShort e.0) (put (slice_cmp nat_cmp) name i names)
 short_put name i [] h hs = (h, tt)
@@ -68,7 +68,7 @@ short_put name i (e ∷ es) h hs =
       | Greater ↦ (hs.0, short_put name i es h hs.1)
     ]
 
--- the names in slots are short
+-- the map of slots with short names has short names
 short_names : (f : ℕ → Option (List ℕ × ℕ)) → ((s : ℕ) → IsShortIn (f s)) → (xs : List ℕ) → Each (λ (e : List ℕ × ℕ). IsShort e.0) (names_of (map f xs))
 short_names f h [] = tt
 short_names f h (x ∷ xs) =
@@ -77,12 +77,12 @@ short_names f h (x ∷ xs) =
       | Some entry ↦ λ s. short_put entry.0 entry.1 (names_of (map f xs)) s (short_names f h xs)
     ] (h x)
 
--- the names of a directory are short
+-- the names of a directory have at most 14 bytes
 pub directory_short : (geometry : Geometry) (image : List ℕ) (d : ℕ) → Each (λ (e : List ℕ × ℕ). IsShort e.0) (names_of (slots geometry image d))
 unfolding slots
 directory_short geometry image d = short_names (entry_at geometry image d) (short_at geometry image d) (range_with_len 0 (slot_count geometry image d))
 
--- each entry of a map is found in it
+-- each entry of a sorted map is found by its name
 found_each : (es : Names) → T (is_sorted (slice_cmp nat_cmp) es) → Each (λ (e : List ℕ × ℕ). get es e.0 ≡ Some e.1) es
 found_each [] h = tt
 found_each (e ∷ es) h =
@@ -128,18 +128,18 @@ one_component name plain short =
     plain_parts false true e = absurd (true≢false (sym e))
     plain_parts false false e = (refl, refl)
 
--- a name below a path follows its components
+-- the components of a name below a path are the path's components followed by the name
 pub component_below : (path name : List ℕ) → is_plain name ≡ true → IsShort name → components (path_below path name) ≡ components path ++ name ∷ []
 component_below [] name plain short = one_component name plain short ∙ ap (λ cs. cs ++ name ∷ []) (sym components-nil)
 component_below (c ∷ path) name plain short = components-join (c ∷ path) name ∙ ap (λ cs. components (c ∷ path) ++ cs) (one_component name plain short)
 
--- the name of an entry below a path, and the i-number that a map has for it
+-- the name of an entry below a path, and its i-number in a map
 pub record IsNamed (names : Names) (path : List ℕ) (entry : Pending) : Type 0 where
   pub name : List ℕ
   pub parts : components entry.path ≡ components path ++ name ∷ []
   pub found : get names name ≡ Some entry.inode
 
--- a property of the entries of a map, other than `.` and `..`, is one of those that are pending for them
+-- if all entries of a map other than `.` and `..` have a property, so do the pending entries made from them
 pub each_proper : (path : List ℕ) (P : List ℕ × ℕ → Type 0) (Q : Pending → Type 0)
     → ((e : List ℕ × ℕ) → P e → is_dots e.0 ≡ false → Q (record { path = path_below path e.0; inode = e.1; is_plain = is_plain e.0 }))
     → (es : Names) → Each P es → Each Q (pending_below path es)
@@ -152,13 +152,13 @@ each_proper path P Q f (e ∷ es) h =
       | false ↦ λ proper. (f e h.0 proper, tt)
     ] refl) (each_proper path P Q f es h.1)
 
--- so is a property of all entries of a map
+-- if all entries of a map have a property, so do the pending entries made from them
 pub each_below : (path : List ℕ) (P : List ℕ × ℕ → Type 0) (Q : Pending → Type 0)
     → ((e : List ℕ × ℕ) → P e → Q (record { path = path_below path e.0; inode = e.1; is_plain = is_plain e.0 }))
     → (es : Names) → Each P es → Each Q (pending_below path es)
 each_below path P Q f es h = each_proper path P Q (λ e p proper. f e p) es h
 
--- the entries below a path have names of the directory
+-- the entries below the path of a directory have names of the directory
 pub entries_named : (geometry : Geometry) (image : List ℕ) (path : List ℕ) (d : ℕ)
     → Each (λ (entry : Pending). entry.is_plain ≡ true → IsNamed (names_of (slots geometry image d)) path entry) (entries_below geometry image path d)
 entries_named geometry image path d =

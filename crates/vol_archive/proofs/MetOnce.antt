@@ -1,4 +1,4 @@
--- In a tree each directory is met once.
+-- In a tree each directory is visited once.
 use Rattle.std.proofs.Common.{◌≡◌, ◌≢◌, ℕ, suc, ◌+◌, ◌==◌, ◌&&◌, ◌⊎◌, inl, inr, Bool, true, false, cond, not, nat_lt, List, [], ◌∷◌, ◌++◌, length, None, Some, refl, ap, sym, subst, ◌∙◌, arith}
 use Rattle.std.specs.Prelude.{Option}
 use Rattle.std.specs.List.{position, position_or_len}
@@ -28,16 +28,16 @@ use Rattle.vol_archive.proofs.Rings.{IsNameOf, IsUnder, entry_of, one_name, no_r
 use Rattle.vol_archive.proofs.Roles.{directory_new, again_why}
 use Rattle.vol_archive.proofs.TreeMembers.{rest_of, walk_is, met_directory}
 
--- a member for an i-number, to which later names of it link
+-- an entry is for i-number `i`, and links can refer to it
 abbrev IsFirstFor : ℕ → MetEntry → Type 0
 IsFirstFor i found = (found.inode ≡ i) × (is_first found.role ≡ true)
 
--- both of two tests pass
+-- if a conjunction is true, both parts are
 pub both_of : (a b : Bool) → (a && b) ≡ true → (a ≡ true) × (b ≡ true)
 both_of true b e = (refl, e)
 both_of false b e = absurd (true≢false (sym e))
 
--- if the first member for an i-number has a place, there is one
+-- if the first member for an i-number has a position, a member for it exists
 first_there : (i : ℕ) (founds : List MetEntry) → is_some (first_met i founds) ≡ true → Has (IsFirstFor i) founds
 unfolding first_met
 first_there i founds e = placed (position test founds) refl e
@@ -56,7 +56,7 @@ first_there i founds e = placed (position test founds) refl e
         (λ f passes. let parts = both_of (f.inode == i) (is_first f.role) passes in (grind (arith, nat_tests), parts.1)) founds
         (has_at (λ (f : MetEntry). test f ≡ true) founds k none at.0 at.1)
 
--- if there is one, it has a place
+-- if there is a member for an i-number, the first one has a position
 there_first : (i : ℕ) (founds : List MetEntry) → Has (IsFirstFor i) founds → is_some (first_met i founds) ≡ true
 unfolding first_met
 there_first i founds h = is_within _ _ ∙ within founds h
@@ -88,11 +88,11 @@ there_first i founds h = is_within _ _ ∙ within founds h
           | false ↦ one_later (position_or_len test fs) (length fs) (within fs h)
         ]
 
--- a directory is met at a path
+-- a directory was visited at a path
 abbrev IsMetAt : List MetEntry → ℕ → List ℕ → Type 0
 IsMetAt founds d path = Has (λ (found : MetEntry). (found.inode ≡ d) × (found.path ≡ path) × (found.role ≡ roles.Directory)) founds
 
--- an i-number has a name in the directory where the walk began, or in one below it that is met; the path is that of this name
+-- an i-number has a name in the directory where the walk began, or in a visited directory below it; `path` is the path of this name
 record Comes (g : Geometry) (image : List ℕ) (start : ℕ) (founds : List MetEntry) (path : List ℕ) (i : ℕ) : Type 0 where
   parent : ℕ
   above : List ℕ
@@ -102,7 +102,7 @@ record Comes (g : Geometry) (image : List ℕ) (start : ℕ) (founds : List MetE
   under : IsUnder g image start parent
   from : ((parent ≡ start) × (above ≡ [])) ⊎ IsMetAt founds parent above
 
--- so it has if one more is met
+-- an i-number that satisfies `Comes` still does after one more entry is visited
 comes_more : (g : Geometry) (image : List ℕ) (start : ℕ) (founds : List MetEntry) (found : MetEntry) (path : List ℕ) (i : ℕ)
     → Comes g image start founds path i → Comes g image start (founds ++ found ∷ []) path i
 comes_more g image start founds found path i c = record {
@@ -118,7 +118,7 @@ comes_more g image start founds found path i c = record {
   ];
 }
 
--- the entries of such a directory
+-- the entries of the directory where the walk began, or of a visited directory below it, satisfy `Comes`
 entries_come : (g : Geometry) (image : List ℕ) (start : ℕ) (founds : List MetEntry) (path : List ℕ) (d : ℕ) → IsDirectory g image d → IsUnder g image start d
     → ((d ≡ start) × (path ≡ [])) ⊎ IsMetAt founds d path
     → Each (λ (entry : Pending). Comes g image start founds entry.path entry.inode) (entries_below g image path d)
@@ -143,7 +143,7 @@ record Goes (g : Geometry) (image : List ℕ) (start : ℕ) (founds : List MetEn
   ordered : Each (λ (found : MetEntry). is_kept found.role ≡ true → Each (IsAfter (components found.path)) pending) founds
   beside : Pairs Precedes pending
 
--- an entry that is met as a directory was not met before
+-- an entry that is visited as a directory was not visited before
 met_new : (g : Geometry) (image : List ℕ) (start : ℕ) (founds : List MetEntry) (entry : Pending) (path : List ℕ)
     → (met g image start founds entry).role ≡ roles.Directory → IsMetAt founds entry.inode path → ⊥
 met_new g image start founds entry path is met_at =
@@ -152,7 +152,7 @@ met_new g image start founds entry path is met_at =
     (has_map (λ (f : MetEntry). (f.inode ≡ entry.inode) × (f.path ≡ path) × (f.role ≡ roles.Directory)) (IsFirstFor entry.inode)
     (λ f h. (h.0, ap is_first h.2)) founds met_at)) ∙ new.1)
 
--- it holds before the next step
+-- the facts also hold before the next step
 goes_on : (g : Geometry) (image : List ℕ) (start : ℕ) (founds : List MetEntry) (entry : Pending) (rest : List Pending)
     → Goes g image start founds (entry ∷ rest)
     → Goes g image start (founds ++ met g image start founds entry ∷ []) (below g image (met g image start founds entry) (met g image start founds entry).role ++ rest)
@@ -207,7 +207,7 @@ goes_on g image start founds entry rest h =
     both d path other (inr one) (inl two) = old_new d other path two one
     both d path other (inr one) (inr two) = sym one.1 ∙ two.1
 
--- in a tree a directory is at one path, whether it was met or the walk began there
+-- in a tree, a directory has only one path, whether it was visited or the walk began there
 one_path : (g : Geometry) (image : List ℕ) (start : ℕ) (founds : List MetEntry) (pending : List Pending) (path other : List ℕ) (i : ℕ)
     → IsTree g image → IsDirectory g image i → Goes g image start founds pending
     → Comes g image start founds path i → Comes g image start founds other i → path ≡ other
@@ -222,7 +222,7 @@ one_path g image start founds pending path other i tree directory h c k =
     above d e a b same (inr one) (inl two) = absurd (h.apart a (subst (λ n. IsMetAt founds n a) (same ∙ two.0) one))
     above d e a b same (inr one) (inr two) = h.once e a b (subst (λ n. IsMetAt founds n a) same one) two
 
--- the next entry isn't left out as met before
+-- the next entry isn't left out because it was visited before
 next_once : (g : Geometry) (image : List ℕ) (start : ℕ) (founds : List MetEntry) (entry : Pending) (rest : List Pending) → IsTree g image → IsDirectory g image start
     → Goes g image start founds (entry ∷ rest) → (met g image start founds entry).role ≡ roles.Left reasons.Again → ⊥
 next_once g image start founds entry rest tree directory h is =
@@ -261,7 +261,7 @@ next_once g image start founds entry rest tree directory h is =
         let less = (known.1 (first_kept f.role first.1)).0 plain in
         never (sym (tied_itself order_total (components entry.path)) ∙ (ap (λ path. order (components path) (components entry.path)) (sym same) ∙ less))
 
--- nor is everything met from there on
+-- no later entry is left out because it was visited before
 rest_once : {g : Geometry} {image : List ℕ} {start : ℕ} {founds : List MetEntry} {pending : List Pending} {all : List MetEntry} → IsTree g image → IsDirectory g image start
     → (walks : Walks g image start founds pending all) → Goes g image start founds pending
     → Each (λ (found : MetEntry). found.role ≢ roles.Left reasons.Again) (rest_of walks)
@@ -272,7 +272,7 @@ rest_once {g = g} {image = image} {start = start} tree directory (Walks.meets fo
   rest_once tree directory walks (goes_on g image start founds entry rest h),
 )
 
--- in a tree each directory is met once
+-- in a tree each directory is visited once
 pub met_once : DirectoriesAreMetOnce
 met_once g image start founds tree directory walks =
     each_all (λ (found : MetEntry). found.role ≢ roles.Left reasons.Again) founds

@@ -1,4 +1,4 @@
--- The order of paths, name by name.
+-- The order of paths, compared name by name.
 use Rattle.std.proofs.Common.{◌≡◌, ℕ, List, [], ◌∷◌, ◌++◌, refl, ap, sym, ◌∙◌}
 use Rattle.std.specs.Cmp.{IsTotalOrder, tied_itself}
 use Rattle.std.specs.Cmp.Lexicographic.{slice_cmp, lists_total}
@@ -8,41 +8,41 @@ use Rattle.std.specs.declared.cmp.Ordering.TheVariants.{Less}
 use Rattle.std.proofs.lemmas.Cmp.{nat_list_cmp_total}
 use Rattle.std.proofs.lemmas.List.{append_assoc, append-nil}
 
--- the order of lists of names: the first two that differ decide, else the lengths do
+-- the order of lists of names: the first two names that differ decide; if there are none, the lengths do
 abbrev pub order : List (List ℕ) → List (List ℕ) → Ordering
 order names others = slice_cmp (slice_cmp nat_cmp) names others
 
--- it is total
+-- the order is total
 pub order_total : IsTotalOrder order
 order_total = lists_total nat_list_cmp_total
 
--- equal names at the front don't matter
+-- equal names at the front of two paths don't matter
 pub same_first : (names xs ys : List (List ℕ)) → order (names ++ xs) (names ++ ys) ≡ order xs ys
 same_first [] xs ys = refl
 same_first (name ∷ names) xs ys =
     ap (λ o. ordering_then o (order (names ++ xs) (names ++ ys))) (tied_itself nat_list_cmp_total name) ∙ same_first names xs ys
 
--- a directory is before the entries in it
+-- a directory comes before everything below it
 pub before_inside : (names : List (List ℕ)) (name : List ℕ) (more : List (List ℕ)) → order names (names ++ name ∷ more) ≡ Less
 before_inside names name more = ap (λ xs. order xs (names ++ name ∷ more)) (sym (append-nil names)) ∙ same_first names [] (name ∷ more)
 
--- a path before a directory is before the entries in it
+-- a path that comes before a directory comes before the entries in it
 pub before_below : (xs names : List (List ℕ)) (name : List ℕ) → order xs names ≡ Less → order xs (names ++ name ∷ []) ≡ Less
 before_below xs names name h = order_total.trans xs names (names ++ name ∷ []) h (before_inside names name [])
 
--- some names, and everything below them, are before others
+-- some names, with everything below them, come before other names
 abbrev pub Clears : List (List ℕ) → List (List ℕ) → Type 0
 Clears names others = (more : List (List ℕ)) → order (names ++ more) others ≡ Less
 
--- so do the names themselves
+-- if names with everything below them come before others, so do the names themselves
 pub clear_before : (names others : List (List ℕ)) → Clears names others → order names others ≡ Less
 clear_before names others h = ap (λ xs. order xs others) (sym (append-nil names)) ∙ h []
 
--- so is a path one name below
+-- if names with everything below them come before others, so does a path one name below
 pub clear_below : (names others : List (List ℕ)) (name : List ℕ) → Clears names others → Clears (names ++ name ∷ []) others
 clear_below names others name h more = ap (λ xs. order xs others) (append_assoc names (name ∷ []) more) ∙ h (name ∷ more)
 
--- two names in one directory
+-- of two names in a directory, the lesser with everything below it comes before the other
 pub clear_beside : (names : List (List ℕ)) (name other : List ℕ) → slice_cmp nat_cmp name other ≡ Less → Clears (names ++ name ∷ []) (names ++ other ∷ [])
 clear_beside names name other h more =
     ap (λ xs. order xs (names ++ other ∷ [])) (append_assoc names (name ∷ []) more)

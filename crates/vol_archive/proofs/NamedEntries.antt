@@ -1,4 +1,4 @@
--- If rules 3 and 9 hold, each entry that is met has a name and an i-node.
+-- If rules 3 and 9 hold, each visited entry has a name and an i-node.
 use Rattle.std.proofs.Common.{◌≡◌, ◌≢◌, ℕ, ◌≤◌, ◌==◌, Bool, true, false, cond, nat_le, not, List, [], ◌∷◌, map, None, Some, refl, ap, sym, subst, ◌∙◌, arith, length}
 use Rattle.std.specs.Prelude.{Option, slice_get}
 use Rattle.std.specs.Cmp.Lexicographic.{slice_cmp}
@@ -28,7 +28,7 @@ use Rattle.vol_archive.proofs.EntryLists.{directory_found, each_below}
 use Rattle.vol_archive.proofs.MemberOrder.{each_inside}
 use Rattle.vol_archive.proofs.TreeMembers.{rest_of, walk_is, met_directory}
 
--- a property of names is one of those of a map in which one is put
+-- if `name` and all names of a map have a property, so do all names after `name` is put into the map
 each_put : (P : List ℕ → Type 0) (name : List ℕ) (i : ℕ) (names : Names) → P name → Each (λ (e : List ℕ × ℕ). P e.0) names
     → Each (λ (e : List ℕ × ℕ). P e.0) (put (slice_cmp nat_cmp) name i names)
 each_put P name i [] h hs = (h, tt)
@@ -39,7 +39,7 @@ each_put P name i (e ∷ es) h hs =
       | Greater ↦ (hs.0, each_put P name i es h hs.1)
     ]
 
--- a property of the name in each slot is one of those of the map
+-- if the name in each slot has a property, all names of the map have it
 pub each_name : (P : List ℕ → Type 0) (f : ℕ → Option (List ℕ × ℕ)) → ((s i : ℕ) (name : List ℕ) → f s ≡ Some (name, i) → P name) → (xs : List ℕ)
     → Each (λ (e : List ℕ × ℕ). P e.0) (names_of (map f xs))
 each_name P f h [] = tt
@@ -66,7 +66,7 @@ names_plain g image d entries directory =
 abbrev IsForNode : Geometry → List ℕ → Pending → Type 0
 IsForNode g image entry = (entry.is_plain ≡ true) × IsInUse g image entry.inode
 
--- so has each of a directory
+-- each entry of a directory has a plain name and an i-number in use
 entries_have : (g : Geometry) (image : List ℕ) (path : List ℕ) (d : ℕ) → HasEntries g image → IsDirectory g image d
     → Each (IsForNode g image) (entries_below g image path d)
 entries_have g image path d entries directory =
@@ -75,11 +75,11 @@ entries_have g image path d entries directory =
     (each_both (λ (e : List ℕ × ℕ). is_plain e.0 ≡ true) (λ (e : List ℕ × ℕ). get (names_of (slots g image d)) e.0 ≡ Some e.1)
     (names_of (slots g image d)) (names_plain g image d entries directory) (directory_found g image d))
 
--- an entry that is left out is left out for its path, or as a directory that was met
+-- an entry isn't left out because of its name or because it has no i-node
 abbrev IsFit : Role → Type 0
 IsFit role = (role ≢ roles.Left reasons.BadName) × (role ≢ roles.Left reasons.NoNode)
 
--- the role of such an entry
+-- the role of an entry with a plain name and an i-number in use satisfies `IsFit`
 fits_role : (g : Geometry) (image : List ℕ) (start : ℕ) (first : Option ℕ) (founds : List MetEntry) (entry : Pending) → HasKinds g image → IsForNode g image entry
     → IsFit (role_of g image start first founds entry)
 fits_role g image start first founds entry known node =
@@ -118,7 +118,7 @@ fits_role g image start first founds entry known node =
     kinded kinds.Special free odd = filed roles.Special (λ e. cc, λ e. cc)
     kinded kinds.Directory free odd = either _ _
 
--- if everything pending has a node, everything met has
+-- if all pending entries have a plain name and an i-number in use, the roles of all entries visited later satisfy `IsFit`
 rest_fits : {g : Geometry} {image : List ℕ} {start : ℕ} {founds : List MetEntry} {pending : List Pending} {all : List MetEntry}
     → HasKinds g image → HasEntries g image → (walks : Walks g image start founds pending all) → Each (IsForNode g image) pending
     → Each (λ (found : MetEntry). IsFit found.role) (rest_of walks)
@@ -133,7 +133,7 @@ rest_fits {g = g} {image = image} {start = start} known entries (Walks.meets fou
           (λ is. entries_have g image entry.path entry.inode entries (met_directory g image start first founds entry is))) h.1),
     )
 
--- everything met has a name and an i-node
+-- no visited entry is left out because of its name or because it has no i-node
 pub entries_have_nodes : EntriesHaveNodes
 entries_have_nodes g image start founds known entries directory walks =
     each_all (λ (found : MetEntry). (found.role ≢ roles.Left reasons.BadName) × (found.role ≢ roles.Left reasons.NoNode)) founds

@@ -1,4 +1,4 @@
--- The role of a directory that is met.
+-- The role of a visited directory.
 use Rattle.std.proofs.Common.{◌≡◌, ◌≢◌, ℕ, ◌==◌, ◌||◌, ◌⊎◌, inl, inr, Bool, true, false, cond, eq-eqb, nat_le, List, ◌∷◌, [], ◌++◌, length, None, Some, refl, ap, sym, ◌∙◌, arith}
 use Rattle.std.specs.Prelude.{Option, slice_get}
 use Rattle.std.specs.Option.{is_some}
@@ -19,11 +19,11 @@ use Rattle.vol_archive.specs.declared.met_entries.Reason.TheVariants as reasons
 use Rattle.vol_archive.specs.declared.pending.Pending.{Pending}
 use Rattle.vol_archive.proofs.TreeMembers.{member_plain, met_directory}
 
--- it was left out, or has room, or has none
+-- the role of a directory: left out if it was visited before, or if its path doesn't fit a header, else a member
 abbrev as_directory : Bool → Bool → Role
 as_directory again room = cond again (roles.Left reasons.Again) (cond room roles.Directory (roles.Left reasons.LongPath))
 
--- the role of an entry with a plain name for an i-number of the volume
+-- the role of an entry with a plain name for an i-number of the volume is the role for the kind of the i-node
 role_numbered : (g : Geometry) (image : List ℕ) (start : ℕ) (first : Option ℕ) (founds : List MetEntry) (entry : Pending)
     → entry.is_plain ≡ true → is_number g entry.inode ≡ true
     → role_of g image start first founds entry ≡ node_role start first founds entry (kind_at g image entry.inode)
@@ -31,7 +31,7 @@ role_numbered g image start first founds entry plain number =
     ap (λ b. cond b (cond (is_number g entry.inode) (node_role start first founds entry (kind_at g image entry.inode)) (roles.Left reasons.NoNode)) (roles.Left reasons.BadName)) plain
     ∙ ap (λ b. cond b (node_role start first founds entry (kind_at g image entry.inode)) (roles.Left reasons.NoNode)) number
 
--- the role of a directory with a plain name
+-- a directory with a plain name has the role of a directory, unless it was visited before or its path doesn't fit a header
 directory_role : (g : Geometry) (image : List ℕ) (start : ℕ) (first : Option ℕ) (founds : List MetEntry) (entry : Pending)
     → entry.is_plain ≡ true → IsDirectory g image entry.inode
     → role_of g image start first founds entry ≡ as_directory ((entry.inode == start) || is_some first) (has_room (entry.path ++ 47 ∷ []))
@@ -41,7 +41,7 @@ directory_role g image start first founds entry plain directory =
     let number : is_number g entry.inode ≡ true = grind (arith, nat_tests) in
     role_numbered g image start first founds entry plain number ∙ ap (node_role start first founds entry) directory.kind
 
--- an entry that is met as a directory isn't the one where the walk began, and is met for the first time
+-- an entry with the role of a directory isn't the one where the walk began, and is visited for the first time
 pub directory_new : (g : Geometry) (image : List ℕ) (start : ℕ) (first : Option ℕ) (founds : List MetEntry) (entry : Pending)
     → role_of g image start first founds entry ≡ roles.Directory → (entry.inode ≢ start) × (is_some first ≡ false)
 directory_new g image start first founds entry is =
@@ -58,7 +58,7 @@ directory_new g image start first founds entry is =
     new false true test e = absurd (fresh (has_room (entry.path ++ 47 ∷ [])) e)
     new false false test e = (λ same. true≢false (sym (eq-eqb entry.inode start same) ∙ test), refl)
 
--- a directory that is a member is met as one
+-- a member that is a directory has the role of a directory
 pub directory_kept : (g : Geometry) (image : List ℕ) (start : ℕ) (first : Option ℕ) (founds : List MetEntry) (entry : Pending)
     → is_kept (role_of g image start first founds entry) ≡ true → IsDirectory g image entry.inode
     → role_of g image start first founds entry ≡ roles.Directory
@@ -71,7 +71,7 @@ directory_kept g image start first founds entry kept directory =
     only false true e = refl
     only false false e = absurd (true≢false (sym e))
 
--- an entry that is left out as met before has a plain name, is a directory, and is the one where the walk began or was met
+-- an entry that is left out because it was visited before has a plain name, is a directory, and is the one where the walk began or was visited before
 pub again_why : (g : Geometry) (image : List ℕ) (start : ℕ) (first : Option ℕ) (founds : List MetEntry) (entry : Pending)
     → role_of g image start first founds entry ≡ roles.Left reasons.Again
     → (entry.is_plain ≡ true) × IsDirectory g image entry.inode × ((entry.inode ≡ start) ⊎ (is_some first ≡ true))

@@ -37,13 +37,13 @@ member_plain g image start first founds entry kept =
       | false ↦ λ e. absurd (true≢false (sym e))
     ] kept
 
--- the entries that a walk continues to meet
+-- the entries that the rest of a walk visits
 unfoldable pub rest_of : {g : Geometry} {image : List ℕ} {start : ℕ} {founds : List MetEntry} {pending : List Pending} {all : List MetEntry}
     → Walks g image start founds pending all → List MetEntry
 rest_of (Walks.ends founds) = []
 rest_of {g = g} {image = image} {start = start} (Walks.meets founds entry rest all walks) = met g image start founds entry ∷ rest_of walks
 
--- they follow those met before
+-- the entries that the rest of a walk visits come after those visited before
 pub rest_is : {g : Geometry} {image : List ℕ} {start : ℕ} {founds : List MetEntry} {pending : List Pending} {all : List MetEntry}
     → (walks : Walks g image start founds pending all) → all ≡ founds ++ rest_of walks
 unfolding rest_of
@@ -51,7 +51,7 @@ rest_is (Walks.ends founds) = sym (append-nil founds)
 rest_is {g = g} {image = image} {start = start} (Walks.meets founds entry rest all walks) =
     rest_is walks ∙ append_assoc founds (met g image start founds entry ∷ []) (rest_of walks)
 
--- an entry that is met as a directory is one
+-- an entry with the role of a directory is a directory
 pub met_directory : (g : Geometry) (image : List ℕ) (start : ℕ) (first : Option ℕ) (founds : List MetEntry) (entry : Pending)
     → role_of g image start first founds entry ≡ roles.Directory → IsDirectory g image entry.inode
 met_directory g image start first founds entry is =
@@ -104,7 +104,7 @@ met_directory g image start first founds entry is =
 abbrev pub WalksTo : Geometry → List ℕ → ℕ → List (List ℕ) → ℕ → Type 0
 WalksTo g image start names i = walk_from (tree g image) user start names ≡ Ok i
 
--- a name of a directory leads on
+-- a name of a directory leads on to its i-number
 pub leads_on : (g : Geometry) (image : List ℕ) (start d i : ℕ) (names : List (List ℕ)) (name : List ℕ) → IsDirectory g image d
     → WalksTo g image start names d → get (names_of (slots g image d)) name ≡ Some i → WalksTo g image start (names ++ name ∷ []) i
 leads_on g image start d i names name directory leads found =
@@ -113,11 +113,11 @@ leads_on g image start d i names name directory leads found =
     ∙ (ap (λ s. and_then (and_then s (λ ns. ok_or (get ns name) refusals.NoEntry)) (λ next. walk_from (tree g image) user next [])) (search-directory g image user d true directory refl)
     ∙ ap (λ o. and_then (ok_or o refusals.NoEntry) (λ next. walk_from (tree g image) user next [])) found))
 
--- a pending entry with a plain name leads where it says
+-- the path of a pending entry with a plain name leads to its i-number
 abbrev pub PendingWalksTo : Geometry → List ℕ → ℕ → Pending → Type 0
 PendingWalksTo g image start entry = entry.is_plain ≡ true → WalksTo g image start (components entry.path) entry.inode
 
--- the entries of a directory to which a path leads
+-- if a path leads to a directory, the paths of its entries lead to the entries' i-numbers
 pub entries_lead : (g : Geometry) (image : List ℕ) (start d : ℕ) (path : List ℕ) → IsDirectory g image d
     → WalksTo g image start (components path) d → Each (PendingWalksTo g image start) (entries_below g image path d)
 entries_lead g image start d path directory leads =
@@ -126,7 +126,7 @@ entries_lead g image start d path directory leads =
     ∙ leads_on g image start d entry.inode (components path) (named plain).name directory leads (named plain).found)
     (entries_below g image path d) (entries_named g image path d)
 
--- the entries below an entry that is met, of any kind
+-- the path of each entry below a visited entry leads to the entry's i-number
 below_lead : (g : Geometry) (image : List ℕ) (start : ℕ) (found : MetEntry) (role : Role)
     → (role ≡ roles.Directory → IsDirectory g image found.inode × WalksTo g image start (components found.path) found.inode)
     → Each (PendingWalksTo g image start) (below g image found role)
@@ -136,7 +136,7 @@ below_lead g image start found roles.Special h = tt
 below_lead g image start found (roles.Link k) h = tt
 below_lead g image start found (roles.Left reason) h = tt
 
--- if everything pending leads there, all members that are met do
+-- if the path of each pending entry leads to its i-number, so does the path of each member visited later
 rest_leads : {g : Geometry} {image : List ℕ} {start : ℕ} {founds : List MetEntry} {pending : List Pending} {all : List MetEntry}
     → (walks : Walks g image start founds pending all) → Each (PendingWalksTo g image start) pending
     → Each (λ (found : MetEntry). is_kept found.role ≡ true → WalksTo g image start (components found.path) found.inode) (rest_of walks)
@@ -152,7 +152,7 @@ rest_leads {g = g} {image = image} {start = start} (Walks.meets founds entry res
           (below_lead g image start found found.role (λ is. (met_directory g image start first founds entry is, here (ap is_kept is)))) h.1),
     )
 
--- everything that a walk meets
+-- the rest of a walk from its beginning is the whole walk
 pub walk_is : {g : Geometry} {image : List ℕ} {start : ℕ} {all : List MetEntry} → (walks : IsWalk g image start all) → rest_of walks ≡ all
 walk_is walks = sym (rest_is walks)
 

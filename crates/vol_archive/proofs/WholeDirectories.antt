@@ -1,4 +1,4 @@
--- All names of the directories that a walk enters are met.
+-- All names of the directories that a walk enters are visited.
 use Rattle.std.proofs.Common.{◌≡◌, ℕ, inl, inr, true, false, cond, List, [], ◌∷◌, ◌++◌, Some, refl, ap, sym, subst, ◌∙◌}
 use Rattle.std.specs.Cmp.Lexicographic.{slice_cmp}
 use Rattle.std.specs.Ordering.{nat_cmp, eq_by_cmp}
@@ -17,15 +17,15 @@ use Rattle.vol_archive.specs.declared.pending.Pending.{Pending}
 use Rattle.vol_archive.proofs.Each.{Each, Has, each_map, each_all, each_front, each_back, has_map, has_behind, has_any, has_each}
 use Rattle.vol_archive.proofs.TreeMembers.{rest_of, walk_is}
 
--- an entry is met
+-- an entry is visited
 abbrev IsMetAmong : List MetEntry → Pending → Type 0
 IsMetAmong founds entry = Has (λ (found : MetEntry). (found.path ≡ entry.path) × (found.inode ≡ entry.inode)) founds
 
--- an entry that was met is still met if more are met before it
+-- an entry that was visited is still visited if more entries come before
 meets_more : (first : MetEntry) (founds : List MetEntry) (entries : List Pending) → Each (IsMetAmong founds) entries → Each (IsMetAmong (first ∷ founds)) entries
 meets_more first founds entries h = each_map (IsMetAmong founds) (IsMetAmong (first ∷ founds)) (λ entry m. inr m) entries h
 
--- everything pending is met
+-- all pending entries are visited
 pending_met : {g : Geometry} {image : List ℕ} {start : ℕ} {founds : List MetEntry} {pending : List Pending} {all : List MetEntry}
     → (walks : Walks g image start founds pending all) → Each (IsMetAmong (rest_of walks)) pending
 unfolding rest_of
@@ -37,11 +37,11 @@ pending_met {g = g} {image = image} {start = start} (Walks.meets founds entry re
           (each_back (IsMetAmong (rest_of walks)) (below g image found found.role) rest (pending_met walks)),
     )
 
--- a directory all of whose entries are met
+-- all entries of a directory are visited
 abbrev IsWholeIn : Geometry → List ℕ → List MetEntry → MetEntry → Type 0
 IsWholeIn g image founds found = found.role ≡ roles.Directory → Each (IsMetAmong founds) (entries_below g image found.path found.inode)
 
--- so are the entries of each directory that is met
+-- all entries of each visited directory are visited
 whole_met : {g : Geometry} {image : List ℕ} {start : ℕ} {founds : List MetEntry} {pending : List Pending} {all : List MetEntry}
     → (walks : Walks g image start founds pending all) → Each (IsWholeIn g image (rest_of walks)) (rest_of walks)
 unfolding rest_of
@@ -55,7 +55,7 @@ whole_met {g = g} {image = image} {start = start} (Walks.meets founds entry rest
           (λ other whole is. meets_more found (rest_of walks) (entries_below g image other.path other.inode) (whole is)) (rest_of walks) (whole_met walks),
     )
 
--- an entry that is at a path, for an i-number
+-- an entry has this path and this i-number
 abbrev IsAt : List ℕ → ℕ → Pending → Type 0
 IsAt path i entry = (entry.path ≡ path) × (entry.inode ≡ i)
 
@@ -75,7 +75,7 @@ has_entry path (e ∷ es) name i found dots =
       | false ↦ λ other later. has_behind (IsAt (path_below path name) i) (entry_below path e) (pending_below path es) (has_entry path es name i later dots)
     ] refl found
 
--- if all entries are met, all names are
+-- if all entries of a directory are visited, all its names are
 names_met : (g : Geometry) (image : List ℕ) (founds : List MetEntry) (path : List ℕ) (d : ℕ) → Each (IsMetAmong founds) (entries_below g image path d)
     → HasMetAllOf g image founds path d
 names_met g image founds path d h name i found dots =
@@ -85,7 +85,7 @@ names_met g image founds path d h name i found dots =
     (λ f same. (same.0 ∙ at.0, same.1 ∙ at.1)) founds meets))
     (entries_below g image path d) (has_entry path (names_of (slots g image d)) name i found dots) h
 
--- all names of each directory that the walk enters are met
+-- all names of each directory that the walk enters are visited
 pub directories_whole : DirectoriesAreWhole
 directories_whole g image start founds walks = (
   names_met g image founds [] start (subst (λ all. Each (IsMetAmong all) (entries_below g image [] start)) (walk_is walks) (pending_met walks)),

@@ -36,7 +36,7 @@ use Rattle.vol_archive.proofs.Roles.{directory_kept}
 use Rattle.vol_archive.proofs.TreeMembers.{WalksTo, rest_of, walk_is, members_lead}
 use Rattle.vol_archive.proofs.WholeDirectories.{directories_whole}
 
--- a property of all names of a map is one of a name that a search finds
+-- a property of all names of a map is one of each name found in it
 each_got : (P : List ℕ → Type 0) (es : Names) (name : List ℕ) (i : ℕ) → get es name ≡ Some i → Each (λ (e : List ℕ × ℕ). P e.0) es → P name
 each_got P [] name i found h = cc
 each_got P (e ∷ es) name i found h =
@@ -47,11 +47,11 @@ each_got P (e ∷ es) name i found h =
       | false ↦ λ other later. each_got P es name i later h.1
     ] refl found
 
--- a directory that is a member is met as one
+-- a member that is a directory has the role of a directory
 abbrev IsMetAsItIs : Geometry → List ℕ → MetEntry → Type 0
 IsMetAsItIs g image found = is_kept found.role ≡ true → IsDirectory g image found.inode → found.role ≡ roles.Directory
 
--- so is each that is met
+-- each visited member that is a directory has the role of a directory
 rest_as_is : {g : Geometry} {image : List ℕ} {start : ℕ} {founds : List MetEntry} {pending : List Pending} {all : List MetEntry}
     → (walks : Walks g image start founds pending all) → Each (IsMetAsItIs g image) (rest_of walks)
 unfolding rest_of
@@ -69,7 +69,7 @@ left_for_none roles.Special h = refl
 left_for_none (roles.Link k) h = refl
 left_for_none (roles.Left reason) h = absurd (h reason refl)
 
--- the first step of a walk that leads on
+-- a walk of several names begins with a step to the first name
 first_step : (g : Geometry) (image : List ℕ) (d i : ℕ) (name : List ℕ) (names : List (List ℕ)) → IsDirectory g image d
     → WalksTo g image d (name ∷ names) i → (j : ℕ) × (get (names_of (slots g image d)) name ≡ Some j) × WalksTo g image j names i
 first_step g image d i name names directory leads =
@@ -83,7 +83,7 @@ first_step g image d i name names directory leads =
     step None is e = cc
     step (Some j) is e = (j, is, e)
 
--- a walk leads on from directories alone
+-- a walk of at least one name begins at a directory
 walked_directory : (g : Geometry) (image : List ℕ) (d i : ℕ) (name : List ℕ) (names : List (List ℕ)) → WalksTo g image d (name ∷ names) i → IsDirectory g image d
 walked_directory g image d i name names leads = numbered (is_number g d) refl
   where
@@ -105,16 +105,16 @@ walked_directory g image d i name names leads = numbered (is_number g d) refl
     numbered true number = record { first = grind (arith, nat_tests); last = grind (arith, nat_tests); kind = kinded (kind_at g image d) refl number }
     numbered false number = nowhere (search-outside g image user d number)
 
--- the facts about each entry that is met: it is a member, and so is everything below it if it is a directory
+-- the facts about each visited entry: it is a member, and all its names are visited if it is a directory
 abbrev IsKnown : Geometry → List ℕ → List MetEntry → MetEntry → Type 0
 IsKnown g image founds found =
     (is_kept found.role ≡ true) × IsMetAsItIs g image found × (found.role ≡ roles.Directory → HasMetAllOf g image founds found.path found.inode)
 
--- a member at the path of some names, for an i-number
+-- a member is at the path of these names and for this i-number
 abbrev IsMemberFor : List (List ℕ) → ℕ → MetEntry → Type 0
 IsMemberFor names i found = (is_kept found.role ≡ true) × (components found.path ≡ names) × (found.inode ≡ i)
 
--- the first of some names that lead from a directory, all of whose names are met, is met, and the others lead on from there
+-- if all names of a directory are visited, and names lead from it to `i`, the first name is a member and the others lead on from there
 first_met_of : (g : Geometry) (image : List ℕ) (founds : List MetEntry) → HasEntries g image → Each (IsKnown g image founds) founds
     → (names : List (List ℕ)) (name path : List ℕ) (d i : ℕ) → IsDirectory g image d → HasMetAllOf g image founds path d → is_dots name ≡ false
     → WalksTo g image d (name ∷ names) i
@@ -130,7 +130,7 @@ first_met_of g image founds entries known names name path d i directory whole pr
     (has_both (λ (f : MetEntry). (f.path ≡ path_below path name) × (f.inode ≡ step.0)) (IsKnown g image founds) founds
     (any_has (λ (f : MetEntry). (f.path ≡ path_below path name) × (f.inode ≡ step.0)) founds (whole name step.0 step.1 proper)) known)
 
--- names that lead from such a directory are those of a member's path
+-- names that lead from a directory, all of whose names are visited, are the names of a member's path
 leads_to_member : (g : Geometry) (image : List ℕ) (founds : List MetEntry) → HasEntries g image → Each (IsKnown g image founds) founds
     → (names : List (List ℕ)) (name path : List ℕ) (d i : ℕ) → IsDirectory g image d → HasMetAllOf g image founds path d
     → Each (λ n. is_dots n ≡ false) (name ∷ names) → WalksTo g image d (name ∷ names) i

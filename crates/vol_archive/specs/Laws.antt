@@ -1,4 +1,4 @@
--- The laws about the entries met below a directory, stated for the tree that an image reads as.
+-- The laws about the entries visited below a directory, stated for the tree that an image reads as.
 use Rattle.std.specs.Prelude.{◌≡◌, ◌≢◌, ℕ, ◌↔◌, ◌/◌, ◌%◌, ◌==◌, Bool, true, false, if◌then◌else◌, List, [], ◌∷◌, ◌++◌, length, slice_get, slice_index, filter, All, AllPairs, Any, Some, Ok}
 use Rattle.std.specs.Cmp.Lexicographic.{slice_cmp}
 use Rattle.std.specs.Ordering.{nat_cmp}
@@ -29,7 +29,7 @@ is_kept roles.Special = true
 is_kept (roles.Link k) = true
 is_kept (roles.Left reason) = false
 
--- the members among the entries that were met (POSIX, ustar interchange format)
+-- the members among the visited entries (POSIX, ustar interchange format)
 abbrev pub members_of : List MetEntry → List MetEntry
 members_of founds = filter (λ (found : MetEntry). is_kept found.role) founds
 
@@ -39,7 +39,8 @@ MembersAreOfTree = (geometry : Geometry) (image : List ℕ) (start : ℕ) (found
     → IsDirectory geometry image start → IsWalk geometry image start founds
     → All (λ (found : MetEntry). walk_from (tree geometry image) user start (components found.path) ≡ Ok found.inode) (members_of founds)
 
--- members are in ascending order: the names of a path are before those of a later one, by the bytes of the first name in which they differ; so a directory is before the entries in it (this project)
+-- members are in ascending order: their paths are compared by the bytes of the first name in which they differ; so a directory comes before the
+-- entries in it (this project)
 abbrev pub MembersAscend : Type 0
 MembersAscend = (geometry : Geometry) (image : List ℕ) (start : ℕ) (founds : List MetEntry) → IsWalk geometry image start founds
     → AllPairs (λ (found later : MetEntry). slice_cmp (slice_cmp nat_cmp) (components found.path) (components later.path) ≡ Less) (members_of founds)
@@ -49,34 +50,34 @@ abbrev pub MembersDiffer : Type 0
 MembersDiffer = (geometry : Geometry) (image : List ℕ) (start : ℕ) (founds : List MetEntry) → IsWalk geometry image start founds
     → AllPairs (λ (found later : MetEntry). found.path ≢ later.path) (members_of founds)
 
--- an entry at a path, for an i-number, was met (this project)
+-- an entry at this path and for this i-number was visited (this project)
 abbrev pub HasMet : List MetEntry → List ℕ → ℕ → Type 0
 HasMet founds path i = Any (λ (found : MetEntry). (found.path ≡ path) × (found.inode ≡ i)) founds
 
--- each name of directory d, other than `.` and `..`, was met below its path, for the i-number that a search finds (Lions on namei)
+-- each name of directory `d`, other than `.` and `..`, was visited below the directory's path, for the i-number that a search finds (Lions on namei)
 abbrev pub HasMetAllOf : Geometry → List ℕ → List MetEntry → List ℕ → ℕ → Type 0
 HasMetAllOf geometry image founds path d =
     (name : List ℕ) (i : ℕ) → get (names_of (slots geometry image d)) name ≡ Some i → is_dots name ≡ false → HasMet founds (path_below path name) i
 
--- all names of the directory where the walk began are met, and all names of each directory that is a member (this project)
+-- all names of the directory where the walk began are visited, and all names of each directory that is a member (this project)
 abbrev pub DirectoriesAreWhole : Type 0
 DirectoriesAreWhole = (geometry : Geometry) (image : List ℕ) (start : ℕ) (founds : List MetEntry) → IsWalk geometry image start founds
     → HasMetAllOf geometry image founds [] start
     × All (λ (found : MetEntry). found.role ≡ roles.Directory → HasMetAllOf geometry image founds found.path found.inode) founds
 
--- in an image where rules 3 and 9 hold, no entry that is met is left out for its name, or because it has no i-node (manual section 5, directories)
+-- in an image where rules 3 and 9 hold, no visited entry is left out because of its name, or because it has no i-node (manual section 5, directories)
 abbrev pub EntriesHaveNodes : Type 0
 EntriesHaveNodes = (geometry : Geometry) (image : List ℕ) (start : ℕ) (founds : List MetEntry) → HasKinds geometry image → HasEntries geometry image
     → IsDirectory geometry image start → IsWalk geometry image start founds
     → All (λ (found : MetEntry). (found.role ≢ roles.Left reasons.BadName) × (found.role ≢ roles.Left reasons.NoNode)) founds
 
--- in an image where rule 11 holds, no directory that is met is left out because it was met before: each is met once (ncheck)
+-- in an image where rule 11 holds, no visited directory is left out because it was visited before: each is visited once (ncheck)
 abbrev pub DirectoriesAreMetOnce : Type 0
 DirectoriesAreMetOnce = (geometry : Geometry) (image : List ℕ) (start : ℕ) (founds : List MetEntry) → IsTree geometry image
     → IsDirectory geometry image start → IsWalk geometry image start founds
     → All (λ (found : MetEntry). found.role ≢ roles.Left reasons.Again) founds
 
--- no path that is met is too long for a header, nor for the header of a link to it (POSIX, ustar interchange format)
+-- no visited path is too long for a header, or for the header of a link to it (POSIX, ustar interchange format)
 abbrev pub HasRoomForAll : List MetEntry → Type 0
 HasRoomForAll founds = All (λ (found : MetEntry). (found.role ≢ roles.Left reasons.LongPath) × (found.role ≢ roles.Left reasons.LongLink)) founds
 
@@ -85,7 +86,8 @@ pub record AreProper (names : List (List ℕ)) : Type 0 where
   pub some : names ≢ []
   pub proper : All (λ name. is_dots name ≡ false) names
 
--- in an image where rules 3, 9 and 11 hold, as in each sound one, the members are exactly the tree below the directory, if all paths fit headers: names lead to an i-number, as user 0 walks them, if and only if the path of a member for it has these names (Lions on namei)
+-- in an image where rules 3, 9 and 11 hold, as in any sound image, the members are exactly the tree below the directory, if all paths fit headers:
+-- names lead to an i-number, as user 0 walks them, if and only if the path of a member for it has these names (Lions on namei)
 abbrev pub MembersAreTheTree : Type 0
 MembersAreTheTree = (geometry : Geometry) (image : List ℕ) (start : ℕ) (founds : List MetEntry)
     → HasKinds geometry image → HasEntries geometry image → IsTree geometry image
@@ -94,7 +96,8 @@ MembersAreTheTree = (geometry : Geometry) (image : List ℕ) (start : ℕ) (foun
     → (walk_from (tree geometry image) user start names ≡ Ok i)
     ↔ Any (λ (found : MetEntry). (components found.path ≡ names) × (found.inode ≡ i)) (members_of founds)
 
--- the header of a member for a node, with the number of bytes after it and the number of a device: the permissions, owner, group and time are those that a Stat of its path returns (POSIX, ustar interchange format; stat)
+-- the header of a member for a node, with the number of bytes after it and a device number: the permissions, owner, group and time are those that a
+-- Stat of its path returns (POSIX, ustar interchange format; stat)
 abbrev pub header_for : Node → MemberKind → ℕ → ℕ → MemberHeader
 header_for node kind size device = record {
   kind = kind;
@@ -107,11 +110,13 @@ header_for node kind size device = record {
   minor = device % 256;
 }
 
--- the kind of a special file with these type bits, octal 06 or 02; the multiplexor types 07 and 03 count as a block and as a character special file (stat.h; the latter is this project's)
+-- the kind of a special file with these type bits, octal 06 or 02; the multiplexor types 07 and 03 count as a block and as a character special file
+-- (stat.h; the multiplexor types are this project's)
 abbrev pub device_kind : ℕ → MemberKind
 device_kind type = if type / 2 % 4 == 3 then members.Block else members.Character
 
--- a member for a node with this role has these bytes: for a regular file the header and the bytes of the file, for another name the path of the first one (POSIX, ustar interchange format)
+-- a member for a node with this role has these bytes: for a regular file the header and the bytes of the file, for another name the path of the first
+-- one (POSIX, ustar interchange format)
 abbrev pub IsForNode : List MetEntry → MetEntry → Node → Role → List ℕ → Type 0
 IsForNode founds found node roles.File bytes =
     (content : List ℕ) × (node.content ≡ Body content)
@@ -126,7 +131,7 @@ IsForNode founds found node (roles.Link k) bytes =
     × (bytes ≡ headed (header_for node members.Link 0 0) found.path first.path)
 IsForNode founds found node (roles.Left reason) bytes = ⊥
 
--- each member is for the node of the tree with its i-number, with the bytes that it has in the archive (POSIX, ustar interchange format; stat, read)
+-- each member is for the node with its i-number in the tree, and has that node's bytes in the archive (POSIX, ustar interchange format; stat, read)
 abbrev pub MembersHaveNodes : Type 0
 MembersHaveNodes = (geometry : Geometry) (image : List ℕ) (start : ℕ) (founds : List MetEntry) → IsWalk geometry image start founds
     → All (λ (found : MetEntry). (node : Node) × ((tree geometry image).nodes found.inode ≡ Some node)

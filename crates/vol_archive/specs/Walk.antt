@@ -1,4 +1,4 @@
--- The entries met below a directory, and their roles in an archive.
+-- The entries visited below a directory, and their roles in an archive.
 use Rattle.std.specs.Prelude.{ℕ, ◌==◌, ◌&&◌, ◌||◌, Bool, true, false, not, nat_le, if◌then◌else◌, List, [], ◌∷◌, ◌++◌, length, map, slice_get, Option, None, Some, codes, decimal}
 use Rattle.std.specs.List.{list_any, flat_map, position}
 use Rattle.std.specs.Option.{is_some}
@@ -33,11 +33,11 @@ entry_below path entry =
     if is_dots entry.0 then []
     else record { path = path_below path entry.0; inode = entry.1; is_plain = is_plain entry.0 } ∷ []
 
--- the entries of a directory at a path, by its map, in ascending order of their names (this project)
+-- the entries in the map of a directory at a path, in ascending order of their names (this project)
 unfoldable pub pending_below : List ℕ → Names → List Pending
 pending_below path names = flat_map (entry_below path) names
 
--- the entries of directory d at a path (this project)
+-- the entries of directory `d` at a path (this project)
 abbrev pub entries_below : Geometry → List ℕ → List ℕ → ℕ → List Pending
 entries_below geometry image path d = pending_below path (names_of (slots geometry image d))
 
@@ -49,16 +49,16 @@ is_first roles.Special = true
 is_first (roles.Link k) = false
 is_first (roles.Left reason) = false
 
--- the position of the first member for i-number i, if there is one (this project)
+-- the position of the first member for i-number `i`, if there is one (this project)
 unfoldable pub first_met : ℕ → List MetEntry → Option ℕ
 first_met i founds = position (λ (found : MetEntry). found.inode == i && is_first found.role) founds
 
--- the role of another name for the member at position k, whose path may be too long for a link (POSIX, ustar interchange format)
+-- the role of another name for the member at position `k`, whose path may be too long for a link (POSIX, ustar interchange format)
 abbrev pub link_role : ℕ → Option MetEntry → Role
 link_role k None = roles.Left reasons.LongLink
 link_role k (Some first) = if nat_le (length first.path) 100 then roles.Link k else roles.Left reasons.LongLink
 
--- the role of a file, for whose i-number there may already be a member at some position (this project)
+-- the role of a file; if there is already a member for its i-number, its position is given (this project)
 abbrev pub role_after : Role → Option ℕ → List MetEntry → Role
 role_after role None founds = role
 role_after role (Some k) founds = link_role k (slice_get founds k)
@@ -71,7 +71,7 @@ has_room path = is_some (split path)
 abbrev pub file_role : Role → Option ℕ → List MetEntry → List ℕ → Role
 file_role role first founds path = if has_room path then role_after role first founds else roles.Left reasons.LongPath
 
--- the role of an entry for an i-node of some kind (this project)
+-- the role of an entry for an i-node of this kind (this project)
 abbrev pub node_role : ℕ → Option ℕ → List MetEntry → Pending → Kind → Role
 node_role start first founds entry kinds.Free = roles.Left reasons.NoNode
 node_role start first founds entry kinds.Odd = roles.Left reasons.NoNode
@@ -81,14 +81,14 @@ node_role start first founds entry kinds.Directory =
     if (entry.inode == start) || is_some first then roles.Left reasons.Again
     else if has_room (entry.path ++ 47 ∷ []) then roles.Directory else roles.Left reasons.LongPath
 
--- the role of an entry met below directory `start`, for whose i-number there may already be a member at some position (this project)
+-- the role of an entry visited below directory `start`; if there is already a member for its i-number, its position is given (this project)
 abbrev pub role_of : Geometry → List ℕ → ℕ → Option ℕ → List MetEntry → Pending → Role
 role_of geometry image start first founds entry =
     if entry.is_plain
     then (if is_number geometry entry.inode then node_role start first founds entry (kind_at geometry image entry.inode) else roles.Left reasons.NoNode)
     else roles.Left reasons.BadName
 
--- an entry as it is met, after others (this project)
+-- an entry, after other entries were visited (this project)
 abbrev pub met : Geometry → List ℕ → ℕ → List MetEntry → Pending → MetEntry
 met geometry image start founds entry = record {
   path = entry.path;
@@ -96,7 +96,7 @@ met geometry image start founds entry = record {
   role = role_of geometry image start (first_met entry.inode founds) founds entry;
 }
 
--- the entries below an entry that was met: those of a directory (this project)
+-- the entries below a visited entry: those in it if its role is that of a directory, else none (this project)
 abbrev pub below : Geometry → List ℕ → MetEntry → Role → List Pending
 below geometry image found roles.Directory = entries_below geometry image found.path found.inode
 below geometry image found roles.File = []
@@ -104,7 +104,8 @@ below geometry image found roles.Special = []
 below geometry image found (roles.Link k) = []
 below geometry image found (roles.Left reason) = []
 
--- the walk continues, after the entries met so far, over the pending ones, and ends with everything met: each entry in turn, and those below it before the next (this project)
+-- after the entries visited so far, the walk continues over the pending entries and ends with all visited entries: it visits each entry in order, and
+-- the entries below it before the next (this project)
 pub data Walks (geometry : Geometry) (image : List ℕ) (start : ℕ) : List MetEntry → List Pending → List MetEntry → Type 0 where
   ends : (founds : List MetEntry) → Walks geometry image start founds [] founds
   meets : (founds : List MetEntry) (entry : Pending) (rest : List Pending) (all : List MetEntry)
@@ -112,7 +113,7 @@ pub data Walks (geometry : Geometry) (image : List ℕ) (start : ℕ) : List Met
       (below geometry image (met geometry image start founds entry) (met geometry image start founds entry).role ++ rest) all
       → Walks geometry image start founds (entry ∷ rest) all
 
--- everything that is met below directory `start` (this project)
+-- everything that a walk visits below directory `start` (this project)
 abbrev pub IsWalk : Geometry → List ℕ → ℕ → List MetEntry → Type 0
 IsWalk geometry image start all = Walks geometry image start [] (entries_below geometry image [] start) all
 
@@ -120,24 +121,25 @@ IsWalk geometry image start all = Walks geometry image start [] (entries_below g
 abbrev pub lost_found : List ℕ
 lost_found = codes "lost+found"
 
--- the entry of a lost i-node: its number is its name in that directory (fsck)
+-- the entry of a lost i-node: its name in that directory is its number (fsck)
 unfoldable pub lost_entry : ℕ → Pending
 lost_entry i = record { path = codes "lost+found/#" ++ decimal i; inode = i; is_plain = true }
 
--- true if something that was met has this path (this project)
+-- true if a visited entry has this path (this project)
 abbrev pub has_path : List ℕ → List MetEntry → Bool
 has_path path founds = list_any (λ (found : MetEntry). bytes_eq found.path path) founds
 
--- the directory of lost i-nodes, as one that was met below directory `start`, whose i-node it has (this project)
+-- the entry of the directory of lost i-nodes, visited below directory `start`, with the i-node of `start` (this project)
 abbrev pub lost_directory : ℕ → MetEntry
 lost_directory start = record { path = lost_found; inode = start; role = roles.Directory }
 
--- the entries met below directory `start`, and the directory of lost i-nodes if there are any and nothing has its path (this project)
+-- the entries visited below directory `start`, followed by the directory of lost i-nodes if there are any and no entry has its path (this project)
 abbrev pub with_lost_directory : ℕ → List ℕ → List MetEntry → List MetEntry
 with_lost_directory start lost founds =
     if not (is_nil lost) && not (has_path lost_found founds) then founds ++ lost_directory start ∷ [] else founds
 
--- everything met below directory `start`, and then these i-nodes, each by its number in a directory of their own, with everything below them (this project)
+-- everything visited below directory `start`, followed by these i-nodes, each under its number in a directory of their own, with everything below
+-- them (this project)
 abbrev pub IsLostWalk : Geometry → List ℕ → ℕ → List ℕ → List MetEntry → Type 0
 IsLostWalk geometry image start lost all =
     (founds : List MetEntry) × IsWalk geometry image start founds

@@ -1,4 +1,4 @@
-//! Laws about the members of an archive. These functions do nothing: the contract, which is proved, is the point.
+//! Laws about the members of an archive. The functions do nothing; their proved contracts are the laws.
 ghost use Rattle.vol_archive.specs.Laws.{
   MembersAreOfTree,
   MembersAscend,
@@ -15,24 +15,25 @@ pub fn members_are_of_the_tree()
     ensures { MembersAreOfTree }
 {}
 
-/// In every image, members are in ascending order of the names of their paths, so no path occurs twice.
+/// In every image, members are in ascending order of the names in their paths, so no path occurs twice.
 pub fn members_ascend()
     ensures ascending { MembersAscend }
     ensures once { MembersDiffer }
 {}
 
-/// In every image, all names in the exported directory, and in each directory that is a member, are met: as members, or with
-/// the reason why they are left out.
+/// In every image, the walk visits all names in the exported directory and in each directory that is a member. Each becomes a member, or has a reason
+/// why it is left out.
 pub fn directories_are_whole()
     ensures { DirectoriesAreWhole }
 {}
 
-/// In an image where each i-node has a kind, and each entry a name and an i-node, no entry is left out because one is missing.
+/// In an image where each i-node has a kind, and each entry has a name and an i-node, no entry is left out because it has no i-node or no proper
+/// name.
 pub fn entries_have_nodes()
     ensures { EntriesHaveNodes }
 {}
 
-/// In an image whose directories form a tree, each directory below the exported one is met once.
+/// In an image whose directories form a tree, each directory below the exported one is visited once.
 pub fn directories_are_met_once()
     ensures { DirectoriesAreMetOnce }
 {}
@@ -42,9 +43,8 @@ pub fn members_are_the_tree()
     ensures { MembersAreTheTree }
 {}
 
-/// In every image, each member is for a node of the tree: its header has the permissions, owner, group and time that a Stat of
-/// its path returns. A regular file also has its size and, after the header, the bytes that a Read returns; another name has
-/// the path of the first one.
+/// In every image, each member is for a node of the tree: its header has the permissions, owner, group and time that a Stat of its path returns. A
+/// regular file also has its size and, after the header, the bytes that a Read returns; another name has the path of the first one.
 pub fn members_have_nodes()
     ensures { MembersHaveNodes }
 {}

@@ -1,4 +1,4 @@
-//! The entries met below a directory.
+//! The entries visited below a directory.
 ghost use Rattle.std.specs.Prelude.{◌≡◌};
 ghost use Rattle.vol_archive.specs.Walk.{is_first};
 
@@ -7,15 +7,15 @@ use pdp_words::Bytes;
 /// The reason why an entry is left out of an archive.
 #[derive(Clone, Copy)]
 pub enum Reason {
-    /// Its i-number is not one of the volume, or its i-node is free or has no mode of the edition.
+    /// The entry's i-number isn't one of the volume, or its i-node is free or has a mode that isn't one of the edition's.
     NoNode,
-    /// It is for a directory that was met before, or for the directory where the walk began.
+    /// The entry is for a directory that was visited before, or for the directory where the walk began.
     Again,
-    /// Its path doesn't fit a header.
+    /// The entry's path doesn't fit a header.
     LongPath,
-    /// It is another name of a member whose path is longer than 100 bytes, too long for a link.
+    /// The entry is another name of a member whose path is longer than 100 bytes, too long for a link.
     LongLink,
-    /// Its name is empty or has a slash.
+    /// The entry's name is empty or has a slash.
     BadName,
 }
 
@@ -28,7 +28,7 @@ pub enum Role {
     Directory,
     /// A special file.
     Special,
-    /// Another name of the file that was met at this position, counted from 0.
+    /// Another name of the file that was visited at this position, counted from 0.
     Link(usize),
     /// Not a member.
     Left(Reason),
@@ -43,13 +43,13 @@ impl Role {
     }
 }
 
-/// An entry that was met below a directory.
+/// An entry that was visited below a directory.
 #[derive(Drop)]
 pub struct MetEntry {
-    /// Its path, from that directory on, without a slash at its front or its end.
+    /// The entry's path below that directory, without a slash at the start or the end.
     pub path: Bytes,
-    /// Its i-number.
+    /// The entry's i-number.
     pub inode: u16,
-    /// Its role in an archive.
+    /// The entry's role in an archive.
     pub role: Role,
 }

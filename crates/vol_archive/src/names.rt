@@ -10,8 +10,8 @@ use std::alloc::{AllocError, Global};
 use vol_dir::{is_dots, list_names};
 use vol_layout::Geometry;
 
-/// Returns the entries of the directory `dir` at a path, except `.` and `..`, in ascending order of their names. If several
-/// entries have the same name, the first counts.
+/// Returns the entries of the directory `dir` at a path, except `.` and `..`, in ascending order of their names. If several entries have the same
+/// name, the first one counts.
 ///
 /// Costs a pass over the slots, and sorting the names.
 pub(crate) fn entries_below(
@@ -79,7 +79,7 @@ fn path_below(alloc: Global, path: &[u8], name: &[u8]) -> Result<Bytes, AllocErr
 /// The path of the directory of lost i-nodes.
 pub(crate) const LOST_FOUND: &[u8] = b"lost+found";
 
-/// The entries of lost i-nodes.
+/// Returns the entries of lost i-nodes.
 pub(crate) fn lost_entries(alloc: Global, lost: &[u16]) -> Result<Vec<Pending>, AllocError>
     ensures { IfOk result (λ entries. entries.items ≡ map lost_entry lost.now) }
 {
@@ -90,7 +90,7 @@ pub(crate) fn lost_entries(alloc: Global, lost: &[u16]) -> Result<Vec<Pending>, 
     Ok(entries)
 }
 
-/// The entry of a lost i-node.
+/// Returns the entry of a lost i-node.
 #[tactic(auto, unfolding(crate::specs::Walk::lost_entry))]
 fn lost_entry(alloc: Global, inode: u16) -> Result<Pending, AllocError>
     ensures { IfOk result (λ entry. entry ≡ lost_entry inode) }
@@ -103,7 +103,7 @@ fn lost_entry(alloc: Global, inode: u16) -> Result<Pending, AllocError>
     })
 }
 
-/// Returns the path of a directory as its member has it, with a slash at the end.
+/// Returns the path in a directory's member, with a slash at the end.
 pub(crate) fn slashed(alloc: Global, path: &[u8]) -> Result<Vec<u8>, AllocError>
     ensures { IfOk result (λ slashed. slashed.items ≡ path.now ++ 47 ∷ []) }
 {

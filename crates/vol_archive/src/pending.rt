@@ -1,13 +1,13 @@
-//! Entries that a walk has yet to meet.
+//! Entries that a walk hasn't visited yet.
 use pdp_words::Bytes;
 
-/// An entry that a walk has yet to meet.
+/// An entry that a walk hasn't visited yet.
 #[derive(Drop)]
 pub(crate) struct Pending {
-    /// Its path, without a slash at its front or its end.
+    /// The entry's path, without a slash at the start or the end.
     pub(crate) path: Bytes,
-    /// Its i-number.
+    /// The entry's i-number.
     pub(crate) inode: u16,
-    /// True if its name is not empty and has no slash.
+    /// True if the entry's name is not empty and has no slash.
     pub(crate) is_plain: bool,
 }

@@ -19,18 +19,16 @@ use vol_layout::{Geometry, Kind};
 /// The state of a walk.
 #[derive(Drop)]
 struct Walked {
-    /// Everything that was met, in its order.
+    /// All visited entries, in the order of the walk.
     founds: Vec<MetEntry>,
-    /// For each i-number, the place of the first entry that was met for it.
+    /// For each i-number, the position of the first member for it, if there is one.
     firsts: Vec<Option<usize>>,
 }
 
-/// Returns everything that is met below directory `start`: each of its entries except `.` and `..`, in ascending order of their
-/// names, and after a directory the entries below it. Entries that can't be members are met and returned too, but nothing below
-/// them.
+/// Returns all entries below directory `start`: its entries except `.` and `..`, in ascending order of their names, and after each directory the
+/// entries below it. Entries that can't be members are visited and returned too, but nothing below them.
 ///
-/// Enters each directory once, so it ends on every image. Costs sorting the names of each directory, and memory for all
-/// paths.
+/// Enters each directory once, so it ends on every image. Costs sorting the names of each directory, and memory for all paths.
 pub fn walk(
     alloc: Global,
     image: &Image,
@@ -44,11 +42,11 @@ pub fn walk(
     Ok(walk_tree(alloc, image, geometry, start)?.founds)
 }
 
-/// Returns everything that [`walk`] meets below directory `start`, then the i-nodes that no entry names, and everything below those
-/// that are directories. Their paths are `lost+found/#` and the i-number. Before the first comes a directory `lost+found` with the
-/// permissions, the owner and the times of `start`, unless an entry has that path.
+/// Returns everything that [`walk`] visits below directory `start`, then the i-nodes without a directory entry, and everything below the directories
+/// among them. Their paths are `lost+found/#` and the i-number. Before the first comes a directory `lost+found` with the permissions, the owner and
+/// the times of `start`, unless an entry has that path.
 ///
-/// Costs what [`walk`] does.
+/// Costs as much as [`walk`].
 pub fn walk_lost(
     alloc: Global,
     image: &Image,
@@ -150,7 +148,7 @@ fn push_lost_directory(
     Ok(Walked { founds, firsts })
 }
 
-/// True if something that was met has this path.
+/// True if a visited entry has this path.
 fn has_path(founds: &[MetEntry], path: &[u8]) -> bool
     ensures { result ≡ has_path path.now founds.now }
 {
@@ -165,7 +163,7 @@ fn no_marks(alloc: Global, count: usize) -> Result<Vec<Option<usize>>, AllocErro
     vec![in alloc; None; count]
 }
 
-/// Pushes the entries of directory `dir` at a path on the pending ones, the first of them last.
+/// Pushes the entries of directory `dir` at a path onto the pending entries in reverse order, so that the first is on top.
 fn push_below(
     alloc: Global,
     image: &Image,
@@ -181,7 +179,7 @@ fn push_below(
     push_all(entries_below(alloc, image, geometry, path, dir)?, pending)
 }
 
-/// Puts entries on top of those that are pending, the first of them last.
+/// Pushes entries onto the pending ones in reverse order, so that the first is on top.
 fn push_all(entries: Vec<Pending>, pending: &mut Vec<Pending>) -> Result<(), AllocError>
     ensures { OnOk result (reverse pending.new.items ≡ entries.items ++ reverse pending.old.items) }
 {
@@ -192,7 +190,7 @@ fn push_all(entries: Vec<Pending>, pending: &mut Vec<Pending>) -> Result<(), All
     Ok(())
 }
 
-/// Marks the position where an i-number was first met, if it was first met at `place` with this role.
+/// Sets the mark of an i-number to position `place`, unless it is already set or links can't refer to a member with this role.
 fn mark_first(firsts: &mut Vec<Option<usize>>, inode: u16, role: Role, place: usize)
     ensures { (geometry : Geometry) (founds : List MetEntry) (found : MetEntry) → AreFirsts geometry firsts.old.items founds → place ≡ length founds
         → found.inode ≡ inode → found.role ≡ role → AreFirsts geometry firsts.new.items (founds ++ found ∷ []) }
@@ -203,7 +201,7 @@ fn mark_first(firsts: &mut Vec<Option<usize>>, inode: u16, role: Role, place: us
     }
 }
 
-/// Returns the role of an entry that is met below directory `start`, after others.
+/// Returns the role of an entry visited below directory `start`, after the others.
 fn role_of(
     alloc: Global,
     image: &Image,
@@ -229,7 +227,7 @@ fn role_of(
     node_role(alloc, start, first, founds, entry, kind(image, geometry, i))
 }
 
-/// Returns the role of an entry for an i-node of some kind.
+/// Returns the role of an entry for an i-node of this kind.
 fn node_role(
     alloc: Global,
     start: u16,
@@ -253,7 +251,7 @@ fn node_role(
     }
 }
 
-/// Returns the role of a directory at a path that wasn't met before. The path of its member ends in a slash.
+/// Returns the role of a directory at a path that wasn't visited before. The path of its member ends in a slash.
 fn directory_role(alloc: Global, path: &[u8]) -> Result<Role, AllocError>
     ensures { IfOk result (λ role. role ≡ (if has_room (path.now ++ 47 ∷ []) then Role.Directory else Role.Left Reason.LongPath)) }
 {
@@ -265,7 +263,7 @@ fn directory_role(alloc: Global, path: &[u8]) -> Result<Role, AllocError>
     }
 }
 
-/// Returns the role of a file at a path; an earlier member, at position `first`, may have its i-number.
+/// Returns the role of a file at a path; an earlier member with the same i-number, if any, is at position `first`.
 fn file_role(role: Role, first: Option<usize>, founds: &[MetEntry], path: &[u8]) -> Role
     ensures exact { result ≡ file_role role first founds.now path.now }
     ensures file { result ≡ Role.Directory → role ≡ Role.Directory }
@@ -290,7 +288,7 @@ fn link_role(k: usize, founds: &[MetEntry]) -> Role
     }
 }
 
-/// Returns the role of another name for the member at position `k`, whose path is given.
+/// Returns the role of another name for the member at position `k`, given that member's path.
 fn named_link(k: usize, path: &[u8]) -> Role
     ensures exact { result ≡ (if nat_le (length path.now) 100 then Role.Link k else Role.Left Reason.LongLink) }
     ensures link { result ≡ Role.Directory → ⊥ }

@@ -1,4 +1,4 @@
--- The effects of a change of a regular file's bytes, stated for the tree.
+-- The effects of changing a regular file's bytes, stated for the state.
 use Rattle.std.proofs.Common.{◌≡◌, ◌≢◌, ◌∙◌, sym, ap, ℕ, ◌≤◌, ◌++◌, drop, List, length}
 use Rattle.vol_layout.specs.BlockPointers.{IsFile}
 use Rattle.vol_layout.specs.BlockMaps.{has_places}
@@ -22,7 +22,7 @@ use Rattle.vol_change.proofs.OneNode.{only_file}
 use Rattle.vol_change.proofs.UnusedBytes.{file_unused}
 use Rattle.vol_change.proofs.WrittenStates.{IsKind, written_state, writes_keeps, written_kind, truncated_state, truncates_keeps, truncated_kind}
 
--- everything else that such a change keeps: the graph, and the unused bytes
+-- the other effects of changing a regular file's bytes: the graph and the unused bytes of i-nodes don't change
 pub record Beside (geometry : Geometry) (old new : List ℕ) (i : ℕ) : Type 0 where
   pub kind : kind_at geometry new i ≢ kinds.Free
   pub graph : IsSameGraph (graph_of geometry old) (graph_of geometry new)
@@ -38,7 +38,7 @@ beside geometry old new i rules is alone kind = record {
       (λ free. let clash : kinds.Regular ≡ kinds.Free = sym is.kind ∙ free in cc) is.first first last;
 }
 
--- a write
+-- a write changes the state as `write_body` does, and takes the blocks that it needs from the front of the free list
 pub body_written : (geometry : Geometry) (old new : List ℕ) (i offset : ℕ) (text : List ℕ) (rules : Rules3To8 geometry old)
     → IsKind geometry old i kinds.Regular → ((blocks : List ℕ) → Rules3To7With geometry old blocks → Writes geometry old new i offset text blocks)
     → Changed geometry old new (IsOther i) (write_body i offset text (state geometry old))
@@ -60,7 +60,7 @@ written_beside geometry old new i offset text rules is each =
     let file : IsFile geometry old i = record { first = is.first; last = is.last; kind = ap has_places is.kind } in
     beside geometry old new i rules is writes.alone (written_kind geometry old new rules.blocks i offset text file writes)
 
--- a truncation
+-- a truncation changes the state as `cut_body` does, and puts the blocks that the file loses on the free list
 pub body_cut : (geometry : Geometry) (old new : List ℕ) (i size : ℕ) (rules : Rules3To8 geometry old) → IsKind geometry old i kinds.Regular
     → ((blocks : List ℕ) → Rules3To7With geometry old blocks → Truncates geometry old new i size blocks)
     → Changed geometry old new (IsOther i) (cut_body i size (state geometry old)) (λ blocks. blocks_past geometry old i size ++ blocks)

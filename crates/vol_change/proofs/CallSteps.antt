@@ -1,4 +1,4 @@
--- The image after the steps of a call: before the time of the volume is set, and after.
+-- The image after the steps of a call, before and after the volume's time is set.
 use Rattle.std.proofs.Common.{◌≡◌, ◌∙◌, ap, refl, ℕ, ◌≤◌, List, [], ◌∷◌, length, arith}
 use Rattle.vol_layout.specs.declared.geometry.Geometry.{Geometry}
 use Rattle.vol_dir.specs.Tree.{State, state}
@@ -16,14 +16,14 @@ use Rattle.vol_change.proofs.WholeLaws.{keeps_then}
 use Rattle.vol_change.specs.Ready.{Rules1To12, Becomes}
 use Rattle.vol_change.proofs.ReadyLaws.{ready_whole, ready_graph, ready_from}
 
--- after some steps of a call the geometry fits, rules 3 to 8 hold, the bytes that no call changes are as they were, and the
--- graph is sound; and the steps have made a state
+-- after some steps of a call the geometry fits, rules 3 to 8 hold, the bytes that no call changes are unchanged, the graph is sound, and the image
+-- reads as the state `made`
 pub record HasMade (geometry : Geometry) (old new : List ℕ) (made : State) : Type 0 where
   pub keeps : Keeps geometry old new
   pub sound : IsGraphSound (graph_of geometry new) (root_of geometry) geometry.last_inode
   pub makes : state geometry new ≡ made
 
--- no step
+-- before the first step, the image reads as its own state
 pub no_step : (geometry : Geometry) (image : List ℕ) → Rules1To12 geometry image → HasMade geometry image image (state geometry image)
 no_step geometry image ready = record {
   keeps = record {
@@ -34,7 +34,7 @@ no_step geometry image ready = record {
   makes = refl;
 }
 
--- one more step that leaves the graph
+-- a further step that doesn't change the graph edits the state
 pub step_more : {Kept : ℕ → Type 0} {listed : List ℕ → List ℕ} (geometry : Geometry) (old mid new : List ℕ) (made : State) (edit : State → State)
     → HasMade geometry old mid made → Changed geometry mid new Kept (edit (state geometry mid)) listed
     → IsSameGraph (graph_of geometry mid) (graph_of geometry new) → HasMade geometry old new (edit made)
@@ -45,7 +45,7 @@ step_more geometry old mid new made edit before step graph = record {
   makes = step.makes ∙ ap edit before.makes;
 }
 
--- the steps, and then the time
+-- after the steps and a write of the time, the image is sound and reads as the state with the new time
 pub changed : {Kept : ℕ → Type 0} {listed : List ℕ → List ℕ} (geometry : Geometry) (old mid new : List ℕ) (made : State) (now : ℕ)
     → Rules1To12 geometry old → HasMade geometry old mid made → Changed geometry mid new Kept (at_time now (state geometry mid)) listed
     → IsSameGraph (graph_of geometry mid) (graph_of geometry new) → Becomes geometry old new (at_time now made)
@@ -53,7 +53,7 @@ changed geometry old mid new made now ready before time graph =
     let after = step_more geometry old mid new made (λ state. at_time now state) before time graph in
     record { ready = ready_from geometry old new ready after.keeps after.sound; around = after.keeps.around; makes = after.makes }
 
--- a write of some bytes, and the times of the node
+-- writing some bytes and then setting the node's times makes the state `after_write`
 pub made_write : {Kept Also : ℕ → Type 0} {listed after : List ℕ → List ℕ} (geometry : Geometry) (old mid new bytes : List ℕ) (i offset now : ℕ)
     → Rules1To12 geometry old → 1 ≤ length bytes → Changed geometry old mid Kept (write_body i offset bytes (state geometry old)) listed
     → IsSameGraph (graph_of geometry old) (graph_of geometry mid)
@@ -64,13 +64,13 @@ made_write geometry old mid new bytes i offset now ready some written same timed
     let both = step_more geometry old mid new _ (λ state. change_node i (modified now) state) first timed still in
     record { keeps = both.keeps; sound = both.sound; makes = both.makes ∙ timed_write (state geometry old) now offset i bytes some }
 
--- a write of no bytes
+-- writing no bytes makes the state `after_write`
 pub made_none : (geometry : Geometry) (image bytes : List ℕ) (i offset now : ℕ) → Rules1To12 geometry image → length bytes ≡ 0
     → HasMade geometry image image (after_write (state geometry image) now offset bytes i)
 made_none geometry image [] i offset now ready none = no_step geometry image ready
 made_none geometry image (byte ∷ bytes) i offset now ready none = absurd (omega arith)
 
--- a truncation, and the times of the node
+-- truncating a file and then setting the node's times makes the state `after_truncate`
 pub made_truncate : {Kept Also : ℕ → Type 0} {listed after : List ℕ → List ℕ} (geometry : Geometry) (old mid new : List ℕ) (i size now : ℕ)
     → Rules1To12 geometry old → Changed geometry old mid Kept (cut_body i size (state geometry old)) listed
     → IsSameGraph (graph_of geometry old) (graph_of geometry mid)

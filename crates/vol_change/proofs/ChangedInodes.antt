@@ -1,4 +1,4 @@
--- An i-node with another link count, times, owner or permission bits that the edition can store.
+-- An i-node with its link count, times, owner or permission bits changed can still be stored.
 use Rattle.std.proofs.Common.{◌≡◌, ◌∙◌, sym, ap, subst, ℕ, ◌+◌, ◌/◌, ◌<◌, ◌≤◌, List, slice_index, Option, None, Some, IsSome, arith}
 use Rattle.std.specs.Option.{option_map}
 use Rattle.vol_layout.specs.Edition.{constants}
@@ -14,12 +14,12 @@ use Rattle.vol_layout.proofs.InodeLaws.{inode_mode}
 use Rattle.pdp_words.specs.Words.{SameOutside}
 use Rattle.vol_change.proofs.ListWrites.{PutsInode}
 
--- a time replaced by another is still a time
+-- a replaced time is still there
 stamped_some : (changed : Option ℕ) (now : ℕ) → IsSome changed → IsSome (option_map (λ _. now) changed)
 stamped_some None now some = some
 stamped_some (Some time) now some = some
 
--- a storable i-node is storable with another owner too, if the edition has the owner's numbers
+-- a storable i-node stays storable with another owner, if the owner's numbers are within the edition's limit
 pub storable_owned : (edition : Edition) (was node : Inode) (now : ℕ) → IsStorable edition was → node.links ≤ (constants edition).link_limit
     → node.uid ≤ (constants edition).id_limit → node.gid ≤ (constants edition).id_limit → node.size ≡ was.size → node.addresses ≡ was.addresses
     → node.changed ≡ option_map (λ _. now) was.changed → IsStorable edition node
@@ -31,7 +31,7 @@ storable_owned V6 was node now (in_v6 links uid gid size low high none) limit u 
 storable_owned V7 was node now (in_v7 all some) limit u g s a c =
     in_v7 (λ k. subst (λ xs. slice_index xs k < 16777216) (sym a) (all k)) (subst IsSome (sym c) (stamped_some was.changed now some))
 
--- a storable i-node is storable with another link count, times and mode
+-- a storable i-node stays storable with another link count, other times and another mode
 pub storable_changed : (edition : Edition) (was node : Inode) (now : ℕ) → IsStorable edition was → node.links ≤ (constants edition).link_limit
     → node.uid ≡ was.uid → node.gid ≡ was.gid → node.size ≡ was.size → node.addresses ≡ was.addresses
     → node.changed ≡ option_map (λ _. now) was.changed → IsStorable edition node
@@ -43,7 +43,7 @@ storable_changed V6 was node now (in_v6 links uid gid size low high none) limit 
 storable_changed V7 was node now (in_v7 all some) limit u g s a c =
     in_v7 (λ k. subst (λ xs. slice_index xs k < 16777216) (sym a) (all k)) (subst IsSome (sym c) (stamped_some was.changed now some))
 
--- an i-node was read and written back, with at most its permission bits changed, and with its size and addresses
+-- writing an i-node back with its size, its addresses and a mode in which only permission bits changed is a `PutsInode`
 pub puts_permitted : (geometry : Geometry) (old new : List ℕ) (i : ℕ) (was node : Inode) → 1 ≤ i → i ≤ geometry.last_inode
     → was ≡ inode_of geometry.edition old i → inode_of geometry.edition new i ≡ node
     → SameOutside old new (inode_place geometry.edition i) (inode_place geometry.edition i + (constants geometry.edition).inode_bytes)
@@ -63,7 +63,7 @@ puts_permitted geometry old new i was node first last read put same k t s a =
       addresses = a ∙ ap (λ n. n.addresses) read;
     }
 
--- and if it was put with the mode that it had
+-- writing an i-node back with its size, its addresses and its mode is a `PutsInode`
 pub puts_changed : (geometry : Geometry) (old new : List ℕ) (i : ℕ) (was node : Inode) → 1 ≤ i → i ≤ geometry.last_inode
     → was ≡ inode_of geometry.edition old i → inode_of geometry.edition new i ≡ node
     → SameOutside old new (inode_place geometry.edition i) (inode_place geometry.edition i + (constants geometry.edition).inode_bytes)

@@ -21,7 +21,7 @@ use Rattle.vol_change.proofs.FreeCounts.{blocks_length, form_shape}
 use Rattle.vol_change.proofs.States.{shape_here}
 use Rattle.vol_change.proofs.WrittenStates.{IsKind}
 
--- the count of the items that pass a test
+-- the number of items in a filtered list that pass another test is the number of items that pass both tests
 count_passed : (names t : List ℕ → Bool) (ps : List (List ℕ)) → count_by names (filter t ps) ≡ count_by (λ p. names p && t p) ps
 count_passed names t [] = refl
 count_passed names t (p ∷ ps) =
@@ -45,7 +45,7 @@ count_passed names t (p ∷ ps) =
           omega (arith, rest, both, here, none)
     ]
 
--- a truncation frees as many blocks as places of the shape no longer name one
+-- `cut_count` is the number of blocks that a truncation frees
 pub cut_number : (geometry : Geometry) (image : List ℕ) (i size : ℕ) → IsKind geometry image i kinds.Regular
     → cut_count geometry.edition (shapes geometry image i) size ≡ length (blocks_past geometry image i size)
 unfolding blocks_past blocks_at
@@ -61,13 +61,13 @@ cut_number geometry image i size is =
     ∙ (sym (count_passed names lost (places form))
     ∙ sym (blocks_length geometry image i (filter lost (places form))))))
 
--- one of two tests passes
+-- an item that passes the first test either passes the second or not
 one_of : (name t : Bool) → cond (name && t) 1 0 + cond (name && not t) 1 0 ≡ cond name 1 0
 one_of true true = refl
 one_of true false = refl
 one_of false t = refl
 
--- the items that pass two tests, and those that pass only the first
+-- the number of items that pass the first test is the number that also pass the second plus the number that don't
 count_split : (names t : List ℕ → Bool) (ps : List (List ℕ))
     → count_by (λ p. names p && t p) ps + count_by (λ p. names p && not (t p)) ps ≡ count_by names ps
 count_split names t [] = refl
@@ -81,7 +81,7 @@ count_split names t (p ∷ ps) =
     let here : cond (names p && t p) 1 0 + cond (names p && not (t p)) 1 0 ≡ cond (names p) 1 0 = one_of (names p) (t p) in
     omega (arith, rest, both, first, all, here)
 
--- a file keeps the others
+-- a truncated file has as many blocks as it had, minus `cut_count`
 pub cut_leaves : (edition : Edition) (shape : Shape) (size : ℕ)
     → place_count edition (cut_shape edition shape size) + cut_count edition shape size ≡ place_count edition shape
 unfolding place_count

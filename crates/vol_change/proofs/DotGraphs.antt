@@ -1,4 +1,4 @@
--- The graph in which a directory is made.
+-- The graph after a directory is created.
 use Rattle.std.proofs.Common.{◌≡◌, ◌≢◌, ◌∙◌, sym, ap, subst, ℕ, ◌+◌, ◌%◌, List, None, Some, arith}
 use Rattle.vol_dir.specs.Names.{dot, dot_dot}
 use Rattle.vol_judge.specs.Graph.{Graph}
@@ -9,7 +9,7 @@ use Rattle.vol_change.specs.Beside.{StaysBeside}
 use Rattle.vol_change.specs.NodeGraphs.{AddsNode, SetsLinks}
 use Rattle.vol_change.specs.Dots.{AddsDots}
 
--- changes of one directory's entries, one after the other, keep the rest of the graph
+-- two changes of one directory's entries leave the rest of the graph unchanged
 beside_then : (old mid new : Graph) (d : ℕ) → StaysBeside old mid d → StaysBeside mid new d → StaysBeside old new d
 beside_then old mid new d a b = record {
   kind = λ x. b.kind x ∙ a.kind x;
@@ -18,7 +18,7 @@ beside_then old mid new d a b = record {
   entry = λ x s other. b.entry x s other ∙ a.entry x s other;
 }
 
--- two entries of a directory that has no others
+-- adding two entries to an empty directory, in slots 0 and 1, is `AddsDots`
 pub dots_added : (old mid new : Graph) (i d s t : ℕ) → ChangesSlot old mid i s None (Some (dot, i)) → StaysBeside old mid i
     → ChangesSlot mid new i t None (Some (dot_dot, d)) → StaysBeside mid new i → s ≡ 0 → t ≡ 1 → new.size i ≡ 32
     → ((k : ℕ) → old.entry i k ≡ None) → AddsDots old new i d
@@ -33,14 +33,14 @@ dots_added old mid new i d s t first beside second later is_s is_t size none =
       rest = λ k from. two.beside k (λ e. omega arith) ∙ (one.beside k (λ e. omega arith) ∙ none k);
     }
 
--- until its parent has one more link, all other link counts stay
+-- until the parent gets its link, no link count other than that of the new directory changes
 pub dotted_links : (old bare named dotted : Graph) (made d x : ℕ) → AddsNode old bare made kinds.Directory 2 → StaysBeside bare named d
     → AddsDots named dotted made d → x ≢ made → old.kind x ≢ kinds.Free → dotted.links x ≡ old.links x
 dotted_links old bare named dotted made d x adds beside dots other used =
     dots.beside.links x (λ free. used (sym (adds.others.kind x other) ∙ (sym (beside.kind x) ∙ free)))
     ∙ (beside.links x (λ free. used (sym (adds.others.kind x other) ∙ free)) ∙ adds.kept x other used)
 
--- a directory is made: its i-node, its name in d, its own entries, and one more link for d
+-- a new i-node, its name in d, its own two entries, and one more link for d are together `AddsDirectory`
 pub directory_added : (old bare named dotted new : Graph) (made d s : ℕ) (name : List ℕ) → made ≢ d
     → AddsNode old bare made kinds.Directory 2 → ChangesSlot bare named d s None (Some (name, made)) → StaysBeside bare named d
     → AddsDots named dotted made d → SetsLinks dotted new d (dotted.links d + 1) → AddsDirectory old new made d s name

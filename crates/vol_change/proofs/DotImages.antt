@@ -1,4 +1,4 @@
--- The image of a directory whose entries, size and places the state gives.
+-- The image of a directory with given entries, size and shape.
 use Rattle.std.proofs.Common.{◌≡◌, ◌∙◌, sym, ap, subst, ℕ, ◌*◌, ◌≤◌, true≢false, List, [], length, None, arith}
 use Rattle.std.specs.Option.{unwrap_or}
 use Rattle.vol_layout.specs.declared.geometry.Geometry.{Geometry}
@@ -28,35 +28,35 @@ use Rattle.vol_change.proofs.DotRooms.{second_need}
 use Rattle.vol_change.proofs.DotStates.{entry_held, dots_shape}
 use Rattle.vol_change.proofs.ReadyLaws.{directory_kept}
 
--- a directory is of that kind
+-- a directory is an i-number of the volume whose kind is directory
 is_kind : (geometry : Geometry) (image : List ℕ) (i : ℕ) → IsDirectory geometry image i → IsKind geometry image i kinds.Directory
 is_kind geometry image i is = record { first = is.first; last = is.last; kind = is.kind }
 
--- the map of its slots
+-- the names in its slots are those given by the state
 pub names_held : (geometry : Geometry) (image : List ℕ) (i size : ℕ) (names : Names) (shape : Shape) → IsDirectory geometry image i
     → HoldsNames (state geometry image) i names size shape → names_of (slots geometry image i) ≡ names
 names_held geometry image i size names shape is has =
     sym (names_is geometry image i (is_kind geometry image i is))
     ∙ (ap (λ node. unwrap_or (map_of (unwrap_or node no_node).content) []) has.is ∙ ap (λ content. unwrap_or (map_of content) []) has.content)
 
--- its size
+-- its size is the one given by the state
 pub size_held : (geometry : Geometry) (image : List ℕ) (i size : ℕ) (names : Names) (shape : Shape) → IsDirectory geometry image i
     → HoldsNames (state geometry image) i names size shape → size_of geometry image i ≡ size
 size_held geometry image i size names shape is has =
     sym (size_is geometry image i (is_kind geometry image i is)) ∙ (ap (λ node. (unwrap_or node no_node).size) has.is ∙ has.size)
 
--- the names in its slots
+-- its slots are those given by its shape
 slots_held : (geometry : Geometry) (image : List ℕ) (i size : ℕ) (names : Names) (shape : Shape) → IsDirectory geometry image i
     → HoldsNames (state geometry image) i names size shape → names_in (slots geometry image i) ≡ shape.slots
 slots_held geometry image i size names shape is has =
     ap (λ (x : Shape). x.slots) (sym (shape_is geometry image i (is_kind geometry image i is)) ∙ has.shape)
 
--- the slot for `.`
+-- the slot for `.` is slot 0
 pub first_slot : (geometry : Geometry) (image : List ℕ) (i : ℕ) → IsDirectory geometry image i → HoldsNames (state geometry image) i [] 0 no_shape
     → new_slot (names_in (slots geometry image i)) ≡ 0
 first_slot geometry image i is has = ap new_slot (slots_held geometry image i 0 [] no_shape is has)
 
--- if a directory has no bytes, it has no entries
+-- a directory of size 0 has no entries
 pub no_entry : (geometry : Geometry) (image : List ℕ) (i s : ℕ) (shape : Shape) → IsDirectory geometry image i
     → HoldsNames (state geometry image) i [] 0 shape → entry_at geometry image i s ≡ None
 no_entry geometry image i s shape is has =
@@ -64,7 +64,7 @@ no_entry geometry image i s shape is has =
     sym (ap (λ k. entry_by k geometry image i s) (directory_to geometry image i is))
     ∙ (graph_within geometry image).slots i s (omega (arith, size))
 
--- and no name twice
+-- a directory of size 0 has no name twice
 pub none_twice : (geometry : Geometry) (image : List ℕ) (i : ℕ) (shape : Shape) → IsDirectory geometry image i
     → HoldsNames (state geometry image) i [] 0 shape → HasNamesOnce geometry image i
 none_twice geometry image i shape is has = record {
@@ -72,21 +72,21 @@ none_twice geometry image i shape is has = record {
       absurd (true≢false (sym first ∙ ap (holds name) (no_entry geometry image i s shape is has)));
 }
 
--- `.` takes a block
+-- the entry `.` needs one block
 pub dot_need : (geometry : Geometry) (image : List ℕ) (i : ℕ) → HoldsNames (state geometry image) i [] 0 no_shape
     → entry_need (state geometry image) i ≡ 1
 unfolding tree
 dot_need geometry image i has =
     ap (λ (x : Shape). need_in geometry.edition x (entry_blocks x)) has.shape ∙ first_in geometry.edition
 
--- and then `..` none
+-- the entry `..` needs no further block
 pub dot_dot_need : (geometry : Geometry) (image : List ℕ) (i : ℕ) (names : Names)
     → HoldsNames (state geometry image) i names 16 (shape_with_entry geometry.edition no_shape dot) → entry_need (state geometry image) i ≡ 0
 unfolding tree
 dot_dot_need geometry image i names has =
     ap (λ (x : Shape). need_in geometry.edition x (entry_blocks x)) has.shape ∙ second_need geometry.edition
 
--- there is room for `.`
+-- if a block is free, there is room for `.`
 pub dot_room : (geometry : Geometry) (image : List ℕ) (i : ℕ) → Rules3To8 geometry image → IsDirectory geometry image i
     → HoldsNames (state geometry image) i [] 0 no_shape → 1 ≤ free_count geometry (shapes geometry image)
     → (free : List ℕ) → Rules3To7With geometry image free → need geometry image i (16 * new_slot (names_in (slots geometry image i))) 16 ≤ length free
@@ -95,7 +95,7 @@ dot_room geometry image i rules is has room =
     let one = dot_need geometry image i has in
     entry_room geometry image i rules (is_kind geometry image i is) (omega (arith, one, room))
 
--- and then for `..`
+-- there is always room for `..` after `.`
 pub dot_dot_room : (geometry : Geometry) (image : List ℕ) (i : ℕ) (names : Names) → Rules3To8 geometry image → IsDirectory geometry image i
     → HoldsNames (state geometry image) i names 16 (shape_with_entry geometry.edition no_shape dot)
     → (free : List ℕ) → Rules3To7With geometry image free → need geometry image i (16 * new_slot (names_in (slots geometry image i))) 16 ≤ length free
@@ -104,7 +104,7 @@ dot_dot_room geometry image i names rules is has =
     let none = dot_dot_need geometry image i names has in
     entry_room geometry image i rules (is_kind geometry image i is) (omega (arith, none))
 
--- a directory without entries gets `.`
+-- adding `.` to an empty directory gives a directory with only `.`
 dot_held : (geometry : Geometry) (old new : List ℕ) (i : ℕ) → HoldsNames (state geometry old) i [] 0 no_shape
     → state geometry new ≡ put_entry i dot i (state geometry old)
     → HoldsNames (state geometry new) i (insert [] dot i) 16 (shape_with_entry geometry.edition no_shape dot)
@@ -113,7 +113,7 @@ dot_held geometry old new i has makes =
     subst (λ s. HoldsNames s i (insert [] dot i) 16 (shape_with_entry geometry.edition no_shape dot)) (sym makes)
     (entry_held (state geometry old) i i 0 dot [] no_shape has)
 
--- and then `..`
+-- adding `..` to a directory with only `.` gives a directory with both
 dot_dot_held : (geometry : Geometry) (old new : List ℕ) (i d : ℕ)
     → HoldsNames (state geometry old) i (insert [] dot i) 16 (shape_with_entry geometry.edition no_shape dot)
     → state geometry new ≡ put_entry i dot_dot d (state geometry old)
@@ -125,12 +125,12 @@ dot_dot_held geometry old new i d has makes =
     (shape_with_entry geometry.edition (shape_with_entry geometry.edition no_shape dot) dot_dot)) (sym makes)
     (entry_held (state geometry old) i d 16 dot_dot (insert [] dot i) (shape_with_entry geometry.edition no_shape dot) has)
 
--- a directory that has `.` and nothing else
+-- directory i has only the entry `.`
 pub record HasDot (geometry : Geometry) (image : List ℕ) (i : ℕ) : Type 0 where
   pub is : IsDirectory geometry image i
   pub has : HoldsNames (state geometry image) i (insert [] dot i) 16 (shape_with_entry geometry.edition no_shape dot)
 
--- after it is added, the directory has `.`
+-- after `.` is added to an empty directory, it has only `.`
 pub dot_there : (geometry : Geometry) (old new : List ℕ) (i : ℕ) → IsDirectory geometry old i → HoldsNames (state geometry old) i [] 0 no_shape
     → state geometry new ≡ put_entry i dot i (state geometry old) → StaysBeside (graph_of geometry old) (graph_of geometry new) i
     → HasDot geometry new i
@@ -139,22 +139,22 @@ dot_there geometry old new i is has makes beside = record {
   has = dot_held geometry old new i has makes;
 }
 
--- the slot for `..`
+-- the slot for `..` is slot 1
 pub second_slot : (geometry : Geometry) (image : List ℕ) (i : ℕ) → HasDot geometry image i → new_slot (names_in (slots geometry image i)) ≡ 1
 second_slot geometry image i dotted =
     ap new_slot (slots_held geometry image i 16 (insert [] dot i) (shape_with_entry geometry.edition no_shape dot) dotted.is dotted.has)
 
--- `..` doesn't exist yet
+-- the directory doesn't have `..` yet
 pub dot_dot_new : (geometry : Geometry) (image : List ℕ) (i : ℕ) → HasDot geometry image i → get (names_of (slots geometry image i)) dot_dot ≡ None
 dot_dot_new geometry image i dotted =
     ap (λ names. get names dot_dot) (names_held geometry image i 16 (insert [] dot i) (shape_with_entry geometry.edition no_shape dot) dotted.is dotted.has)
 
--- the places of a directory with both
+-- after both entries are added, the directory's shape is `new_directory_shape`
 pub dots_places : (geometry : Geometry) (old new : List ℕ) (i d : ℕ) → HasDot geometry old i
     → state geometry new ≡ put_entry i dot_dot d (state geometry old) → shapes geometry new i ≡ new_directory_shape geometry.edition
 dots_places geometry old new i d dotted makes = (dot_dot_held geometry old new i d dotted.has makes).shape ∙ dots_shape geometry.edition
 
--- the size with both
+-- after both entries are added, the directory's size is 32
 pub dots_size : (geometry : Geometry) (old new : List ℕ) (i d : ℕ) → HasDot geometry old i
     → state geometry new ≡ put_entry i dot_dot d (state geometry old) → StaysBeside (graph_of geometry old) (graph_of geometry new) i
     → size_of geometry new i ≡ 32

@@ -1,4 +1,4 @@
--- The block that the second entry of a new directory doesn't need.
+-- The second entry of a new directory needs no block.
 use Rattle.std.proofs.Common.{◌≡◌, refl, ◌&&◌, Bool, true, false, not, [], ◌∷◌, arith}
 use Rattle.std.specs.Prelude.{◌||◌}
 use Rattle.std.specs.List.{count_by}
@@ -13,12 +13,12 @@ use Rattle.vol_dir.specs.Names.{dot}
 use Rattle.vol_dir.specs.Tree.{no_shape}
 use Rattle.vol_change.specs.Shapes.{need_in, shape_with_entry}
 
--- a check that is passed
+-- a test that passed once doesn't fail the second time
 asked_twice : (t : Bool) → (t && not (false || t)) ≡ false
 asked_twice true = refl
 asked_twice false = refl
 
--- the second slot of a directory needs no block beyond the first
+-- the entry `..` needs no block beyond that of `.`
 pub second_need : (edition : Edition) → need_in edition (shape_with_entry edition no_shape dot) (0 ∷ []) ≡ 0
 unfolding need_of missing_count
 second_need V6 =

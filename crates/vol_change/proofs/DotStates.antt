@@ -1,4 +1,4 @@
--- The state of a new directory, as it gets `.` and `..`.
+-- The state of a new directory as it gets `.` and `..`.
 use Rattle.std.proofs.Common.{◌≡◌, ◌≢◌, ◌∙◌, sym, ap, refl, ℕ, ◌+◌, ◌*◌, max, List, [], ◌∷◌, Bool, true, false, Some}
 use Rattle.std.specs.Prelude.{◌||◌}
 use Rattle.vol_layout.specs.declared.edition.Edition.{Edition}
@@ -15,12 +15,12 @@ use Rattle.vol_change.specs.Shapes.{new_directory_shape, shape_with_entry}
 use Rattle.vol_change.specs.Dots.{HoldsNames}
 use Rattle.vol_change.proofs.NodeEdits.{edit, set_here, with_entry, entry_here, entry_over, entry_apart}
 
--- a check that runs twice
+-- a test repeated is the test
 twice : (t : Bool) → ((false || t) || t) ≡ (false || t)
 twice true = refl
 twice false = refl
 
--- block 0 stored once, and once more
+-- storing block 0 twice is storing it once
 pub dots_shape : (edition : Edition) → shape_with_entry edition (shape_with_entry edition no_shape dot) dot_dot ≡ new_directory_shape edition
 dots_shape V6 = λ k. record {
   names = λ p. twice (is_on_ways Small (0 ∷ []) p) k;
@@ -33,11 +33,11 @@ dots_shape V7 = λ k. record {
   slots = Some dot ∷ Some dot_dot ∷ [];
 }
 
--- a new directory, with its first entries and without
+-- the node of a new directory without entries
 abbrev pub bare_directory : Edition → Cred → ℕ → ℕ → Node
 bare_directory edition cred now perm = new_node edition cred now perm (Directory []) 2 0
 
--- the entries of a directory that was put
+-- adding `.` and `..` to the new node gives the node of a new directory
 dots_put : (state : State) (cred : Cred) (now perm made d : ℕ)
     → put_entry made dot_dot d (put_entry made dot made (edit made (Some (bare_directory state.tree.geometry.edition cred now perm)) no_shape state))
     ≡ edit made (Some (new_node state.tree.geometry.edition cred now perm (new_directory made d) 2 32)) (new_directory_shape state.tree.geometry.edition) state
@@ -50,7 +50,7 @@ dots_put state cred now perm made d =
     ∙ (entry_over state made d dot_dot first shape
     ∙ ap (λ (x : Shape). edit made (Some (with_entry dot_dot d shape first)) x state) (dots_shape edition))
 
--- the entry in the parent may be added first or last
+-- the entry in the parent may be added before or after `.` and `..`
 pub dots_made : (state : State) (cred : Cred) (now perm made d : ℕ) (name : List ℕ) → made ≢ d
     → put_entry made dot_dot d (put_entry made dot made
     (add_entry now d name made (edit made (Some (bare_directory state.tree.geometry.edition cred now perm)) no_shape state)))
@@ -64,7 +64,7 @@ dots_made state cred now perm made d name apart =
     ∙ (dots_put named cred now perm made d
     ∙ sym (entry_apart state now d made made name (Some (new_node edition cred now perm (new_directory made d) 2 32)) (new_directory_shape edition) apart))
 
--- a directory that was put without slots has none, also once its parent has its entry
+-- a new directory is empty, even after its parent has an entry for it
 pub bare_empty : (state : State) (cred : Cred) (edition : Edition) (now perm made d : ℕ) (name : List ℕ) → made ≢ d
     → HoldsNames (add_entry now d name made (edit made (Some (bare_directory edition cred now perm)) no_shape state)) made [] 0 no_shape
 bare_empty state cred edition now perm made d name apart =
@@ -79,7 +79,7 @@ bare_empty state cred edition now perm made d name apart =
       shape = ap (λ (x : State). x.shapes made) same ∙ set_here named.shapes made no_shape;
     }
 
--- a directory after one more entry is added
+-- after another entry is added, the directory has this entry, and its size and shape are the new ones
 pub entry_held : (state : State) (i k size : ℕ) (name : List ℕ) (names : Names) (shape : Shape) → HoldsNames state i names size shape
     → HoldsNames (put_entry i name k state) i (insert names name k) (max size (16 * new_slot shape.slots + 16))
     (shape_with_entry state.tree.geometry.edition shape name)

@@ -1,4 +1,4 @@
--- The node that a name in a directory of a sound image names.
+-- The node that an entry in a directory of a sound image is for.
 use Rattle.std.proofs.Common.{◌≡◌, ◌≢◌, ◌∙◌, sym, ap, ℕ, ◌<◌, ◌≤◌, not, true, false, true≢false, List, length, None, Some, inl, inr, arith}
 use Rattle.std.specs.List.{list_any}
 use Rattle.std.specs.Option.{IsSome, is_some, option_map}
@@ -25,18 +25,18 @@ use Rattle.vol_change.proofs.EntryStates.{names_is, named_slot}
 use Rattle.vol_change.specs.Ready.{Rules1To12}
 use Rattle.vol_change.proofs.ReadyLaws.{ready_whole, ready_graph}
 
--- a name that the tree has in a directory is one of the names in its slots
+-- an i-number that the tree gives for a name is given by the directory's slots
 pub name_found : (geometry : Geometry) (image name : List ℕ) (d i : ℕ) → IsDirectory geometry image d
     → get (names_at (tree geometry image) d) name ≡ Some i → get (names_of (slots geometry image d)) name ≡ Some i
 name_found geometry image name d i is named =
     ap (λ names. get names name) (sym (names_is geometry image d (record { first = is.first; last = is.last; kind = is.kind }))) ∙ named
 
--- so some slot has the name
+-- a slot of the directory has the name
 pub name_there : (geometry : Geometry) (image name : List ℕ) (d i : ℕ) → IsDirectory geometry image d
     → get (names_at (tree geometry image) d) name ≡ Some i → IsSome (get (names_of (slots geometry image d)) name)
 name_there geometry image name d i is named = ap is_some (name_found geometry image name d i is named)
 
--- its entry is in the slot of the name
+-- the entry is in the slot of the name
 pub named_entry : (geometry : Geometry) (image name : List ℕ) (d i : ℕ) → IsDirectory geometry image d
     → get (names_at (tree geometry image) d) name ≡ Some i
     → (graph_of geometry image).entry d (slot_named name (slots geometry image d)) ≡ Some (name, i)
@@ -46,7 +46,7 @@ named_entry geometry image name d i is named =
     entry_to geometry image name d (slot_named name (slots geometry image d)) i
     (record { directory = is; entry = holds.entry ∙ ap (option_map (λ (j : ℕ). (name, j))) found })
 
--- a node that a directory of a sound image names is in use
+-- a node that an entry in a directory of a sound image is for is in use
 pub named_used : (geometry : Geometry) (image name : List ℕ) (d i : ℕ) → Rules1To12 geometry image → IsDirectory geometry image d
     → get (names_at (tree geometry image) d) name ≡ Some i → IsInUse geometry image i
 named_used geometry image name d i ready is named =
@@ -54,7 +54,7 @@ named_used geometry image name d i ready is named =
     let inside = used_from geometry image i parts.1 in
     record { first = parts.0; last = inside.1; allocated = inside.2 }
 
--- an i-number in use is one of the volume
+-- an i-number in use is at least 1
 pub used_first : (geometry : Geometry) (image : List ℕ) (i : ℕ) → IsInUse geometry image i → 1 ≤ i
 used_first geometry image i used = let root = root_first geometry.edition in omega (arith, root, used.first)
 
@@ -66,7 +66,7 @@ file_above geometry image i ready used other = elim (cases_eq i (constants geome
   | inr apart ↦ let first = used.first in omega arith
 ]
 
--- a directory with a name that is neither `.` nor `..` has an i-number above the root's
+-- an i-number with a name other than `.` and `..` is above the root's
 pub directory_above : (geometry : Geometry) (image name : List ℕ) (d i : ℕ) → Rules1To12 geometry image → IsDirectory geometry image d
     → get (names_at (tree geometry image) d) name ≡ Some i → is_dots name ≡ false → (constants geometry.edition).root < i
 directory_above geometry image name d i ready is named plain =
@@ -79,7 +79,7 @@ directory_above geometry image name d i ready is named plain =
       | inr apart ↦ let first = used.first in omega arith
     ]
 
--- a directory of a sound image has a link
+-- a directory of a sound image has at least one link
 pub directory_linked : (geometry : Geometry) (image : List ℕ) (d : ℕ) → Rules1To12 geometry image → IsDirectory geometry image d
     → 1 ≤ (inode_of geometry.edition image d).links
 directory_linked geometry image d ready is =
@@ -88,7 +88,7 @@ directory_linked geometry image d ready is =
     let self = sound.itself d kind in
     sound.linked d (sound.allocated d self.0 d dot self.1).0 (not_free ((graph_of geometry image).kind d) kind)
 
--- if a search of the map for names other than `.` and `..` finds none, no slot has another
+-- if the list of slots holds no name other than `.` and `..`, no single slot does
 other_none : (geometry : Geometry) (image : List ℕ) (i s : ℕ) → list_any holds_other (slots geometry image i) ≡ false
     → holds_other (entry_at geometry image i s) ≡ false
 other_none geometry image i s none = elim (cases_lt s (length (slots geometry image i))) [
@@ -102,7 +102,7 @@ other_none geometry image i s none = elim (cases_lt s (length (slots geometry im
       ap holds_other (entry_at_past geometry image i s (omega (arith, past, len)))
 ]
 
--- so all its entries are these
+-- if the map has only `.` and `..`, all entries are `.` or `..`
 pub dots_only : (geometry : Geometry) (image word : List ℕ) (i t j : ℕ) → IsDirectory geometry image i
     → list_any (λ (entry : List ℕ × ℕ). not (is_dots entry.0)) (names_at (tree geometry image) i) ≡ false
     → (graph_of geometry image).entry i t ≡ Some (word, j) → is_dots word ≡ true

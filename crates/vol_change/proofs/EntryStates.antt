@@ -40,23 +40,23 @@ use Rattle.vol_change.proofs.ShapePlaces.{need_places}
 use Rattle.vol_change.proofs.WrittenShapes.{stores_blocks, grown_need, filled_none}
 use Rattle.vol_change.proofs.WrittenStates.{IsKind, node_holds, node_edited}
 
--- a slot lies in one block
+-- the bytes of a slot are all in one block
 pub slot_block : (s : ℕ) → touched (16 * s) 16 ≡ s / 32 ∷ []
 slot_block s =
     let count : (16 * s + 15) / 512 - 16 * s / 512 + 1 ≡ 1 = omega arith in
     let first : 16 * s / 512 ≡ s / 32 = omega arith in
     ap (range_with_len (16 * s / 512)) count ∙ ap (λ n. range_with_len n 1) first
 
--- the shape of a directory
+-- the shape of i-number d, read as a directory
 abbrev directory_shape : Geometry → List ℕ → ℕ → Shape
 directory_shape geometry image d = shape_of geometry image d kinds.Directory
 
--- the shape that a directory reads as
+-- the state's shape of a directory is `directory_shape`
 pub shape_is : (geometry : Geometry) (image : List ℕ) (d : ℕ) → IsKind geometry image d kinds.Directory
     → shapes geometry image d ≡ directory_shape geometry image d
 shape_is geometry image d is = shape_here geometry image d is.first is.last ∙ ap (shape_of geometry image d) is.kind
 
--- the size that a directory reads as
+-- the state's size of a directory is the size of its i-node
 pub size_is : (geometry : Geometry) (image : List ℕ) (d : ℕ) → IsKind geometry image d kinds.Directory
     → (node_at (tree geometry image) d).size ≡ size_of geometry image d
 size_is geometry image d is =
@@ -65,7 +65,7 @@ size_is geometry image d is =
     ∙ node_holds geometry image d (Directory (names_of (slots geometry image d))) (ap (content_of geometry image d) is.kind))
     ∙ inode_size geometry.edition image (inode_place geometry.edition d)
 
--- the map that a directory reads as
+-- the state's map of a directory has the names in its slots
 pub names_is : (geometry : Geometry) (image : List ℕ) (d : ℕ) → IsKind geometry image d kinds.Directory
     → names_at (tree geometry image) d ≡ names_of (slots geometry image d)
 names_is geometry image d is =
@@ -73,7 +73,7 @@ names_is geometry image d is =
     (node_inside geometry image d is.first is.last
     ∙ node_holds geometry image d (Directory (names_of (slots geometry image d))) (ap (content_of geometry image d) is.kind))
 
--- the size of a directory with one more entry
+-- writing a new entry makes the directory as large as `size_with_entry`
 size_after : (geometry : Geometry) (old new free name : List ℕ) (d i : ℕ) → IsKind geometry old d kinds.Directory → length name ≤ 14
     → Writes geometry old new d (16 * new_slot (names_in (slots geometry old d))) (slot_bytes name i) free
     → size_of geometry new d ≡ size_with_entry (state geometry old) d
@@ -86,7 +86,7 @@ size_after geometry old new free name d i is short writes =
     ∙ (ap (λ n. max (size_of geometry old d) (16 * s + n)) (length-slot_bytes name i short)
     ∙ sym (ap (λ n. max n (16 * new_slot (shapes geometry old d).slots + 16)) node ∙ ap (max (size_of geometry old d)) slot))
 
--- the state after a new entry
+-- writing a new entry to its slot changes the state as `put_entry` does
 pub added_state : (geometry : Geometry) (old new free name : List ℕ) (d i : ℕ) → IsKind geometry old d kinds.Directory → Fits geometry old
     → length name ≤ 14 → Writes geometry old new d (16 * new_slot (names_in (slots geometry old d))) (slot_bytes name i) free
     → names_of (slots geometry new d) ≡ insert (names_of (slots geometry old d)) name i
@@ -119,7 +119,7 @@ added_state geometry old new free name d i is fits short writes names list =
     ∙ (ap (λ list. record (stored_shape edition (directory_shape geometry old d) list) { slots = put }) blocks
     ∙ sym (ap (λ shape. shape_with_entry edition shape name) (shape_is geometry old d is)))))
 
--- the state after an entry is removed
+-- clearing the i-number of a slot changes the state as `drop_entry` does
 pub removed_state : (geometry : Geometry) (old new free name : List ℕ) (d s : ℕ) → IsKind geometry old d kinds.Directory → Fits geometry old
     → Writes geometry old new d (16 * s) (0 ∷ 0 ∷ []) free → need geometry old d (16 * s) 2 ≡ 0 → size_of geometry new d ≡ size_of geometry old d
     → names_of (slots geometry new d) ≡ remove (names_of (slots geometry old d)) name
@@ -154,13 +154,13 @@ removed_state geometry old new free name d s is fits writes none size names list
     (ap (shape_of geometry new d) kind
     ∙ (left ∙ sym (ap (λ shape. shape_without_entry shape name) (shape_is geometry old d is))))
 
--- a slot that holds a name has an entry of it
+-- a slot that holds a name has an entry with this name and the slot's i-number
 held_entry : (name : List ℕ) (slot : Option (List ℕ × ℕ)) → holds name slot ≡ true
     → slot ≡ option_map (λ (i : ℕ). (name, i)) (option_map (λ (entry : List ℕ × ℕ). entry.1) slot)
 held_entry name None held = refl
 held_entry name (Some entry) held = let same = sym (same_bytes name entry.0 held) in λ k. Some (same k, entry.1)
 
--- if directories are sound, none has a name twice
+-- if rule 9 holds, no directory has a name twice
 pub names_once : (geometry : Geometry) (image : List ℕ) (d : ℕ) → HasEntries geometry image → IsDirectory geometry image d → HasNamesOnce geometry image d
 names_once geometry image d entries is = record {
   once = λ name s t first second.
@@ -169,13 +169,13 @@ names_once geometry image d entries is = record {
       entries.once d s t one.0 two.0 name (record { directory = is; entry = one.1 }) (record { directory = is; entry = two.1 });
 }
 
--- the slot that holds a name, which exists
+-- slot s of directory d holds the name, and has the entry for its i-number
 pub record HoldsName (geometry : Geometry) (image name : List ℕ) (d s : ℕ) : Type 0 where
   pub within : s < slot_count geometry image d
   pub held : holds name (entry_at geometry image d s) ≡ true
   pub entry : entry_at geometry image d s ≡ option_map (λ (i : ℕ). (name, i)) (get (names_of (slots geometry image d)) name)
 
--- it is the first that does
+-- if directory d has the name, slot `slot_named` holds it
 pub named_slot : (geometry : Geometry) (image name : List ℕ) (d : ℕ) → is_some (get (names_of (slots geometry image d)) name) ≡ true
     → HoldsName geometry image name d (slot_named name (slots geometry image d))
 named_slot geometry image name d there =

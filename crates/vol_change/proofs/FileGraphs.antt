@@ -1,4 +1,4 @@
--- The graph of directories after a change of one file.
+-- The graph of directories after one file is changed.
 use Rattle.std.proofs.Common.{◌≡◌, ◌≢◌, ◌∙◌, sym, ap, ℕ, ◌≤◌, List, inl, inr, Bool, true, false, true≢false}
 use Rattle.std.proofs.lemmas.Bool.{cases_eq}
 use Rattle.vol_layout.specs.Geometry.{Fits}
@@ -19,7 +19,7 @@ use Rattle.vol_change.specs.Beside.{StaysBeside}
 use Rattle.vol_change.specs.Alone.{KeepsContent}
 use Rattle.vol_change.proofs.OneNode.{alone_inode, entry_stays, only_file}
 
--- the kinds stay if file i's does
+-- if the kind of file i doesn't change, no kind does
 kinds_stay : (geometry : Geometry) (old new : List ℕ) (i x : ℕ) → Fits geometry old → ChangesFileAlone geometry old new i → 1 ≤ i
     → kind_at geometry new i ≡ kind_at geometry old i → 1 ≤ x → x ≤ geometry.last_inode → kind_at geometry new x ≡ kind_at geometry old x
 kinds_stay geometry old new i x fits alone one kind first last = elim (cases_eq x i) [
@@ -27,12 +27,12 @@ kinds_stay geometry old new i x fits alone one kind first last = elim (cases_eq 
   | inr other ↦ ap (kind_of geometry.edition) (mode_kept geometry old new x (alone_inode geometry old new i x fits alone one first last other))
 ]
 
--- the content of the other directories stays
+-- the content of each directory other than i doesn't change
 content_stays : (geometry : Geometry) (old new : List ℕ) (i x : ℕ) → Fits geometry old → ChangesFileAlone geometry old new i → 1 ≤ i
     → x ≢ i → IsDirectory geometry old x → KeepsContent geometry old new x
 content_stays geometry old new i x fits alone one other is = ((only_file geometry old new i fits alone one).others x is.first is.last other).content
 
--- true if a kind is that of regular files
+-- true for the kind of regular files
 abbrev is_regular : Kind → Bool
 is_regular kinds.Regular = true
 is_regular kinds.Directory = false
@@ -46,7 +46,7 @@ not_regular geometry image i x regular is same =
     let both : kinds.Regular ≡ kinds.Directory = sym regular ∙ (ap (kind_at geometry image) (sym same) ∙ is.kind) in
     true≢false (ap is_regular both)
 
--- the graph stays if a regular file changes
+-- if a regular file is changed and keeps its kind, the graph doesn't change
 pub regular_graph : (geometry : Geometry) (old new : List ℕ) (i : ℕ) → Fits geometry old → ChangesFileAlone geometry old new i → 1 ≤ i
     → kind_at geometry old i ≡ kinds.Regular → kind_at geometry new i ≡ kind_at geometry old i
     → IsSameGraph (graph_of geometry old) (graph_of geometry new)
@@ -56,7 +56,7 @@ regular_graph geometry old new i fits alone one regular kind =
     (λ x is. (content_stays geometry old new i x fits alone one (not_regular geometry old i x regular is) is).size)
     (λ x s is. entry_stays geometry old new x s (content_stays geometry old new i x fits alone one (not_regular geometry old i x regular is) is) is)
 
--- a change of directory d keeps everything besides its entries
+-- if directory d is changed and keeps its kind, only its size and entries change in the graph
 pub directory_beside : (geometry : Geometry) (old new : List ℕ) (d : ℕ) → Fits geometry old → ChangesFileAlone geometry old new d → 1 ≤ d
     → kind_at geometry new d ≡ kind_at geometry old d → StaysBeside (graph_of geometry old) (graph_of geometry new) d
 directory_beside geometry old new d fits alone one kind = record {

@@ -1,4 +1,4 @@
--- The i-node of a file after a change of the file.
+-- The i-node of a file after the file is changed.
 use Rattle.std.proofs.Common.{◌≡◌, ◌∙◌, sym, ap, refl, ℕ, zero, suc, ◌&&◌, not, ◌+◌, ◌*◌, ◌/◌, ◌%◌, ◌<◌, ◌≤◌, ◌==◌, Bool, if◌then◌else◌, nat_lt, List, get_or, true, false, true≢false, arith, inl, inr}
 use Rattle.std.specs.Prelude.{◌||◌, Some}
 use Rattle.std.proofs.lemmas.Bool.{cases_Bool}
@@ -17,13 +17,13 @@ use Rattle.vol_file.specs.Changes.{is_kept_byte, truncated_mode}
 use Rattle.vol_file.specs.Shape.{grows_large, fit_form}
 use Rattle.vol_dir.specs.Tree.{Content, node_with}
 
--- the bits of its mode that a change of a file keeps: all except the large flag
+-- the mode bits that don't change: the kind and the permissions; the large flag is `large`
 pub record KeepsMode (edition : Edition) (old new : ℕ) (large : Bool) : Type 0 where
   pub kind : kind_of edition new ≡ kind_of edition old
   pub permissions : new % 4096 ≡ old % 4096
   pub flag : is_large edition new ≡ large
 
--- the kind of an allocated mode of the sixth edition
+-- the kind of an allocated i-node of the sixth edition depends on its type bits
 kind_high : (mode : ℕ) → 32768 ≤ mode → kind_of V6 mode ≡ kind_of_type_v6 (mode / 8192 % 4)
 unfolding kind_of
 kind_high mode h =
@@ -32,18 +32,18 @@ kind_high mode h =
     ap (λ t. if t then kinds.Free else if nat_lt mode 32768 then kinds.Odd else kind_of_type_v6 (mode / 8192 % 4)) some
     ∙ ap (λ t. if t then kinds.Odd else kind_of_type_v6 (mode / 8192 % 4)) high
 
--- the large flag as a number
+-- the bit of the large flag
 abbrev flag_bit : Bool → ℕ
 flag_bit large = if large then 4096 else 0
 
--- the flag is one bit of the mode
+-- setting the large flag sets it
 flag_is : (mode : ℕ) (large : Bool) → is_large V6 (with_large mode large) ≡ large
 flag_is mode true =
     let odd : (mode % 4096 + mode / 8192 * 8192 + 4096) / 4096 % 2 ≡ 1 = omega arith in ap (λ n. n == 1) odd
 flag_is mode false =
     let even : (mode % 4096 + mode / 8192 * 8192 + 0) / 4096 % 2 ≡ 0 = omega arith in ap (λ n. n == 1) even
 
--- a mode with the flag put
+-- setting the large flag changes neither the kind nor the permissions
 with_flag : (mode : ℕ) (large : Bool) → 32768 ≤ mode → KeepsMode V6 mode (with_large mode large) large
 with_flag mode large h =
     let most : flag_bit large ≤ 4096 = (elim large as (λ b. flag_bit b ≤ 4096) [ true ↦ omega arith | false ↦ omega arith ]) in
@@ -56,13 +56,13 @@ with_flag mode large h =
       flag = flag_is mode large;
     }
 
--- a small file made large
+-- making a small file large changes neither its kind nor its permissions
 grown : (edition : Edition) (mode : ℕ) (blocks : List ℕ) → has_places (kind_of edition mode) ≡ true → grows_large (form_of edition mode) blocks ≡ true
     → KeepsMode edition mode (with_large mode true) true
 grown V6 mode blocks file grows = with_flag mode true (file_allocated mode file)
 grown V7 mode blocks file grows = absurd (true≢false (sym (sym (ap (λ f. grows_large f blocks) (form_file V7 mode file)) ∙ grows)))
 
--- a mode after blocks are touched
+-- storing blocks changes neither the kind nor the permissions in a file's mode
 pub touched_mode : (edition : Edition) (mode : ℕ) (blocks : List ℕ) → has_places (kind_of edition mode) ≡ true
     → KeepsMode edition mode (if grows_large (form_of edition mode) blocks then with_large mode true else mode)
     (is_large edition mode || grows_large (form_of edition mode) blocks)
@@ -77,17 +77,17 @@ touched_mode edition mode blocks file = elim (cases_Bool (grows_large (form_of e
       rw stays (record { kind = refl; permissions = refl; flag = sym or })
 ]
 
--- nothing passes both
+-- no value passes a test together with one that always fails
 pub none_passes : (t : Bool) → (t && false) ≡ false
 none_passes true = refl
 none_passes false = refl
 
--- a test together with one that always passes
+-- a test together with one that always passes is the test
 pub all_passes : (t : Bool) → (t && true) ≡ t
 all_passes true = refl
 all_passes false = refl
 
--- a mode after a truncation
+-- a truncation changes neither the kind nor the permissions in a file's mode
 pub cut_mode : (edition : Edition) (size mode : ℕ) → has_places (kind_of edition mode) ≡ true
     → KeepsMode edition mode (truncated_mode edition size mode) (is_large edition mode && not (size == 0))
 cut_mode V6 zero mode file =
@@ -98,18 +98,18 @@ cut_mode V6 (suc n) mode file =
     rw some (record { kind = refl; permissions = refl; flag = sym (all_passes (is_large V6 mode)) })
 cut_mode V7 size mode file = record { kind = refl; permissions = refl; flag = refl }
 
--- a file's block map, by its flag
+-- the block map of a file depends only on its large flag
 pub form_flag : (edition : Edition) (old new : ℕ) (large : Bool) → has_places (kind_of edition old) ≡ true → KeepsMode edition old new large
     → has_places (kind_of edition new) ≡ true
 form_flag edition old new large file keeps = ap has_places keeps.kind ∙ file
 
--- the block map by the flag
+-- updating the large flag gives the block map `fit_form`
 touched_flag : (large : Bool) (blocks : List ℕ)
     → (if large || grows_large (if large then Large else Small) blocks then Large else Small) ≡ fit_form (if large then Large else Small) blocks
 touched_flag true blocks = refl
 touched_flag false blocks = refl
 
--- the block map of a file after blocks are touched
+-- after blocks are stored, the block map of a file is `fit_form`
 pub touched_form : (edition : Edition) (old new : ℕ) (blocks : List ℕ) → has_places (kind_of edition old) ≡ true
     → KeepsMode edition old new (is_large edition old || grows_large (form_of edition old) blocks)
     → form_of edition new ≡ fit_form (form_of edition old) blocks
@@ -125,7 +125,7 @@ touched_form V7 old new blocks file keeps =
     let before = form_file V7 old file in
     form_file V7 new after ∙ sym (ap (λ f. fit_form f blocks) before)
 
--- the fields of its i-node that a change of a file keeps: all except the size, the addresses and the large flag
+-- the fields of an i-node that don't change with the file: all except the size, the addresses and the large flag
 pub record KeepsFields (old new : Inode) : Type 0 where
   pub permissions : new.mode.bits % 4096 ≡ old.mode.bits % 4096
   pub links : new.links ≡ old.links
@@ -135,11 +135,11 @@ pub record KeepsFields (old new : Inode) : Type 0 where
   pub modified : new.modified ≡ old.modified
   pub changed : new.changed ≡ old.changed
 
--- the bytes of an i-node that such a change leaves
+-- the bytes of an i-node that don't change with the file
 abbrev KeepsBytes : Edition → List ℕ → List ℕ → ℕ → Type 0
 KeepsBytes edition old new at = (r : ℕ) → is_kept_byte edition r ≡ true → get_or new (at + r) 0 ≡ get_or old (at + r) 0
 
--- a run of such bytes
+-- a sequence of these bytes doesn't change
 kept_run : (edition : Edition) (old new : List ℕ) (at from size : ℕ) → KeepsBytes edition old new at
     → ((r : ℕ) → from ≤ r → r < from + size → is_kept_byte edition r ≡ true) → IsCopy old new (at + from) (at + from) size
 kept_run edition old new at from size keeps run = record {
@@ -148,7 +148,7 @@ kept_run edition old new at from size keeps run = record {
       ap (λ x. get_or new x 0) e ∙ (keeps (from + r) (run (from + r) (omega arith) (omega arith)) ∙ ap (λ x. get_or old x 0) (sym e));
 }
 
--- in the sixth edition
+-- the fields of an i-node of the sixth edition don't change
 fields_v6 : (old new : List ℕ) (at : ℕ) → KeepsBytes V6 old new at → word new at % 4096 ≡ word old at % 4096
     → KeepsFields (inode_at V6 old at) (inode_at V6 new at)
 unfolding inode_at
@@ -164,7 +164,7 @@ fields_v6 old new at keeps mode =
       changed = refl;
     }
 
--- in the seventh edition
+-- the fields of an i-node of the seventh edition don't change
 fields_v7 : (old new : List ℕ) (at : ℕ) → KeepsBytes V7 old new at → word new at % 4096 ≡ word old at % 4096
     → KeepsFields (inode_at V7 old at) (inode_at V7 new at)
 unfolding inode_at
@@ -181,13 +181,13 @@ fields_v7 old new at keeps mode =
       changed = ap Some (long_copied old new (at + 52) (at + 52) 12 8 (at + 60) (at + 60) times (omega arith) (omega arith) (omega arith));
     }
 
--- the fields of an i-node
+-- the fields of an i-node don't change
 pub fields_kept : (edition : Edition) (old new : List ℕ) (at : ℕ) → KeepsBytes edition old new at → word new at % 4096 ≡ word old at % 4096
     → KeepsFields (inode_at edition old at) (inode_at edition new at)
 fields_kept V6 old new at keeps mode = fields_v6 old new at keeps mode
 fields_kept V7 old new at keeps mode = fields_v7 old new at keeps mode
 
--- a node whose content and size change
+-- if the other fields of an i-node don't change, its node changes only in content and size
 pub node_changed : (old new : Inode) (before after : Content) (size : ℕ) → KeepsFields old new → new.size ≡ size
     → node_with new after ≡ record (node_with old before) { content = after; size = size }
 node_changed old new before after size fields is = λ k. record {

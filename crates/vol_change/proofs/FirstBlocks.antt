@@ -1,4 +1,4 @@
--- The block of a new directory: the first of the free list.
+-- The block of a new directory is the first of the free list.
 use Rattle.std.proofs.Common.{◌≡◌, ◌≢◌, ◌∙◌, sym, ap, subst, refl, ℕ, ◌+◌, ◌&&◌, ◌≤◌, not, true, false, List, [], ◌∷◌, length, drop, slice_index, get_or, inl, inr, arith}
 use Rattle.std.specs.Prelude.{◌||◌}
 use Rattle.std.specs.Str.{bytes_eq}
@@ -29,17 +29,17 @@ use Rattle.vol_dir.proofs.PlaceTests.{place_test}
 use Rattle.vol_change.proofs.FreeLists.{one_list}
 use Rattle.vol_change.proofs.WrittenStates.{IsKind}
 
--- the path of the first block is its place alone
+-- the path to the first logical block is the position (0)
 on_first : (p : List ℕ) → ((bytes_eq p (0 ∷ []) || false) || false) ≡ true → p ≡ 0 ∷ []
 on_first p test = same_bytes p (0 ∷ []) (sym (or-false (bytes_eq p (0 ∷ []) || false) ∙ or-false (bytes_eq p (0 ∷ []))) ∙ test)
 
--- a new directory has that place alone
+-- in the shape of a new directory only position (0) has a block
 new_names : (edition : Edition) (p : List ℕ) → (new_directory_shape edition).names p ≡ true → p ≡ 0 ∷ []
 unfolding last_place
 new_names V6 p test = on_first p test
 new_names V7 p test = on_first p test
 
--- and so has its file
+-- in the image of a new directory only position (0) has an address
 first_place : (geometry : Geometry) (image : List ℕ) (i : ℕ) (p : List ℕ) → IsKind geometry image i kinds.Directory
     → shapes geometry image i ≡ new_directory_shape geometry.edition → IsPlaceOf geometry image i p → named geometry image i p ≢ 0 → p ≡ 0 ∷ []
 first_place geometry image i p is shape place some =
@@ -50,7 +50,7 @@ first_place geometry image i p is shape place some =
     ap (λ (x : Shape). x.names p) (sym (shape_is geometry image i is) ∙ shape) in
     new_names geometry.edition p (sym same ∙ here)
 
--- if one block was taken and nothing but file i has changed, whose one place is the first, that place names the block
+-- if one block was taken, only file i changed, and i is now a new directory, its address is the first block of the old free list
 pub first_taken : (geometry : Geometry) (old new : List ℕ) (i : ℕ) (blocks : List ℕ) (before : Rules3To8 geometry old) → Rules3To8 geometry new
     → FreeBecomes geometry old new (drop 1) → ((j : ℕ) → 1 ≤ j → j ≤ geometry.last_inode → j ≢ i → KeepsContent geometry old new j)
     → IsKind geometry new i kinds.Directory → shapes geometry new i ≡ new_directory_shape geometry.edition
@@ -78,13 +78,13 @@ first_taken geometry old new i (b ∷ rest) before after takes kept is shape som
           ]
     ]
 
--- the first place of a file whose content stays names the same
+-- if the content of a file doesn't change, neither does its first address
 pub first_kept : (geometry : Geometry) (old new : List ℕ) (i : ℕ) → KeepsContent geometry old new i
     → named geometry new i (0 ∷ []) ≡ named geometry old i (0 ∷ [])
 first_kept geometry old new i kept =
     sym (inode_address geometry.edition new (inode_place geometry.edition i) 0 (omega arith))
     ∙ (ap (λ xs. get_or xs 0 0) kept.addresses ∙ inode_address geometry.edition old (inode_place geometry.edition i) 0 (omega arith))
 
--- the first of the blocks that are left is the next one
+-- the first block after n blocks are dropped is block n
 pub first_left : (n : ℕ) (xs : List ℕ) → slice_index (drop n xs) 0 ≡ slice_index xs n
 first_left n xs = let same : n + 0 ≡ n = omega arith in get_or-drop n xs 0 0 ∙ ap (λ m. get_or xs m 0) same

@@ -26,7 +26,7 @@ use Rattle.vol_change.specs.Ready.{Rules1To12, entry_need, free_in}
 use Rattle.vol_change.proofs.ReadyLaws.{ready_whole}
 use Rattle.vol_change.proofs.SideStates.{free_shape}
 
--- a directory with one more entry takes the blocks that the entry needs
+-- adding an entry to a directory takes the blocks that the entry needs from the free ones
 pub entry_takes : (geometry : Geometry) (shapes : ℕ → Shape) (d : ℕ) (name : List ℕ) → 1 ≤ d → d ≤ geometry.last_inode
     → free_count geometry (set_at shapes d (shape_with_entry geometry.edition (shapes d) name))
     ≡ free_count geometry shapes - need_in geometry.edition (shapes d) (entry_blocks (shapes d))
@@ -34,16 +34,16 @@ entry_takes geometry shapes d name first last =
     free_less geometry shapes d (shape_with_entry geometry.edition (shapes d) name) (need_in geometry.edition (shapes d) (entry_blocks (shapes d))) first last
     (entry_count geometry.edition (shapes d) name)
 
--- the i-node of a free i-number
+-- an i-number for a new node has a free i-node
 free_kind : (geometry : Geometry) (image : List ℕ) (i : ℕ) → IsFreeNumber geometry image i → kind_at geometry image i ≡ kinds.Free
 free_kind geometry image i free = ap (kind_of geometry.edition) free.mode ∙ kind_zero geometry.edition
 
--- no directory has a free i-number
+-- an i-number for a new node isn't a directory
 free_other : (geometry : Geometry) (image : List ℕ) (i d : ℕ) → IsFreeNumber geometry image i → IsDirectory geometry image d → d ≢ i
 free_other geometry image i d free is =
     λ e. let same : kinds.Directory ≡ kinds.Free = sym is.kind ∙ (ap (kind_at geometry image) e ∙ free_kind geometry image i free) in cc
 
--- freeing a node frees its blocks, whatever entry was removed before
+-- freeing a node frees its blocks, even after an entry was removed
 lost_blocks : (geometry : Geometry) (image : List ℕ) (d i : ℕ) (name : List ℕ) → Rules1To12 geometry image
     → free_count geometry (set_at (set_at (shapes geometry image) d (shape_without_entry (shapes geometry image d) name)) i no_shape)
     ≡ free_count geometry (shapes geometry image) + place_count geometry.edition (shapes geometry image i)
@@ -55,7 +55,7 @@ lost_blocks geometry image d i name ready =
     (set_counts e mid old i no_shape (set_count e old d (shape_without_entry (old d) name) (gone_count e (old d) name)))
     ∙ free_gone geometry image i (ready_whole geometry image ready)
 
--- a new file takes the blocks that its entry needs
+-- creating a file takes the blocks that its entry needs
 pub free_after_create : (geometry : Geometry) (image : List ℕ) (owner : Cred) (now perm made d : ℕ) (name : List ℕ)
     → IsFreeNumber geometry image made → IsDirectory geometry image d
     → free_in (at_time now (after_create (state geometry image) owner now perm made d name)) ≡ free_in (state geometry image) - entry_need (state geometry image) d
@@ -72,7 +72,7 @@ free_after_create geometry image owner now perm made d name free is =
     omega (arith, same, need) in
     entry_takes geometry mid d name is.first is.last ∙ taken
 
--- a new directory takes those, and its own
+-- creating a directory takes the blocks that its entry needs, and one of its own
 pub free_after_mkdir : (geometry : Geometry) (image : List ℕ) (owner : Cred) (now perm made d : ℕ) (name : List ℕ)
     → IsFreeNumber geometry image made → IsDirectory geometry image d
     → free_in (at_time now (after_mkdir (state geometry image) owner now perm made d name))
@@ -92,24 +92,24 @@ free_after_mkdir geometry image owner now perm made d name free is =
     omega (arith, less, need) in
     entry_takes geometry mid d name is.first is.last ∙ taken
 
--- another name takes the blocks that its entry needs
+-- adding a name takes the blocks that its entry needs
 pub free_after_link : (geometry : Geometry) (image : List ℕ) (now i d : ℕ) (name : List ℕ) → IsDirectory geometry image d
     → free_in (at_time now (after_link (state geometry image) now i d name)) ≡ free_in (state geometry image) - entry_need (state geometry image) d
 unfolding tree
 free_after_link geometry image now i d name is = entry_takes geometry (shapes geometry image) d name is.first is.last
 
--- the i-number that a directory has for a name
+-- the state's i-number of a name is the one in the map
 pub entry_is : (state : State) (d i : ℕ) (name : List ℕ) → get (names_at state.tree d) name ≡ Some i → number_of_name state.tree d name ≡ i
 entry_is state d i name named = ap (λ o. unwrap_or o 0) named
 
--- a node whose entries changed has its links
+-- removing an entry from a node doesn't change its link count
 links_mapped : (now : ℕ) (name : List ℕ) (o : Option Node)
     → (unwrap_or (option_map (λ node. record (modified now node) { content = change_names (λ names. remove names name) node.content }) o) no_node).links
     ≡ (unwrap_or o no_node).links
 links_mapped now name None = refl
 links_mapped now name (Some node) = refl
 
--- without an entry all nodes have their links
+-- removing an entry changes no link count
 pub links_kept : (state : State) (now d i : ℕ) (name : List ℕ) → (node_at (remove_entry now d name state).tree i).links ≡ (node_at state.tree i).links
 links_kept state now d i name =
     let change : Option Node → Option Node = option_map (λ node. record (modified now node) { content = change_names (λ names. remove names name) node.content }) in
@@ -123,7 +123,7 @@ links_kept state now d i name =
           ap (λ t. (unwrap_or (if t then change (state.tree.nodes d) else state.tree.nodes i) no_node).links) differ
     ]
 
--- removing an entry leaves each file its blocks
+-- removing an entry doesn't change the number of blocks of a file
 pub count_left : (geometry : Geometry) (old mid : List ℕ) (now i d : ℕ) (name : List ℕ) → state geometry mid ≡ remove_entry now d name (state geometry old)
     → place_count geometry.edition (shapes geometry mid i) ≡ place_count geometry.edition (shapes geometry old i)
 unfolding tree
@@ -132,7 +132,7 @@ count_left geometry old mid now i d name makes =
     ap (λ (s : State). place_count geometry.edition (s.shapes i)) makes
     ∙ set_count geometry.edition was d (shape_without_entry (was d) name) (gone_count geometry.edition (was d) name) i
 
--- a node after it lost a name, by its link count
+-- after an entry is removed, releasing its node removes the node or drops a link, depending on the link count
 released : (state : State) (now i d : ℕ) (name : List ℕ) (last : Bool) → nat_le (node_at state.tree i).links 1 ≡ last
     → free_in (at_time now (release now i (remove_entry now d name state)))
     ≡ free_in (if last then remove_node i (remove_entry now d name state) else drop_link now i (remove_entry now d name state))
@@ -140,7 +140,7 @@ released state now i d name last is =
     let mid = remove_entry now d name state in
     ap (λ t. free_in (at_time now (if t then remove_node i mid else drop_link now i mid))) (ap (λ n. nat_le n 1) (links_kept state now d i name) ∙ is)
 
--- removing a name frees no blocks if its node has another
+-- removing a name frees no blocks if the node has another name
 pub free_after_unlink : (geometry : Geometry) (image : List ℕ) (now i d : ℕ) (name : List ℕ)
     → get (names_at (state geometry image).tree d) name ≡ Some i → 2 ≤ (node_at (state geometry image).tree i).links
     → free_in (at_time now (after_unlink (state geometry image) now d name)) ≡ free_in (state geometry image)
@@ -154,7 +154,7 @@ free_after_unlink geometry image now i d name named many =
     ∙ free_same geometry (set_at old d (shape_without_entry (old d) name)) old
     (set_count e old d (shape_without_entry (old d) name) (gone_count e (old d) name)))
 
--- and the blocks of the node if it was its last
+-- removing the last name of a node frees the node's blocks
 pub free_after_last_unlink : (geometry : Geometry) (image : List ℕ) (now i d : ℕ) (name : List ℕ) → Rules1To12 geometry image
     → get (names_at (state geometry image).tree d) name ≡ Some i → (node_at (state geometry image).tree i).links ≤ 1
     → free_in (at_time now (after_unlink (state geometry image) now d name))
@@ -176,7 +176,7 @@ free_after_rmdir geometry image now i d name ready named =
     ap (λ x. free_in (remove_node x (drop_link now d (remove_entry now d name (state geometry image))))) (entry_is (state geometry image) d i name named)
     ∙ lost_blocks geometry image d i name ready
 
--- bytes take the blocks that they need
+-- a write takes the blocks that it needs
 pub free_after_write : (geometry : Geometry) (image : List ℕ) (now offset i : ℕ) (bytes : List ℕ) → 1 ≤ i → i ≤ geometry.last_inode
     → free_in (at_time now (after_write (state geometry image) now offset bytes i))
     ≡ free_in (state geometry image) - need_in geometry.edition ((state geometry image).shapes i) (touched offset (length bytes))
@@ -191,7 +191,7 @@ free_after_write geometry image now offset i (byte ∷ bytes) first last =
     free_less geometry old i (stored_shape geometry.edition (old i) blocks) (need_in geometry.edition (old i) blocks) first last
     (stored_count geometry.edition (old i) blocks)
 
--- a file that loses bytes gives back the blocks that no path of the others needs
+-- a truncation frees the blocks that the remaining bytes don't need
 pub free_after_truncate : (geometry : Geometry) (image : List ℕ) (now size i : ℕ) → Rules1To12 geometry image → 1 ≤ i → i ≤ geometry.last_inode
     → free_in (at_time now (after_truncate (state geometry image) now size i))
     ≡ free_in (state geometry image) + cut_count geometry.edition ((state geometry image).shapes i) size

@@ -1,4 +1,4 @@
--- In a sound image there are as many free blocks as the shapes of its files leave.
+-- In a sound image the length of the free list is the number of free blocks computed from the shapes.
 use Rattle.std.proofs.Common.{◌≡◌, ◌≢◌, ℕ, zero, suc, ◌+◌, ◌-◌, ◌<◌, ◌≤◌, ◌==◌, ◌&&◌, Bool, not, cond, if◌then◌else◌, List, [], ◌∷◌, ◌++◌, refl, sym, ap, subst, ◌∙◌, arith, inl, inr, true, false, length, map, filter}
 use Rattle.std.specs.List.{range_with_len, sum_by, count_by}
 use Rattle.std.proofs.lemmas.Bool.{cases_eq}
@@ -70,7 +70,7 @@ in_without k j (x ∷ xs) other h = elim (cases_eq k x) [
   | inr differ ↦ subst (IsIn j) (sym (without_later k x xs differ)) (elim h [ inl same ↦ inl same | inr rest ↦ inr (in_without k j xs other rest) ])
 ]
 
--- a list that has n numbers in a row is at least so long
+-- a list that contains n consecutive numbers has at least n items
 all_within : (a n : ℕ) (xs : List ℕ) → ((k : ℕ) → a ≤ k → k < a + n → IsIn k xs) → n ≤ length xs
 all_within a zero xs all = omega arith
 all_within a (suc n) xs all =
@@ -80,7 +80,7 @@ all_within a (suc n) xs all =
     all_within (a + 1) n (without a xs) (λ k from to. in_without a k xs (λ e. omega arith) (all k (omega arith) (omega arith))) in
     omega (arith, less, rest)
 
--- as many blocks are named as places name something
+-- the number of blocks at some positions is the number of these positions whose address isn't 0
 pub blocks_length : (geometry : Geometry) (image : List ℕ) (i : ℕ) (ps : List (List ℕ)) → length (blocks_at geometry image i ps) ≡ count_by (is_named geometry image i) ps
 blocks_length geometry image i [] = ap length (at_nil geometry image i)
 blocks_length geometry image i (p ∷ ps) =
@@ -101,22 +101,22 @@ blocks_length geometry image i (p ∷ ps) =
           omega (arith, rest, step, one, here)
     ]
 
--- a test counted over the places alone gives the same as over all places of a block map
+-- counting the positions of a block map that pass a test gives the same with and without a test that they are positions
 test_places : (form : BlockMap) (names : List ℕ → Bool) → count_by (λ p. is_place form p && names p) (places form) ≡ count_by names (places form)
 test_places form names =
     count_among (λ p. is_place form p && names p) names (places form) (λ p among.
     let place : is_place form p ≡ true = place_test form p (among_places form p among) in ap (λ t. t && names p) place)
 
--- the block map of a file is that of its shape
+-- the block map given by a file's shape is the block map of its mode
 pub form_shape : (edition : Edition) (mode : ℕ) → has_places (kind_of edition mode) ≡ true → form_in edition (is_large edition mode) ≡ form_of edition mode
 form_shape V6 mode file = sym (ap (λ t. if t then file_form V6 mode else Bare) file)
 form_shape V7 mode file = sym (ap (λ t. if t then file_form V7 mode else Bare) file)
 
--- no places name nothing
+-- counting with a test that always fails gives 0
 count_false : (ps : List (List ℕ)) → count_by (λ (p : List ℕ). false) ps ≡ 0
 count_false ps = count_none (λ p. false) ps (λ p. refl)
 
--- the places of a file's shape, and of a shape without places
+-- the number of addresses of a file, counted by its shape, is the number of its blocks
 count_file : (geometry : Geometry) (image : List ℕ) (i : ℕ) → has_places (kind_at geometry image i) ≡ true
     → count_by (is_named_place geometry image i) (places (form_in geometry.edition (is_large geometry.edition (mode_of geometry image i))))
     ≡ length (blocks_of geometry image i)
@@ -134,7 +134,7 @@ count_bare geometry image i bare =
     count_false (places (form_in geometry.edition false))
     ∙ sym (ap (λ f. length (filter (λ k. not (k == 0)) (map (named geometry image i) (places f)))) form)
 
--- the places of an i-node's shape are those that name a block
+-- the number of addresses of an i-node, counted by its shape, is the number of its blocks, for each kind
 count_shape : (geometry : Geometry) (image : List ℕ) (i : ℕ) (kind : Kind) → kind_at geometry image i ≡ kind
     → place_count geometry.edition (shape_of geometry image i kind) ≡ length (blocks_of geometry image i)
 unfolding place_count blocks_of
@@ -144,7 +144,7 @@ count_shape geometry image i kinds.Free is = count_bare geometry image i (ap has
 count_shape geometry image i kinds.Special is = count_bare geometry image i (ap has_places is)
 count_shape geometry image i kinds.Odd is = count_bare geometry image i (ap has_places is)
 
--- the shape of an i-number of the volume
+-- the number of addresses of an i-number of the volume, counted by its shape, is the number of its blocks
 pub count_number : (geometry : Geometry) (image : List ℕ) (i : ℕ) → 1 ≤ i → i ≤ geometry.last_inode
     → place_count geometry.edition (shapes geometry image i) ≡ length (blocks_of geometry image i)
 unfolding shapes
@@ -161,14 +161,14 @@ count_none_bare geometry image i first last bare =
     ∙ (sym (count_bare geometry image i bare) ∙ count_false (places (form_in geometry.edition false)))
 
 module _ (geometry : Geometry) (image blocks : List ℕ) (sound : Rules3To7With geometry image blocks) where
-  -- files have as many blocks as their shapes say
+  -- the number of blocks of all files is the sum over their shapes
   used_length : length (all_blocks geometry image) ≡ sum_by (λ i. place_count geometry.edition (shapes geometry image i)) (range_with_len 1 geometry.last_inode)
   used_length =
       length-flat_map (blocks_of geometry image) (range_with_len 1 geometry.last_inode)
       ∙ sum_same (λ j. length (blocks_of geometry image j)) (λ i. place_count geometry.edition (shapes geometry image i)) 1 geometry.last_inode
       (λ j from to. sym (count_number geometry image j from (omega arith)))
 
-  -- files have no more blocks than there are data blocks
+  -- files have no more blocks than the data zone has
   pub used_within : sum_by (λ i. place_count geometry.edition (shapes geometry image i)) (range_with_len 1 geometry.last_inode)
       ≤ geometry.zone_end - geometry.zone_start
   used_within =
@@ -179,7 +179,7 @@ module _ (geometry : Geometry) (image blocks : List ℕ) (sound : Rules3To7With 
       (λ k h. zone_from geometry k (zoned k h)) (λ k h. zone_below geometry k (zoned k h)) in
       omega (arith, most, used_length)
 
-  -- in a sound image there are as many free blocks as the shapes of its files leave
+  -- in a sound image the length of the free list is the number of free blocks computed from the shapes
   pub free_blocks : IsCovered geometry image blocks → length blocks ≡ free_count geometry (shapes geometry image)
   unfolding free_count
   free_blocks covered =

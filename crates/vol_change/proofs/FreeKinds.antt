@@ -16,18 +16,18 @@ use Rattle.vol_judge.specs.Graph.{graph_of}
 use Rattle.vol_judge.specs.GraphEdits.{IsSameGraph}
 use Rattle.vol_judge.proofs.ImageGraphs.{kind_inside}
 
--- a choice of two kinds that are in use
+-- if two kinds are in use, a choice between them is in use
 either_used : (b : Bool) (x y : Kind) → x ≢ kinds.Free → y ≢ kinds.Free → (if b then x else y) ≢ kinds.Free
 either_used true x y one other = one
 either_used false x y one other = other
 
--- no type bits of the sixth edition are those of a free i-node
+-- no type bits of the sixth edition mean a free i-node
 type_v6_used : (type : ℕ) → kind_of_type_v6 type ≢ kinds.Free
 type_v6_used type =
     either_used (type == 0) kinds.Regular _ (λ e. cc)
     (either_used (type == 2) kinds.Directory kinds.Special (λ e. cc) (λ e. cc))
 
--- and none of the seventh
+-- no type bits of the seventh edition mean a free i-node
 type_v7_used : (type : ℕ) → kind_of_type_v7 type ≢ kinds.Free
 type_v7_used type =
     either_used (type == 8) kinds.Regular _ (λ e. cc)
@@ -37,7 +37,7 @@ type_v7_used type =
     (either_used (type == 3) kinds.Special _ (λ e. cc)
     (either_used (type == 7) kinds.Special kinds.Odd (λ e. cc) (λ e. cc))))))
 
--- only mode 0 is that of a free i-node
+-- only mode 0 is the mode of a free i-node
 pub free_zero : (edition : Edition) (mode : ℕ) → kind_of edition mode ≡ kinds.Free → mode ≡ 0
 unfolding kind_of
 free_zero V6 mode free = elim (cases_eq mode 0) [
@@ -54,12 +54,12 @@ free_zero V7 mode free = elim (cases_eq mode 0) [
       absurd (type_v7_used (mode / 4096) (sym (ap (λ b. if b then kinds.Free else kind_of_type_v7 (mode / 4096)) some) ∙ free))
 ]
 
--- an i-number that may be taken is free in the graph
+-- an i-number for a new node is free in the graph
 pub number_free : (geometry : Geometry) (image : List ℕ) (i : ℕ) → IsFreeNumber geometry image i → (graph_of geometry image).kind i ≡ kinds.Free
 number_free geometry image i free =
     kind_inside geometry image i (omega (arith, free.above)) free.within ∙ (ap (kind_of geometry.edition) free.mode ∙ kind_zero geometry.edition)
 
--- it may be taken wherever it is free in the graph
+-- an i-number that may be given to a new node still may be if its kind in the graph doesn't change
 pub free_kept : (geometry : Geometry) (old new : List ℕ) (i : ℕ) → (graph_of geometry new).kind i ≡ (graph_of geometry old).kind i
     → IsFreeNumber geometry old i → IsFreeNumber geometry new i
 free_kept geometry old new i same free = record {
@@ -69,14 +69,14 @@ free_kept geometry old new i same free = record {
       (sym (kind_inside geometry new i (omega (arith, free.above)) free.within) ∙ (same ∙ number_free geometry old i free));
 }
 
--- after a change that keeps the graph, the recorded number, or else the one taken, is still free
+-- if the graph doesn't change, the recorded i-number, or else the one taken, may still be given to a new node
 pub chosen_free : (geometry : Geometry) (old new : List ℕ) (recorded : Option ℕ) (taken : ℕ)
     → IsSameGraph (graph_of geometry old) (graph_of geometry new) → IfSome recorded (λ i. IsFreeNumber geometry old i)
     → IsFreeNumber geometry new taken → IsFreeNumber geometry new (unwrap_or recorded taken)
 chosen_free geometry old new None taken same free other = other
 chosen_free geometry old new (Some i) taken same free other = free_kept geometry old new i (same.kind i) free
 
--- the number that was recorded is the one that is chosen
+-- if an i-number was recorded, it is the chosen one
 pub chosen_recorded : (recorded : Option ℕ) (taken number : ℕ) → number ≡ unwrap_or recorded taken → IfSome recorded (λ i. number ≡ i)
 chosen_recorded None taken number chosen = tt
 chosen_recorded (Some i) taken number chosen = chosen

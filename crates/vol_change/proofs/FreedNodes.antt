@@ -1,4 +1,4 @@
--- Freeing a node: its file is truncated, and its i-node cleared.
+-- Freeing a node: its file is truncated, its i-node is cleared, and its i-number is put in the cache.
 use Rattle.std.proofs.Common.{◌≡◌, ◌∙◌, sym, ap, subst, ℕ, ◌+◌, ◌<◌, ◌≤◌, ◌++◌, if◌then◌else◌, true, List, [], slice_index, None, inl, inr, arith}
 use Rattle.std.specs.Option.{option_map}
 use Rattle.std.proofs.lemmas.Bool.{cases_lt, lt-ltb, le-ltb, false≢true}
@@ -32,20 +32,20 @@ use Rattle.vol_change.proofs.FreeLists.{cache_free_list, inode_free, truncated_f
 use Rattle.vol_change.proofs.NewRules.{bare_whole}
 use Rattle.vol_change.proofs.OneNode.{only_file, only_inode, only_then, cache_node, cache_only, cache_keeps, only_makes, only_graph, only_links}
 
--- a truncation keeps the rules
+-- truncating a file to zero bytes keeps rules 3 to 8
 pub truncated_whole : (geometry : Geometry) (old new : List ℕ) (i : ℕ) → (rules : Rules3To8 geometry old)
     → ((blocks : List ℕ) → Rules3To7With geometry old blocks → Truncates geometry old new i 0 blocks) → Rules3To8 geometry new
 truncated_whole geometry old new i rules truncates =
     let done = truncates rules.blocks rules.sound in
     record { blocks = blocks_past geometry old i 0 ++ rules.blocks; sound = done.sound; covered = done.covered rules.covered }
 
--- and changes that file alone
+-- truncating a file to zero bytes changes only this file
 pub truncated_only : (geometry : Geometry) (old new : List ℕ) (i : ℕ) → (rules : Rules3To8 geometry old) → 1 ≤ i
     → ((blocks : List ℕ) → Rules3To7With geometry old blocks → Truncates geometry old new i 0 blocks) → ChangesOnly geometry old new i
 truncated_only geometry old new i rules first truncates =
     only_file geometry old new i rules.sound.fits (truncates rules.blocks rules.sound).alone first
 
--- its blocks return to the free list
+-- truncating a file to zero bytes puts its blocks on the free list
 pub truncated_list : (geometry : Geometry) (old new : List ℕ) (i : ℕ) → (rules : Rules3To8 geometry old) → has_places (kind_at geometry old i) ≡ true
     → ((blocks : List ℕ) → Rules3To7With geometry old blocks → Truncates geometry old new i 0 blocks)
     → FreeBecomes geometry old new (λ blocks. blocks_freed geometry old i ++ blocks)
@@ -70,11 +70,11 @@ module _ (geometry : Geometry) (old new : List ℕ) (i : ℕ) (rules : Rules3To8
   cleared_kind : kind_at geometry new i ≡ kinds.Free
   cleared_kind = ap (kind_of geometry.edition) cleared_mode ∙ kind_zero geometry.edition
 
-  -- clearing it changes it alone
+  -- clearing an i-node changes only this i-node
   pub cleared_only : ChangesOnly geometry old new i
   cleared_only = only_inode geometry old new i rules (omega (arith, above)) last same
 
-  -- and keeps the rules
+  -- clearing an i-node keeps rules 3 to 8
   pub cleared_whole : Rules3To8 geometry new
   cleared_whole =
       let room = place_room geometry old i rules.sound.fits (omega (arith, above)) last in
@@ -89,7 +89,7 @@ module _ (geometry : Geometry) (old new : List ℕ) (i : ℕ) (rules : Rules3To8
         after = λ p place. absurd (false≢true (sym (ap has_places cleared_kind) ∙ place.file.kind));
       }) same.len (λ blocks free. IsFree-before_zone same (omega (arith, start)) room free)
 
--- the cache holds at most 100 numbers
+-- the cache has at most 100 i-numbers
 cache_most : (edition : Edition) (image : List ℕ) → cache_len edition image ≤ 100
 cache_most edition image =
     elim (cases_lt 100 (word image (cache_head edition))) [
@@ -101,7 +101,7 @@ cache_most edition image =
           omega (arith, all, few)
     ]
 
--- putting a number in the cache changes bytes in the cache alone
+-- putting an i-number in the cache changes only bytes of the cache
 pub given_inside : (edition : Edition) (old new : List ℕ) (i : ℕ)
     → (cache_len edition old < 100 → Cached edition old new (cache_len edition old) i) → (cache_len edition old ≡ 100 → new ≡ old)
     → SameOutside old new (cache_head edition) (cache_head edition + 202)
@@ -114,7 +114,7 @@ given_inside edition old new i cached full =
       | inr none ↦ rw (full (omega (arith, most, none))) (unchanged old)
     ]
 
--- a node is freed: its blocks, its i-node, and its number
+-- node i is freed in three steps: its file is truncated, its i-node is cleared, and its i-number is put in the cache
 pub record FreesNode (geometry : Geometry) (old mid low new : List ℕ) (i : ℕ) : Type 0 where
   pub above : (constants geometry.edition).root < i
   pub last : i ≤ geometry.last_inode
@@ -133,14 +133,14 @@ module _ (geometry : Geometry) (old mid low new : List ℕ) (i : ℕ) (frees : F
   low_whole : Rules3To8 geometry low
   low_whole = cleared_whole geometry mid low i frees.rules frees.above frees.last frees.none frees.zero frees.cleared
 
-  -- nothing else changes
+  -- freeing a node changes only this node
   pub freed_only : ChangesOnly geometry old new i
   freed_only =
       only_then geometry old mid new i frees.only
       (only_then geometry mid low new i (cleared_only geometry mid low i frees.rules frees.above frees.last frees.none frees.zero frees.cleared)
       (cache_only geometry low new low_whole frees.given i))
 
-  -- the i-node is free
+  -- the i-node of the freed node is free
   freed_mode : mode_of geometry new i ≡ 0
   freed_mode =
       (cache_node geometry low new low_whole frees.given i).content.mode
@@ -149,16 +149,16 @@ module _ (geometry : Geometry) (old mid low new : List ℕ) (i : ℕ) (frees : F
   freed_kind : kind_at geometry new i ≡ kinds.Free
   freed_kind = ap (kind_of geometry.edition) freed_mode ∙ kind_zero geometry.edition
 
-  -- the rules hold, and the bytes that no call changes stay
+  -- freeing a node keeps rules 3 to 8 and the bytes that no call changes
   pub freed_keeps : Keeps geometry old new
   freed_keeps = record { rules = (cache_keeps geometry low new low_whole frees.given).rules; around = freed_only.around }
 
-  -- the free list stays once the blocks are given back
+  -- after the truncation, the free list doesn't change
   pub freed_list : FreeBecomes geometry mid new as_before
   freed_list blocks free =
       cache_free_list geometry low new low_whole frees.given blocks (inode_free geometry mid low i frees.rules first frees.last frees.cleared blocks free)
 
-  -- it is the edit that removes the node
+  -- freeing a node changes the state as `remove_node` does
   pub freed_makes : state geometry new ≡ remove_node i (state geometry old)
   unfolding node_of
   freed_makes =
@@ -166,7 +166,7 @@ module _ (geometry : Geometry) (old mid low new : List ℕ) (i : ℕ) (frees : F
       (ap (λ k. option_map (node_with (inode_of geometry.edition new i)) (content_of geometry new i k)) freed_kind)
       (ap (shape_of geometry new i) freed_kind)
 
-  -- and drops it from the graph
+  -- freeing a node removes it from the graph
   pub freed_graph : DropsNode (graph_of geometry old) (graph_of geometry new) i
   freed_graph = record {
     others = only_graph geometry old new i freed_only;

@@ -7,12 +7,12 @@ use Rattle.vol_layout.specs.declared.mode.Kind.TheVariants as kinds
 use Rattle.vol_change.specs.Beside.{StaysBeside}
 use Rattle.vol_change.specs.NodeGraphs.{SetsLinks, DropsNode}
 
--- the entry of a name, for i-number i, is removed from slot s of directory d
+-- the entry with this name for i-number i is removed from slot s of directory d
 pub record LeavesSlot (old mid : Graph) (i d s : ℕ) (name : List ℕ) : Type 0 where
   pub slot : ChangesSlot old mid d s (Some (name, i)) None
   pub beside : StaysBeside old mid d
 
--- another link count keeps the slot empty
+-- after slot s is emptied, a change of a link count leaves it empty
 slot_linked : (old mid new : Graph) (i d s x count : ℕ) (name : List ℕ) → LeavesSlot old mid i d s name → SetsLinks mid new x count
     → ChangesSlot old new d s (Some (name, i)) None
 slot_linked old mid new i d s x count name leaves sets = record {
@@ -23,7 +23,7 @@ slot_linked old mid new i d s x count name leaves sets = record {
   whole = ap (λ n. n % 16) (sets.size d (leaves.beside.kind d ∙ leaves.slot.directory)) ∙ leaves.slot.whole;
 }
 
--- and keeps the rest
+-- after slot s is emptied and a link count is changed, everything but d and i is unchanged
 others_linked : (old mid new : Graph) (i d s x count : ℕ) (name : List ℕ) → LeavesSlot old mid i d s name → SetsLinks mid new x count
     → KeepsOthers old new d i
 others_linked old mid new i d s x count name leaves sets = record {
@@ -32,11 +32,11 @@ others_linked old mid new i d s x count name leaves sets = record {
   entry = λ y t away other. sets.entry y t ∙ leaves.beside.entry y t away;
 }
 
--- nodes in use stay in use
+-- after a change of d's entries, a node in use is still in use
 still_used : (old mid : Graph) (d x : ℕ) → StaysBeside old mid d → old.kind x ≢ kinds.Free → mid.kind x ≢ kinds.Free
 still_used old mid d x beside used free = used (sym (beside.kind x) ∙ free)
 
--- with one link fewer, a node that isn't a directory has lost a name
+-- removing the entry and one link of a node that isn't a directory and has another is `DropsName`
 pub left_name : (old mid new : Graph) (i d s count : ℕ) (name : List ℕ) → LeavesSlot old mid i d s name → SetsLinks mid new i count
     → count ≡ mid.links i - 1 → old.kind i ≢ kinds.Free → old.kind i ≢ kinds.Directory → 1 < mid.links i → DropsName old new i d s name
 left_name old mid new i d s count name leaves sets less used other most =
@@ -51,7 +51,7 @@ left_name old mid new i d s count name leaves sets less used other most =
       kept = λ x away some. sets.kept x away (still_used old mid d x leaves.beside some) ∙ leaves.beside.links x some;
     }
 
--- if the node is freed too, a file is removed
+-- removing the last entry of a node that isn't a directory, and freeing the node, is `DropsFile`
 pub left_file : (old mid new : Graph) (i d s : ℕ) (name : List ℕ) → LeavesSlot old mid i d s name → DropsNode mid new i
     → old.kind i ≢ kinds.Free → old.kind i ≢ kinds.Directory → mid.links i ≤ 1 → DropsFile old new i d s name
 left_file old mid new i d s name leaves drops used other last =
@@ -76,13 +76,13 @@ left_file old mid new i d s name leaves drops used other last =
       kept = λ x away some. drops.kept x away (still_used old mid d x leaves.beside some) ∙ leaves.beside.links x some;
     }
 
--- a directory with only `.` and `..` isn't the one that has a name for it
+-- a directory with only `.` and `..` isn't the directory that has the entry for it
 pub other_directory : (old mid : Graph) (i d s : ℕ) (name : List ℕ) → LeavesSlot old mid i d s name → is_dots name ≡ false
     → ((t j : ℕ) (word : List ℕ) → old.entry i t ≡ Some (word, j) → is_dots word ≡ true) → d ≢ i
 other_directory old mid i d s name leaves plain only same =
     true≢false (sym (only s i name (ap (λ y. old.entry y s) (sym same) ∙ leaves.slot.was)) ∙ plain)
 
--- if its node is freed too, and its parent loses the link of its `..`, a directory is removed
+-- removing the entry of a directory, freeing it, and removing the link of its `..` from the parent is `DropsDirectory`
 pub left_directory : (old mid low new : Graph) (i d s count : ℕ) (name : List ℕ) → LeavesSlot old mid i d s name → SetsLinks mid low d count
     → DropsNode low new i → count ≡ mid.links d - 1 → 1 ≤ mid.links d → is_dots name ≡ false → old.kind i ≡ kinds.Directory
     → ((t j : ℕ) (word : List ℕ) → old.entry i t ≡ Some (word, j) → is_dots word ≡ true) → DropsDirectory old new i d s name

@@ -1,4 +1,4 @@
--- Nodes after a write before the data zone: of the super-block's time, or of one i-node.
+-- The nodes after a write before the data zone: of the super-block's time, or of an i-node.
 use Rattle.std.proofs.Common.{◌≡◌, ◌≢◌, ◌∙◌, sym, ap, refl, ℕ, ◌+◌, ◌*◌, ◌/◌, ◌≤◌, List, Option, None, Some, get_or, min, inl, inr, arith}
 use Rattle.std.specs.Option.{option_map}
 use Rattle.std.proofs.lemmas.Bool.{cases_eq}
@@ -33,7 +33,7 @@ use Rattle.vol_change.proofs.States.{makes_node, makes_time}
 use Rattle.vol_layout.proofs.EditionLaws.{super_order}
 use Rattle.vol_change.proofs.WholeLaws.{whole_kept, whole_reading, around_list, zone_behind, place_before}
 
--- the places stay if the block map and the addresses do
+-- if the block map and the addresses of i-node i don't change, neither does the address at any position
 places_by : (geometry : Geometry) (old new : List ℕ) (i : ℕ) → form_at geometry new i ≡ form_at geometry old i
     → (inode_of geometry.edition new i).addresses ≡ (inode_of geometry.edition old i).addresses → KeepsPlaces geometry old new i
 places_by geometry old new i form addresses = record {
@@ -43,8 +43,8 @@ places_by geometry old new i form addresses = record {
       ∙ (ap (λ xs. get_or xs k 0) addresses ∙ inode_address geometry.edition old (inode_place geometry.edition i) k h);
 }
 
--- a write below the data zone keeps the reading of i-node i, if its kind, the bits of its mode above the permissions, its size
--- and its addresses stay
+-- after a write before the data zone, i-node i reads as before if its kind, its mode bits above the permissions, its size and its addresses don't
+-- change
 reading_fields : (geometry : Geometry) (old new : List ℕ) (from to i : ℕ) → SameOutside old new from to → to ≤ 512 * geometry.zone_start
     → kind_at geometry new i ≡ kind_at geometry old i → mode_of geometry new i / 4096 ≡ mode_of geometry old i / 4096
     → size_of geometry new i ≡ size_of geometry old i
@@ -61,7 +61,7 @@ reading_fields geometry old new from to i same below kind type size addresses =
       names = λ p place. named_list_kept geometry old new from to i p places same below place.place;
     }
 
--- and its content, if its whole mode stays
+-- after a write before the data zone, the content of i-node i is unchanged if its mode, its size and its addresses don't change
 content_fields : (geometry : Geometry) (old new : List ℕ) (from to i : ℕ) → IsZoned geometry old → SameOutside old new from to → to ≤ 512 * geometry.zone_start
     → mode_of geometry new i ≡ mode_of geometry old i → size_of geometry new i ≡ size_of geometry old i
     → (inode_of geometry.edition new i).addresses ≡ (inode_of geometry.edition old i).addresses → KeepsContent geometry old new i
@@ -78,14 +78,14 @@ content_fields geometry old new from to i zoned same below mode size addresses =
           same.above (512 * named geometry old i p + r) (omega (arith, below, zone.0));
     }
 
--- and so it does if the i-node itself stays
+-- after a write before the data zone, the content of i-node i is unchanged if its i-node doesn't change
 pub content_kept : (geometry : Geometry) (old new : List ℕ) (from to i : ℕ) → IsZoned geometry old → SameOutside old new from to → to ≤ 512 * geometry.zone_start
     → KeepsInode geometry old new i → KeepsContent geometry old new i
 content_kept geometry old new from to i zoned same below kept =
     content_fields geometry old new from to i zoned same below (mode_kept geometry old new i kept) (size_kept geometry old new i kept)
     (ap (λ node. node.addresses) (inode_of_kept geometry old new i kept))
 
--- and such a write also keeps the part of file i that a truncation kept
+-- a write before the data zone keeps everything stored in the blocks that a truncation of file i kept
 pub stored_then : (geometry : Geometry) (old mid new : List ℕ) (from to i left : ℕ) → KeepsStored geometry old mid i left → KeepsContent geometry mid new i
     → SameOutside mid new from to → to ≤ 512 * geometry.zone_start → KeepsStored geometry old new i left
 stored_then geometry old mid new from to i left stored kept same below =
@@ -99,14 +99,14 @@ stored_then geometry old mid new from to i left stored kept same below =
           ∙ stored.bytes n h;
     }
 
--- the entries of directories stay if all i-nodes read the same
+-- if all i-nodes read as before, the entries of directories don't change
 entries_stay : (geometry : Geometry) (old new : List ℕ) (x s : ℕ)
     → ((j : ℕ) → 1 ≤ j → j ≤ geometry.last_inode → KeepsReading geometry old new j) → IsDirectory geometry old x
     → entry_at geometry new x s ≡ entry_at geometry old x s
 entries_stay geometry old new x s kept is =
     entry_reads geometry old new x s (kept x is.first is.last) (record { first = is.first; last = is.last; kind = ap has_places is.kind })
 
--- a write of the time leaves each i-node
+-- a write of the time changes no i-node
 time_inode : (geometry : Geometry) (old new : List ℕ) (j : ℕ)
     → SameOutside old new (time_place geometry.edition) (time_place geometry.edition + 4) → KeepsInode geometry old new j
 time_inode geometry old new j same =
@@ -115,7 +115,7 @@ time_inode geometry old new j same =
     copy_above old new (time_place geometry.edition) (time_place geometry.edition + 4) (inode_place geometry.edition j)
     (constants geometry.edition).inode_bytes same (omega (arith, order, start))
 
--- and its content
+-- a write of the time changes no content
 pub time_content : (geometry : Geometry) (old new : List ℕ) (j : ℕ) → Rules3To8 geometry old
     → SameOutside old new (time_place geometry.edition) (time_place geometry.edition + 4) → KeepsContent geometry old new j
 time_content geometry old new j rules same =
@@ -124,7 +124,7 @@ time_content geometry old new j rules same =
     content_kept geometry old new (time_place geometry.edition) (time_place geometry.edition + 4) j rules.sound.zoned same (omega (arith, order, behind))
     (time_inode geometry old new j same)
 
--- a write of the time keeps the rules and the bytes that no call changes
+-- a write of the time keeps rules 3 to 8 and the bytes that no call changes
 pub time_keeps : (geometry : Geometry) (old new : List ℕ) → Rules3To8 geometry old
     → SameOutside old new (time_place geometry.edition) (time_place geometry.edition + 4) → Keeps geometry old new
 time_keeps geometry old new rules same =
@@ -144,7 +144,7 @@ time_keeps geometry old new rules same =
       };
     }
 
--- and is the edit of the time
+-- a write of the time changes the state as `at_time` does
 pub time_makes : (geometry : Geometry) (old new : List ℕ) (now : ℕ) → Rules3To8 geometry old
     → SameOutside old new (time_place geometry.edition) (time_place geometry.edition + 4) → long new (time_place geometry.edition) ≡ now
     → state geometry new ≡ at_time now (state geometry old)
@@ -156,7 +156,7 @@ time_makes geometry old new now rules same time =
       shape_same geometry old new j kept first last,
     ))
 
--- and leaves the graph
+-- a write of the time doesn't change the graph
 pub time_graph : (geometry : Geometry) (old new : List ℕ) → Rules3To8 geometry old
     → SameOutside old new (time_place geometry.edition) (time_place geometry.edition + 4)
     → IsSameGraph (graph_of geometry old) (graph_of geometry new)
@@ -166,8 +166,7 @@ time_graph geometry old new rules same =
     (λ x first last. ap (λ node. node.links) (inode_of_kept geometry old new x (time_inode geometry old new x same)))
     (λ x is. (kept x).size) (λ x t is. entries_stay geometry old new x t (λ j first last. reading geometry old new j (kept j)) is)
 
--- i-node i was put with the kind, the size and the addresses that it had, and of its mode no other bits than those of the
--- permissions have changed, nor has any other byte
+-- i-node i was written back with its kind, its size and its addresses; only the permission bits of its mode may have changed, and no other byte has
 pub record PutsInode (geometry : Geometry) (old new : List ℕ) (i : ℕ) (node : Inode) : Type 0 where
   pub first : 1 ≤ i
   pub last : i ≤ geometry.last_inode
@@ -178,19 +177,19 @@ pub record PutsInode (geometry : Geometry) (old new : List ℕ) (i : ℕ) (node 
   pub size : node.size ≡ (inode_of geometry.edition old i).size
   pub addresses : node.addresses ≡ (inode_of geometry.edition old i).addresses
 
--- the mode of the i-node that was put
+-- the mode of i-node i is the mode that was written
 mode_put : (geometry : Geometry) (old new : List ℕ) (i : ℕ) (node : Inode) → PutsInode geometry old new i node → mode_of geometry new i ≡ node.mode.bits
 mode_put geometry old new i node puts =
     sym (inode_mode geometry.edition new (inode_place geometry.edition i)) ∙ ap (λ n. n.mode.bits) puts.is
 
--- its size stays
+-- the size doesn't change
 size_put : (geometry : Geometry) (old new : List ℕ) (i : ℕ) (node : Inode) → PutsInode geometry old new i node
     → size_of geometry new i ≡ size_of geometry old i
 size_put geometry old new i node puts =
     sym (inode_size geometry.edition new (inode_place geometry.edition i))
     ∙ (ap (λ n. n.size) puts.is ∙ (puts.size ∙ inode_size geometry.edition old (inode_place geometry.edition i)))
 
--- then every i-node except i keeps its content
+-- writing i-node i changes no other content
 pub put_beside : (geometry : Geometry) (old new : List ℕ) (i j : ℕ) (node : Inode) → Rules3To8 geometry old → PutsInode geometry old new i node
     → 1 ≤ j → j ≢ i → KeepsContent geometry old new j
 put_beside geometry old new i j node rules puts first other =
@@ -198,7 +197,7 @@ put_beside geometry old new i j node rules puts first other =
     rules.sound.zoned puts.same (place_room geometry old i rules.sound.fits puts.first puts.last)
     (inode_apart geometry old new i j puts.first first other puts.same)
 
--- and so does i, if its whole mode stays
+-- if the mode doesn't change either, writing i-node i changes no content
 pub put_content : (geometry : Geometry) (old new : List ℕ) (i j : ℕ) (node : Inode) → Rules3To8 geometry old → PutsInode geometry old new i node
     → node.mode ≡ (inode_of geometry.edition old i).mode → 1 ≤ j → j ≤ geometry.last_inode → KeepsContent geometry old new j
 put_content geometry old new i j node rules puts mode first last =
@@ -214,7 +213,7 @@ put_content geometry old new i j node rules puts mode first last =
       | inr other ↦ put_beside geometry old new i j node rules puts first other
     ]
 
--- in any case all i-nodes read the same
+-- after i-node i is written, all i-nodes read as before
 pub put_reading : (geometry : Geometry) (old new : List ℕ) (i j : ℕ) (node : Inode) → Rules3To8 geometry old → PutsInode geometry old new i node
     → 1 ≤ j → j ≤ geometry.last_inode → KeepsReading geometry old new j
 put_reading geometry old new i j node rules puts first last =
@@ -231,13 +230,13 @@ put_reading geometry old new i j node rules puts first last =
       | inr other ↦ reading geometry old new j (put_beside geometry old new i j node rules puts first other)
     ]
 
--- the others stay themselves
+-- the other i-nodes don't change
 put_other : (geometry : Geometry) (old new : List ℕ) (i j : ℕ) (node : Inode) → PutsInode geometry old new i node → 1 ≤ j → j ≢ i
     → inode_of geometry.edition new j ≡ inode_of geometry.edition old j
 put_other geometry old new i j node puts first other =
     inode_of_kept geometry old new j (inode_apart geometry old new i j puts.first first other puts.same)
 
--- the time of the super-block is before the i-nodes
+-- the time of the super-block doesn't change
 put_time : (geometry : Geometry) (old new : List ℕ) (i : ℕ) (node : Inode) → PutsInode geometry old new i node
     → long new (time_place geometry.edition) ≡ long old (time_place geometry.edition)
 put_time geometry old new i node puts =
@@ -248,7 +247,7 @@ put_time geometry old new i node puts =
     long_copied old new (time_place geometry.edition) (time_place geometry.edition) 4 0 (time_place geometry.edition) (time_place geometry.edition) copy
     (omega arith) (omega arith) (omega arith)
 
--- such a write keeps the rules and the bytes that no call changes, if the link counts are within the limit
+-- writing i-node i keeps rules 3 to 8 and the bytes that no call changes, if its link count is within the limit
 pub put_keeps : (geometry : Geometry) (old new : List ℕ) (i : ℕ) (node : Inode) → Rules3To8 geometry old → PutsInode geometry old new i node
     → node.links ≤ (constants geometry.edition).link_limit → Keeps geometry old new
 put_keeps geometry old new i node rules puts limit =
@@ -265,14 +264,14 @@ put_keeps geometry old new i node rules puts limit =
           rules.sound.fits puts.same start room;
     }
 
--- a node with another i-node, whatever it holds
+-- changing the fields of an i-node changes its node in the same way, for any content
 node_put : (change : Node → Node) (was node : Inode) (content : Option Content)
     → ((c : Content) → node_with node c ≡ change (node_with was c))
     → option_map (node_with node) content ≡ option_map change (option_map (node_with was) content)
 node_put change was node None each = refl
 node_put change was node (Some c) each = ap (λ n. Some n) (each c)
 
--- and is the edit that changes node i as its i-node has changed
+-- writing i-node i changes the state as `change_node` does
 pub put_makes : (geometry : Geometry) (old new : List ℕ) (i : ℕ) (node : Inode) (change : Node → Node) → Rules3To8 geometry old
     → PutsInode geometry old new i node → ((c : Content) → node_with node c ≡ change (node_with (inode_of geometry.edition old i) c))
     → state geometry new ≡ change_node i change (state geometry old)
@@ -294,7 +293,7 @@ put_makes geometry old new i node change rules puts each =
       places = shape_reads geometry old new i (kept i puts.first puts.last) puts.first puts.last;
     })
 
--- and keeps the graph except the links of i
+-- writing i-node i changes only its link count in the graph
 pub put_graph : (geometry : Geometry) (old new : List ℕ) (i : ℕ) (node : Inode) → Rules3To8 geometry old → PutsInode geometry old new i node
     → SetsLinks (graph_of geometry old) (graph_of geometry new) i node.links
 put_graph geometry old new i node rules puts =
@@ -310,7 +309,7 @@ put_graph geometry old new i node rules puts =
           ap (λ n. n.links) (put_other geometry old new i x node puts inside.0 other);
     }
 
--- if the links stay too, the graph is the same
+-- if the link count of i doesn't change either, neither does the graph
 pub put_same : (geometry : Geometry) (old new : List ℕ) (i : ℕ) (node : Inode) → Rules3To8 geometry old → PutsInode geometry old new i node
     → node.links ≡ (inode_of geometry.edition old i).links → IsSameGraph (graph_of geometry old) (graph_of geometry new)
 put_same geometry old new i node rules puts links =

@@ -1,4 +1,4 @@
--- A volume in which a directory is made.
+-- A volume in which a directory is created.
 use Rattle.std.proofs.Common.{◌≡◌, ◌≢◌, ◌∙◌, sym, ap, subst, ℕ, ◌+◌, ◌-◌, ◌<◌, ◌≤◌, List, [], Some, arith}
 use Rattle.vol_layout.specs.Edition.{constants}
 use Rattle.vol_layout.specs.Inode.{inode_of}
@@ -21,7 +21,7 @@ use Rattle.vol_change.proofs.FreeAfter.{entry_takes}
 use Rattle.vol_change.proofs.NodeEdits.{edit}
 use Rattle.vol_change.proofs.NodeLinks.{links_is}
 
--- a block is left after a directory gets its new entry, if there was one more than that needed
+-- if there is one free block more than the new entry needs, one is left after the entry is added
 pub room_entered : (state : State) (now d i : ℕ) (name : List ℕ) → 1 ≤ d → d ≤ state.tree.geometry.last_inode
     → entry_need state d + 1 ≤ free_in state → 1 ≤ free_in (add_entry now d name i state)
 room_entered state now d i name first last room =
@@ -29,7 +29,7 @@ room_entered state now d i name first last room =
     entry_takes state.tree.geometry state.shapes d name first last in
     omega (arith, left, room)
 
--- the new directory is empty once its parent has its entry
+-- the new directory is empty after its parent has an entry for it
 pub made_empty : (geometry : Geometry) (old bare named : List ℕ) (cred : Cred) (now perm made d : ℕ) (name : List ℕ) → made ≢ d
     → state geometry bare ≡ edit made (Some (bare_directory geometry.edition cred now perm)) no_shape (state geometry old)
     → state geometry named ≡ add_entry now d name made (state geometry bare) → HoldsNames (state geometry named) made [] 0 no_shape
@@ -37,7 +37,7 @@ made_empty geometry old bare named cred now perm made d name apart makes enters 
     subst (λ s. HoldsNames s made [] 0 no_shape) (sym (enters ∙ ap (add_entry now d name made) makes))
     (bare_empty (state geometry old) cred geometry.edition now perm made d name apart)
 
--- making a new directory has the effect that its definition states
+-- creating a directory makes the state `after_mkdir`
 pub directory_makes : (geometry : Geometry) (old bare named dotted new : List ℕ) (cred : Cred) (now perm made d : ℕ) (name : List ℕ) → made ≢ d
     → state geometry bare ≡ edit made (Some (bare_directory geometry.edition cred now perm)) no_shape (state geometry old)
     → state geometry named ≡ add_entry now d name made (state geometry bare)
@@ -51,7 +51,7 @@ directory_makes geometry old bare named dotted new cred now perm made d name apa
     ∙ (ap (λ s. put_entry made dot_dot d (put_entry made dot made s)) (enters ∙ ap (add_entry now d name made) makes)
     ∙ dots_made (state geometry old) cred now perm made d name apart))
 
--- a directory may have one more link if the state says so
+-- if the link count that the state has for d is below the limit, so is the one in the image
 pub links_room : (geometry : Geometry) (old new : List ℕ) (d : ℕ) → HasKinds geometry old → IsDirectory geometry old d
     → (graph_of geometry new).links d ≡ (graph_of geometry old).links d
     → (node_at (state geometry old).tree d).links < (constants geometry.edition).link_limit

@@ -1,4 +1,4 @@
--- A new node: its i-node was free, and names nothing.
+-- A new node: its i-node was free, and it has no blocks.
 use Rattle.std.proofs.Common.{◌≡◌, ◌≢◌, ◌∙◌, sym, ap, refl, ℕ, ◌/◌, ◌≤◌, ◌&&◌, ◌==◌, min, not, true, false, List, [], ◌∷◌, map, get_or, Some, arith}
 use Rattle.std.specs.List.{range_with_len}
 use Rattle.std.specs.Option.{option_map}
@@ -40,16 +40,16 @@ use Rattle.vol_change.proofs.UnusedBytes.{other_unused}
 use Rattle.vol_change.proofs.NewRules.{bare_whole}
 use Rattle.vol_change.proofs.OneNode.{only_inode, only_makes, only_graph, only_links}
 
--- an odd i-node has no places
+-- a kind with a block map isn't odd
 odd_none : (kind : Kind) → has_places kind ≡ true → kind ≢ kinds.Odd
 odd_none kind file odd = false≢true (sym (ap has_places odd) ∙ file)
 
 module _ (geometry : Geometry) (old new : List ℕ) (i : ℕ) (node : Inode) (rules : Rules3To8 geometry old) (makes : MakesInode geometry old new i node) where
-  -- i is an i-number
+  -- i is at least 1
   first : 1 ≤ i
   first = omega (arith, makes.above)
 
-  -- its mode, size and kind
+  -- the new i-node has the mode and kind of `node`, and size 0
   mode_new : mode_of geometry new i ≡ node.mode.bits
   mode_new = sym (inode_mode geometry.edition new (inode_place geometry.edition i)) ∙ ap (λ n. n.mode.bits) makes.is
 
@@ -59,15 +59,15 @@ module _ (geometry : Geometry) (old new : List ℕ) (i : ℕ) (node : Inode) (ru
   kind_new : kind_at geometry new i ≡ kind_of geometry.edition node.mode.bits
   kind_new = ap (kind_of geometry.edition) mode_new
 
-  -- it was free
+  -- the i-node was free
   kind_old : kind_at geometry old i ≡ kinds.Free
   kind_old = ap (kind_of geometry.edition) makes.was ∙ kind_zero geometry.edition
 
-  -- nothing else changes
+  -- only node i changes
   pub made_only : ChangesOnly geometry old new i
   made_only = only_inode geometry old new i rules first makes.last makes.same
 
-  -- its places name nothing
+  -- all addresses of the new node are 0
   named_new : (p : List ℕ) → IsPlaceOf geometry new i p → named geometry new i p ≡ 0
   named_new p place =
       let base = front_first (form_at geometry new i) p place.place in
@@ -77,11 +77,11 @@ module _ (geometry : Geometry) (old new : List ℕ) (i : ℕ) (node : Inode) (ru
       ∙ (ap (λ n. get_or n.addresses base.0 0) makes.is ∙ makes.empty base.0))
       base.2
 
-  -- and it had none before
+  -- the i-node had no addresses before
   none_old : (p : List ℕ) → IsPlaceOf geometry old i p → named geometry old i p ≡ 0
   none_old p place = absurd (false≢true (sym (ap has_places kind_old) ∙ place.file.kind))
 
-  -- the rules hold, and the bytes that no call changes stay
+  -- creating a node keeps rules 3 to 8 and the bytes that no call changes
   pub made_keeps : Keeps geometry old new
   made_keeps =
       let room = place_room geometry old i rules.sound.fits first makes.last in
@@ -99,33 +99,33 @@ module _ (geometry : Geometry) (old new : List ℕ) (i : ℕ) (node : Inode) (ru
         around = made_only.around;
       }
 
-  -- the free list stays
+  -- creating a node doesn't change the free list
   pub made_free : FreeBecomes geometry old new as_before
   made_free = inode_free geometry old new i rules first makes.last makes.same
 
-  -- and so do the unused bytes of the other i-nodes
+  -- creating a node doesn't change the unused bytes of other i-nodes
   pub made_unused : (j : ℕ) → 1 ≤ j → j ≢ i → KeepsUnused geometry old new j
   made_unused j low other = other_unused geometry old new i j first low other makes.same
 
-  -- its size is 0
+  -- the new node's size is 0
   no_size : min (size_of geometry new i) (constants geometry.edition).greatest ≡ 0
   no_size = omega (arith, size_new)
 
-  -- it has no slots
+  -- the new node has no slots
   no_slots : slot_count geometry new i ≡ 0
   no_slots = ap (λ n. n / 16) no_size
 
-  -- and no bytes
+  -- the new node has no bytes
   no_bytes : body geometry new i ≡ []
   unfolding body
   no_bytes = ap (λ n. map (body_byte geometry new i) (range_with_len 0 n)) no_size
 
-  -- and no entries
+  -- the new node has no entries
   no_entries : slots geometry new i ≡ []
   unfolding slots
   no_entries = ap (λ n. map (entry_at geometry new i) (range_with_len 0 n)) no_slots
 
-  -- and no places that name something
+  -- the new node has no addresses other than 0
   no_names : is_named_place geometry new i ≡ (λ p. false)
   no_names =
       let each : (p : List ℕ) → is_named_place geometry new i p ≡ false = λ p.
@@ -138,7 +138,7 @@ module _ (geometry : Geometry) (old new : List ℕ) (i : ℕ) (node : Inode) (ru
       ] refl in
       λ k p. each p k
 
-  -- so its shape is empty
+  -- the new node's shape is empty
   shape_by : (kind : Kind) → has_places kind ≡ true → shape_of geometry new i kind ≡ no_shape
   shape_by kinds.Free has = refl
   shape_by kinds.Special has = refl
@@ -151,7 +151,7 @@ module _ (geometry : Geometry) (old new : List ℕ) (i : ℕ) (node : Inode) (ru
       let none : names_in (slots geometry new i) ≡ [] = ap names_in no_entries in
       λ k. record { names = no_names k; large = large k; slots = none k }
 
-  -- its node, for some content
+  -- the new node has the fields of the i-node and the given content
   node_by : (content : Content) → content_of geometry new i (kind_of geometry.edition node.mode.bits) ≡ Some content
       → node_of geometry new i ≡ Some (node_with node content)
   unfolding node_of
@@ -159,26 +159,26 @@ module _ (geometry : Geometry) (old new : List ℕ) (i : ℕ) (node : Inode) (ru
       ap (λ kind. option_map (node_with (inode_of geometry.edition new i)) (content_of geometry new i kind)) kind_new
       ∙ (ap (option_map (node_with (inode_of geometry.edition new i))) is ∙ ap (λ n. Some (node_with n content)) makes.is)
 
-  -- it is the edit that puts a node there, and no shape
+  -- creating a node puts it into the state, with an empty shape
   makes_by : (content : Content) → content_of geometry new i (kind_of geometry.edition node.mode.bits) ≡ Some content
       → state geometry new ≡ put_shape i no_shape (put_node i (Some (node_with node content)) (state geometry old))
   makes_by content is =
       only_makes geometry old new i (Some (node_with node content)) no_shape first makes.last made_only (node_by content is)
       (ap (shape_of geometry new i) kind_new ∙ shape_by (kind_of geometry.edition node.mode.bits) makes.file)
 
-  -- a regular file has no bytes
+  -- creating a regular file puts a node without bytes into the state
   pub file_makes : kind_of geometry.edition node.mode.bits ≡ kinds.Regular
       → state geometry new ≡ put_shape i no_shape (put_node i (Some (node_with node (Body []))) (state geometry old))
   file_makes kind =
       makes_by (Body []) (ap (content_of geometry new i) kind ∙ ap (λ xs. Some (Body xs)) no_bytes)
 
-  -- and a directory no entries
+  -- creating a directory puts a node without entries into the state
   pub directory_makes : kind_of geometry.edition node.mode.bits ≡ kinds.Directory
       → state geometry new ≡ put_shape i no_shape (put_node i (Some (node_with node (Directory []))) (state geometry old))
   directory_makes kind =
       makes_by (Directory []) (ap (content_of geometry new i) kind ∙ ap (λ xs. Some (Directory (names_of xs))) no_entries)
 
-  -- the graph has a new node
+  -- creating a node adds it to the graph
   pub made_graph : (kind : Kind) → kind_of geometry.edition node.mode.bits ≡ kind
       → AddsNode (graph_of geometry old) (graph_of geometry new) i kind node.links
   made_graph kind is = record {

@@ -1,4 +1,4 @@
--- A node that is made or gets a link, and then a name.
+-- A node that is created or gets a link, and then gets a name.
 use Rattle.std.proofs.Common.{◌≡◌, ◌≢◌, ◌∙◌, sym, ap, refl, ℕ, ◌+◌, List, length, Option, None, Some, arith}
 use Rattle.std.proofs.lemmas.Slice.Eq.{bytes_eq-Decides}
 use Rattle.vol_layout.specs.declared.geometry.Geometry.{Geometry}
@@ -26,7 +26,7 @@ use Rattle.vol_change.proofs.SideStates.{KeepsDirectory}
 pub not_made : (graph : Graph) (d made : ℕ) → graph.kind d ≡ kinds.Directory → graph.kind made ≡ kinds.Free → d ≢ made
 not_made graph d made is free same = let clash : kinds.Directory ≡ kinds.Free = sym is ∙ (ap graph.kind same ∙ free) in cc
 
--- a new node leaves each directory
+-- creating a node changes no directory
 pub made_keeps : (old new : Graph) (d made : ℕ) (kind : Kind) (count : ℕ) → AddsNode old new made kind count → old.kind d ≡ kinds.Directory
     → KeepsDirectory old new d
 made_keeps old new d made kind count adds is =
@@ -37,11 +37,11 @@ made_keeps old new d made kind count adds is =
       entry = λ s. adds.others.entry d s other other;
     }
 
--- and so does another link count
+-- changing a link count changes no directory
 pub linked_keeps : (old new : Graph) (d i count : ℕ) → SetsLinks old new i count → old.kind d ≡ kinds.Directory → KeepsDirectory old new d
 linked_keeps old new d i count sets is = record { kind = sets.kind d; size = sets.size d is; entry = sets.entry d }
 
--- a slot of a directory that was kept changes
+-- a change of a slot of d, after a change that leaves d unchanged, is a change of the slot
 pub slot_then : (old mid new : Graph) (d s : ℕ) (was is : Option (List ℕ × ℕ)) → KeepsDirectory old mid d → old.kind d ≡ kinds.Directory
     → ChangesSlot mid new d s was is → ChangesSlot old new d s was is
 slot_then old mid new d s was is kept directory slot = record {
@@ -52,7 +52,7 @@ slot_then old mid new d s was is kept directory slot = record {
   whole = slot.whole;
 }
 
--- everything besides node i that one change keeps, and everything besides directory d that the next keeps, is kept by both
+-- if one change leaves everything but node i unchanged, and the next everything but directory d, both leave everything but i and d unchanged
 pub others_then : (old mid new : Graph) (d i : ℕ) → KeepsOthers old mid i i → StaysBeside mid new d → KeepsOthers old new d i
 others_then old mid new d i others beside = record {
   kind = λ x away. beside.kind x ∙ others.kind x away;
@@ -60,13 +60,14 @@ others_then old mid new d i others beside = record {
   entry = λ x t other away. beside.entry x t other ∙ others.entry x t away away;
 }
 
--- link counts that stay except node i's, and then those that a change of a directory keeps
+-- if one change leaves all link counts but that of i unchanged, and the next changes only entries of d, both leave all link counts but that of i
+-- unchanged
 kept_then : (old mid new : Graph) (d i : ℕ) → ((x : ℕ) → x ≢ i → mid.kind x ≡ old.kind x)
     → ((x : ℕ) → x ≢ i → old.kind x ≢ kinds.Free → mid.links x ≡ old.links x) → StaysBeside mid new d
     → (x : ℕ) → x ≢ i → old.kind x ≢ kinds.Free → new.links x ≡ old.links x
 kept_then old mid new d i kind kept beside x other used = beside.links x (λ free. used (sym (kind x other) ∙ free)) ∙ kept x other used
 
--- a new file, and then its name
+-- creating a regular file and then its entry is `AddsFile`
 pub file_added : (old mid new : Graph) (made d s : ℕ) (name : List ℕ) → AddsNode old mid made kinds.Regular 1 → old.kind d ≡ kinds.Directory
     → ChangesSlot mid new d s None (Some (name, made)) → StaysBeside mid new d → AddsFile old new made d s name
 file_added old mid new made d s name adds is slot beside = record {
@@ -78,7 +79,7 @@ file_added old mid new made d s name adds is slot beside = record {
   kept = kept_then old mid new d made adds.others.kind adds.kept beside;
 }
 
--- one more link, and then the name
+-- adding a link and then an entry is `AddsLink`
 pub link_added : (old mid new : Graph) (i d s : ℕ) (name : List ℕ) → SetsLinks old mid i (old.links i + 1) → old.kind i ≢ kinds.Free
     → old.kind i ≢ kinds.Directory → old.kind d ≡ kinds.Directory → ChangesSlot mid new d s None (Some (name, i)) → StaysBeside mid new d
     → AddsLink old new i d s name
@@ -94,7 +95,7 @@ link_added old mid new i d s name sets used other is slot beside =
       kept = kept_then old mid new d i (λ x away. sets.kind x) sets.kept beside;
     }
 
--- a name that the map doesn't have is new in the graph
+-- a name that isn't in the directory's map is new in the graph
 pub new_name : (geometry : Geometry) (image : List ℕ) (d : ℕ) (name : List ℕ) → IsDirectory geometry image d
     → TakesName (state geometry image) d name → IsComponent name → IsNewName (graph_of geometry image) d name
 new_name geometry image d name is takes component =
@@ -107,7 +108,7 @@ new_name geometry image d name is takes component =
       plain = component.plain;
     }
 
--- an image in which a directory took a name stays sound if its graph does
+-- an image in which a directory got a name is sound if its graph stays sound
 pub named_ready : (geometry : Geometry) (old new : List ℕ) (d : ℕ) (name : List ℕ) → Rules1To12 geometry old → IsDirectory geometry old d
     → TakesName (state geometry old) d name → IsComponent name → Keeps geometry old new
     → (IsGraphSound (graph_of geometry old) (root_of geometry) geometry.last_inode → IsNewName (graph_of geometry old) d name

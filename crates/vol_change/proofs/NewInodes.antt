@@ -1,4 +1,4 @@
--- The i-node of a new node reads as the described node.
+-- The i-node of a new node reads as the new node.
 use Rattle.std.proofs.Common.{◌≡◌, ◌∙◌, refl, ℕ, ◌+◌, ◌%◌, ◌<◌, ◌≤◌, true, false, List, slice_index, arith}
 use Rattle.pdp_words.specs.Words.{SameOutside}
 use Rattle.pdp_words.proofs.Outside.{join}
@@ -17,7 +17,7 @@ use Rattle.vol_dir.specs.declared.cred.Cred.{Cred}
 use Rattle.vol_change.specs.Edits.{new_node}
 use Rattle.vol_change.specs.Inodes.{MakesInode}
 
--- it reads as the new node
+-- the fields of the new i-node read as `new_node`
 pub reads_new : (edition : Edition) (bits : Mode) (count : ℕ) (owner : Cred) (now permissions : ℕ) (content : Content)
     → bits.bits % 4096 ≡ permissions % 4096
     → node_with (new_inode edition bits count owner.uid owner.gid now) content ≡ new_node edition owner now permissions content count 0
@@ -34,7 +34,7 @@ reads_new edition bits count owner now permissions content same =
       changed = first_change edition now;
     }
 
--- it is written after all bytes of a free i-node were cleared
+-- a new i-node written after all bytes of the free i-node were cleared is `MakesInode`
 pub makes_new : (geometry : Geometry) (old mid new : List ℕ) (i : ℕ) (bits : Mode) (count uid gid now : ℕ) → count ≤ 2 → IsFreeNumber geometry old i
     → has_places (kind_of geometry.edition bits.bits) ≡ true → is_large geometry.edition bits.bits ≡ false
     → SameOutside old mid (inode_place geometry.edition i) (inode_place geometry.edition i + (constants geometry.edition).inode_bytes)
@@ -54,7 +54,7 @@ makes_new geometry old mid new i bits count uid gid now few free file small clea
   empty = zeros_at 13;
 }
 
--- the unused byte is zero
+-- the unused byte is 0
 pub unused_zero : (edition : Edition) (mid new : List ℕ) (i : ℕ) → edition ≡ V7
     → ((k : ℕ) → inode_place edition i ≤ k → k < inode_place edition i + (constants edition).inode_bytes → slice_index mid k ≡ 0)
     → slice_index new (inode_place V7 i + 51) ≡ slice_index mid (inode_place V7 i + 51) → slice_index new (inode_place V7 i + 51) ≡ 0

@@ -1,4 +1,4 @@
--- The rules after a change of one node above the root that names nothing, before or afterwards.
+-- Rules 3 to 8 after a change of one node above the root that has no blocks before or afterwards.
 use Rattle.std.proofs.Common.{◌≡◌, ◌≢◌, ◌∙◌, sym, ap, subst, ℕ, ◌<◌, ◌≤◌, List, length, inl, inr, arith}
 use Rattle.std.proofs.lemmas.Bool.{cases_eq}
 use Rattle.vol_layout.specs.Edition.{constants}
@@ -16,7 +16,7 @@ use Rattle.vol_change.proofs.Contents.{kind_same}
 use Rattle.vol_file.proofs.StoredNames.{place_same}
 use Rattle.vol_change.proofs.WholeLaws.{SameNames, whole_names}
 
--- i-node i names nothing in either image, and the others stay
+-- i-node i has no blocks in either image, and the others are unchanged
 pub record ChangesBare (geometry : Geometry) (old new : List ℕ) (i : ℕ) : Type 0 where
   pub above : (constants geometry.edition).root < i
   pub others : (j : ℕ) → 1 ≤ j → j ≤ geometry.last_inode → j ≢ i → KeepsNode geometry old new j
@@ -27,11 +27,11 @@ pub record ChangesBare (geometry : Geometry) (old new : List ℕ) (i : ℕ) : Ty
   pub after : (p : List ℕ) → IsPlaceOf geometry new i p → named geometry new i p ≡ 0
 
 module _ (geometry : Geometry) (old new : List ℕ) (i : ℕ) (rules : Rules3To8 geometry old) (changes : ChangesBare geometry old new i) where
-  -- the other kinds stay
+  -- the kinds of other i-nodes don't change
   kind_other : (j : ℕ) → 1 ≤ j → j ≤ geometry.last_inode → j ≢ i → kind_at geometry new j ≡ kind_at geometry old j
   kind_other j first last other = kind_same geometry old new j (changes.others j first last other).content
 
-  -- rule 3
+  -- rule 3 holds
   kinds_new : HasKinds geometry new
   kinds_new =
       let root = root_within geometry old rules.sound.fits in
@@ -46,7 +46,7 @@ module _ (geometry : Geometry) (old new : List ℕ) (i : ℕ) (rules : Rules3To8
         bad_blocks = λ v7. elim (rules.sound.kinds.bad_blocks v7) [ inl free ↦ inl (one ∙ free) | inr regular ↦ inr (one ∙ regular) ];
       }
 
-  -- another file was one before
+  -- a file other than i was a file before
   file_before : (j : ℕ) → j ≢ i → IsFile geometry new j → IsFile geometry old j
   file_before j other file = record {
     first = file.first;
@@ -54,7 +54,7 @@ module _ (geometry : Geometry) (old new : List ℕ) (i : ℕ) (rules : Rules3To8
     kind = ap has_places (sym (kind_other j file.first file.last other)) ∙ file.kind;
   }
 
-  -- rule 4
+  -- rule 4 holds
   sizes_new : HasSizes geometry new
   sizes_new = record {
     greatest = λ j file. elim (cases_eq j i) [
@@ -82,7 +82,7 @@ module _ (geometry : Geometry) (old new : List ℕ) (i : ℕ) (rules : Rules3To8
     ];
   }
 
-  -- the names stay
+  -- both images have the same addresses other than 0
   names_new : SameNames geometry old new
   names_new = record {
     from = λ j p place some. elim (cases_eq j i) [
@@ -102,6 +102,6 @@ module _ (geometry : Geometry) (old new : List ℕ) (i : ℕ) (rules : Rules3To8
     ];
   }
 
-  -- the image is whole
+  -- rules 3 to 8 hold
   pub bare_whole : length new ≡ length old → ((blocks : List ℕ) → IsFree geometry old blocks → IsFree geometry new blocks) → Rules3To8 geometry new
   bare_whole len free = whole_names geometry old new len names_new free kinds_new sizes_new rules

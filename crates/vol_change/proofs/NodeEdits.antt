@@ -1,4 +1,4 @@
--- States in which one node and its shape were changed: their parts, and changes of two nodes.
+-- States in which a node and its shape are replaced: their parts, and changes of two nodes.
 use Rattle.std.proofs.Common.{◌≡◌, ◌≢◌, ◌∙◌, sym, ap, refl, ℕ, ◌*◌, ◌+◌, ◌==◌, if◌then◌else◌, max, List, eq-eqb, inl, inr, Option, Some}
 use Rattle.std.specs.Option.{option_map, unwrap_or}
 use Rattle.std.proofs.lemmas.Bool.{cases_eq}
@@ -11,15 +11,15 @@ use Rattle.vol_change.specs.Nodes.{no_node}
 use Rattle.vol_change.specs.Shapes.{shape_with_entry}
 use Rattle.vol_change.proofs.SideStates.{set_beside}
 
--- node i and its shape are put
+-- the state with node i and its shape replaced
 abbrev pub edit : ℕ → Option Node → Shape → State → State
 edit i node shape state = put_shape i shape (put_node i node state)
 
--- the value at the number where it is set
+-- the value at the number where a value is set is this value
 pub set_here : {X : Type 0} (values : ℕ → X) (i : ℕ) (value : X) → set_at values i value i ≡ value
 set_here values i value = ap (λ t. if t then value else values i) (eq-eqb i i refl)
 
--- a value set twice
+-- if a value is set twice at the same number, the second value counts
 set_over : {X : Type 0} (values : ℕ → X) (i j : ℕ) (first second : X)
     → set_at (set_at values i first) i second j ≡ set_at values i second j
 set_over values i j first second = elim (cases_eq j i) [
@@ -30,7 +30,7 @@ set_over values i j first second = elim (cases_eq j i) [
       set_beside (set_at values i first) i second j other ∙ (set_beside values i first j other ∙ sym (set_beside values i second j other))
 ]
 
--- values set at two numbers
+-- values set at two different numbers may be set in either order
 set_swap : {X : Type 0} (values : ℕ → X) (i j k : ℕ) (at_i at_j : X) → i ≢ j
     → set_at (set_at values j at_j) i at_i k ≡ set_at (set_at values i at_i) j at_j k
 set_swap values i j k at_i at_j apart = elim (cases_eq k i) [
@@ -44,7 +44,7 @@ set_swap values i j k at_i at_j apart = elim (cases_eq k i) [
       ∙ ap (λ value. if k == j then at_j else value) (sym (set_beside values i at_i k away))
 ]
 
--- a node put twice
+-- if a node is replaced twice, only the second replacement counts
 edit_over : (state : State) (i : ℕ) (first second : Option Node) (was is : Shape)
     → edit i second is (edit i first was state) ≡ edit i second is state
 edit_over state i first second was is = λ k. record {
@@ -56,7 +56,7 @@ edit_over state i first second was is = λ k. record {
   shapes = λ j. set_over state.shapes i j was is k;
 }
 
--- two nodes put
+-- replacements of two different nodes may be made in either order
 edit_swap : (state : State) (i j : ℕ) (at_i at_j : Option Node) (shape_i shape_j : Shape) → i ≢ j
     → edit i at_i shape_i (edit j at_j shape_j state) ≡ edit j at_j shape_j (edit i at_i shape_i state)
 edit_swap state i j at_i at_j shape_i shape_j apart = λ k. record {
@@ -68,23 +68,23 @@ edit_swap state i j at_i at_j shape_i shape_j apart = λ k. record {
   shapes = λ n. set_swap state.shapes i j n shape_i shape_j apart k;
 }
 
--- the size of a directory with one more entry
+-- the size of a directory with another entry
 abbrev grown : Option Node → Shape → ℕ
 grown node shape = max (unwrap_or node no_node).size (16 * new_slot shape.slots + 16)
 
--- a directory with one more entry
+-- a directory with another entry
 abbrev pub with_entry : List ℕ → ℕ → Shape → Node → Node
 with_entry name i shape node = record node {
   content = change_names (λ names. insert names name i) node.content;
   size = max node.size (16 * new_slot shape.slots + 16);
 }
 
--- a directory with one more entry, and its times
+-- a directory with another entry, and its times set
 abbrev entered : ℕ → List ℕ → ℕ → Option Node → Shape → Option Node
 entered now name i node shape =
     option_map (λ (x : Node). record (modified now x) { content = change_names (λ names. insert names name i) x.content; size = grown node shape }) node
 
--- a directory that gets a new entry
+-- adding an entry to directory d changes its node as `with_entry` does
 pub entry_here : (state : State) (d i : ℕ) (name : List ℕ) (node : Node) → state.tree.nodes d ≡ Some node
     → (put_entry d name i state).tree.nodes d ≡ Some (with_entry name i (state.shapes d) node)
 entry_here state d i name node is =
@@ -94,7 +94,7 @@ entry_here state d i name node is =
       size = grown x (state.shapes d);
     }) x) is
 
--- a new entry of a node that was put
+-- adding an entry to a replaced node is replacing it by the node with the entry
 pub entry_over : (state : State) (d i : ℕ) (name : List ℕ) (node : Node) (shape : Shape)
     → put_entry d name i (edit d (Some node) shape state)
     ≡ edit d (Some (with_entry name i shape node)) (shape_with_entry state.tree.geometry.edition shape name) state
@@ -109,7 +109,7 @@ entry_over state d i name node shape =
     ∙ (ap (λ (x : Shape). edit d (Some (with_entry name i x node)) (shape_with_entry edition x name) put) (set_here state.shapes d shape)
     ∙ edit_over state d (Some node) (Some (with_entry name i shape node)) shape (shape_with_entry edition shape name))
 
--- a new entry of a node other than the one that was put
+-- adding an entry to d and replacing another node may be done in either order
 pub entry_apart : (state : State) (now d i made : ℕ) (name : List ℕ) (node : Option Node) (shape : Shape) → made ≢ d
     → add_entry now d name i (edit made node shape state) ≡ edit made node shape (add_entry now d name i state)
 entry_apart state now d i made name node shape apart =

@@ -1,4 +1,4 @@
--- The link count that a node reads as.
+-- The state's link count of a node.
 use Rattle.std.proofs.Common.{◌≡◌, ◌≢◌, ◌∙◌, ap, refl, ℕ, ◌/◌, ◌≤◌, List, Some}
 use Rattle.std.specs.Option.{unwrap_or}
 use Rattle.vol_layout.specs.Inode.{inode_of}
@@ -15,7 +15,7 @@ use Rattle.vol_change.specs.Nodes.{no_node, node_at}
 use Rattle.vol_dir.proofs.WalkLaws.{node_inside}
 use Rattle.vol_change.proofs.WrittenStates.{node_holds}
 
--- an i-node in use that is not odd has a content
+-- an i-node that is neither free nor odd has a content
 pub content_there : (geometry : Geometry) (image : List ℕ) (i : ℕ) (kind : Kind) → kind ≢ kinds.Free → kind ≢ kinds.Odd
     → (content : Content) × (content_of geometry image i kind ≡ Some content)
 content_there geometry image i kinds.Free used known = absurd (used refl)
@@ -25,7 +25,7 @@ content_there geometry image i kinds.Directory used known = (Directory (names_of
 content_there geometry image i kinds.Special used known =
     (Device (mode_of geometry image i / 4096) (inode_of geometry.edition image i).addresses, refl)
 
--- the link count of a node in use is that of its i-node
+-- the state's link count of a node in use is that of its i-node
 pub links_is : (geometry : Geometry) (image : List ℕ) (i : ℕ) → HasKinds geometry image → 1 ≤ i → i ≤ geometry.last_inode
     → kind_at geometry image i ≢ kinds.Free → (node_at (tree geometry image) i).links ≡ (inode_of geometry.edition image i).links
 links_is geometry image i has first last used =

@@ -1,4 +1,4 @@
--- Changes of one node alone: one after another, and the other nodes that they keep.
+-- Changes of only one node: two such changes in a row, and the other nodes, which don't change.
 use Rattle.std.proofs.Common.{◌≡◌, ◌≢◌, ◌∙◌, sym, ap, subst, refl, ℕ, ◌+◌, ◌*◌, ◌≤◌, List, slice_index, Option, None, Some, inr, arith}
 use Rattle.pdp_words.specs.Words.{long, SameOutside}
 use Rattle.vol_layout.specs.Edition.{constants}
@@ -35,7 +35,7 @@ use Rattle.vol_change.proofs.States.{shape_at, makes_both, makes_time}
 use Rattle.vol_layout.proofs.EditionLaws.{super_order}
 use Rattle.vol_change.proofs.WholeLaws.{around_then, around_list, whole_kept, zone_behind}
 
--- content that each of two changes keeps is kept by both
+-- if neither of two changes changes the content of an i-node, both together don't
 pub content_then : (geometry : Geometry) (old mid new : List ℕ) (j : ℕ) → KeepsContent geometry old mid j → KeepsContent geometry mid new j
     → KeepsContent geometry old new j
 content_then geometry old mid new j a b = record {
@@ -53,24 +53,24 @@ content_then geometry old mid new j a b = record {
       ∙ a.blocks p r place some h;
 }
 
--- a directory whose content stays is one
+-- a directory whose content doesn't change is still a directory
 pub directory_stays : (geometry : Geometry) (old new : List ℕ) (d : ℕ) → KeepsContent geometry old new d → IsDirectory geometry old d
     → IsDirectory geometry new d
 directory_stays geometry old new d kept is = record { first = is.first; last = is.last; kind = kind_same geometry old new d kept ∙ is.kind }
 
--- and keeps its bytes
+-- a directory whose content doesn't change keeps its bytes
 pub bytes_stay : (geometry : Geometry) (old new : List ℕ) (d : ℕ) → KeepsContent geometry old new d → IsDirectory geometry old d
     → body geometry new d ≡ body geometry old d
 bytes_stay geometry old new d kept is = kept.bytes (record { first = is.first; last = is.last; kind = ap has_places is.kind })
 
--- and so if some of them are put in between
+-- if a text is put into a directory's bytes between two changes that keep its content, the whole change only puts the text
 pub bytes_put : (geometry : Geometry) (old mid low new : List ℕ) (d at : ℕ) (text : List ℕ) → KeepsContent geometry old mid d
     → IsDirectory geometry old d → PutsInBody geometry mid low d at text → KeepsContent geometry low new d → IsDirectory geometry low d
     → PutsInBody geometry old new d at text
 bytes_put geometry old mid low new d at text before is puts after still =
     bytes_stay geometry low new d after still ∙ (puts ∙ ap (λ xs. spliced xs at text) (bytes_stay geometry old mid d before is))
 
--- the content of an i-node stays if nothing changes
+-- without any change, no content changes
 pub content_refl : (geometry : Geometry) (image : List ℕ) (j : ℕ) → KeepsContent geometry image image j
 content_refl geometry image j = record {
   mode = refl;
@@ -81,7 +81,7 @@ content_refl geometry image j = record {
   blocks = λ p r place some h. refl;
 }
 
--- and so for the i-node itself
+-- if neither of two changes changes a node, both together don't
 node_then : (geometry : Geometry) (old mid new : List ℕ) (j : ℕ) → KeepsNode geometry old mid j → KeepsNode geometry mid new j
     → KeepsNode geometry old new j
 node_then geometry old mid new j a b = record {
@@ -89,7 +89,7 @@ node_then geometry old mid new j a b = record {
   inode = b.inode ∙ a.inode;
 }
 
--- two such changes, one after the other
+-- two changes of only node i are together a change of only node i
 pub only_then : (geometry : Geometry) (old mid new : List ℕ) (i : ℕ) → ChangesOnly geometry old mid i → ChangesOnly geometry mid new i
     → ChangesOnly geometry old new i
 only_then geometry old mid new i a b = record {
@@ -98,7 +98,7 @@ only_then geometry old mid new i a b = record {
   others = λ j first last other. node_then geometry old mid new j (a.others j first last other) (b.others j first last other);
 }
 
--- a write of i-node i alone
+-- a write of i-node i changes only node i
 pub only_inode : (geometry : Geometry) (old new : List ℕ) (i : ℕ) → Rules3To8 geometry old → 1 ≤ i → i ≤ geometry.last_inode
     → SameOutside old new (inode_place geometry.edition i) (inode_place geometry.edition i + (constants geometry.edition).inode_bytes)
     → ChangesOnly geometry old new i
@@ -117,13 +117,13 @@ only_inode geometry old new i rules first last same =
           record { content = content_kept geometry old new from to j rules.sound.zoned same room kept; inode = inode_of_kept geometry old new j kept };
     }
 
--- the bytes of another i-node stay if a file is changed
+-- a change of file i changes no bytes of another i-node
 pub alone_inode : (geometry : Geometry) (old new : List ℕ) (i j : ℕ) → Fits geometry old → ChangesFileAlone geometry old new i → 1 ≤ i → 1 ≤ j
     → j ≤ geometry.last_inode → j ≢ i → KeepsInode geometry old new j
 alone_inode geometry old new i j fits alone first low high other =
     elsewhere_inode geometry old new i j fits alone.elsewhere first low high other
 
--- the super-block's time stays
+-- a change of a file doesn't change the super-block's time
 pub alone_time : (geometry : Geometry) (old new : List ℕ) (i : ℕ) → ChangesFileAlone geometry old new i
     → long new (time_place geometry.edition) ≡ long old (time_place geometry.edition)
 alone_time geometry old new i alone =
@@ -132,7 +132,7 @@ alone_time geometry old new i alone =
     let copy : IsCopy old new at at 4 = record { bytes = λ r h. alone.elsewhere.super_block (at + r) (omega (arith, order)) (omega (arith, order, h)) } in
     long_copied old new at at 4 0 at at copy (omega arith) (omega arith) (omega arith)
 
--- the bytes that no call changes stay
+-- a change of a file doesn't change the bytes that no call changes
 pub alone_around : (geometry : Geometry) (old new : List ℕ) (i : ℕ) → ChangesFileAlone geometry old new i → StaysAround geometry old new
 alone_around geometry old new i alone =
     let order = super_order geometry.edition in
@@ -144,7 +144,7 @@ alone_around geometry old new i alone =
       behind = alone.elsewhere.behind;
     }
 
--- the change of a file
+-- a change of file i changes only node i
 pub only_file : (geometry : Geometry) (old new : List ℕ) (i : ℕ) → Fits geometry old → ChangesFileAlone geometry old new i → 1 ≤ i
     → ChangesOnly geometry old new i
 only_file geometry old new i fits alone first = record {
@@ -167,7 +167,7 @@ only_file geometry old new i fits alone first = record {
       };
 }
 
--- a change of i alone is the edit that sets node i to what it now reads as
+-- a change of only node i replaces its node and its shape in the state
 pub only_makes : (geometry : Geometry) (old new : List ℕ) (i : ℕ) (node : Option Node) (shape : Shape) → 1 ≤ i → i ≤ geometry.last_inode
     → ChangesOnly geometry old new i → node_of geometry new i ≡ node → shape_at geometry new i ≡ shape
     → state geometry new ≡ put_shape i shape (put_node i node (state geometry old))
@@ -183,13 +183,13 @@ only_makes geometry old new i node shape first last only is places =
       places = places;
     })
 
--- entries stay if the content of a directory does
+-- if the content of a directory doesn't change, neither do its entries
 pub entry_stays : (geometry : Geometry) (old new : List ℕ) (x s : ℕ) → KeepsContent geometry old new x → IsDirectory geometry old x
     → entry_at geometry new x s ≡ entry_at geometry old x s
 entry_stays geometry old new x s kept is =
     entry_same geometry old new x s kept (record { first = is.first; last = is.last; kind = ap has_places is.kind })
 
--- a change of i alone keeps the graph except at i
+-- a change of only node i changes nothing else in the graph
 pub only_graph : (geometry : Geometry) (old new : List ℕ) (i : ℕ) → ChangesOnly geometry old new i
     → KeepsOthers (graph_of geometry old) (graph_of geometry new) i i
 only_graph geometry old new i only =
@@ -197,7 +197,7 @@ only_graph geometry old new i only =
     (λ x is other too. (only.others x is.first is.last other).content.size)
     (λ x t is other too. entry_stays geometry old new x t (only.others x is.first is.last other).content is)
 
--- and the link counts of everything that isn't free
+-- a change of only node i changes no other link count in the graph
 pub only_links : (geometry : Geometry) (old new : List ℕ) (i x : ℕ) → ChangesOnly geometry old new i → x ≢ i
     → (graph_of geometry old).kind x ≢ kinds.Free → (graph_of geometry new).links x ≡ (graph_of geometry old).links x
 only_links geometry old new i x only other used =
@@ -206,12 +206,12 @@ only_links geometry old new i x only other used =
 
 module _ (geometry : Geometry) (old new : List ℕ) (rules : Rules3To8 geometry old)
     (same : SameOutside old new (cache_head geometry.edition) (cache_head geometry.edition + 202)) where
-  -- the cache is before the i-nodes and the time, and after the free list
+  -- the cache is after the free list, and before the time and the i-nodes
   cache_order : (free_head geometry.edition + 202 ≡ cache_head geometry.edition) × (cache_head geometry.edition + 202 ≤ time_place geometry.edition)
       × (time_place geometry.edition + 4 ≤ 1024)
   cache_order = let order = super_order geometry.edition in (order.0, omega (arith, order), order.3)
 
-  -- a write of the i-number cache leaves each node
+  -- a write of the i-number cache changes no node
   pub cache_node : (j : ℕ) → KeepsNode geometry old new j
   cache_node j =
       let start = place_from geometry.edition j in
@@ -223,7 +223,7 @@ module _ (geometry : Geometry) (old new : List ℕ) (rules : Rules3To8 geometry 
         inode = inode_of_kept geometry old new j kept;
       }
 
-  -- and the bytes that no call changes, and the time
+  -- a write of the i-number cache changes neither the bytes that no call changes nor the time
   pub cache_only : (i : ℕ) → ChangesOnly geometry old new i
   cache_only i =
       let behind = zone_behind geometry old rules.sound.fits in
@@ -241,7 +241,7 @@ module _ (geometry : Geometry) (old new : List ℕ) (rules : Rules3To8 geometry 
         others = λ j first last other. cache_node j;
       }
 
-  -- and the rules
+  -- a write of the i-number cache keeps rules 3 to 8
   pub cache_keeps : Keeps geometry old new
   cache_keeps =
       let behind = zone_behind geometry old rules.sound.fits in
@@ -252,7 +252,7 @@ module _ (geometry : Geometry) (old new : List ℕ) (rules : Rules3To8 geometry 
         around = (cache_only 0).around;
       }
 
-  -- so the state stays
+  -- a write of the i-number cache doesn't change the state
   pub cache_makes : state geometry new ≡ state geometry old
   unfolding tree
   cache_makes =
@@ -260,18 +260,18 @@ module _ (geometry : Geometry) (old new : List ℕ) (rules : Rules3To8 geometry 
       (λ j first last.
       (node_same geometry old new j (cache_node j).content first last (cache_node j).inode, shape_same geometry old new j (cache_node j).content first last))
 
-  -- and the graph
+  -- a write of the i-number cache doesn't change the graph
   pub cache_graph : IsSameGraph (graph_of geometry old) (graph_of geometry new)
   cache_graph =
       same_graph geometry old new (λ x first last. kind_same geometry old new x (cache_node x).content)
       (λ x first last. ap (λ node. node.links) (cache_node x).inode) (λ x is. (cache_node x).content.size)
       (λ x t is. entry_stays geometry old new x t (cache_node x).content is)
 
-  -- a free number stays one
+  -- a free i-number is still free after a write of the i-number cache
   pub cache_free : (i : ℕ) → IsFreeNumber geometry old i → IsFreeNumber geometry new i
   cache_free i free = record { above = free.above; within = free.within; mode = (cache_node i).content.mode ∙ free.mode }
 
-  -- and so does one that was taken
+  -- a taken i-number that was free is still free after a write of the i-number cache
   pub cache_taken : (taken : Option ℕ) → IfSome taken (λ i. IsFreeNumber geometry old i) → IfSome taken (λ i. IsFreeNumber geometry new i)
   cache_taken None free = free
   cache_taken (Some i) free = cache_free i free

@@ -1,4 +1,4 @@
--- The counts of places and of free blocks as shapes change.
+-- The numbers of blocks of files and of free blocks as shapes change.
 use Rattle.std.proofs.Common.{◌≡◌, ◌≢◌, ◌∙◌, sym, ap, refl, ℕ, zero, suc, ◌+◌, ◌-◌, ◌<◌, ◌≤◌, ◌==◌, ◌&&◌, Bool, true, false, not, cond, if◌then◌else◌, nat_lt, List, [], ◌∷◌, arith, inl, inr}
 use Rattle.std.specs.Prelude.{◌||◌}
 use Rattle.std.specs.List.{count_by, sum_by, flat_map, range_with_len}
@@ -27,18 +27,18 @@ use Rattle.vol_change.specs.Shapes.{need_in, stored_shape, entry_blocks, shape_w
 use Rattle.vol_change.specs.Whole.{Rules3To8}
 use Rattle.vol_change.proofs.FreeCounts.{used_within}
 
--- one more in a count
+-- an item in front adds 1 to the count of a list if it passes the test
 one_more : (t : List ℕ → Bool) (p : List ℕ) (ps : List (List ℕ)) → count_by t (p ∷ ps) ≡ cond (t p) 1 0 + count_by t ps
 one_more t p ps = sum_by-cons (λ q. cond (t q) 1 0) p ps
 
--- an item passes one test or another: the first, or the second alone
+-- an item that passes either of two tests passes the first, or only the second
 either_one : (x y : Bool) → ◌≡◌ {A = ℕ} (cond (x || y) 1 0) (cond x 1 0 + cond (y && not x) 1 0)
 either_one true true = refl
 either_one true false = refl
 either_one false true = refl
 either_one false false = refl
 
--- the same of counts
+-- the number of items that pass either of two tests is the number that pass the first plus the number that pass only the second
 count_either : (s t : List ℕ → Bool) (ps : List (List ℕ)) → count_by (λ p. s p || t p) ps ≡ count_by s ps + count_by (λ p. t p && not (s p)) ps
 count_either s t [] = refl
 count_either s t (p ∷ ps) =
@@ -50,7 +50,7 @@ count_either s t (p ∷ ps) =
     let here : ◌≡◌ {A = ℕ} (cond (s p || t p) 1 0) (cond (s p) 1 0 + cond (t p && not (s p)) 1 0) = either_one (s p) (t p) in
     omega (arith, rest, all, first, second, here)
 
--- a sum of two parts
+-- a sum over a range is the sum over its first part and the sum over the rest
 pub sum_split : (f : ℕ → ℕ) (a m n : ℕ)
     → sum_by f (range_with_len a (m + n)) ≡ sum_by f (range_with_len a m) + sum_by f (range_with_len (a + m) n)
 sum_split f a zero n =
@@ -68,30 +68,30 @@ sum_split f a (suc m) n =
     let front : sum_by f (range_with_len a (suc m)) ≡ f a + sum_by f (range_with_len (a + 1) m) = sum_by-cons f a (range_with_len (a + 1) m) in
     ap (λ x. sum_by f (range_with_len a x)) len ∙ omega (arith, rest, all, front)
 
--- one place in a count
+-- the count of a list with one item is 1 if the item passes the test, else 0
 count_one : (t : List ℕ → Bool) (p : List ℕ) → count_by t (p ∷ []) ≡ cond (t p) 1 0
 count_one t p = one_more t p [] ∙ omega arith
 
--- a count of one place for each number of a range
+-- the count of a list with one position for each number of a range is a sum over the range
 count_each : (t : List ℕ → Bool) (f : ℕ → List ℕ) (a n : ℕ)
     → count_by t (flat_map (λ k. f k ∷ []) (range_with_len a n)) ≡ sum_by (λ k. cond (t (f k)) 1 0) (range_with_len a n)
 count_each t f a n =
     counted_flat t (λ k. f k ∷ []) (range_with_len a n)
     ∙ sum_same (λ k. count_by t (f k ∷ [])) (λ k. cond (t (f k)) 1 0) a n (λ k low high. count_one t (f k))
 
--- the places of a small file
+-- the count over the positions of a small file is a sum over its eight addresses
 count_small : (names : List ℕ → Bool) → count_by names (places Small) ≡ sum_by (λ k. cond (names (k ∷ [])) 1 0) (range_with_len 0 8)
 unfolding places
 count_small names = count_each names (λ k. k ∷ []) 0 8
 
--- an entry of the block that holds the eight old addresses is one of them, or names nothing
+-- the entry k of the block that holds the eight old addresses is old address k
 moved_low : (names : List ℕ → Bool) (k : ℕ) → k < 8 → moved_down names (k ∷ (0 ∷ [])) ≡ names (k ∷ [])
 moved_low names k h = let low : nat_lt k 8 ≡ true = grind (arith, nat_tests) in ap (λ t. t && names (k ∷ [])) low
 
 moved_high : (names : List ℕ → Bool) (k : ℕ) → 8 ≤ k → moved_down names (k ∷ (0 ∷ [])) ≡ false
 moved_high names k h = let high : nat_lt k 8 ≡ false = grind (arith, nat_tests) in ap (λ t. t && names (k ∷ [])) high
 
--- the entries of that block, eight or more
+-- the first eight entries of that block are the old addresses, and the others are 0
 count_moved : (names : List ℕ → Bool) (n : ℕ)
     → sum_by (λ j. cond (moved_down names (j ∷ (0 ∷ []))) 1 0) (range_with_len 0 (8 + n)) ≡ sum_by (λ k. cond (names (k ∷ [])) 1 0) (range_with_len 0 8)
 count_moved names n =
@@ -102,7 +102,7 @@ count_moved names n =
     sum_none f (0 + 8) n (λ k from to. ap (λ t. cond t 1 0) (moved_high names k (omega arith))) in
     sum_split f 0 8 n ∙ omega (arith, low, high)
 
--- the places below any address other than the first name nothing
+-- below an address other than the first all addresses are 0
 moved_other : (names : List ℕ → Bool) (k : ℕ) (p : List ℕ) → k ≢ 0 → IsFront (k ∷ []) p → moved_down names p ≡ false
 moved_other names k [] some front = refl
 moved_other names k (a ∷ []) some (inl e) =
@@ -116,11 +116,11 @@ moved_other names k (j ∷ (a ∷ [])) some (inr (inl e)) =
 moved_other names k (j ∷ (a ∷ [])) some (inr (inr none)) = absurd none
 moved_other names k (j ∷ (h ∷ (a ∷ p))) some front = refl
 
--- if a test holds of nothing in a list, nothing is counted
+-- if no item of a list passes the test, the count is 0
 count_nowhere : (t : List ℕ → Bool) (ps : List (List ℕ)) → ((p : List ℕ) → IsAmong p ps → t p ≡ false) → count_by t ps ≡ 0
 count_nowhere t ps none = count_among t (λ p. false) ps none ∙ count_none (λ p. false) ps (λ p. refl)
 
--- the first address of a file made large, and the places below it
+-- the number of blocks at and below the first address of a file made large is the number of its old blocks plus 1
 count_first : (names : List ℕ → Bool)
     → count_by (moved_down names) (places_from 256 (0 ∷ []) 1) ≡ 1 + sum_by (λ k. cond (names (k ∷ [])) 1 0) (range_with_len 0 8)
 count_first names =
@@ -128,7 +128,7 @@ count_first names =
     count_each (moved_down names) (λ j. j ∷ (0 ∷ [])) 0 256 ∙ count_moved names 248 in
     one_more (moved_down names) (0 ∷ []) (flat_map (λ j. (j ∷ (0 ∷ [])) ∷ []) (range_with_len 0 256)) ∙ omega (arith, below)
 
--- a file made large has as many places that name something as before, and one more
+-- a file made large has one block more than before
 count_large : (names : List ℕ → Bool) → count_by (moved_down names) (places Large) ≡ count_by names (places Small) + 1
 unfolding places
 count_large names =
@@ -143,7 +143,7 @@ count_large names =
     sum_by-cons (λ k. count_by t (f k)) 0 (range_with_len 1 7) in
     counted_flat t f (range_with_len 0 8) ∙ omega (arith, small, first, rest, step)
 
--- before blocks are added a file has the places it had, and one more if it becomes large
+-- when blocks are to be stored, a file that becomes large gets one more block first
 count_fit : (form : BlockMap) (names : List ℕ → Bool) (blocks : List ℕ)
     → count_by (fit_names form names blocks) (places (fit_form form blocks)) ≡ count_by names (places form) + (if grows_large form blocks then 1 else 0)
 count_fit Large names blocks = omega arith
@@ -158,7 +158,7 @@ count_fit Small names blocks = elim (cases_Bool (grows_large Small blocks)) [
       ∙ (omega arith ∙ sym (ap (λ t. count_by names (places Small) + (if t then 1 else 0)) stays))
 ]
 
--- the places that name a block once blocks are touched: those that did, and those that were missing
+-- after blocks are stored, a file has its old blocks and those that it needed
 count_filled : (form : BlockMap) (names : List ℕ → Bool) (blocks : List ℕ)
     → count_by (filled form names blocks) (places (fit_form form blocks)) ≡ count_by names (places form) + need_of form names blocks
 unfolding need_of missing_count
@@ -171,7 +171,7 @@ count_filled form names blocks =
     let fitted : count_by before (places fit) ≡ count_by names (places form) + (if grows_large form blocks then 1 else 0) = count_fit form names blocks in
     omega (arith, both, fitted)
 
--- the block map of a file once blocks are stored
+-- after blocks are stored, the block map of a file is `fit_form`
 form_stored : (edition : Edition) (large : Bool) (blocks : List ℕ)
     → form_in edition (large || grows_large (form_in edition large) blocks) ≡ fit_form (form_in edition large) blocks
 form_stored V6 true blocks = refl
@@ -179,7 +179,7 @@ form_stored V6 false blocks = refl
 form_stored V7 true blocks = refl
 form_stored V7 false blocks = refl
 
--- a file takes as many blocks as it needs
+-- storing blocks takes as many blocks as are needed
 pub stored_count : (edition : Edition) (shape : Shape) (blocks : List ℕ)
     → place_count edition (stored_shape edition shape blocks) ≡ place_count edition shape + need_in edition shape blocks
 unfolding place_count
@@ -187,18 +187,18 @@ stored_count edition shape blocks =
     ap (λ f. count_by (filled (form_in edition shape.large) shape.names blocks) (places f)) (form_stored edition shape.large blocks)
     ∙ count_filled (form_in edition shape.large) shape.names blocks
 
--- a directory with one more entry takes the block of its slot if that is missing
+-- adding an entry to a directory takes the block of its slot if that is missing
 pub entry_count : (edition : Edition) (shape : Shape) (name : List ℕ)
     → place_count edition (shape_with_entry edition shape name) ≡ place_count edition shape + need_in edition shape (entry_blocks shape)
 unfolding place_count
 entry_count edition shape name = stored_count edition shape (entry_blocks shape)
 
--- one without an entry keeps its blocks
+-- removing an entry from a directory takes no blocks
 pub gone_count : (edition : Edition) (shape : Shape) (name : List ℕ) → place_count edition (shape_without_entry shape name) ≡ place_count edition shape
 unfolding place_count
 gone_count edition shape name = refl
 
--- the first logical block of an empty file
+-- storing the first logical block of an empty file needs one block
 first_needed : (form : BlockMap) → form ≢ Bare → form ≢ Large → need_of form (λ p. false) (0 ∷ []) ≡ 1
 unfolding missing_from last_place
 first_needed Small some small = need_some Small (λ p. false) 0 1 0 (omega arith) refl
@@ -206,17 +206,17 @@ first_needed Deep some small = need_some Deep (λ p. false) 0 1 0 (omega arith) 
 first_needed Large some small = absurd (small refl)
 first_needed Bare some small = absurd (some refl)
 
--- the same of a file of an edition
+-- storing the first logical block of an empty file needs one block, in both editions
 pub first_in : (edition : Edition) → need_in edition no_shape (0 ∷ []) ≡ 1
 first_in V6 = first_needed Small (λ e. cc) (λ e. cc)
 first_in V7 = first_needed Deep (λ e. cc) (λ e. cc)
 
--- a node without places takes no blocks
+-- an empty shape has no blocks
 pub none_count : (edition : Edition) → place_count edition no_shape ≡ 0
 unfolding place_count
 none_count edition = count_none (λ p. false) (places (form_in edition false)) (λ p. refl)
 
--- a new directory takes one block
+-- a new directory has one block
 pub new_directory_count : (edition : Edition) → place_count edition (new_directory_shape edition) ≡ 1
 unfolding place_count
 new_directory_count edition =
@@ -224,22 +224,22 @@ new_directory_count edition =
     let one : need_in edition no_shape (0 ∷ []) ≡ 1 = first_in edition in
     stored_count edition no_shape (0 ∷ []) ∙ omega (arith, none, one)
 
--- a value that was set, and the others
+-- after the shape of i is set, it is the new shape
 pub set_same : (shapes : ℕ → Shape) (i : ℕ) (shape : Shape) → set_at shapes i shape i ≡ shape
 set_same shapes i shape = let same : (i == i) ≡ true = grind (arith, nat_tests) in ap (λ t. if t then shape else shapes i) same
 
 pub set_other : (shapes : ℕ → Shape) (i : ℕ) (shape : Shape) (k : ℕ) → k ≢ i → set_at shapes i shape k ≡ shapes k
 set_other shapes i shape k other = let differ : (k == i) ≡ false = grind (arith, nat_tests) in ap (λ t. if t then shape else shapes k) differ
 
--- the number of blocks of all files, by their shapes
+-- the number of blocks of all files, computed from their shapes
 abbrev pub used_count : Geometry → (ℕ → Shape) → ℕ
 used_count geometry shapes = sum_by (λ i. place_count geometry.edition (shapes i)) (range_with_len 1 geometry.last_inode)
 
--- in a sound image they are no more than there are data blocks
+-- in a sound image the files have no more blocks than the data zone has
 pub sum_within : (geometry : Geometry) (image : List ℕ) → Rules3To8 geometry image → used_count geometry (shapes geometry image) ≤ geometry.zone_end - geometry.zone_start
 sum_within geometry image rules = used_within geometry image rules.blocks rules.sound
 
--- the number of blocks of all files when one of them has another shape
+-- replacing the shape of i changes the number of blocks of all files by the difference
 pub used_with : (geometry : Geometry) (shapes : ℕ → Shape) (i : ℕ) (shape : Shape) → 1 ≤ i → i ≤ geometry.last_inode
     → used_count geometry (set_at shapes i shape) + place_count geometry.edition (shapes i) ≡ used_count geometry shapes + place_count geometry.edition shape
 used_with geometry shapes i shape first last =
@@ -250,7 +250,7 @@ used_with geometry shapes i shape first last =
     (λ k other. ap (place_count e) (set_other shapes i shape k other)) in
     omega (arith, now, change)
 
--- a file that takes n blocks takes them from the free ones
+-- if a file gets n more blocks, there are n fewer free blocks
 pub free_less : (geometry : Geometry) (shapes : ℕ → Shape) (i : ℕ) (shape : Shape) (n : ℕ) → 1 ≤ i → i ≤ geometry.last_inode
     → place_count geometry.edition shape ≡ place_count geometry.edition (shapes i) + n
     → free_count geometry (set_at shapes i shape) ≡ free_count geometry shapes - n
@@ -259,7 +259,7 @@ free_less geometry shapes i shape n first last more =
     let used = used_with geometry shapes i shape first last in
     omega (arith, used, more)
 
--- a file that loses n blocks gives them to the free ones
+-- if a file loses n blocks, there are n more free blocks
 pub free_more : (geometry : Geometry) (shapes : ℕ → Shape) (i : ℕ) (shape : Shape) (n : ℕ) → 1 ≤ i → i ≤ geometry.last_inode
     → used_count geometry shapes ≤ geometry.zone_end - geometry.zone_start
     → place_count geometry.edition shape + n ≡ place_count geometry.edition (shapes i)
@@ -269,7 +269,7 @@ free_more geometry shapes i shape n first last within less =
     let used = used_with geometry shapes i shape first last in
     omega (arith, used, within, less)
 
--- a file that loses its places gives its blocks to the free ones
+-- if a file loses all its blocks, they are added to the free blocks
 pub free_all : (geometry : Geometry) (shapes : ℕ → Shape) (i : ℕ) → 1 ≤ i → i ≤ geometry.last_inode
     → used_count geometry shapes ≤ geometry.zone_end - geometry.zone_start
     → free_count geometry (set_at shapes i no_shape) ≡ free_count geometry shapes + place_count geometry.edition (shapes i)
@@ -277,7 +277,7 @@ free_all geometry shapes i first last within =
     let none : place_count geometry.edition no_shape ≡ 0 = none_count geometry.edition in
     free_more geometry shapes i no_shape (place_count geometry.edition (shapes i)) first last within (omega (arith, none))
 
--- if each file has as many blocks, all have as many, and as many are free
+-- if each file has the same number of blocks, so do all files together
 pub used_same : (geometry : Geometry) (f g : ℕ → Shape) → ((k : ℕ) → place_count geometry.edition (f k) ≡ place_count geometry.edition (g k))
     → used_count geometry f ≡ used_count geometry g
 used_same geometry f g same =
@@ -288,7 +288,7 @@ pub free_same : (geometry : Geometry) (f g : ℕ → Shape) → ((k : ℕ) → p
 unfolding free_count
 free_same geometry f g same = ap (λ n. geometry.zone_end - geometry.zone_start - n) (used_same geometry f g same)
 
--- a shape that is set has as many blocks as those at its place had
+-- setting a shape with the same number of blocks changes no file's number of blocks
 pub set_count : (edition : Edition) (shapes : ℕ → Shape) (i : ℕ) (shape : Shape) → place_count edition shape ≡ place_count edition (shapes i) → (k : ℕ)
     → place_count edition (set_at shapes i shape k) ≡ place_count edition (shapes k)
 set_count edition shapes i shape same k = elim (cases_eq k i) [
@@ -298,7 +298,7 @@ set_count edition shapes i shape same k = elim (cases_eq k i) [
   | inr other ↦ ap (place_count edition) (set_other shapes i shape k other)
 ]
 
--- one shape set among shapes that count the same
+-- setting the same shape in two lists of shapes with the same numbers of blocks gives lists with the same numbers of blocks
 pub set_counts : (edition : Edition) (f g : ℕ → Shape) (i : ℕ) (shape : Shape) → ((k : ℕ) → place_count edition (f k) ≡ place_count edition (g k)) → (k : ℕ)
     → place_count edition (set_at f i shape k) ≡ place_count edition (set_at g i shape k)
 set_counts edition f g i shape same k = elim (cases_eq k i) [
@@ -308,14 +308,14 @@ set_counts edition f g i shape same k = elim (cases_eq k i) [
   | inr other ↦ ap (place_count edition) (set_other f i shape k other) ∙ (same k ∙ ap (place_count edition) (sym (set_other g i shape k other)))
 ]
 
--- numbers that the volume doesn't have have no blocks
+-- an i-number outside the volume has no blocks
 none_outside : (geometry : Geometry) (image : List ℕ) (i : ℕ) → is_number geometry i ≡ false → place_count geometry.edition (shapes geometry image i) ≡ 0
 unfolding shapes
 none_outside geometry image i outside =
     ap (λ t. place_count geometry.edition (if t then shape_of geometry image i (kind_of geometry.edition (mode_of geometry image i)) else no_shape)) outside
     ∙ none_count geometry.edition
 
--- in a sound image, whatever loses its places gives its blocks to the free ones
+-- in a sound image, a node that loses all its blocks adds them to the free blocks
 pub free_gone : (geometry : Geometry) (image : List ℕ) (i : ℕ) → Rules3To8 geometry image
     → free_count geometry (set_at (shapes geometry image) i no_shape)
     ≡ free_count geometry (shapes geometry image) + place_count geometry.edition (shapes geometry image i)

@@ -1,4 +1,4 @@
--- Facts about a sound image with its geometry, and steps that keep it sound.
+-- Facts about a sound image with its own geometry, and changes that keep it sound.
 use Rattle.std.proofs.Common.{◌≡◌, ◌∙◌, sym, ap, subst, ℕ, ◌+◌, ◌*◌, ◌%◌, ◌&&◌, nat_le, nat_lt, true, List, length, Option, arith}
 use Rattle.vol_layout.specs.Geometry.{Fits, geometry_of, is_whole, is_bounded, block_count, list_size}
 use Rattle.vol_layout.specs.declared.edition.Edition.{Edition}
@@ -21,25 +21,25 @@ use Rattle.vol_change.proofs.EntryStates.{names_once}
 use Rattle.vol_change.proofs.WholeLaws.{whole_of, geometry_kept}
 use Rattle.vol_change.specs.Ready.{Rules1To12}
 
--- the geometry fits, and rules 3 to 8 hold
+-- in a sound image the geometry fits, and rules 3 to 8 hold
 pub ready_whole : (geometry : Geometry) (image : List ℕ) → Rules1To12 geometry image → Rules3To8 geometry image
 ready_whole geometry image ready =
     subst (λ g. Rules3To8 g image) (sym ready.sizes)
     (whole_of geometry.edition image (subst (λ g. Fits g image) ready.sizes ready.fits) ready.sound)
 
--- rule 9
+-- a sound image keeps rule 9
 pub ready_entries : (geometry : Geometry) (image : List ℕ) → Rules1To12 geometry image → HasEntries geometry image
 ready_entries geometry image ready = subst (λ g. HasEntries g image) (sym ready.sizes) (sound_entries geometry.edition image ready.sound)
 
--- a directory has whole slots
+-- a directory of a sound image has a whole number of slots
 pub ready_slots : (geometry : Geometry) (image : List ℕ) (d : ℕ) → Rules1To12 geometry image → IsDirectory geometry image d → size_of geometry image d % 16 ≡ 0
 ready_slots geometry image d ready is = (ready_entries geometry image ready).whole d is
 
--- and no name twice
+-- a directory of a sound image has no name twice
 pub ready_once : (geometry : Geometry) (image : List ℕ) (d : ℕ) → Rules1To12 geometry image → IsDirectory geometry image d → HasNamesOnce geometry image d
 ready_once geometry image d ready is = names_once geometry image d (ready_entries geometry image ready) is
 
--- it is one that may get an entry or lose one
+-- an entry may be added to or removed from a directory of a sound image
 pub ready_directory : (geometry : Geometry) (image : List ℕ) (d : ℕ) → Rules1To12 geometry image → IsDirectory geometry image d
     → HasDirectory geometry image d
 ready_directory geometry image d ready is = record {
@@ -49,7 +49,7 @@ ready_directory geometry image d ready is = record {
   once = ready_once geometry image d ready is;
 }
 
--- rules 9 to 12, of the graph
+-- the graph of a sound image is sound
 pub ready_graph : (geometry : Geometry) (image : List ℕ) → Rules1To12 geometry image
     → IsGraphSound (graph_of geometry image) (root_of geometry) geometry.last_inode
 ready_graph geometry image ready =
@@ -58,7 +58,7 @@ ready_graph geometry image ready =
     let links = subst (λ g. HasLinks g image) (sym ready.sizes) (sound_links geometry.edition image ready.sound) in
     graph_from_rules geometry image (ready_whole geometry image ready).sound.sizes (ready_entries geometry image ready) dots tree links
 
--- the sizes stay within bounds if they are the same
+-- if the sizes don't change, they stay within their bounds
 pub bounded_kept : (edition : Edition) (old new : List ℕ) → geometry_of edition new ≡ geometry_of edition old → is_bounded edition old ≡ true
     → is_bounded edition new ≡ true
 bounded_kept V6 old new same bounded =
@@ -73,7 +73,7 @@ bounded_kept V7 old new same bounded =
     ap (λ n. nat_le 3 n && (nat_le n 8193 && (nat_lt n (block_count V7 new) && nat_le (block_count V7 new) 16777216))) size
     ∙ (ap (λ m. nat_le 3 (list_size old) && (nat_le (list_size old) 8193 && (nat_lt (list_size old) m && nat_le m 16777216))) count ∙ bounded)
 
--- the image is whole if its length and its sizes are the same
+-- if the length and the sizes don't change, the image is still whole
 pub whole_kept : (edition : Edition) (old new : List ℕ) → geometry_of edition new ≡ geometry_of edition old → length new ≡ length old
     → is_whole edition old ≡ true → is_whole edition new ≡ true
 whole_kept edition old new same len rules =
@@ -81,8 +81,7 @@ whole_kept edition old new same len rules =
     ap (λ n. nat_le 1024 n && nat_le (512 * block_count edition new) n) len
     ∙ (ap (λ m. nat_le 1024 (length old) && nat_le (512 * m) (length old)) count ∙ rules)
 
--- an image is sound if rules 1 and 2 hold, and, for the geometry that is its own, the geometry fits, rules 3 to 8 hold,
--- and so do the rules about the graph
+-- an image is sound if rules 1 and 2 hold, the geometry is its own, and rules 3 to 12 hold
 pub sound_by : (edition : Edition) (geometry : Geometry) (new : List ℕ) → geometry_of edition new ≡ geometry → is_whole edition new ≡ true
     → is_bounded edition new ≡ true → Rules3To8 geometry new
     → HasEntries geometry new × HasDots geometry new × IsTree geometry new × HasLinks geometry new → IsSound edition new
@@ -92,8 +91,7 @@ sound_by edition geometry new same rules bounded files graph =
     (subst (λ g. HasEntries g new) (sym same) graph.0) (subst (λ g. HasDots g new) (sym same) graph.1)
     (subst (λ g. IsTree g new) (sym same) graph.2) (subst (λ g. HasLinks g new) (sym same) graph.3)
 
--- a change after which the geometry fits, rules 3 to 8 hold, and the bytes that no call changes are as they were leaves
--- a sound image if it makes a sound graph
+-- a change that keeps rules 3 to 8 and the bytes that no call changes leaves a sound image if the new graph is sound
 pub ready_from : (geometry : Geometry) (old new : List ℕ) → Rules1To12 geometry old → Keeps geometry old new
     → IsGraphSound (graph_of geometry new) (root_of geometry) geometry.last_inode → Rules1To12 geometry new
 ready_from geometry old new ready keeps graph =
@@ -107,7 +105,7 @@ ready_from geometry old new ready keeps graph =
           (rules_from_graph geometry new keeps.rules.sound.sizes graph);
     }
 
--- and so does one that leaves the graph
+-- a change that keeps rules 3 to 8 and the bytes that no call changes leaves a sound image if the graph doesn't change
 pub ready_same : (geometry : Geometry) (old new : List ℕ) → Rules1To12 geometry old → Keeps geometry old new
     → IsSameGraph (graph_of geometry old) (graph_of geometry new) → Rules1To12 geometry new
 ready_same geometry old new ready keeps same =
@@ -115,12 +113,12 @@ ready_same geometry old new ready keeps same =
     (same_sound (graph_of geometry old) (graph_of geometry new) (root_of geometry) geometry.last_inode (graph_within geometry old)
     (graph_within geometry new) (ready_graph geometry old ready) same)
 
--- a directory stays one if its kind in the graph does
+-- a directory whose kind in the graph doesn't change is still a directory
 pub directory_kept : (geometry : Geometry) (old new : List ℕ) (d : ℕ) → (graph_of geometry new).kind d ≡ (graph_of geometry old).kind d
     → IsDirectory geometry old d → IsDirectory geometry new d
 directory_kept geometry old new d same is = directory_from geometry new d (same ∙ directory_to geometry old d is)
 
--- a slot that changes, and then a graph that is the same
+-- a change of slot s followed by a change that keeps the graph is a change of slot s
 pub slot_same : (old mid new : Graph) (d s : ℕ) (was is : Option (List ℕ × ℕ)) → ChangesSlot old mid d s was is → IsSameGraph mid new
     → mid.kind d ≡ old.kind d → ChangesSlot old new d s was is
 slot_same old mid new d s was is slot same kind =
@@ -133,7 +131,7 @@ slot_same old mid new d s was is slot same kind =
       whole = ap (λ n. n % 16) size ∙ slot.whole;
     }
 
--- a change of a directory's entries, and then one that keeps the graph
+-- a change of d's entries followed by a change that keeps the graph is a change of d's entries
 pub beside_same : (old mid new : Graph) (d : ℕ) → StaysBeside old mid d → IsSameGraph mid new → StaysBeside old new d
 beside_same old mid new d beside same = record {
   kind = λ x. same.kind x ∙ beside.kind x;

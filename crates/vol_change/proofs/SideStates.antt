@@ -1,4 +1,4 @@
--- A directory that takes a name, after a change of another node.
+-- A directory that gets a name, after a change of another node.
 use Rattle.std.proofs.Common.{◌≡◌, ◌≢◌, ◌∙◌, sym, ap, subst, ℕ, ◌+◌, ◌*◌, ◌%◌, ◌≤◌, max, if◌then◌else◌, List, [], Option, inl, inr, eq-eqb, arith}
 use Rattle.std.specs.Option.{unwrap_or}
 use Rattle.std.proofs.lemmas.Bool.{cases_eq, ne_eqb}
@@ -22,33 +22,33 @@ use Rattle.vol_change.proofs.States.{shape_here}
 use Rattle.vol_change.specs.Ready.{Rules1To12, TakesName, entry_need, free_in}
 use Rattle.vol_change.proofs.ReadyLaws.{ready_slots, ready_once, directory_kept}
 
--- values by i-number, with another one at i, are the same except at i
+-- values with the value at i replaced are unchanged at other numbers
 pub set_beside : {X : Type 0} (values : ℕ → X) (i : ℕ) (value : X) (j : ℕ) → j ≢ i → set_at values i value j ≡ values j
 set_beside values i value j other = ap (λ t. if t then value else values j) (ne_eqb j i other)
 
--- and everywhere with the value that was there
+-- values with the value at i replaced by itself are unchanged
 set_there : {X : Type 0} (values : ℕ → X) (i : ℕ) (value : X) → values i ≡ value → (j : ℕ) → set_at values i value j ≡ values j
 set_there values i value is j = elim (cases_eq j i) [
   | inl e ↦ ap (λ t. if t then value else values j) (eq-eqb j i e) ∙ (sym is ∙ ap values (sym e))
   | inr other ↦ set_beside values i value j other
 ]
 
--- a state with the shape that was there is the same
+-- a state with the shape of i replaced by itself is unchanged
 pub shape_there : (state : State) (i : ℕ) (shape : Shape) → state.shapes i ≡ shape → put_shape i shape state ≡ state
 shape_there state i shape is = λ k. record { tree = state.tree; shapes = λ j. set_there state.shapes i shape is j k }
 
--- a free i-number has no shape
+-- a free i-number has an empty shape
 pub free_shape : (geometry : Geometry) (image : List ℕ) (i : ℕ) → IsFreeNumber geometry image i → shapes geometry image i ≡ no_shape
 free_shape geometry image i free =
     shape_here geometry image i (omega (arith, free.above)) free.within
     ∙ ap (shape_of geometry image i) (ap (kind_of geometry.edition) free.mode ∙ kind_zero geometry.edition)
 
--- so a new node without a shape is all that changes in the state
+-- putting a new node without a shape into the state changes only the node
 pub made_state : (geometry : Geometry) (image : List ℕ) (i : ℕ) (node : Option Node) → IsFreeNumber geometry image i
     → put_shape i no_shape (put_node i node (state geometry image)) ≡ put_node i node (state geometry image)
 made_state geometry image i node free = shape_there (put_node i node (state geometry image)) i no_shape (free_shape geometry image i free)
 
--- after another node is changed, a directory takes the names that it took
+-- after another node is replaced, directory d may still get the name
 pub takes_beside : (state : State) (d i : ℕ) (node : Option Node) (name : List ℕ) → d ≢ i → TakesName state d name
     → TakesName (put_node i node state) d name
 takes_beside state d i node name other takes =
@@ -59,20 +59,20 @@ takes_beside state d i node name other takes =
           (sym same) takes.greatest;
     }
 
--- directory d is in the new graph as it was in the old
+-- directory d has the same kind, size and entries in both graphs
 pub record KeepsDirectory (old new : Graph) (d : ℕ) : Type 0 where
   pub kind : new.kind d ≡ old.kind d
   pub size : new.size d ≡ old.size d
   pub entry : (s : ℕ) → new.entry d s ≡ old.entry d s
 
--- its entries are the same
+-- the entries of directory d don't change
 entries_kept : (geometry : Geometry) (old new : List ℕ) (d : ℕ) → IsDirectory geometry old d
     → KeepsDirectory (graph_of geometry old) (graph_of geometry new) d → (s : ℕ) → entry_at geometry new d s ≡ entry_at geometry old d s
 entries_kept geometry old new d is kept s =
     sym (ap (λ k. entry_by k geometry new d s) (kept.kind ∙ directory_to geometry old d is))
     ∙ (kept.entry s ∙ ap (λ k. entry_by k geometry old d s) (directory_to geometry old d is))
 
--- so none has a name twice
+-- directory d still has no name twice
 once_kept : (geometry : Geometry) (old new : List ℕ) (d : ℕ) → IsDirectory geometry old d
     → KeepsDirectory (graph_of geometry old) (graph_of geometry new) d → HasNamesOnce geometry old d → HasNamesOnce geometry new d
 once_kept geometry old new d is kept has =
@@ -81,7 +81,7 @@ once_kept geometry old new d is kept has =
       once = λ name s t first second. has.once name s t (ap (holds name) (sym (same s)) ∙ first) (ap (holds name) (sym (same t)) ∙ second);
     }
 
--- the requirements of a new entry on its directory
+-- the conditions for adding an entry with this name to directory d
 pub record TakesEntry (geometry : Geometry) (image : List ℕ) (d : ℕ) (name : List ℕ) : Type 0 where
   pub directory : IsDirectory geometry image d
   pub slots : size_of geometry image d % 16 ≡ 0
@@ -89,7 +89,7 @@ pub record TakesEntry (geometry : Geometry) (image : List ℕ) (d : ℕ) (name :
   pub takes : TakesName (state geometry image) d name
   pub room : entry_need (state geometry image) d ≤ free_in (state geometry image)
 
--- the requirements of a call on the directory
+-- the conditions of a call imply the conditions for adding an entry
 pub takes_ready : (geometry : Geometry) (image : List ℕ) (d : ℕ) (name : List ℕ) → Rules1To12 geometry image → IsDirectory geometry image d
     → TakesName (state geometry image) d name → entry_need (state geometry image) d ≤ free_in (state geometry image)
     → TakesEntry geometry image d name
@@ -101,7 +101,7 @@ takes_ready geometry image d name ready is takes room = record {
   room = room;
 }
 
--- it stays if another node than the directory is changed
+-- the conditions for adding an entry still hold after another node is replaced
 pub takes_kept : (geometry : Geometry) (old new : List ℕ) (d i : ℕ) (node : Option Node) (name : List ℕ) → d ≢ i
     → KeepsDirectory (graph_of geometry old) (graph_of geometry new) d → state geometry new ≡ put_node i node (state geometry old)
     → TakesEntry geometry old d name → TakesEntry geometry new d name

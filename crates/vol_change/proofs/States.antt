@@ -1,4 +1,4 @@
--- States that agree in each node and each shape are equal; so a change of one node is the edit of the state.
+-- States with the same time, nodes and shapes are equal, so a change of one node is an edit of the state.
 use Rattle.std.proofs.Common.{◌≡◌, ◌≢◌, ◌∙◌, sym, ap, refl, ℕ, ◌≤◌, true, if◌then◌else◌, List, Option, None, inl, inr, eq-eqb}
 use Rattle.std.proofs.lemmas.Bool.{cases_Bool, cases_eq, ne_eqb, and_parts, and_from, leb-true, le-leb}
 use Rattle.pdp_words.specs.Words.{long}
@@ -13,17 +13,17 @@ use Rattle.vol_change.specs.Edits.{set_at, put_node, put_shape, at_time}
 abbrev pub shape_at : Geometry → List ℕ → ℕ → Shape
 shape_at geometry image i = shape_of geometry image i (kind_at geometry image i)
 
--- an i-number from the first to the last is one of the volume
+-- an i-number from 1 to the last is an i-number of the volume
 pub number_is : (geometry : Geometry) (i : ℕ) → 1 ≤ i → i ≤ geometry.last_inode → is_number geometry i ≡ true
 number_is geometry i first last = and_from _ _ (le-leb 1 i first) (le-leb i geometry.last_inode last)
 
--- the shape of an i-number of the volume
+-- the state's shape of an i-number of the volume is `shape_at`
 pub shape_here : (geometry : Geometry) (image : List ℕ) (i : ℕ) → 1 ≤ i → i ≤ geometry.last_inode
     → shapes geometry image i ≡ shape_at geometry image i
 unfolding shapes
 shape_here geometry image i first last = ap (λ t. if t then shape_at geometry image i else no_shape) (number_is geometry i first last)
 
--- an image reads as a state if time, nodes and shapes agree
+-- an image reads as a state if the time, the nodes and the shapes agree
 state_is : (geometry : Geometry) (image : List ℕ) (state_then : State) → geometry ≡ state_then.tree.geometry
     → long image (time_place geometry.edition) ≡ state_then.tree.time
     → ((j : ℕ) → (tree geometry image).nodes j ≡ state_then.tree.nodes j) → ((j : ℕ) → shapes geometry image j ≡ state_then.shapes j)
@@ -35,7 +35,7 @@ state_is geometry image state_then sizes time nodes shape =
       shapes = λ j. shape j k;
     }
 
--- node i of the volume is another one and has another shape, and no other node and shape changes
+-- node i and its shape are replaced, and no other node or shape changes
 pub record ChangesNode (geometry : Geometry) (old new : List ℕ) (i : ℕ) (node : Option Node) (shape : Shape) : Type 0 where
   pub first : 1 ≤ i
   pub last : i ≤ geometry.last_inode
@@ -45,7 +45,7 @@ pub record ChangesNode (geometry : Geometry) (old new : List ℕ) (i : ℕ) (nod
   pub here : node_of geometry new i ≡ node
   pub places : shape_at geometry new i ≡ shape
 
--- the nodes that a change of node i leaves
+-- after node i is replaced, the tree has the new node at i and the old nodes elsewhere
 nodes_are : (geometry : Geometry) (old new : List ℕ) (i j : ℕ) (node : Option Node) (shape : Shape) → ChangesNode geometry old new i node shape
     → (tree geometry new).nodes j ≡ set_at (tree geometry old).nodes i node j
 unfolding tree
@@ -64,7 +64,7 @@ nodes_are geometry old new i j put shape changes = elim (cases_eq j i) [
       ∙ sym (ap (λ t. if t then put else (tree geometry old).nodes j) (ne_eqb j i other))
 ]
 
--- the shapes that a change of node i leaves
+-- after node i is replaced, the state has the new shape at i and the old shapes elsewhere
 shapes_are : (geometry : Geometry) (old new : List ℕ) (i j : ℕ) (node : Option Node) (shape : Shape) → ChangesNode geometry old new i node shape
     → shapes geometry new j ≡ set_at (shapes geometry old) i shape j
 unfolding shapes
@@ -83,7 +83,7 @@ shapes_are geometry old new i j _ shape changes = elim (cases_eq j i) [
       ∙ sym (ap (λ t. if t then shape else shapes geometry old j) (ne_eqb j i other))
 ]
 
--- a change of node i is the edit that sets its node and its shape
+-- replacing node i and its shape edits the state in the same way
 pub makes_both : (geometry : Geometry) (old new : List ℕ) (i : ℕ) (node : Option Node) (shape : Shape) → ChangesNode geometry old new i node shape
     → state geometry new ≡ put_shape i shape (put_node i node (state geometry old))
 unfolding tree
@@ -91,7 +91,7 @@ makes_both geometry old new i node shape changes =
     state_is geometry new (put_shape i shape (put_node i node (state geometry old))) refl changes.time
     (λ j. nodes_are geometry old new i j node shape changes) (λ j. shapes_are geometry old new i j node shape changes)
 
--- if the shape of i stays, it is the edit that puts another node there
+-- replacing node i without changing its shape edits the state in the same way
 pub makes_node : (geometry : Geometry) (old new : List ℕ) (i : ℕ) (node : Option Node)
     → ChangesNode geometry old new i node (shape_at geometry old i) → state geometry new ≡ put_node i node (state geometry old)
 unfolding tree
@@ -106,7 +106,7 @@ makes_node geometry old new i node changes =
       | inr other ↦ ap (λ t. if t then shape_at geometry old i else shapes geometry old j) (ne_eqb j i other)
     ])
 
--- if all nodes and shapes stay, only the time changes
+-- if no node or shape changes, only the time of the state changes
 pub makes_time : (geometry : Geometry) (old new : List ℕ) (now : ℕ) → long new (time_place geometry.edition) ≡ now
     → ((j : ℕ) → 1 ≤ j → j ≤ geometry.last_inode
     → (node_of geometry new j ≡ node_of geometry old j) × (shape_at geometry new j ≡ shape_at geometry old j))

@@ -1,4 +1,4 @@
--- Changes that keep rules 1 to 8, and the bytes that no call changes.
+-- Changes that keep rules 3 to 8 and the bytes that no call changes.
 use Rattle.std.proofs.Common.{◌≡◌, ◌≢◌, ℕ, ◌*◌, ◌<◌, ◌≤◌, ◌∙◌, sym, ap, subst, refl, List, length, slice_index, inl, inr, Ok, arith}
 use Rattle.std.proofs.lemmas.Bool.{false≢true}
 use Rattle.pdp_words.specs.Words.{SameOutside}
@@ -25,7 +25,7 @@ use Rattle.vol_judge.proofs.Parts.{sound_whole, sound_bounded, sound_stack, soun
 use Rattle.vol_change.specs.Whole.{Rules3To8, StaysAround, Keeps}
 use Rattle.vol_change.proofs.Contents.{KeepsReading, reading, form_reads}
 
--- bytes that each of two changes keeps are kept by both
+-- if neither of two changes changes the bytes that no call changes, both together don't
 pub around_then : (geometry : Geometry) (old mid new : List ℕ) → StaysAround geometry old mid → StaysAround geometry mid new → StaysAround geometry old new
 around_then geometry old mid new a b = record {
   len = b.len ∙ a.len;
@@ -35,11 +35,11 @@ around_then geometry old mid new a b = record {
   behind = λ k h. b.behind k h ∙ a.behind k h;
 }
 
--- invariants that each of two changes keeps are kept by both
+-- if each of two changes keeps the invariants, both together do
 pub keeps_then : (geometry : Geometry) (old mid new : List ℕ) → Keeps geometry old mid → Keeps geometry mid new → Keeps geometry old new
 keeps_then geometry old mid new a b = record { rules = b.rules; around = around_then geometry old mid new a.around b.around }
 
--- the sizes are before the free list
+-- if no byte before the free list changes, the geometry read from the super-block doesn't
 sizes_kept : (edition : Edition) (old new : List ℕ) → ((k : ℕ) → k < free_head edition → slice_index new k ≡ slice_index old k)
     → geometry_of edition new ≡ geometry_of edition old
 sizes_kept V6 old new same =
@@ -57,7 +57,7 @@ sizes_kept V7 old new same =
     let f : slice_index new 517 ≡ slice_index old 517 = same 517 (omega arith) in
     cc
 
--- the super-block states the same sizes
+-- if the bytes that no call changes are unchanged, so is the geometry read from the super-block
 pub geometry_kept : (geometry : Geometry) (old new : List ℕ) → StaysAround geometry old new
     → geometry_of geometry.edition new ≡ geometry_of geometry.edition old
 geometry_kept geometry old new around = sizes_kept geometry.edition old new around.before
@@ -66,7 +66,7 @@ geometry_kept geometry old new around = sizes_kept geometry.edition old new arou
 pub zone_behind : (geometry : Geometry) (image : List ℕ) → Fits geometry image → 1024 ≤ 512 * geometry.zone_start
 zone_behind geometry image fits = omega (arith, fits.i_list)
 
--- a write of bytes in the i-list keeps the bytes that no call changes
+-- a write in the i-list doesn't change the bytes that no call changes
 pub around_list : (geometry : Geometry) (old new : List ℕ) (from to : ℕ) → Fits geometry old → SameOutside old new from to → 1024 ≤ from
     → to ≤ 512 * geometry.zone_start → StaysAround geometry old new
 around_list geometry old new from to fits same low high =
@@ -79,7 +79,7 @@ around_list geometry old new from to fits same low high =
       behind = λ k h. same.above k (omega (arith, fits.zone));
     }
 
--- the places that name something are the same in both images, and name the same
+-- both images have the same addresses other than 0, at the same positions
 pub record SameNames (geometry : Geometry) (old new : List ℕ) : Type 0 where
   pub from : (j : ℕ) (p : List ℕ) → IsPlaceOf geometry new j p → named geometry new j p ≢ 0
       → IsPlaceOf geometry old j p × (named geometry new j p ≡ named geometry old j p)
@@ -91,7 +91,7 @@ free_some : (geometry : Geometry) (image blocks : List ℕ) (k : ℕ) → Fits g
 free_some geometry image blocks k fits free is zero =
     false≢true (sym (zero_out geometry image fits) ∙ (sym (ap (in_zone geometry) zero) ∙ free_zone free k is))
 
--- the rules hold if they held, the places name the same, the free blocks stay, and rules 3 and 4 hold
+-- if both images have the same addresses and free blocks, and rules 3 and 4 hold, rules 3 to 8 still hold
 pub whole_names : (geometry : Geometry) (old new : List ℕ) → length new ≡ length old → SameNames geometry old new
     → ((blocks : List ℕ) → IsFree geometry old blocks → IsFree geometry new blocks) → HasKinds geometry new → HasSizes geometry new
     → Rules3To8 geometry old → Rules3To8 geometry new
@@ -132,7 +132,7 @@ whole_names geometry old new len same free kind size rules =
       ];
     }
 
--- a file whose kind stays stays one
+-- a file whose kind doesn't change is still a file
 file_to : (geometry : Geometry) (old new : List ℕ) (j : ℕ) → (1 ≤ j → j ≤ geometry.last_inode → kind_at geometry new j ≡ kind_at geometry old j)
     → IsFile geometry old j → IsFile geometry new j
 file_to geometry old new j same file = record {
@@ -141,7 +141,7 @@ file_to geometry old new j same file = record {
   kind = ap has_places (same file.first file.last) ∙ file.kind;
 }
 
--- a place of an i-node that reads the same was a place before
+-- a position of an i-node that reads as before was a position before
 pub place_before : (geometry : Geometry) (old new : List ℕ) (j : ℕ) (p : List ℕ) → KeepsReading geometry old new j → IsPlaceOf geometry new j p
     → IsPlaceOf geometry old j p
 place_before geometry old new j p kept place = record {
@@ -149,7 +149,7 @@ place_before geometry old new j p kept place = record {
   place = subst (λ form. IsPlace form p) (form_reads geometry old new j kept) place.place;
 }
 
--- if all i-nodes read the same, the places name the same
+-- if all i-nodes read as before, both images have the same addresses
 pub names_reading : (geometry : Geometry) (old new : List ℕ)
     → ((j : ℕ) → 1 ≤ j → j ≤ geometry.last_inode → KeepsReading geometry old new j) → SameNames geometry old new
 names_reading geometry old new kept = record {
@@ -167,7 +167,7 @@ names_reading geometry old new kept = record {
       );
 }
 
--- if all i-nodes read the same and the link counts are within the limit, rule 4 holds
+-- if all i-nodes read as before and the link counts are within the limit, rule 4 holds
 pub sizes_reading : (geometry : Geometry) (old new : List ℕ)
     → ((j : ℕ) → 1 ≤ j → j ≤ geometry.last_inode → KeepsReading geometry old new j)
     → ((j : ℕ) → 1 ≤ j → j ≤ geometry.last_inode → kind_at geometry old j ≢ kinds.Free
@@ -186,7 +186,7 @@ sizes_reading geometry old new kept links has = record {
   links = λ j first last used. links j first last (λ free. used ((kept j first last).kind ∙ free));
 }
 
--- the rules hold if all i-nodes read the same, the link counts are within the limit, and the free blocks stay
+-- if all i-nodes read as before, the link counts are within the limit and the free blocks are the same, rules 3 to 8 still hold
 pub whole_reading : (geometry : Geometry) (old new : List ℕ) → length new ≡ length old
     → ((j : ℕ) → 1 ≤ j → j ≤ geometry.last_inode → KeepsReading geometry old new j)
     → ((j : ℕ) → 1 ≤ j → j ≤ geometry.last_inode → kind_at geometry old j ≢ kinds.Free
@@ -197,18 +197,18 @@ whole_reading geometry old new len kept links free rules =
     (kinds_kept geometry old new rules.sound.fits (λ j first last. (kept j first last).kind) rules.sound.kinds)
     (sizes_reading geometry old new kept links rules.sound.sizes) rules
 
--- all i-nodes read the same if all contents stay
+-- if no content changes, all i-nodes read as before
 readings : (geometry : Geometry) (old new : List ℕ)
     → ((j : ℕ) → 1 ≤ j → j ≤ geometry.last_inode → KeepsContent geometry old new j)
     → (j : ℕ) → 1 ≤ j → j ≤ geometry.last_inode → KeepsReading geometry old new j
 readings geometry old new kept j first last = reading geometry old new j (kept j first last)
 
--- if all contents stay, the places name the same
+-- if no content changes, both images have the same addresses
 pub names_stay : (geometry : Geometry) (old new : List ℕ)
     → ((j : ℕ) → 1 ≤ j → j ≤ geometry.last_inode → KeepsContent geometry old new j) → SameNames geometry old new
 names_stay geometry old new kept = names_reading geometry old new (readings geometry old new kept)
 
--- if all contents stay and the link counts are within the limit, rule 4 holds
+-- if no content changes and the link counts are within the limit, rule 4 holds
 pub sizes_stay : (geometry : Geometry) (old new : List ℕ)
     → ((j : ℕ) → 1 ≤ j → j ≤ geometry.last_inode → KeepsContent geometry old new j)
     → ((j : ℕ) → 1 ≤ j → j ≤ geometry.last_inode → kind_at geometry old j ≢ kinds.Free
@@ -216,7 +216,7 @@ pub sizes_stay : (geometry : Geometry) (old new : List ℕ)
     → HasSizes geometry old → HasSizes geometry new
 sizes_stay geometry old new kept = sizes_reading geometry old new (readings geometry old new kept)
 
--- the rules hold if all contents stay, the link counts are within the limit, and the free blocks stay
+-- if no content changes, the link counts are within the limit and the free blocks are the same, rules 3 to 8 still hold
 pub whole_kept : (geometry : Geometry) (old new : List ℕ) → length new ≡ length old
     → ((j : ℕ) → 1 ≤ j → j ≤ geometry.last_inode → KeepsContent geometry old new j)
     → ((j : ℕ) → 1 ≤ j → j ≤ geometry.last_inode → kind_at geometry old j ≢ kinds.Free
@@ -224,7 +224,7 @@ pub whole_kept : (geometry : Geometry) (old new : List ℕ) → length new ≡ l
     → ((blocks : List ℕ) → IsFree geometry old blocks → IsFree geometry new blocks) → Rules3To8 geometry old → Rules3To8 geometry new
 whole_kept geometry old new len kept = whole_reading geometry old new len (readings geometry old new kept)
 
--- a sound image whose geometry fits is whole
+-- a sound image whose geometry fits keeps rules 3 to 8
 pub whole_of : (edition : Edition) (image : List ℕ) → Fits (geometry_of edition image) image → IsSound edition image
     → Rules3To8 (geometry_of edition image) image
 whole_of edition image fits sound =
@@ -235,7 +235,7 @@ whole_of edition image fits sound =
       covered = sound_covered edition image stack.blocks sound stack.free;
     }
 
--- and so with the sizes that were read
+-- a sound image keeps rules 3 to 8 with the geometry that was read from it
 pub whole_read : (edition : Edition) (image : List ℕ) (geometry : Geometry) → IsSound edition image → Ok geometry ≡ geometry_read edition image
     → Fits geometry image → Rules3To8 geometry image
 unfolding geometry_read

@@ -1,4 +1,4 @@
--- The i-node and the places of a file after a write.
+-- The i-node and the shape of a file after a write.
 use Rattle.std.proofs.Common.{◌≡◌, ◌∙◌, sym, ap, subst, refl, ℕ, ◌+◌, ◌&&◌, Bool, not, cond, if◌then◌else◌, List, [], ◌∷◌, length, true, false, arith, inl, inr}
 use Rattle.std.specs.Prelude.{◌||◌}
 use Rattle.std.specs.List.{count_by}
@@ -22,7 +22,7 @@ use Rattle.vol_change.proofs.FileInodes.{KeepsMode, KeepsFields, touched_mode, t
 use Rattle.vol_dir.proofs.PlaceTests.{place_passed}
 use Rattle.vol_change.proofs.ShapePlaces.{guarded, filled_places, ways_place}
 
--- file i after a write that touches these logical blocks
+-- file i after these logical blocks are stored
 pub record StoresBlocks (geometry : Geometry) (old new : List ℕ) (i : ℕ) (blocks : List ℕ) : Type 0 where
   pub kind : kind_at geometry new i ≡ kind_at geometry old i
   pub fields : KeepsFields (inode_of geometry.edition old i) (inode_of geometry.edition new i)
@@ -31,7 +31,7 @@ pub record StoresBlocks (geometry : Geometry) (old new : List ℕ) (i : ℕ) (bl
   pub names : (p : List ℕ) → is_named_place geometry new i p
       ≡ filled (form_in geometry.edition (is_large geometry.edition (mode_of geometry old i))) (is_named_place geometry old i) blocks p
 
--- a write of a text
+-- a write stores the logical blocks that it touches
 pub stores_blocks : (geometry : Geometry) (old new free : List ℕ) (i offset : ℕ) (text : List ℕ) → IsFile geometry old i
     → Writes geometry old new i offset text free → StoresBlocks geometry old new i (touched offset (length text))
 stores_blocks geometry old new free i offset text file writes =
@@ -55,7 +55,7 @@ stores_blocks geometry old new free i offset text file writes =
           ∙ sym (ap (λ f. filled f (is_named_place geometry old i) blocks p) form)));
     }
 
--- an item that isn't counted doesn't pass
+-- if the count of a list is 0, no item of it passes the test
 none_counted : (t : List ℕ → Bool) (p : List ℕ) (ps : List (List ℕ)) → count_by t ps ≡ 0 → IsAmong p ps → t p ≡ false
 none_counted t p [] none among = absurd among
 none_counted t p (q ∷ ps) none among =
@@ -69,7 +69,7 @@ none_counted t p (q ∷ ps) none among =
       | inr rest ↦ none_counted t p ps (omega (arith, split, none)) rest
     ]
 
--- the blocks needed if the file is made large
+-- if no block is needed, the file isn't made large
 pub grown_need : (form : BlockMap) (names : List ℕ → Bool) (blocks : List ℕ) → need_of form names blocks ≡ 0 → grows_large form blocks ≡ false
 unfolding need_of
 grown_need form names blocks none = elim (cases_Bool (grows_large form blocks)) [
@@ -78,13 +78,13 @@ grown_need form names blocks none = elim (cases_Bool (grows_large form blocks)) 
   | inr stays ↦ stays
 ]
 
--- a chosen place that isn't missing names a block
+-- if each chosen position already has a block, adding the chosen positions changes nothing
 or_named : (name on : Bool) → (on ≡ true → (on && not name) ≡ false) → (name || on) ≡ name
 or_named true on h = refl
 or_named false true h = h refl
 or_named false false h = refl
 
--- if no block is needed, the places that name something stay
+-- if no block is needed, storing the blocks changes nothing
 pub filled_none : (form : BlockMap) (names : List ℕ → Bool) (blocks p : List ℕ) → need_of form names blocks ≡ 0
     → filled form names blocks p ≡ names p
 unfolding need_of missing_count

@@ -1,4 +1,4 @@
--- The state after a change of one file.
+-- The state after one file is changed.
 use Rattle.std.proofs.Common.{◌≡◌, ◌∙◌, sym, ap, subst, refl, ℕ, zero, suc, ◌+◌, ◌≤◌, ◌==◌, ◌&&◌, Bool, not, true, false, if◌then◌else◌, max, take, List, [], length, Option, Some, arith}
 use Rattle.std.specs.Option.{option_map}
 use Rattle.std.proofs.lemmas.Bool.Decides.{nat_tests}
@@ -32,19 +32,19 @@ use Rattle.vol_dir.proofs.PlaceTests.{place_passed}
 use Rattle.vol_change.proofs.ShapePlaces.{guarded}
 use Rattle.vol_change.proofs.WrittenShapes.{StoresBlocks, stores_blocks}
 
--- an i-number of a file of some kind
+-- i is an i-number of the volume, of the given kind
 pub record IsKind (geometry : Geometry) (image : List ℕ) (i : ℕ) (wanted : Kind) : Type 0 where
   pub first : 1 ≤ i
   pub last : i ≤ geometry.last_inode
   pub kind : kind_at geometry image i ≡ wanted
 
--- the node that some content reads as
+-- an i-node with a content reads as the node with its fields and this content
 pub node_holds : (geometry : Geometry) (image : List ℕ) (i : ℕ) (content : Content) → content_of geometry image i (kind_at geometry image i) ≡ Some content
     → node_of geometry image i ≡ Some (node_with (inode_of geometry.edition image i) content)
 unfolding node_of
 node_holds geometry image i content is = ap (option_map (node_with (inode_of geometry.edition image i))) is
 
--- a node whose content and size change
+-- after a change of content and size, the node is changed in the same way
 pub node_edited : (geometry : Geometry) (old new : List ℕ) (i : ℕ) (change : Node → Node) (before after : Content) (size : ℕ) → 1 ≤ i
     → i ≤ geometry.last_inode → content_of geometry old i (kind_at geometry old i) ≡ Some before
     → content_of geometry new i (kind_at geometry new i) ≡ Some after
@@ -59,7 +59,7 @@ node_edited geometry old new i change before after size first last was is fields
     ∙ (ap Some (node_changed old_node new_node before after size fields is_size ∙ made)
     ∙ sym (ap (option_map change) (node_inside geometry old i first last ∙ node_holds geometry old i before was)))
 
--- the shape of a file once blocks are stored, except the slots
+-- after blocks are stored, the shape of a file, except for its slots, is `stored_shape`
 pub shape_stored : (geometry : Geometry) (old new blocks : List ℕ) (i : ℕ) (slots : List (Option (List ℕ))) → StoresBlocks geometry old new i blocks
     → record {
       names = is_named_place geometry new i;
@@ -73,7 +73,7 @@ pub shape_stored : (geometry : Geometry) (old new blocks : List ℕ) (i : ℕ) (
 shape_stored geometry old new blocks i slots stores =
     λ k. record { names = λ p. stores.names p k; large = stores.large k; slots = slots }
 
--- the invariants that a write keeps
+-- a write keeps rules 3 to 8 and the bytes that no call changes
 pub writes_keeps : (geometry : Geometry) (old new : List ℕ) (i offset : ℕ) (text : List ℕ) (rules : Rules3To8 geometry old)
     → Writes geometry old new i offset text rules.blocks → Keeps geometry old new
 writes_keeps geometry old new i offset text rules writes = record {
@@ -81,7 +81,7 @@ writes_keeps geometry old new i offset text rules writes = record {
   around = alone_around geometry old new i writes.alone;
 }
 
--- the invariants that a truncation keeps
+-- a truncation keeps rules 3 to 8 and the bytes that no call changes
 pub truncates_keeps : (geometry : Geometry) (old new : List ℕ) (i size : ℕ) (rules : Rules3To8 geometry old)
     → Truncates geometry old new i size rules.blocks → Keeps geometry old new
 truncates_keeps geometry old new i size rules cuts = record {
@@ -89,7 +89,7 @@ truncates_keeps geometry old new i size rules cuts = record {
   around = alone_around geometry old new i cuts.alone;
 }
 
--- the state after a write into a regular file
+-- a write into a regular file changes the state as `write_body` does
 pub written_state : (geometry : Geometry) (old new free : List ℕ) (i offset : ℕ) (text : List ℕ) → IsKind geometry old i kinds.Regular → Fits geometry old
     → Writes geometry old new i offset text free → state geometry new ≡ write_body i offset text (state geometry old)
 unfolding tree
@@ -114,17 +114,17 @@ written_state geometry old new free i offset text is fits writes =
     ∙ sym (ap (λ shape. stored_shape geometry.edition shape blocks)
     (shape_here geometry old i is.first is.last ∙ ap (shape_of geometry old i) is.kind))))
 
--- a number that is chosen or not
+-- a number or 0, depending on a test, isn't 0 if the number isn't 0 and the test passes
 chosen : (t : Bool) (n : ℕ) → not ((if t then n else 0) == 0) ≡ (not (n == 0) && t)
 chosen true n = sym (all_passes (not (n == 0)))
 chosen false n = sym (none_passes (not (n == 0)))
 
--- tests one after another
+-- a conjunction of tests is associative
 passes_then : (s t u : Bool) → (s && (t && u)) ≡ ((s && t) && u)
 passes_then true t u = refl
 passes_then false t u = refl
 
--- the places on the paths of bytes that stay are places of the file as it was
+-- the positions that the remaining bytes need are positions before and after the truncation
 cut_places : (edition : Edition) (size old new : ℕ) (names : Bool) (p : List ℕ) → new ≡ truncated_mode edition size old
     → (is_place (form_of edition new) p && (names && is_kept (form_of edition old) size p))
     ≡ (is_place (form_of edition old) p && (names && is_kept (form_of edition old) size p))
@@ -140,7 +140,7 @@ cut_places V6 (suc n) old new names p cut =
 cut_places V7 size old new names p cut =
     ap (λ mode. is_place (form_of V7 mode) p && (names && is_kept (form_of V7 old) size p)) cut
 
--- the places that name something after a truncation
+-- after a truncation, a position has an address other than 0 exactly if it had one before and the remaining bytes need it
 cut_names : (geometry : Geometry) (old new free : List ℕ) (i size : ℕ) → IsFile geometry new i → has_places (kind_at geometry old i) ≡ true
     → Truncates geometry old new i size free → (p : List ℕ) → is_named_place geometry new i p
     ≡ (is_named_place geometry old i p && is_kept (form_in geometry.edition (is_large geometry.edition (mode_of geometry old i))) size p)
@@ -155,7 +155,7 @@ cut_names geometry old new free i size file was cuts p =
     ∙ (passes_then (is_place before p) (is_named geometry old i p) (is_kept before size p)
     ∙ sym (ap (λ form. is_named_place geometry old i p && is_kept form size p) (form_shape geometry.edition (mode_of geometry old i) was))))
 
--- the state after a truncation of a regular file
+-- a truncation of a regular file changes the state as `cut_body` does
 pub truncated_state : (geometry : Geometry) (old new free : List ℕ) (i size : ℕ) → IsKind geometry old i kinds.Regular → Fits geometry old
     → Truncates geometry old new i size free → state geometry new ≡ cut_body i size (state geometry old)
 unfolding tree
@@ -179,18 +179,18 @@ truncated_state geometry old new free i size is fits cuts =
     ∙ ((λ k. record { names = λ p. names p k; large = mode.flag k; slots = [] })
     ∙ sym (ap (λ shape. cut_shape edition shape size) (shape_here geometry old i is.first is.last ∙ ap (shape_of geometry old i) is.kind))))
 
--- the kind of a file after a truncation
+-- a truncation doesn't change the kind of a file
 pub truncated_kind : (geometry : Geometry) (old new free : List ℕ) (i size : ℕ) → IsKind geometry old i kinds.Regular
     → Truncates geometry old new i size free → kind_at geometry new i ≡ kind_at geometry old i
 truncated_kind geometry old new free i size is cuts =
     ap (kind_of geometry.edition) cuts.mode ∙ (cut_mode geometry.edition size (mode_of geometry old i) (ap has_places is.kind)).kind
 
--- the kind of a file after a write
+-- a write doesn't change the kind of a file
 pub written_kind : (geometry : Geometry) (old new free : List ℕ) (i offset : ℕ) (text : List ℕ) → IsFile geometry old i
     → Writes geometry old new i offset text free → kind_at geometry new i ≡ kind_at geometry old i
 written_kind geometry old new free i offset text file writes = (stores_blocks geometry old new free i offset text file writes).kind
 
--- if nothing is done, nothing changes
+-- without a change, rules 3 to 8 hold and the bytes that no call changes are unchanged
 pub nothing_keeps : (geometry : Geometry) (old new : List ℕ) → Rules3To8 geometry old → new ≡ old → Keeps geometry old new
 nothing_keeps geometry old new rules same = subst (Keeps geometry old) (sym same) (record {
   rules = rules;
@@ -203,7 +203,7 @@ nothing_keeps geometry old new rules same = subst (Keeps geometry old) (sym same
   };
 })
 
--- and so for the graph
+-- without a change, the graph doesn't change
 pub nothing_graph : (geometry : Geometry) (old new : List ℕ) → new ≡ old → IsSameGraph (graph_of geometry old) (graph_of geometry new)
 nothing_graph geometry old new same = subst (λ image. IsSameGraph (graph_of geometry old) (graph_of geometry image)) (sym same) (record {
   kind = λ i. refl;

@@ -1,9 +1,10 @@
--- The part of the graph of directories that a change of one directory's entries keeps.
+-- The part of the graph of directories that a change of one directory's entries leaves unchanged.
 use Rattle.std.specs.Prelude.{◌≡◌, ◌≢◌, ℕ}
 use Rattle.vol_judge.specs.Graph.{Graph}
 use Rattle.vol_layout.specs.declared.mode.Kind.TheVariants as kinds
 
--- only the size and the entries of directory d may have changed: all kinds stay, and so do the link counts of i-nodes in use and the sizes and entries of other directories (Lions on wdir, unlink)
+-- only the size and the entries of directory d may change: all kinds are unchanged, and so are the link counts of i-nodes in use and the sizes and
+-- entries of other directories (Lions on wdir, unlink)
 pub record StaysBeside (old new : Graph) (d : ℕ) : Type 0 where
   pub kind : (x : ℕ) → new.kind x ≡ old.kind x
   pub links : (x : ℕ) → old.kind x ≢ kinds.Free → new.links x ≡ old.links x

@@ -3,22 +3,23 @@ use Rattle.std.specs.Prelude.{ℕ, List}
 use Rattle.vol_dir.specs.Tree.{Node, State}
 use Rattle.vol_change.specs.Edits.{entry_added, entry_removed, bytes_written, bytes_cut}
 
--- the node itself: its times stay (this project)
+-- the same node, with unchanged times (this project)
 abbrev pub untimed : Node → Node
 untimed node = node
 
--- bytes are written into file i from an offset on, and its times stay (Lions on writei)
+-- bytes are written into file i at an offset, and its times don't change (Lions on writei)
 abbrev pub write_body : ℕ → ℕ → List ℕ → State → State
 write_body = bytes_written untimed
 
--- file i is cut to its first `size` bytes and the places that they need, and its times stay (Lions on itrunc; that bytes may stay is this project's)
+-- file i is cut to its first `size` bytes and the blocks that they need, and its times don't change (Lions on itrunc; that bytes may stay is this
+-- project's)
 abbrev pub cut_body : ℕ → ℕ → State → State
 cut_body = bytes_cut untimed
 
--- directory d gets an entry, a name for i, and its times stay (Lions on wdir)
+-- an entry for i is added to directory d, and the directory's times don't change (Lions on wdir)
 abbrev pub put_entry : ℕ → List ℕ → ℕ → State → State
 put_entry = entry_added untimed
 
--- an entry of directory d is removed, and its times stay (Lions on unlink)
+-- an entry of directory d is removed, and the directory's times don't change (Lions on unlink)
 abbrev pub drop_entry : ℕ → List ℕ → State → State
 drop_entry = entry_removed untimed

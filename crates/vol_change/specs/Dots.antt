@@ -1,11 +1,11 @@
--- A new directory, before and after it has `.` and `..`.
+-- A new directory, before and after `.` and `..` are added.
 use Rattle.std.specs.Prelude.{◌≡◌, ℕ, ◌≤◌, None, Some}
 use Rattle.vol_dir.specs.Names.{Names, dot, dot_dot}
 use Rattle.vol_dir.specs.Tree.{Directory, Node, Shape, State}
 use Rattle.vol_judge.specs.Graph.{Graph}
 use Rattle.vol_change.specs.Beside.{StaysBeside}
 
--- node i is a directory with these entries, this many bytes and these places (manual section 5, directories)
+-- node i is a directory with these entries, this size in bytes and this shape (manual section 5, directories)
 pub record HoldsNames (state : State) (i : ℕ) (entries : Names) (bytes : ℕ) (places : Shape) : Type 0 where
   pub node : Node
   pub is : state.tree.nodes i ≡ Some node

@@ -1,4 +1,4 @@
--- Changes of one node of the tree, from which the effects of calls are built.
+-- Changes of one node of the tree. The effects of calls are built from them.
 use Rattle.std.specs.Prelude.{ℕ, ◌+◌, ◌-◌, ◌%◌, ◌==◌, max, nat_le, if◌then◌else◌, List, [], ◌∷◌, length, take, Option, None}
 use Rattle.std.specs.Option.{option_map}
 use Rattle.vol_file.specs.Changes.{spliced}
@@ -11,11 +11,11 @@ use Rattle.vol_layout.specs.Inode.{first_change}
 use Rattle.vol_layout.specs.declared.edition.Edition.{Edition}
 use Rattle.vol_dir.specs.declared.cred.Cred.{Cred}
 
--- values by i-number, with another one at i (this project)
+-- a value for each i-number, replaced at i (this project)
 abbrev pub set_at : {X : Type 0} → (ℕ → X) → ℕ → X → ℕ → X
 set_at values i value j = if j == i then value else values j
 
--- the state with another node at i, or with none (this project)
+-- the state with node i replaced, or removed if None is given (this project)
 abbrev pub put_node : ℕ → Option Node → State → State
 put_node i node state = record state { tree = record state.tree { nodes = set_at state.tree.nodes i node } }
 
@@ -23,27 +23,27 @@ put_node i node state = record state { tree = record state.tree { nodes = set_at
 abbrev pub change_node : ℕ → (Node → Node) → State → State
 change_node i change state = put_node i (option_map change (state.tree.nodes i)) state
 
--- the state with another shape at i (this project)
+-- the state with the shape of file i replaced (this project)
 abbrev pub put_shape : ℕ → Shape → State → State
 put_shape i shape state = record state { shapes = set_at state.shapes i shape }
 
--- the state without node i and without its places (Lions on iput)
+-- the state without node i and without its shape (Lions on iput)
 abbrev pub remove_node : ℕ → State → State
 remove_node i state = put_shape i no_shape (put_node i None state)
 
--- the state with the super-block's time set to that of the call (filsys.h)
+-- the state with the super-block's time set to the time of the call (filsys.h)
 abbrev pub at_time : ℕ → State → State
 at_time now state = record state { tree = record state.tree { time = now } }
 
--- a node whose i-node was changed; the seventh edition stores the time of that (ino.h)
+-- a node after a change of its i-node; the seventh edition stores the time of this change (ino.h)
 abbrev pub stamped : ℕ → Node → Node
 stamped now node = record node { changed = option_map (λ _. now) node.changed }
 
--- a node whose bytes or entries were changed too (manual section 5, file system)
+-- a node after a change of its bytes or entries, which also changes its i-node (manual section 5, file system)
 abbrev pub modified : ℕ → Node → Node
 modified now node = record (stamped now node) { modified = now }
 
--- a new node of the caller, with all its times those of the call (Lions on maknode)
+-- a new node owned by the caller; all its times are the time of the call (Lions on maknode)
 abbrev pub new_node : Edition → Cred → ℕ → ℕ → Content → ℕ → ℕ → Node
 new_node edition cred now perm content links size = record {
   content = content;
@@ -57,13 +57,14 @@ new_node edition cred now perm content links size = record {
   changed = first_change edition now;
 }
 
--- the content of a directory, with its map changed (manual section 5, directories)
+-- the content of a directory with its entries changed; the content of other nodes is unchanged (manual section 5, directories)
 abbrev pub change_names : (Names → Names) → Content → Content
 change_names change (Directory names) = Directory (change names)
 change_names change (Body bytes) = Body bytes
 change_names change (Device type addresses) = Device type addresses
 
--- directory d gets an entry, a name for i: in its map, its size, its slot, and the block of the slot if that is missing; its times change by `timed` (Lions on wdir)
+-- an entry for i is added to directory d: to its map, its size and its slots, and the block of the slot is allocated if it is missing; the
+-- directory's times change by `timed` (Lions on wdir)
 abbrev pub entry_added : (Node → Node) → ℕ → List ℕ → ℕ → State → State
 entry_added timed d name i state =
     put_shape d (shape_with_entry state.tree.geometry.edition (state.shapes d) name)
@@ -72,11 +73,11 @@ entry_added timed d name i state =
       size = size_with_entry state d;
     }) state)
 
--- directory d gets an entry, a name for i, and its entries were last changed now (Lions on wdir)
+-- an entry for i is added to directory d, and its time of last modification becomes `now` (Lions on wdir)
 abbrev pub add_entry : ℕ → ℕ → List ℕ → ℕ → State → State
 add_entry now = entry_added (modified now)
 
--- an entry of directory d is removed, and its slot becomes empty; the size stays, and the times change by `timed` (Lions on unlink)
+-- an entry of directory d is removed and its slot becomes empty; the size doesn't change, and the times change by `timed` (Lions on unlink)
 abbrev pub entry_removed : (Node → Node) → ℕ → List ℕ → State → State
 entry_removed timed d name state =
     put_shape d (shape_without_entry (state.shapes d) name)
@@ -84,23 +85,24 @@ entry_removed timed d name state =
       content = change_names (λ names. remove names name) node.content;
     }) state)
 
--- an entry of directory d is removed, and its entries were last changed now (Lions on unlink)
+-- an entry of directory d is removed, and its time of last modification becomes `now` (Lions on unlink)
 abbrev pub remove_entry : ℕ → ℕ → List ℕ → State → State
 remove_entry now = entry_removed (modified now)
 
--- a node with another link count, which changes its i-node (Lions on link)
+-- a node with its link count replaced, which changes its i-node (Lions on link)
 abbrev pub with_links : ℕ → ℕ → Node → Node
 with_links now links node = record (stamped now node) { links = links }
 
--- a node with other permission bits, those in octal 7777, which changes its i-node (chmod, section 2 of the manual)
+-- a node with its permission bits, those in octal 7777, replaced, which changes its i-node (chmod, section 2 of the manual)
 abbrev pub with_permission_bits : ℕ → ℕ → Node → Node
 with_permission_bits now perm node = record (stamped now node) { permissions = perm % 4096 }
 
--- a node of another user and group, which changes its i-node (chown, section 2 of the manual)
+-- a node with its user and group replaced, which changes its i-node (chown, section 2 of the manual)
 abbrev pub with_owner : ℕ → ℕ → ℕ → Node → Node
 with_owner now uid gid node = record (stamped now node) { uid = uid; gid = gid }
 
--- a node with other times of its last access and last modification; its i-node's change has the time of the call (utime, section 2 of the manual)
+-- a node with its times of last access and last modification replaced; the time of its i-node's change becomes the time of the call (utime, section 2
+-- of the manual)
 abbrev pub with_times : ℕ → ℕ → ℕ → Node → Node
 with_times now accessed modified node = record (stamped now node) { accessed = accessed; modified = modified }
 
@@ -112,7 +114,7 @@ add_link now i state = change_node i (λ node. record (stamped now node) { links
 abbrev pub drop_link : ℕ → ℕ → State → State
 drop_link now i state = change_node i (λ node. record (stamped now node) { links = node.links - 1 }) state
 
--- node i loses a link, and is removed with its last one (Lions on iput)
+-- node i loses a link, and is removed if that was its last one (Lions on iput)
 abbrev pub release : ℕ → ℕ → State → State
 release now i state = if nat_le (node_at state.tree i).links 1 then remove_node i state else drop_link now i state
 
@@ -126,7 +128,7 @@ body_of (Device type addresses) = []
 abbrev pub new_directory : ℕ → ℕ → Content
 new_directory made d = Directory (insert (insert [] dot made) dot_dot d)
 
--- bytes are written into file i from an offset on, and its times change by `timed` (Lions on writei)
+-- bytes are written into file i at an offset, and its times change by `timed` (Lions on writei)
 abbrev pub bytes_written : (Node → Node) → ℕ → ℕ → List ℕ → State → State
 bytes_written timed i offset bytes state =
     put_shape i (stored_shape state.tree.geometry.edition (state.shapes i) (touched offset (length bytes)))
@@ -135,17 +137,19 @@ bytes_written timed i offset bytes state =
       size = max node.size (offset + length bytes);
     }) state)
 
--- bytes are written into file i from an offset on, and its bytes were last changed now; no bytes change nothing (Lions on writei)
+-- bytes are written into file i at an offset, and its time of last modification becomes `now`; a write of no bytes changes nothing (Lions on writei)
 abbrev pub after_write : State → ℕ → ℕ → List ℕ → ℕ → State
 after_write state now offset [] i = state
 after_write state now offset (byte ∷ bytes) i = bytes_written (modified now) i offset (byte ∷ bytes) state
 
--- file i is cut to its first `size` bytes and the places that they need; its times change by `timed` (Lions on itrunc; that bytes may stay is this project's)
+-- file i is cut to its first `size` bytes and the blocks that they need; its times change by `timed` (Lions on itrunc; that bytes may stay is this
+-- project's)
 abbrev pub bytes_cut : (Node → Node) → ℕ → ℕ → State → State
 bytes_cut timed i size state =
     put_shape i (cut_shape state.tree.geometry.edition (state.shapes i) size)
     (change_node i (λ node. record (timed node) { content = Body (take size (body_of node.content)); size = size }) state)
 
--- file i is cut to its first `size` bytes and the places that they need; its bytes were last changed now (Lions on itrunc; that bytes may stay is this project's)
+-- file i is cut to its first `size` bytes and the blocks that they need; its time of last modification becomes `now` (Lions on itrunc; that bytes may
+-- stay is this project's)
 abbrev pub after_truncate : State → ℕ → ℕ → ℕ → State
 after_truncate state now size i = bytes_cut (modified now) i size state

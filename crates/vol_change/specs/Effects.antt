@@ -6,29 +6,29 @@ use Rattle.vol_change.specs.Nodes.{number_of_name}
 use Rattle.vol_change.specs.Shapes.{new_directory_shape}
 use Rattle.vol_dir.specs.declared.cred.Cred.{Cred}
 
--- a new regular file without bytes, with i-number `made` and a name in d (Lions on maknode)
+-- an empty regular file is created, with i-number `made` and a name in d (Lions on maknode)
 abbrev pub after_create : State → Cred → ℕ → ℕ → ℕ → ℕ → List ℕ → State
 after_create state cred now perm made d name =
     add_entry now d name made
     (put_shape made no_shape
     (put_node made (Some (new_node state.tree.geometry.edition cred now perm (Body []) 1 0)) state))
 
--- a new directory with i-number `made` and a name in d, to which its `..` adds a link (mkdir)
+-- a directory is created, with i-number `made` and a name in d; its `..` adds a link to d (mkdir)
 abbrev pub after_mkdir : State → Cred → ℕ → ℕ → ℕ → ℕ → List ℕ → State
 after_mkdir state cred now perm made d name =
     add_link now d (add_entry now d name made
     (put_shape made (new_directory_shape state.tree.geometry.edition)
     (put_node made (Some (new_node state.tree.geometry.edition cred now perm (new_directory made d) 2 32)) state)))
 
--- another name, in d, of node i (Lions on link)
+-- node i gets another name, in d (Lions on link)
 abbrev pub after_link : State → ℕ → ℕ → ℕ → List ℕ → State
 after_link state now i d name = add_entry now d name i (add_link now i state)
 
--- a name in d is removed, and with its last name the node (Lions on unlink)
+-- a name in d is removed, and the node too if that was its last name (Lions on unlink)
 abbrev pub after_unlink : State → ℕ → ℕ → List ℕ → State
 after_unlink state now d name = release now (number_of_name state.tree d name) (remove_entry now d name state)
 
--- a directory is removed, with its name in d and the link of its `..` (rmdir)
+-- a directory is removed, with its name in d and the link to d from its `..` (rmdir)
 abbrev pub after_rmdir : State → ℕ → ℕ → List ℕ → State
 after_rmdir state now d name =
     remove_node (number_of_name state.tree d name) (drop_link now d (remove_entry now d name state))

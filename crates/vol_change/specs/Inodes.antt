@@ -8,7 +8,7 @@ use Rattle.vol_layout.specs.BlockMaps.{has_places}
 use Rattle.vol_layout.specs.declared.geometry.Geometry.{Geometry}
 use Rattle.vol_layout.specs.declared.i_node.Inode.{Inode}
 
--- i-node i, which was free, is now that of an empty file, and no other byte has changed (Lions on maknode, ialloc)
+-- i-node i, which was free, now belongs to an empty file, and no other byte changes (Lions on maknode, ialloc)
 pub record MakesInode (geometry : Geometry) (old new : List ℕ) (i : ℕ) (node : Inode) : Type 0 where
   pub above : (constants geometry.edition).root < i
   pub last : i ≤ geometry.last_inode

@@ -10,18 +10,18 @@ use Rattle.vol_change.specs.Shapes.{need_in, entry_blocks}
 use Rattle.vol_change.specs.Whole.{StaysAround}
 use Rattle.vol_layout.specs.declared.geometry.Geometry.{Geometry}
 
--- a sound image with its own geometry (icheck, dcheck)
+-- the image is sound, and `geometry` is its geometry (icheck, dcheck)
 pub record Rules1To12 (geometry : Geometry) (image : List ℕ) : Type 0 where
   pub fits : Fits geometry image
   pub sizes : geometry ≡ geometry_of geometry.edition image
   pub sound : IsSound geometry.edition image
 
--- directory d doesn't have the name yet, and isn't too large with one more entry (Lions on wdir)
+-- directory d doesn't have the name yet, and another entry wouldn't make it too large (Lions on wdir)
 pub record TakesName (state : State) (d : ℕ) (name : List ℕ) : Type 0 where
   pub fresh : get (names_at state.tree d) name ≡ None
   pub greatest : size_with_entry state d ≤ (constants state.tree.geometry.edition).greatest
 
--- the number of blocks that one more entry in directory d needs (Lions on bmap)
+-- the number of blocks that another entry in directory d needs (Lions on bmap)
 abbrev pub entry_need : State → ℕ → ℕ
 entry_need state d = need_in state.tree.geometry.edition (state.shapes d) (entry_blocks (state.shapes d))
 
@@ -29,7 +29,7 @@ entry_need state d = need_in state.tree.geometry.edition (state.shapes d) (entry
 abbrev pub free_in : State → ℕ
 free_in state = free_count state.tree.geometry state.shapes
 
--- the image now reads as another state, is still sound, and keeps the bytes that no call changes (this project)
+-- the image now reads as the state `made`, is still sound, and keeps the bytes that no call changes (this project)
 pub record Becomes (geometry : Geometry) (old new : List ℕ) (made : State) : Type 0 where
   pub ready : Rules1To12 geometry new
   pub around : StaysAround geometry old new

@@ -1,4 +1,4 @@
--- Changes of the shapes of files, and the number of blocks that they take.
+-- Changes of the shapes of files, and the number of blocks that they need.
 use Rattle.std.specs.Prelude.{ℕ, ◌/◌, ◌==◌, ◌&&◌, ◌||◌, not, List, [], ◌∷◌, map, Some}
 use Rattle.std.specs.List.{count_by}
 use Rattle.vol_layout.specs.BlockMaps.{places}
@@ -11,7 +11,7 @@ use Rattle.vol_dir.specs.Search.{new_slot, emptied}
 use Rattle.vol_dir.specs.Tree.{Shape, no_shape, form_in}
 use Rattle.vol_layout.specs.declared.edition.Edition.{Edition}
 
--- the number of blocks that a file of some shape needs so that these logical blocks are stored (Lions on bmap)
+-- the number of blocks that must be allocated to a file of this shape to store these logical blocks (Lions on bmap)
 abbrev pub need_in : Edition → Shape → List ℕ → ℕ
 need_in edition shape blocks = need_of (form_in edition shape.large) shape.names blocks
 
@@ -23,21 +23,22 @@ stored_shape edition shape blocks = record {
   slots = shape.slots;
 }
 
--- the logical block with the slot of a new entry (manual section 5, directories)
+-- the logical block with the slot for a new entry (manual section 5, directories)
 abbrev pub entry_blocks : Shape → List ℕ
 entry_blocks shape = (new_slot shape.slots / 32) ∷ []
 
--- the shape of a directory with an entry of this name added (Lions on wdir)
+-- the shape of a directory after an entry of this name is added (Lions on wdir)
 abbrev pub shape_with_entry : Edition → Shape → List ℕ → Shape
 shape_with_entry edition shape name = record (stored_shape edition shape (entry_blocks shape)) {
   slots = with_item shape.slots (new_slot shape.slots) (Some name);
 }
 
--- the shape of a directory with the entry of this name removed (Lions on unlink)
+-- the shape of a directory after the entry of this name is removed (Lions on unlink)
 abbrev pub shape_without_entry : Shape → List ℕ → Shape
 shape_without_entry shape name = record shape { slots = map (emptied name) shape.slots }
 
--- the shape of a file cut to its first `size` bytes: only the places that they need name blocks, and it is small if there are no bytes (Lions on itrunc; that bytes may stay is this project's)
+-- the shape of a file cut to its first `size` bytes: it keeps only the blocks that these bytes need, and is small if there are none (Lions on itrunc;
+-- that bytes may stay is this project's)
 abbrev pub cut_shape : Edition → Shape → ℕ → Shape
 cut_shape edition shape size = record {
   names = λ p. shape.names p && is_kept (form_in edition shape.large) size p;
@@ -45,7 +46,7 @@ cut_shape edition shape size = record {
   slots = shape.slots;
 }
 
--- the number of places of the file that named a block and no longer do (Lions on itrunc; that bytes may stay is this project's)
+-- the number of blocks that a file loses when it is cut to its first `size` bytes (Lions on itrunc; that bytes may stay is this project's)
 abbrev pub cut_count : Edition → Shape → ℕ → ℕ
 cut_count edition shape size =
     count_by (λ p. shape.names p && not (is_kept (form_in edition shape.large) size p)) (places (form_in edition shape.large))

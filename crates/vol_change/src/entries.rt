@@ -1,4 +1,4 @@
-//! Adding and removing the entries of a directory, with and without its times.
+//! Adds and removes directory entries, with or without setting the directory's times.
 ghost use Rattle.std.specs.Prelude.{◌≡◌, ◌≢◌, ℕ, ◌+◌, ◌*◌, ◌%◌, ◌<◌, ◌≤◌, List, None, Some, length, slice_index, IsSome, false, drop, [], ◌∷◌};
 ghost use Rattle.std.specs.Option.{option_map};
 ghost use Rattle.vol_layout.specs.Edition.{constants};
@@ -26,8 +26,8 @@ use pdp_words::Image;
 use vol_dir::{add_at, remove_at};
 use vol_layout::Geometry;
 
-/// Adds an entry for i-number `i` to directory `dir`, as [`add_at`] does, in the slot for a new entry. The directory
-/// doesn't have `name` yet. Its times and the link count of `i` stay.
+/// Adds an entry for i-number `i` to directory `dir`, as [`add_at`] does, in the slot for a new entry. The directory doesn't have `name` yet. Its
+/// times and the link count of `i` don't change.
 ///
 /// Costs as much as [`add_at`].
 pub fn add_name(image: &mut Image, geometry: &Geometry, dir: u16, slot: u32, name: &[u8], i: u16)
@@ -52,8 +52,8 @@ pub fn add_name(image: &mut Image, geometry: &Geometry, dir: u16, slot: u32, nam
     add_at(image, geometry, dir, slot, name, i);
 }
 
-/// Removes `name`, which directory `dir` has, from its slot, as [`remove_at`] does. The size and times of the directory
-/// stay, and so does the link count of the node that was named.
+/// Removes `name`, which directory `dir` has, from its slot, as [`remove_at`] does. The size and times of the directory and the link count of the
+/// named node don't change.
 ///
 /// Costs as much as [`remove_at`].
 pub fn remove_name(image: &mut Image, geometry: &Geometry, dir: u16, slot: u32, name: &[u8])
@@ -73,8 +73,8 @@ pub fn remove_name(image: &mut Image, geometry: &Geometry, dir: u16, slot: u32, 
     remove_at(image, geometry, dir, slot, name);
 }
 
-/// Adds an entry for i-number `i` to directory `dir`, in the slot for a new entry, and makes `moment`, in seconds, the time
-/// of the directory's last change. The directory doesn't have `name` yet.
+/// Adds an entry for i-number `i` to directory `dir`, in the slot for a new entry, and sets the time of the directory's last change to `moment`, in
+/// seconds. The directory doesn't have `name` yet.
 pub(crate) fn enter(
     image: &mut Image,
     geometry: &Geometry,
@@ -103,8 +103,7 @@ pub(crate) fn enter(
     touch(image, geometry, dir, moment);
 }
 
-/// Removes `name`, which directory `dir` has, from its slot, and makes `moment`, in seconds, the time of the directory's
-/// last change.
+/// Removes `name`, which directory `dir` has, from its slot, and sets the time of the directory's last change to `moment`, in seconds.
 pub(crate) fn leave(
     image: &mut Image,
     geometry: &Geometry,

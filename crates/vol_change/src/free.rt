@@ -18,10 +18,10 @@ use vol_free::give_inode;
 use vol_layout::i_list::kind;
 use vol_layout::{Geometry, Kind, clear_inode};
 
-/// Frees node `i`, which isn't the root: puts its blocks on the free list, clears all bytes of its i-node, and puts its
-/// i-number in the cache if there is room. Returns the number of blocks freed. Takes no memory.
+/// Frees node `i`, which isn't the root. Puts its blocks on the free list, clears all bytes of its i-node, and puts its i-number in the cache if
+/// there is room. Returns the number of blocks freed. Takes no memory.
 ///
-/// Costs what the truncation of its file does, if it has one.
+/// Costs as much as truncating the file, if the node is one.
 pub fn free_node(image: &mut Image, geometry: &Geometry, i: u16) -> u32
     requires rules { Rules3To8 geometry.now image.old }
     requires above { (constants geometry.now.edition).root < i }
@@ -39,7 +39,7 @@ pub fn free_node(image: &mut Image, geometry: &Geometry, i: u16) -> u32
     given
 }
 
-/// Truncates `i` to no bytes if it is a file, and returns the number of blocks freed.
+/// Truncates node `i` to zero bytes if it is a file, and returns the number of blocks freed.
 fn free_blocks(image: &mut Image, geometry: &Geometry, i: u16) -> u32
     requires rules { Rules3To8 geometry.now image.old }
     requires first { 1 ≤ i }

@@ -17,8 +17,7 @@ use pdp_words::Image;
 use vol_layout::i_list::inode;
 use vol_layout::{Geometry, Inode, put_inode};
 
-/// Sets the link count of i-node `i`, which isn't free, and in the seventh edition also the time of its last change, to
-/// `now` in seconds.
+/// Sets the link count of i-node `i`, which isn't free. In the seventh edition, also sets the time of its last change to `now`, in seconds.
 pub fn put_links(image: &mut Image, geometry: &Geometry, i: u16, links: u16, now: u32)
     requires node { HasNode geometry.now image.old i }
     requires limit { links ≤ (constants geometry.now.edition).link_limit }
@@ -36,7 +35,7 @@ pub fn put_links(image: &mut Image, geometry: &Geometry, i: u16, links: u16, now
     put_inode(image, geometry, i, &linked);
 }
 
-/// Adds a link to i-node `i`, which isn't free and has fewer links than the limit, as `put_links` does.
+/// Adds a link to i-node `i`, which isn't free and has fewer links than the limit. Sets the same time as [`put_links`].
 pub fn add_link(image: &mut Image, geometry: &Geometry, i: u16, now: u32)
     requires node { HasNode geometry.now image.old i }
     requires room { (inode_of geometry.now.edition image.old i).links < (constants geometry.now.edition).link_limit }
@@ -50,7 +49,7 @@ pub fn add_link(image: &mut Image, geometry: &Geometry, i: u16, now: u32)
     put_links(image, geometry, i, links + 1, now);
 }
 
-/// Removes a link from i-node `i`, which isn't free and has at least one, as `put_links` does.
+/// Removes a link from i-node `i`, which isn't free and has at least one. Sets the same time as [`put_links`].
 pub fn drop_link(image: &mut Image, geometry: &Geometry, i: u16, now: u32)
     requires node { HasNode geometry.now image.old i }
     requires some { 1 ≤ (inode_of geometry.now.edition image.old i).links }

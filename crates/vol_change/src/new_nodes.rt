@@ -1,4 +1,4 @@
-//! Making nodes, and choosing their i-numbers.
+//! Creates nodes and chooses their i-numbers.
 ghost use Rattle.std.specs.Prelude.{◌≡◌, ◌≢◌, ℕ, ◌+◌, ◌≤◌, true, false, [], Some, None, IfSome, slice_index};
 ghost use Rattle.vol_layout.specs.Edition.{constants};
 ghost use Rattle.vol_layout.specs.Inode.{inode_place, is_large, kind_of, new_inode};
@@ -21,19 +21,19 @@ use vol_dir::Cred;
 use vol_free::take_inode;
 use vol_layout::{Geometry, Inode, Mode, clear_inode, put_inode};
 
-/// A node that a call makes.
+/// A node that a call creates.
 #[derive(Clone, Copy)]
 pub struct NewNode {
     /// The user and group that own the node.
     pub owner: Cred,
-    /// Its permission bits; only those in octal 7777 count.
+    /// The permission bits; only those in octal 7777 count.
     pub permissions: u16,
-    /// The time at which it is made, in seconds.
+    /// The time of its creation, in seconds.
     pub moment: u32,
 }
 
-/// Returns the i-number for a new node: the recorded one if given, else one taken from the cache or the i-list. The
-/// cache changes as if one were taken in both cases.
+/// Returns the i-number for a new node: the recorded one if given, else one taken from the cache or the i-list. In both cases the cache changes as if
+/// one were taken.
 pub(crate) fn pick_number(image: &mut Image, geometry: &Geometry, recorded: Option<u16>) -> u16
     requires rules { Rules3To8 geometry.now image.old }
     requires some { ((i : ℕ) → IsFreeNumber geometry.now image.old i → ⊥) → ⊥ }
@@ -51,8 +51,8 @@ pub(crate) fn pick_number(image: &mut Image, geometry: &Geometry, recorded: Opti
     recorded.unwrap_or(taken)
 }
 
-/// Makes node `i`, whose i-number is free, a new regular file with one link. It has no bytes and names no block, and
-/// all its times are `node.moment`. The unused bytes of its i-node become zero.
+/// Turns i-node `i`, which is free, into a new regular file with one link. The file has no bytes and no blocks, and all its times are `node.moment`.
+/// The unused bytes of the i-node become zero.
 pub fn make_file(image: &mut Image, geometry: &Geometry, i: u16, node: NewNode)
     requires rules { Rules3To8 geometry.now image.old }
     requires free { IsFreeNumber geometry.now image.old i }
@@ -69,8 +69,8 @@ pub fn make_file(image: &mut Image, geometry: &Geometry, i: u16, node: NewNode)
     make_node(image, geometry, i, mode, 1, node);
 }
 
-/// Makes node `i`, whose i-number is free, a new directory with two links. It has no slots and names no block, and all
-/// its times are `node.moment`. The unused bytes of its i-node become zero.
+/// Turns i-node `i`, which is free, into a new directory with two links. The directory has no slots and no blocks, and all its times are
+/// `node.moment`. The unused bytes of the i-node become zero.
 pub fn make_directory(image: &mut Image, geometry: &Geometry, i: u16, node: NewNode)
     requires rules { Rules3To8 geometry.now image.old }
     requires free { IsFreeNumber geometry.now image.old i }
@@ -87,7 +87,7 @@ pub fn make_directory(image: &mut Image, geometry: &Geometry, i: u16, node: NewN
     make_node(image, geometry, i, mode, 2, node);
 }
 
-/// Makes node `i`, whose i-number is free, an empty file with this mode and link count.
+/// Turns i-node `i`, which is free, into an empty file with this mode and link count.
 fn make_node(image: &mut Image, geometry: &Geometry, i: u16, mode: Mode, links: u16, node: NewNode)
     requires rules { Rules3To8 geometry.now image.old }
     requires free { IsFreeNumber geometry.now image.old i }

@@ -19,8 +19,8 @@ use pdp_words::Image;
 use vol_layout::i_list::inode;
 use vol_layout::{Geometry, Inode, put_inode};
 
-/// Sets the permission bits of node `i`, which isn't free, to those bits of `permissions` that are in octal 7777, and in
-/// the seventh edition also the time of its i-node's last change, to `now` in seconds. The rest of its mode stays.
+/// Sets the permission bits of node `i`, which isn't free, to those bits of `permissions` that are in octal 7777. In the seventh edition, also sets
+/// the time of its i-node's last change to `now`, in seconds. The rest of the mode doesn't change.
 pub fn put_permissions(image: &mut Image, geometry: &Geometry, i: u16, permissions: u16, now: u32)
     requires node { HasNode geometry.now image.old i }
     ensures changed { Changed geometry.now image.old image.new (IsOther i)
@@ -41,8 +41,8 @@ pub fn put_permissions(image: &mut Image, geometry: &Geometry, i: u16, permissio
     put_inode(image, geometry, i, &permitted);
 }
 
-/// Gives node `i`, which isn't free, to another user and group, and in the seventh edition sets the time of its i-node's
-/// last change to `now` in seconds.
+/// Changes the user and group of node `i`, which isn't free. In the seventh edition, also sets the time of its i-node's last change to `now`, in
+/// seconds.
 pub fn put_owner(image: &mut Image, geometry: &Geometry, i: u16, uid: u16, gid: u16, now: u32)
     requires node { HasNode geometry.now image.old i }
     requires user { uid ≤ (constants geometry.now.edition).id_limit }

@@ -1,4 +1,4 @@
-//! The times of a volume's and of a node's last change.
+//! Times of the last change of a volume or a node.
 ghost use Rattle.std.specs.Prelude.{◌≡◌, ◌≢◌, ℕ, ◌+◌, ◌≤◌};
 ghost use Rattle.std.specs.Option.{option_map};
 ghost use Rattle.pdp_words.specs.Words.{SameOutside};
@@ -33,8 +33,8 @@ pub fn put_time(image: &mut Image, geometry: &Geometry, now: u32)
     super_block.put_time(image, now);
 }
 
-/// Sets the time of the last change of node `i`'s bytes or entries to `now`, in seconds, and in the seventh edition also
-/// that of its i-node's last change. Node `i` isn't free.
+/// Sets the time of the last change of node `i`'s bytes or entries to `now`, in seconds. In the seventh edition, also sets the time of its i-node's
+/// last change. Node `i` isn't free.
 pub fn touch(image: &mut Image, geometry: &Geometry, i: u16, now: u32)
     requires node { HasNode geometry.now image.old i }
     ensures changed { Changed geometry.now image.old image.new IsAny
@@ -53,8 +53,8 @@ pub fn touch(image: &mut Image, geometry: &Geometry, i: u16, now: u32)
     put_inode(image, geometry, i, &touched);
 }
 
-/// Sets the times of node `i`, in seconds: `accessed` for its last access, `modified` for its last modification, and in the
-/// seventh edition `now` for its i-node's change. Node `i` is any that isn't free.
+/// Sets the times of node `i`, in seconds: `accessed` for its last access, `modified` for its last modification, and in the seventh edition `now` for
+/// its i-node's change. Node `i` may be of any kind but isn't free.
 pub fn put_times(
     image: &mut Image,
     geometry: &Geometry,
@@ -81,7 +81,7 @@ pub fn put_times(
     put_inode(image, geometry, i, &timed);
 }
 
-/// Returns the time of an i-node's change, set to `now`, or `None` for the sixth edition, which has none.
+/// Returns the new time of an i-node's change: `now`, or `None` in the sixth edition, which doesn't store one.
 pub(crate) fn stamp(changed: Option<u32>, now: u32) -> Option<u32>
     ensures { result ≡ option_map (λ _. now) changed }
 {

@@ -1,4 +1,4 @@
--- The meaning of each word of the block report, once all marks are made.
+-- The value of each word of the block report, once all marks are made.
 use Rattle.std.proofs.Common.{◌≡◌, ◌≢◌, ℕ, ◌+◌, ◌≤◌, ◌∙◌, ◌==◌, sym, ap, if◌then◌else◌, List, [], ◌∷◌, map, filter, min, cond, Bool, true, false, not, refl, inl, inr, arith}
 use Rattle.std.proofs.lemmas.Bool.{cases_eq, cases_Bool, eq-eqb, ne_eqb, and_parts}
 use Rattle.std.specs.List.{list_all}
@@ -16,11 +16,11 @@ use Rattle.vol_check.specs.Pieces.{place_weight, kind_weight}
 use Rattle.vol_reports.specs.Icheck.{one_if, least_of}
 use Rattle.vol_check.proofs.Weights.{place_inside, place_outside}
 
--- a weight of the marks on a word alone
+-- the weight of a mark if it is on this word, else 0
 abbrev pub on : ℕ → (Mark → ℕ) → Mark → ℕ
 on w weight m = if m.word == w then weight m else 0
 
--- a mark on the word, and on another
+-- a mark on the word has its weight
 pub on_here : (weight : Mark → ℕ) (v w a : ℕ) → v ≡ w → on w weight (mark v a) ≡ weight (mark w a)
 on_here weight v w a e = ap (λ t. if t then weight (mark v a) else 0) (eq-eqb v w e) ∙ ap (λ x. weight (mark x a)) e
 
@@ -32,7 +32,7 @@ clash : {x y : Bool} → x ≡ y → y ≡ true → x ≡ false → ⊥
 clash same up down = let e : ◌≡◌ {A = ℕ} 1 0 = ap one_if (sym up ∙ (sym same ∙ down)) in omega (arith, e)
 
 module _ (g : Geometry) (weight : Mark → ℕ) where
-  -- the marks of a place of an i-node on the word of data block b's places
+  -- a block-map position marks the word of data block `b` if it points to `b`, and otherwise adds nothing to that word
   pub place_at : (b i k : ℕ) → in_zone g b ≡ true → place_weight g (on (place_word g b) weight) i k ≡ (if k == b then weight (mark (place_word g b) 1) else 0)
   place_at b i k zone = let low = zone_bounds g b zone in elim (cases_Bool (in_zone g k)) [
     | inl inside ↦ let at = zone_bounds g k inside in place_inside g (on (place_word g b) weight) i k inside ∙ elim (cases_eq k b) [
@@ -48,7 +48,7 @@ module _ (g : Geometry) (weight : Mark → ℕ) where
         place_outside g (on (place_word g b) weight) i k outside ∙ omega (arith, a, c, z)
   ]
 
-  -- its marks on a word past those of the places, other than the two words of i-node i
+  -- a block-map position of i-node `i` adds nothing to a word after the words of the data blocks, other than the two words of i-node `i`
   pub place_past : (w i k : ℕ) → 1 + zone_len g ≤ w → w ≢ bad_word g i → w ≢ least_word g i → place_weight g (on w weight) i k ≡ 0
   place_past w i k past bad least = elim (cases_Bool (in_zone g k)) [
     | inl inside ↦ let at = zone_bounds g k inside in
@@ -59,7 +59,7 @@ module _ (g : Geometry) (weight : Mark → ℕ) where
         place_outside g (on w weight) i k outside ∙ omega (arith, a, c)
   ]
 
-  -- its marks on i-node i's own two
+  -- a block-map position of i-node `i` marks the count word of `i` if its number is outside the data blocks, and otherwise adds nothing to that word
   pub place_bad : (i k : ℕ) → 1 ≤ i → i ≤ g.last_inode → place_weight g (on (bad_word g i) weight) i k ≡ (if not (in_zone g k) then weight (mark (bad_word g i) 1) else 0)
   place_bad i k first last = elim (cases_Bool (in_zone g k)) [
     | inl inside ↦ let at = zone_bounds g k inside in
@@ -86,7 +86,7 @@ module _ (g : Geometry) (weight : Mark → ℕ) where
         place_outside g (on (least_word g i) weight) i k outside ∙ omega (arith, a, c, o)
   ]
 
-  -- a kind adds nothing to a word other than those of the kinds
+  -- the mark of an i-node's kind adds nothing to a word that isn't the word of a kind
   pub kind_else : (w : ℕ) (kind : Kind) → ((c : ℕ) → c ≤ 3 → kind_word g c ≢ w) → kind_weight g (on w weight) kind ≡ 0
   kind_else w kinds.Free other = refl
   kind_else w kinds.Regular other = on_else weight (kind_word g 0) w 1 (other 0 (omega arith))
@@ -94,7 +94,7 @@ module _ (g : Geometry) (weight : Mark → ℕ) where
   kind_else w kinds.Special other = on_else weight (kind_word g 2) w 1 (other 2 (omega arith))
   kind_else w kinds.Odd other = on_else weight (kind_word g 3) w 1 (other 3 (omega arith))
 
-  -- the free list adds nothing to a word other than its own
+  -- the marks of the free list add nothing to a word that isn't the free-list word of a data block
   pub free_else : (w : ℕ) (met : List ℕ) → ((b : ℕ) → in_zone g b ≡ true → free_word g b ≢ w) → list_all (in_zone g) met ≡ true
       → total (λ b. on w weight (mark (free_word g b) 1)) met ≡ 0
   free_else w [] other all = total_nil (λ b. on w weight (mark (free_word g b) 1))
@@ -104,7 +104,7 @@ module _ (g : Geometry) (weight : Mark → ℕ) where
       let h = free_else w met other parts.1 in
       let e = on_else weight (free_word g b) w 1 (other b parts.0) in omega arith
 
--- the sum over those that pass a test
+-- the sum over the elements that pass a test counts all others as 0
 pub total_kept : {A : Type 0} (test : A → Bool) (weight : A → ℕ) (ms : List A) → total weight (filter test ms) ≡ total (λ m. if test m then weight m else 0) ms
 total_kept test weight [] = total_nil weight ∙ sym (total_nil (λ m. if test m then weight m else 0))
 total_kept test weight (m ∷ ms) =
@@ -151,7 +151,7 @@ total_marks weight w (k ∷ ks) =
     let a = total_cons weight (mark w k) (map (mark w) ks) in
     let b = total_cons (λ k. weight (mark w k)) k ks in omega arith
 
--- the least of the marks on a word, if these are some numbers
+-- if the marks on a word are those of some numbers, the least mark is the least of the numbers
 pub least_is : (w : ℕ) (ms : List Mark) (ks : List ℕ) → ((weight : Mark → ℕ) → total (on w weight) ms ≡ total (λ k. weight (mark w k)) ks)
     → least_at w ms ≡ least_of ks
 least_is w ms ks same =

@@ -18,7 +18,7 @@ use Rattle.vol_check.proofs.PieceSums.{value_at}
 use Rattle.vol_check.proofs.PastPieces.{parts_one}
 use Rattle.vol_check.proofs.AddedMarks.{adds_as}
 
--- a sweep with pieces is for images with a geometry
+-- a sweep that has pieces is over images with a geometry
 pub laid : (checker : Checker) (layout : Layout) (pieces n : ℕ) (starts : List ℕ) (links : List LinkCount) (shape : TableShape) → IsShaped checker layout pieces starts links shape
     → n < pieces → (g : Geometry) × (layout ≡ Ok g)
 laid checker (Ok g) pieces n starts links shape shaped lt = (g, refl)
@@ -37,7 +37,7 @@ module _ (g : Geometry) (image starts : List ℕ) (n : ℕ) (part : Part) (has :
       let a = has.at (part.inode - 1) (omega arith) in
       let s = is.start in omega arith
 
-  -- it is one of the i-number's parts
+  -- the part of a piece is one of the parts of its i-number
   pub part_within : part.index < part_count g image part.inode
   part_within =
       let wide = has.wide in
@@ -51,7 +51,7 @@ module _ (g : Geometry) (image starts : List ℕ) (n : ℕ) (part : Part) (has :
       let s = start in
       let e = is.end in omega arith
 
-  -- and the piece weighs as much as the part
+  -- the weight of a piece is the sum over its part
   pub piece_is : (weight : SlotWeight) → slots_piece g image weight n ≡ part_sum g image weight part.inode part.index
   unfolding slots_piece
   piece_is weight =
@@ -66,7 +66,7 @@ module _ (g : Geometry) (image starts : List ℕ) (n : ℕ) (part : Part) (has :
       value_at (part_count g image) (part_sum g image weight) 1 g.last_inode (part.inode - 1) part.index n (omega arith) (omega arith) (omega arith)
       ∙ ap (λ i. part_sum g image weight i part.index) back
 
-  -- the piece is done
+  -- a seat that marked a part and kept its entries has done the piece
   pub note_works : (tally : Tally) (checker : Checker) (old new : CheckSeat) → checker ≢ Blocks
       → Notes tally old new (λ weight. part_sum g image (slot_weight checker g weight) part.inode part.index) (λ weight. part_sum g image (slot_kept checker weight) part.inode part.index)
       → Works tally checker g image n old new

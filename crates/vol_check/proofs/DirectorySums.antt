@@ -17,11 +17,11 @@ use Rattle.vol_check.proofs.PartCounts.{one_part, directory_parts}
 use Rattle.vol_check.proofs.PastPieces.{parts_one, slots_past}
 use Rattle.vol_check.proofs.Noted.{part_is, part_none, entry_past}
 
--- the sum over the slots of i-number d, if it is a directory
+-- the sum over the slots of i-number `d`, or 0 if it isn't a directory
 abbrev pub directory_sum : Geometry → List ℕ → SlotWeight → ℕ → ℕ
 directory_sum g image weight d = in_directory (kind_at g image d) (below (λ s. weight d s (entry_at g image d s)) (slot_count g image d))
 
--- a kind is a directory's, or not
+-- a kind is either the kind of a directory or another one
 is_directory : (kind : Kind) → (kind ≡ kinds.Directory) ⊎ (kind ≢ kinds.Directory)
 is_directory kinds.Directory = inl refl
 is_directory kinds.Free = inr (λ e. absurd (cc))
@@ -37,7 +37,7 @@ none_in kinds.Special n other = refl
 none_in kinds.Odd n other = refl
 
 module _ (g : Geometry) (image : List ℕ) (weight : SlotWeight) (blank : (d s : ℕ) → weight d s None ≡ 0) where
-  -- the parts of an i-number have all its slots
+  -- the sum over all parts of an i-number is the sum over all its slots
   pub all_parts : (d : ℕ) → below (part_sum g image weight d) (part_count g image d) ≡ directory_sum g image weight d
   all_parts d = elim (is_directory (kind_at g image d)) [
     | inl is ↦
@@ -58,7 +58,7 @@ module _ (g : Geometry) (image : List ℕ) (weight : SlotWeight) (blank : (d s :
         one ∙ omega (arith, more, none, zero-sum, here)
   ]
 
-  -- the pieces have the slots of all directories
+  -- the sum over all pieces is the sum over the slots of all directories
   pub all_slots : below (slots_piece g image weight) (parts_before g image g.last_inode) ≡ below (λ k. directory_sum g image weight (k + 1)) g.last_inode
   unfolding slots_piece
   all_slots =
@@ -70,7 +70,7 @@ module _ (g : Geometry) (image : List ℕ) (weight : SlotWeight) (blank : (d s :
       ap (λ d. below (part_sum g image weight d) (part_count g image d)) e ∙ all_parts (k + 1)) in
       a ∙ (p ∙ s)
 
-  -- all pieces were drawn, each once
+  -- if all pieces were drawn, each once, the sum over the draws is the sum over the slots of all directories
   pub drawn_slots : (pieces n : ℕ) (starts draws : List ℕ) → ((f : ℕ → ℕ) → total f draws ≡ below f n) → 1 ≤ late pieces draws
       → CountsParts g pieces starts → HasStarts g image starts
       → total (slots_piece g image weight) draws ≡ below (λ k. directory_sum g image weight (k + 1)) g.last_inode
@@ -79,7 +79,7 @@ module _ (g : Geometry) (image : List ℕ) (weight : SlotWeight) (blank : (d s :
       each_once pieces n draws (slots_piece g image weight) drawn stopped (λ p le. slots_past g image weight p (omega arith))
       ∙ (ap (below (slots_piece g image weight)) count ∙ all_slots)
 
--- the sum over a list that is mapped
+-- the sum over a mapped list is the sum of the mapped elements' weights
 pub total_map : {A B : Type 0} (f : B → ℕ) (h : A → B) (xs : List A) → total f (map h xs) ≡ total (λ x. f (h x)) xs
 total_map f h [] = total_nil f ∙ sym (total_nil (λ x. f (h x)))
 total_map f h (x ∷ xs) =

@@ -39,7 +39,7 @@ module _ (tally : Tally) (checker : Checker) (layout : Layout) (image : List ℕ
       let l = own.late in
       let z : ◌≡◌ {A = ℕ} (one_if old.ended) 0 = ap one_if early in omega (arith, p, l, z)
 
-  -- a piece was done
+  -- a seat that did the piece it drew still belongs to the table
   pub done_own : (g : Geometry) → n < (table_shape tally).pieces → Works tally checker g image n mid new → mid.ended ≡ old.ended → IsSeatOf tally new
   done_own g low works ended = record {
     own = works.adds.own;
@@ -72,7 +72,7 @@ module _ (tally : Tally) (checker : Checker) (layout : Layout) (image : List ℕ
         ∙ ap (checker_fault checker g image) (sym (works.adds.draws ∙ draws_is)));
   }
 
-  -- the number was no piece's
+  -- a seat that drew a number past the last piece still belongs to the table
   pub end_own : (table_shape tally).pieces ≤ n → IsSeatAt tally mid.seat → new.seat ≡ mid.seat → new.ended ≡ true → IsSeatOf tally new
   end_own high at same ended = record {
     own = subst (IsSeatAt tally) (sym same) at;
@@ -105,7 +105,7 @@ module _ (tally : Tally) (checker : Checker) (layout : Layout) (image : List ℕ
         ∙ sym (ap (λ s. layout_fault checker layout image s.me.0.draws) same ∙ ap (layout_fault checker layout image) draws_is)));
   }
 
-  -- a piece wasn't done
+  -- a seat that ran out of memory in a piece still belongs to the table
   pub fail_own : n < (table_shape tally).pieces → Stays tally mid new → mid.ended ≡ old.ended → IsSeatOf tally new
   fail_own low stays ended = record {
     own = stays.own;
@@ -115,18 +115,18 @@ module _ (tally : Tally) (checker : Checker) (layout : Layout) (image : List ℕ
     last = λ end. clash new.ended end (stays.ended ∙ (ended ∙ early));
   }
 
--- nothing is claimed of a seat that ran out of memory
+-- `IsOf` states nothing about a seat that ran out of memory
 pub spoiled_knows : (checker : Checker) (layout : Layout) (image : List ℕ) (s : CheckSeat) → s.spoiled ≡ true → IsOf checker layout image s
 spoiled_knows checker layout image s spoiled = record { marks = λ fine. absurd (clash fine); fault = λ fine. absurd (clash fine); entries = λ fine. absurd (clash fine) }
   where
     clash : s.spoiled ≡ false → ⊥
     clash fine = let e : ◌≡◌ {A = ℕ} 1 0 = ap one_if (sym spoiled ∙ fine) in omega (arith, e)
 
--- a seat that is neither at its end nor without memory isn't stopped
+-- a seat that hasn't ended or run out of memory isn't stopped
 pub goes_on : (s : CheckSeat) → s.ended ≡ false → s.spoiled ≡ false → is_stopped s ≡ false
 goes_on s early well = ap (λ ended. ended || s.spoiled) early ∙ well
 
--- a seat that did nothing is one of the table's, and of every image
+-- a seat that has done nothing yet belongs to its table
 pub fresh_own : (tally : Tally) (s : CheckSeat) → IsFresh tally s → IsSeatOf tally s
 fresh_own tally s fresh = record {
   own = fresh.own;

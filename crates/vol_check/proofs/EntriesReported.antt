@@ -1,4 +1,4 @@
--- The words of the entry report are those that its definition requires.
+-- The words that are counted satisfy the definition of the entry report.
 use Rattle.std.proofs.Common.{◌≡◌, ℕ, ◌+◌, ◌^◌, ◌%◌, ◌<◌, ◌≤◌, ◌∙◌, sym, ap, cond, if◌then◌else◌, nat_le, List, map, slice_index, Option, None, Some, Bool, true, false, refl, inl, inr, arith}
 use Rattle.std.proofs.lemmas.Bool.{cases_eq, eq-eqb, ne_eqb, le-leb}
 use Rattle.std.proofs.lemmas.List.Sums.{count_by-le-length}
@@ -30,7 +30,7 @@ use Rattle.vol_check.proofs.Reported.{exact, few_inodes}
 use Rattle.vol_check.proofs.Noted.{blank_weight}
 use Rattle.vol_check.proofs.DirectorySums.{directory_sum, drawn_slots, total_map}
 
--- an entry adds 1 to the word of its i-number
+-- an entry adds 1 to the word of its i-number, and nothing to other words
 entry_at_word : (g : Geometry) (i : ℕ) (slot : Option (List ℕ × ℕ)) → i ≤ g.last_inode → entry_weight g (amount_at (entry_word i)) slot ≡ cond (is_for i slot) 1 0
 entry_at_word g i None last = refl
 entry_at_word g i (Some e) last = elim (cases_eq e.1 i) [
@@ -47,7 +47,7 @@ entry_at_word g i (Some e) last = elim (cases_eq e.1 i) [
     either_zero true n none = none
     either_zero false n none = refl
 
--- the number of slots of a directory that are for an i-number
+-- the slots of directory `d` add to the word of i-number `i` the number of entries for `i`
 slots_for : (g : Geometry) (image : List ℕ) (i d : ℕ) → i ≤ g.last_inode
     → below (λ s. entry_weight g (amount_at (entry_word i)) (entry_at g image d s)) (slot_count g image d) ≡ count_by (is_for i) (slots g image d)
 unfolding slots

@@ -1,4 +1,4 @@
--- Seats that are joined one after another.
+-- Joining seats one after another.
 use Rattle.std.proofs.Common.{◌≡◌, ℕ, ◌+◌, ◌*◌, ◌≤◌, ◌∙◌, sym, ap, Bool, true, false, ◌||◌, ◌==◌, if◌then◌else◌, List, [], ◌∷◌, ◌++◌, All, length, length-append, cond, Option, None, Some, Ok, Err, refl, inl, inr, arith}
 use Rattle.std.proofs.lemmas.Bool.{cases_eq, eq-eqb, ne_eqb}
 use Rattle.std.proofs.lemmas.List.Elements.{All-pop, All-head}
@@ -19,7 +19,7 @@ use Rattle.vol_check.specs.Shapes.{Layout}
 use Rattle.vol_check.specs.Seats.{IsSeatOf, IsOf, is_stopped, found_no_memory, layout_weight, layout_kept, layout_fault}
 use Rattle.vol_check.specs.Gather.{Joins, Gathers}
 
--- one seat is the join of several; the rest are not joined yet
+-- `all` is the join of all seats except `rest`, which are not joined yet
 pub record IsGathering (tally : Tally) (seats rest : List CheckSeat) (all : CheckSeat) : Type 0 where
   pub own : IsSeatAt tally all.seat
   pub parts : all.seat.me.0.parts + length rest ≡ length seats
@@ -28,12 +28,12 @@ pub record IsGathering (tally : Tally) (seats rest : List CheckSeat) (all : Chec
   pub others : All (IsSeatOf tally) rest
   pub knows : (checker : Checker) (layout : Layout) (image : List ℕ) → All (IsOf checker layout image) seats → IsOf checker layout image all × All (IsOf checker layout image) rest
 
--- of two flags neither is set
+-- if the disjunction of two flags is false, both are false
 neither : (x y : Bool) → (x || y) ≡ false → (x ≡ false) × (y ≡ false)
 neither false y none = (refl, none)
 neither true y none = absurd (let e : ◌≡◌ {A = ℕ} 1 0 = ap one_if none in omega (arith, e))
 
--- a value that at least one of two seats keeps is kept by both
+-- a value kept by at least one of two seats is kept by their join
 either_kept : {A : Type 0} (value : Option A) (a b c : ℕ) → c ≡ a + b
     → option_or (if a == 0 then None else value) (if b == 0 then None else value) ≡ (if c == 0 then None else value)
 either_kept value a b c sum = elim (cases_eq a 0) [
@@ -50,7 +50,7 @@ either_kept value a b c sum = elim (cases_eq a 0) [
     absorbed None false = refl
     absorbed (Some x) t = refl
 
--- the fault that two seats keep
+-- the join of two seats keeps the fault that either of them keeps
 fault_joined : (checker : Checker) (layout : Layout) (image xs ys : List ℕ)
     → option_or (layout_fault checker layout image xs) (layout_fault checker layout image ys) ≡ layout_fault checker layout image (xs ++ ys)
 fault_joined Blocks (Ok g) image xs ys =
@@ -61,7 +61,7 @@ fault_joined Names (Ok g) image xs ys = refl
 fault_joined checker (Err fault) image xs ys = refl
 
 module _ (tally : Tally) (old other new : CheckSeat) (joins : Joins tally old other new) where
-  -- a seat joined of two that are of an image is of it
+  -- if two seats fit an image, so does their join
   pub joined_knows : (checker : Checker) (layout : Layout) (image : List ℕ) → IsOf checker layout image old → IsOf checker layout image other → IsOf checker layout image new
   joined_knows checker layout image one two = record {
     marks = λ fine weight.
@@ -86,7 +86,7 @@ module _ (tally : Tally) (old other new : CheckSeat) (joins : Joins tally old ot
         ∙ (fault_joined checker layout image old.seat.me.0.draws other.seat.me.0.draws ∙ sym (ap (λ v. layout_fault checker layout image v.draws) joins.joined))));
   }
 
--- flags that are joined
+-- at most twice as many of the flags `all` and `ended || other` are set as of `all || other` and `ended`
 flags_joined : (all other ended : Bool) → one_if all + one_if (ended || other) ≤ 2 * (one_if (all || other) + one_if ended)
 flags_joined true true true = omega arith
 flags_joined true true false = omega arith
@@ -109,7 +109,7 @@ turned false false true = refl
 turned false false false = refl
 
 module _ (tally : Tally) (seats : List CheckSeat) where
-  -- the last seat alone
+  -- the last seat is the first join
   pub gathers_first : (rest : List CheckSeat) (last : CheckSeat) → seats ≡ rest ++ option_to_list (Some last) → All (IsSeatOf tally) seats
       → 1 ≤ count_by is_stopped seats → IsGathering tally seats rest last
   gathers_first rest last is own stopped =
@@ -129,7 +129,7 @@ module _ (tally : Tally) (seats : List CheckSeat) where
         knows = λ checker layout image all. let p = All-pop (IsOf checker layout image) seats rest (Some last) is all in (p.1, p.0);
       }
 
-  -- one more seat
+  -- joining one more seat makes a join of one more seat
   pub gathers_more : (rest fewer : List CheckSeat) (all other new : CheckSeat) → rest ≡ fewer ++ option_to_list (Some other)
       → IsGathering tally seats rest all → Joins tally all other new → IsGathering tally seats fewer new
   gathers_more rest fewer all other new is before joins =
@@ -155,7 +155,7 @@ module _ (tally : Tally) (seats : List CheckSeat) where
             (joined_knows tally all other new joins checker layout image known.0 p.1, p.0);
       }
 
-  -- all seats
+  -- a join of all seats satisfies `Gathers`
   pub gathers_all : (all : CheckSeat) → IsGathering tally seats [] all → Gathers tally seats all
   gathers_all all g = record {
     own = g.own;
@@ -165,7 +165,7 @@ module _ (tally : Tally) (seats : List CheckSeat) where
     knows = λ checker layout image each. (g.knows checker layout image each).0;
   }
 
--- if all seats are stopped, one is
+-- if all seats of a non-empty list are stopped, at least one is
 pub some_stopped : (seats : List CheckSeat) → 1 ≤ length seats → All (λ s. is_stopped s ≡ true) seats → 1 ≤ count_by is_stopped seats
 some_stopped [] some all = some
 some_stopped (s ∷ seats) some all =

@@ -21,7 +21,7 @@ whole : (w b : Bool) (g other : Geometry) → (if w then (if b then Ok g else Er
 whole true b g other e = refl
 whole false b g other e = absurd (cc)
 
--- a geometry within its bounds fits each image from which it is read
+-- a geometry that was read from an image and is within its bounds fits the image
 pub read_fits : (edition : Edition) (image : List ℕ) (g : Geometry) → geometry_read edition image ≡ Ok g → IsLaidOut g → Fits g image
 unfolding geometry_read
 read_fits edition image g read bounds =
@@ -37,7 +37,7 @@ read_fits edition image g read bounds =
       limit = bounds.limit;
     }
 
--- the number of pieces, by whether there is a geometry, and whether it is the blocks that are checked
+-- the number of pieces is right in each case: without geometry, for blocks, and for directories
 pub counted_in : (checker : Checker) (layout : Layout) (image : List ℕ) (pieces : ℕ) → ((g : Geometry) → layout ≡ Ok g → checker ≡ Blocks → pieces ≡ g.last_inode + 1)
     → ((g : Geometry) → layout ≡ Ok g → checker ≢ Blocks → pieces ≡ parts_before g image g.last_inode)
     → ((fault : GeometryFault) → layout ≡ Err fault → pieces ≡ 0) → pieces ≡ pieces_in checker layout image

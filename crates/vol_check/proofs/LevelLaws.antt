@@ -16,7 +16,7 @@ use Rattle.vol_check.specs.Pieces.{place_weight}
 use Rattle.vol_check.specs.Levels.{below_block, by_times, below_named, below_all, KeepsDraws}
 use Rattle.vol_check.proofs.Weights.{weigh_zero, weigh_leaf, weigh_block, weigh_outside, entry_weight}
 
--- a sum, several times
+-- `n` times a sum is the sum of `n` times each part
 pub spread : (n x y : ℕ) → n * (x + y) ≡ n * x + n * y
 spread n x y = grind arith
 
@@ -26,12 +26,12 @@ no_times n = grind arith
 pub one_time : (n : ℕ) → 1 * n ≡ n
 one_time n = omega arith
 
--- a seat keeps its draws by two steps
+-- if each of two steps leaves a seat's draws unchanged, so do both
 pub keeps_then : (tally : Tally) (a b c : Seat (Unit {0}) SeatView) → KeepsDraws tally a b → KeepsDraws tally b c → KeepsDraws tally a c
 keeps_then tally a b c first second = record { own = second.own; parts = second.parts ∙ first.parts; draws = second.draws ∙ first.draws }
 
 module _ (g : Geometry) (image : List ℕ) (weight : ℕ → ℕ) where
-  -- the numbers below a block are found from its entries on
+  -- the weight below a block is the sum of the weights of its entries and of the numbers below them
   pub below_entries : (d b : ℕ)
       → below_block g image weight (d + 1) b ≡ below (λ j. total weight (blocks_from g image d (pointer_in g image b j))) (constants g.edition).pointers
   unfolding below_block
@@ -49,7 +49,7 @@ module _ (g : Geometry) (image : List ℕ) (weight : ℕ → ℕ) where
   unfolding below_block
   below_leaf b = refl
 
-  -- the weight of the numbers found from a number on, times the places that name it
+  -- number 0 has no weight, and nothing below it
   pub times_zero : (d b n : ℕ) → b ≡ 0 → n * total weight (blocks_from g image d b) ≡ 0
   times_zero d b n none = ap (λ x. n * x) (weigh_zero g image weight d b none) ∙ no_times n
 
@@ -69,13 +69,13 @@ module _ (g : Geometry) (image : List ℕ) (i : ℕ) (weight : Mark → ℕ) whe
   leaf_named : (n : NamedBlock) → below_named g image i weight 0 n ≡ 0
   leaf_named n = ap (λ x. n.times * x) (below_leaf g image (place_weight g weight i) n.number) ∙ no_times n.times
 
-  -- nothing is left below any block if there are no levels
+  -- the weight below any list of blocks is 0 if they have no levels
   pub all_leaves : (named : List NamedBlock) → below_all g image i weight 0 named ≡ 0
   all_leaves [] = refl
   all_leaves (n ∷ named) =
       let h = all_leaves named in let l = leaf_named n in let c = sum_by-cons (below_named g image i weight 0) n named in omega arith
 
--- one block of two that are the same
+-- two counts of the same block have the weight of one count with the sum of their positions
 pub times_both : (f : ℕ → ℕ) (x y both : NamedBlock) → both.number ≡ x.number → both.number ≡ y.number → both.times ≡ x.times + y.times
     → by_times f both ≡ by_times f x + by_times f y
 times_both f x y both first second sum =

@@ -34,7 +34,7 @@ use Rattle.vol_check.proofs.Weights.{weigh_file, weigh_zero, weigh_leaf, weigh_b
 use Rattle.vol_check.proofs.Drawn.{total_by, total_same, over_inodes, below_at_most, below_alone}
 use Rattle.vol_check.proofs.BlockWords.{on, on_here, on_else, place_at, place_past, place_bad, place_least, kind_else, free_else, total_kept, least_is}
 
--- whatever the result of a test
+-- a property of a value chosen by a test holds if it holds in both cases
 pub either_way : {A : Type 0} (P : A → Type 0) (t : Bool) (a b : A) → P a → (t ≡ false → P b) → P (if t then a else b)
 either_way P true a b yes-case no-case = yes-case
 either_way P false a b yes-case no-case = no-case refl
@@ -47,7 +47,7 @@ not_false : (x : Bool) → not x ≡ false → x ≡ true
 not_false true same = refl
 not_false false same = sym same
 
--- the walk over the free list meets data blocks alone
+-- the walk over the free list passes only data blocks
 walk_zone : (g : Geometry) (image : List ℕ) (fuel head count : ℕ) (met : List ℕ) → list_all (in_zone g) met ≡ true
     → list_all (in_zone g) (walk_rest g image fuel head count met).met ≡ true
 unfolding walk_rest
@@ -67,7 +67,7 @@ walk_zone g image (suc fuel) head count met all =
 pub free_zone : (g : Geometry) (image : List ℕ) → list_all (in_zone g) (free_walk g image).met ≡ true
 free_zone g image = walk_zone g image (g.zone_end - g.zone_start + 1) (free_head g.edition) (word image (free_head g.edition)) [] refl
 
--- the greatest number of numbers found from a number on, in some levels
+-- the greatest number of numbers at and below a block number with `d` levels
 abbrev most_from : (d : ℕ) → ℕ
 most_from zero = 1
 most_from (suc d) = 1 + 256 * most_from d
@@ -112,7 +112,7 @@ few_firsts Large = omega arith
 few_firsts Deep = omega arith
 few_firsts Bare = omega arith
 
--- a file's places name fewer than 2^28 numbers
+-- the block map of a file has at most 2^28 numbers
 pub few_blocks : (g : Geometry) (image : List ℕ) (i : ℕ) → Fits g image → 1 ≤ i → i ≤ g.last_inode → length (blocks_of g image i) ≤ 268435456
 few_blocks g image i fits first last =
     let form = form_at g image i in
@@ -122,12 +122,12 @@ few_blocks g image i fits first last =
     let f = few_firsts form in
     let o = total_ones (blocks_of g image i) in omega arith
 
--- nothing weighs nothing
+-- a sum of zeros is 0
 total_zero : {A : Type 0} (xs : List A) → total (λ x. 0) xs ≡ 0
 total_zero [] = total_nil (λ x. 0)
 total_zero (x ∷ xs) = let h = total_zero xs in let t = total_cons (λ x. 0) x xs in omega arith
 
--- the marks of the free list on the word of one of its blocks
+-- the marks of the free list on the word of block `b` are the number of times that the walk passed `b`
 free_same : (g : Geometry) (b : ℕ) (met : List ℕ) → in_zone g b ≡ true → list_all (in_zone g) met ≡ true
     → total (λ k. amount_at (free_word g b) (mark (free_word g k) 1)) met ≡ total (λ k. if k == b then 1 else 0) met
 free_same g b [] zone all = total_nil (λ k. amount_at (free_word g b) (mark (free_word g k) 1)) ∙ sym (total_nil (λ k. if k == b then 1 else 0))
@@ -144,7 +144,7 @@ free_same g b (k ∷ met) zone all =
           ∙ sym (ap (λ t. if t then 1 else 0) (ne_eqb k b other))
     ] in omega (arith, h, t, u, e)
 
--- the marks of all pieces, under each weight
+-- under each weight, the sum of all marks is the sum over the free list and all i-nodes
 pub record AllMarked (g : Geometry) (image : List ℕ) (marks : List Mark) : Type 0 where
   pub weighs : (weight : Mark → ℕ) → total weight marks ≡ free_weight g image weight + below (λ k. inode_weight g image weight (k + 1)) g.last_inode
 
@@ -155,7 +155,7 @@ module _ (g : Geometry) where
   kind_none : (c d : ℕ) → c ≢ d → amount_at (kind_word g c) (mark (kind_word g d) 1) ≡ 0
   kind_none c d other = on_else (λ m. m.amount) (kind_word g d) (kind_word g c) 1 (λ e. other (omega (arith, e)))
 
-  -- an i-node's kind adds 1 to the word of its kind
+  -- the mark of an i-node's kind adds 1 to the word of regular files if it is a regular file
   files_kind : (kind : Kind) → kind_weight g (amount_at (kind_word g 0)) kind ≡ cond (is_kind kinds.Regular kind) 1 0
   files_kind kinds.Free = refl
   files_kind kinds.Regular = kind_one 0 0 refl
@@ -185,7 +185,7 @@ module _ (g : Geometry) where
   odds_kind kinds.Odd = kind_one 3 3 refl
 
 module _ (g : Geometry) (image : List ℕ) (marks : List Mark) (m : AllMarked g image marks) where
-  -- the places that name data block b
+  -- the marks on the word of data block `b` are the number of block-map positions that point to `b`
   pub places_summed : (b : ℕ) → in_zone g b ≡ true
       → sum_at (place_word g b) marks ≡ use_count g image b
   unfolding use_count
@@ -202,7 +202,7 @@ module _ (g : Geometry) (image : List ℕ) (marks : List Mark) (m : AllMarked g 
       let o = over_inodes (λ i. count_by (λ k. k == b) (blocks_of g image i)) g.last_inode in
       omega (arith, f, s, e, o)
 
-  -- the free list's own blocks
+  -- the marks on the free-list word of data block `b` are the number of times that the free list has `b`
   pub frees_summed : (b : ℕ) → in_zone g b ≡ true → sum_at (free_word g b) marks ≡ met_count g image b
   unfolding met_count
   frees_summed b zone = let low = zone_bounds g b zone in
@@ -216,7 +216,7 @@ module _ (g : Geometry) (image : List ℕ) (marks : List Mark) (m : AllMarked g 
       let n = kind_else g (λ m. m.amount) w (kind_at g image (k + 1)) (λ c few q. omega (arith, low, q)) in omega (arith, p, z, n)) in
       omega (arith, f, s, e)
 
-  -- the i-nodes of a kind
+  -- the marks on the word of a kind are the number of i-nodes of this kind
   kinds_summed : (c : ℕ) (kind : Kind) → c ≤ 3 → ((other : Kind) → kind_weight g (amount_at (kind_word g c)) other ≡ cond (is_kind kind other) 1 0)
       → sum_at (kind_word g c) marks ≡ kind_count g image kind
   unfolding kind_count
@@ -244,7 +244,7 @@ module _ (g : Geometry) (image : List ℕ) (marks : List Mark) (m : AllMarked g 
   pub odds_summed : sum_at (kind_word g 3) marks ≡ kind_count g image kinds.Odd
   odds_summed = kinds_summed 3 kinds.Odd (omega arith) (odds_kind g)
 
-  -- the marks on a word of i-node i's own by its places that name no data block
+  -- the marks on one of the two words of i-node `i` are those of its block-map positions with numbers outside the data blocks
   bads_alone : (f : Mark → ℕ) (w i : ℕ) (each : ℕ → ℕ) → 1 ≤ i → i ≤ g.last_inode → 1 + 2 * zone_len g ≤ w → ((c : ℕ) → c ≤ 3 → kind_word g c ≢ w)
       → ((j : ℕ) → 1 ≤ j → j ≤ g.last_inode → j ≢ i → (w ≢ bad_word g j) × (w ≢ least_word g j))
       → ((k : ℕ) → place_weight g (on w f) i k ≡ (if not (in_zone g k) then each k else 0))
@@ -265,7 +265,7 @@ module _ (g : Geometry) (image : List ℕ) (marks : List Mark) (m : AllMarked g 
       let q = total_kept (λ k. not (in_zone g k)) each (blocks_of g image i) in
       let n = kind_else g f w (kind_at g image i) kinds in omega (arith, none, s, alone, here, p, q, n)
 
-  -- their number
+  -- the marks on the count word of i-node `i` are the number of its bad block addresses
   pub bads_summed : (i : ℕ) → 1 ≤ i → i ≤ g.last_inode
       → sum_at (bad_word g i) marks ≡ length (bad_numbers g image i)
   unfolding bad_numbers
@@ -275,7 +275,7 @@ module _ (g : Geometry) (image : List ℕ) (marks : List Mark) (m : AllMarked g 
       (λ k. place_bad g (λ m. m.amount) i k first last)
       ∙ total_ones (filter (λ k. not (in_zone g k)) (blocks_of g image i))
 
-  -- and the least of them
+  -- the least mark on the minimum word of i-node `i` is the least of its bad block addresses
   pub leasts_found : (i : ℕ) → 1 ≤ i → i ≤ g.last_inode
       → least_at (least_word g i) marks ≡ least_of (bad_numbers g image i)
   unfolding bad_numbers

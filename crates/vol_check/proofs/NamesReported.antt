@@ -1,4 +1,4 @@
--- The words and entries of the name report are those that its definition requires.
+-- The words and entries that are collected satisfy the definition of the name report.
 use Rattle.std.proofs.Common.{◌≡◌, ◌⊎◌, ℕ, zero, suc, ◌+◌, ◌≤◌, ◌∙◌, ◌==◌, sym, ap, cond, if◌then◌else◌, nat_le, List, [], ◌∷◌, ◌++◌, map, filter, slice_index, Option, None, Some, Bool, true, false, refl, inl, inr, arith}
 use Rattle.std.proofs.lemmas.Bool.{cases_eq, cases_Bool, eq-eqb, ne_eqb, le-leb}
 use Rattle.std.specs.List.{flat_map, range_with_len}
@@ -38,7 +38,7 @@ use Rattle.vol_check.proofs.DirectorySums.{directory_sum, drawn_slots, total_map
 abbrev rank_at : Placed → ℕ
 rank_at e = rank e.directory e.slot
 
--- the sum over the entries of a directory
+-- the sum over the entries of a directory is the sum over its slots
 sum_in : (g : Geometry) (image : List ℕ) (weight : Placed → ℕ) (d : ℕ) (kind : Kind)
     → total weight (entries_in g image d kind) ≡ in_directory kind (below (λ s. total weight (entered d s (entry_at g image d s))) (slot_count g image d))
 unfolding entries_of
@@ -50,7 +50,7 @@ sum_in g image weight d kinds.Regular = total_nil weight
 sum_in g image weight d kinds.Special = total_nil weight
 sum_in g image weight d kinds.Odd = total_nil weight
 
--- the sum over all entries
+-- the sum over all entries is the sum over the slots of all directories
 sum_all : (g : Geometry) (image : List ℕ) (weight : Placed → ℕ)
     → total weight (all_entries g image) ≡ below (λ k. directory_sum g image (slot_kept Names weight) (k + 1)) g.last_inode
 unfolding all_entries
@@ -61,11 +61,11 @@ sum_all g image weight =
     (λ k lt. let e : 1 + k ≡ k + 1 = omega arith in
     ap (λ d. total weight (entries_in g image d (kind_at g image d))) e ∙ sum_in g image weight (k + 1) (kind_at g image (k + 1))))
 
--- an entry for i-number i weighs, and others don't
+-- the mark of an entry's rank if the entry is for i-number `i`, else 0
 abbrev for_inode : ℕ → (Mark → ℕ) → Placed → ℕ
 for_inode i weight e = if e.inode == i then weight (mark i (rank_at e)) else 0
 
--- the mark of a slot on the word of an i-number is the rank of its entry, if that is for it
+-- a slot marks the word of i-number `i` with the rank of its entry if the entry is for `i`
 mark_in : (g : Geometry) (i d s : ℕ) (weight : Mark → ℕ) (slot : Option (List ℕ × ℕ)) → i ≤ g.last_inode
     → name_weight g (on (name_word i) weight) d s slot ≡ total (for_inode i weight) (entered d s slot)
 mark_in g i d s weight None last = sym (total_nil (for_inode i weight))
@@ -95,12 +95,12 @@ mark_in g i d s weight (Some e) last = elim (cases_Bool (is_dots e.0)) [
         unless (nat_le e.1 g.last_inode) (on i weight (mark e.1 (rank d s))) (on_else weight e.1 i (rank d s) differs)
         ∙ sym (ap (λ t. if t then weight (mark i (rank d s)) else 0) (ne_eqb e.1 i differs))
 
--- entries are in ascending order of their ranks, from one on
+-- entries are in ascending order of their ranks, and the first rank is at least `low`
 abbrev Ascends : ℕ → List Placed → Type 0
 Ascends low [] = Unit {0}
 Ascends low (e ∷ es) = (low ≤ rank_at e) × Ascends (rank_at e) es
 
--- none of them is after a rank
+-- no rank of these entries is above `high`
 abbrev UpTo : ℕ → List Placed → Type 0
 UpTo high [] = Unit {0}
 UpTo high (e ∷ es) = (rank_at e ≤ high) × UpTo high es
@@ -113,7 +113,7 @@ raise : (high more : ℕ) (es : List Placed) → high ≤ more → UpTo high es 
 raise high more [] le up = tt
 raise high more (e ∷ es) le up = (omega (arith, le, up.0), raise high more es le up.1)
 
--- entries, and others after them
+-- entries up to rank `mid` followed by entries starting with `mid` are in ascending order
 behind : (low mid : ℕ) (xs ys : List Placed) → low ≤ mid → Ascends low xs → UpTo mid xs → Ascends mid ys → Ascends low (xs ++ ys)
 behind low mid [] ys le asc up rest = lower mid low ys le rest
 behind low mid (x ∷ xs) ys le asc up rest = (asc.0, behind (rank_at x) mid xs ys up.0 asc.1 up.1 rest)
@@ -122,7 +122,7 @@ both_up : (high : ℕ) (xs ys : List Placed) → UpTo high xs → UpTo high ys �
 both_up high [] ys first second = second
 both_up high (x ∷ xs) ys first second = (first.0, both_up high xs ys first.1 second)
 
--- the entry of a slot has its rank
+-- the entry of a slot has the slot's rank
 one_ascends : (d s i : ℕ) (name : List ℕ) (t : Bool) → Ascends (rank d s) (if t then [] else placed d s i name ∷ [])
 one_ascends d s i name true = tt
 one_ascends d s i name false = (omega arith, tt)
@@ -140,7 +140,7 @@ slot_up d s None = tt
 slot_up d s (Some e) = one_up d s e.1 e.0 (is_dots e.0)
 
 module _ (g : Geometry) (image : List ℕ) where
-  -- those of a directory are in the order of their slots
+  -- the entries of directory `d` starting with slot `a` are in the order of their slots
   slots_ascend : (d a n : ℕ) → Ascends (rank d a) (flat_map (λ s. entered d s (entry_at g image d s)) (range_with_len a n))
   slots_ascend d a zero = tt
   slots_ascend d a (suc n) =
@@ -155,7 +155,7 @@ module _ (g : Geometry) (image : List ℕ) where
       (raise (rank d a) (rank d (a + suc n)) (entered d a (entry_at g image d a)) (omega arith) (slot_up d a (entry_at g image d a)))
       (raise (rank d (a + 1 + n)) (rank d (a + suc n)) (flat_map (λ s. entered d s (entry_at g image d s)) (range_with_len (a + 1) n)) (omega arith) (slots_up d (a + 1) n))
 
-  -- a directory's entries are before those of the next
+  -- the entries of directory `d` are in ascending order, starting with the rank of its first slot
   in_ascends : (d : ℕ) (kind : Kind) → Ascends (rank d 0) (entries_in g image d kind)
   unfolding entries_of
   in_ascends d kinds.Directory = slots_ascend d 0 (slot_count g image d)
@@ -196,7 +196,7 @@ module _ (g : Geometry) (image : List ℕ) where
   unfolding all_entries
   all_up = directories_up 1 g.last_inode
 
--- the least of the ranks of some of them
+-- the least rank of the entries that pass a test isn't below `low`
 least_from : (low : ℕ) (test : Placed → Bool) (es : List Placed) → low ≤ 18446744073709551615 → Ascends low es → low ≤ least_of (map rank_at (filter test es))
 unfolding least_of
 least_from low test [] small asc = small
@@ -210,7 +210,7 @@ least_from low test (e ∷ es) small asc = elim (cases_Bool (test e)) [
       let f = ap (λ t. least_of (map rank_at (cond t (e ∷ filter test es) (filter test es)))) fails in omega arith
 ]
 
--- the least rank of the entries for an i-number is that of its naming entry
+-- the least rank of the entries for an i-number is the rank of its naming entry
 least_naming : (i low high : ℕ) (es : List Placed) → high ≤ 18446744073709551615 → Ascends low es → UpTo high es
     → least_of (map rank_at (filter (λ e. e.inode == i) es)) ≡ rank_of (naming_entry i es)
 unfolding least_of naming_entry

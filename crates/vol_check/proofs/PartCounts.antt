@@ -26,17 +26,17 @@ some_of kinds.Special blocks = omega arith
 some_of kinds.Odd blocks = omega arith
 
 module _ (g : Geometry) (image : List ℕ) (i : ℕ) where
-  -- an i-number that isn't a directory's has one piece
+  -- an i-number that isn't a directory has one piece
   pub one_part : kind_at g image i ≢ kinds.Directory → part_count g image i ≡ 1
   unfolding part_count
   one_part other = one_of (kind_at g image i) (whole_blocks (body_size g image i)) other
 
-  -- a directory has one for each 64 logical blocks, and one for those that are left
+  -- a directory has one piece for each 64 logical blocks, rounded up, and at least one
   pub directory_parts : kind_at g image i ≡ kinds.Directory → part_count g image i ≡ max 1 ((whole_blocks (body_size g image i) + 63) / 64)
   unfolding part_count
   directory_parts is = ap (λ k. parts_of k (whole_blocks (body_size g image i))) is
 
-  -- each has one at least
+  -- each i-number has at least one piece
   pub some_part : 1 ≤ part_count g image i
   unfolding part_count
   some_part = some_of (kind_at g image i) (whole_blocks (body_size g image i))
@@ -52,7 +52,7 @@ few_of kinds.Regular blocks le = omega arith
 few_of kinds.Special blocks le = omega arith
 few_of kinds.Odd blocks le = omega arith
 
--- and few at most
+-- an i-number has at most 33,027 pieces
 pub few_parts : (g : Geometry) (image : List ℕ) (i : ℕ) → part_count g image i ≤ 33027
 unfolding part_count
 few_parts g image i =

@@ -1,4 +1,4 @@
--- Past the last piece nothing is marked and nothing kept.
+-- Past the last piece nothing is marked and no entry is kept.
 use Rattle.std.proofs.Common.{◌≡◌, ◌≢◌, ℕ, ◌+◌, ◌<◌, ◌≤◌, ◌∙◌, sym, ap, ◌==◌, if◌then◌else◌, nat_le, List, [], ◌∷◌, ◌++◌, Option, None, Ok, Err, refl, inl, inr, arith}
 use Rattle.std.proofs.lemmas.Bool.{cases_eq, eq-eqb, ne_eqb}
 use Rattle.vol_layout.specs.declared.geometry.Geometry.{Geometry}
@@ -21,12 +21,12 @@ use Rattle.vol_check.specs.Steps.{fault_after}
 use Rattle.vol_check.proofs.Sums.{below_same}
 use Rattle.vol_check.proofs.PieceSums.{value_past}
 
--- past the last i-number the blocks' pieces mark nothing
+-- a piece of blocks past the last i-number makes no marks
 pub past_weight : (g : Geometry) (image : List ℕ) (weight : Mark → ℕ) (n : ℕ) → g.last_inode < n → piece_weight g image weight n ≡ 0
 unfolding piece_weight
 past_weight g image weight n lt = grind (arith, lt)
 
--- piece 0, and the others
+-- piece 0 makes the marks of the free list
 pub free_piece : (g : Geometry) (image : List ℕ) (weight : Mark → ℕ) (n : ℕ) → n ≡ 0 → piece_weight g image weight n ≡ free_weight g image weight
 unfolding piece_weight
 free_piece g image weight n e = ap (λ t. if t then free_weight g image weight else if nat_le n g.last_inode then inode_weight g image weight n else 0) (eq-eqb n 0 e)
@@ -35,11 +35,11 @@ pub inode_piece : (g : Geometry) (image : List ℕ) (weight : Mark → ℕ) (n :
 unfolding piece_weight
 inode_piece g image weight n low high = grind (arith, low, high)
 
--- the pieces of all i-numbers
+-- the number of pieces of the first `n` i-numbers is a sum over them
 pub parts_one : (g : Geometry) (image : List ℕ) (n : ℕ) → below (λ x. part_count g image (1 + x)) n ≡ parts_before g image n
 parts_one g image n = below_same (λ x. part_count g image (1 + x)) (λ k. part_count g image (k + 1)) n (λ k lt. ap (part_count g image) (omega arith))
 
--- past the last part nothing is noted
+-- a piece past the last part makes no marks
 pub slots_past : (g : Geometry) (image : List ℕ) (weight : SlotWeight) (n : ℕ) → parts_before g image g.last_inode ≤ n → slots_piece g image weight n ≡ 0
 unfolding slots_piece
 slots_past g image weight n le =
@@ -65,7 +65,7 @@ module _ (g : Geometry) (image : List ℕ) (pieces : ℕ) (starts : List ℕ) (l
   kept_past Names ready has weight = let other : Names ≢ Blocks = λ e. absurd (cc) in
       slots_past g image (slot_kept Names weight) n (parts_past Names other ready (has other))
 
--- the fault kept once piece 0 is drawn, and once another number is
+-- a seat that drew piece 0 keeps the fault of the free list
 zero_kept : (g : Geometry) (image : List ℕ) (draws : List ℕ) (n : ℕ) → n ≡ 0 → checker_fault Blocks g image (draws ++ n ∷ []) ≡ (free_walk g image).fault
 zero_kept g image draws n e =
     let p = total_push (λ p. one_if (p == 0)) draws n in
@@ -82,7 +82,7 @@ other_kept Blocks g image draws n ne =
 other_kept Entries g image draws n ne = refl
 other_kept Names g image draws n ne = refl
 
--- the fault, once piece n was done
+-- after piece `n` is done, the seat keeps the right fault
 pub kept_next : (checker : Checker) (g : Geometry) (image : List ℕ) (draws : List ℕ) (n : ℕ) (old new : Option _) → old ≡ checker_fault checker g image draws
     → new ≡ fault_after checker g image n old → new ≡ checker_fault checker g image (draws ++ n ∷ [])
 kept_next Blocks g image draws n old new before is = elim (cases_eq n 0) [
@@ -92,13 +92,13 @@ kept_next Blocks g image draws n old new before is = elim (cases_eq n 0) [
 kept_next Entries g image draws n old new before is = is ∙ before
 kept_next Names g image draws n old new before is = is ∙ before
 
--- a number past the last piece
+-- a number past the last piece: it adds no marks, no entries and no fault
 pub record IsPast (checker : Checker) (layout : Layout) (image : List ℕ) (n : ℕ) : Type 0 where
   pub marks : (weight : Mark → ℕ) → layout_weight checker layout image weight n ≡ 0
   pub entries : (weight : Placed → ℕ) → layout_kept checker layout image weight n ≡ 0
   pub fault : (draws : List ℕ) → layout_fault checker layout image (draws ++ n ∷ []) ≡ layout_fault checker layout image draws
 
--- the last piece of a sweep over the blocks is past piece 0
+-- a draw past the last piece of a sweep over the blocks doesn't change the fault that is kept
 some_blocks : (checker : Checker) (g : Geometry) (pieces : ℕ) (starts : List ℕ) (links : List LinkCount) (shape : TableShape) (n : ℕ) → shape.pieces ≡ pieces
     → IsReady checker g pieces starts links shape → pieces ≤ n → (draws : List ℕ) (image : List ℕ)
     → checker_fault checker g image (draws ++ n ∷ []) ≡ checker_fault checker g image draws

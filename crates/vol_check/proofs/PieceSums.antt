@@ -6,7 +6,7 @@ use Rattle.count_table.proofs.Totals.{below_more, below_none}
 use Rattle.vol_check.specs.Parts.{piece_value}
 use Rattle.vol_check.proofs.Sums.{below_front, below_same}
 
--- a sum in two parts
+-- a sum below `a` + `b` is the sum below `a` plus the sum of the other `b` numbers
 pub below_split : (f : ℕ → ℕ) (a b : ℕ) → below f (a + b) ≡ below f a + below (λ k. f (a + k)) b
 below_split f a zero =
     let z : a + 0 ≡ a = omega arith in
@@ -21,7 +21,7 @@ below_split f a (suc b) =
     let u = ap (below (λ k. f (a + k))) t in
     let v = below_more (λ k. f (a + k)) b in omega arith
 
--- a sum by rows of m
+-- a sum below `m` times `n` is a sum over `n` rows of `m` numbers
 pub below_rows : (f : ℕ → ℕ) (m n : ℕ) → below (λ k. below (λ t. f (m * k + t)) m) n ≡ below f (m * n)
 below_rows f m zero =
     let z : m * 0 ≡ 0 = omega arith in
@@ -57,7 +57,7 @@ module _ (count : ℕ → ℕ) (weight : ℕ → ℕ → ℕ) where
       let e = ap count z in
       let s = below_same (λ k. count (i + (k + 1))) (λ k. count (i + 1 + k)) n (λ k lt. ap count (omega arith)) in omega arith
 
-  -- the sum over all pieces is that over the parts of each i-number
+  -- the sum over all pieces is the sum over the parts of each i-number
   pub all_pieces : (i n : ℕ) → below (piece_value count weight i n) (below (λ k. count (i + k)) n) ≡ below (λ k. below (weight (i + k)) (count (i + k))) n
   all_pieces i zero =
       let z = ap (below (piece_value count weight i 0)) (below_none (λ k. count (i + k))) in
@@ -79,7 +79,7 @@ module _ (count : ℕ → ℕ) (weight : ℕ → ℕ → ℕ) where
       (λ k lt. ap (λ j. below (weight j) (count j)) (omega arith)) in
       omega arith
 
-  -- the piece that is part k of the j-th of the i-numbers
+  -- a piece has the weight of its i-number's part: `p` is part `k` of the `j`-th i-number
   pub value_at : (i n j k p : ℕ) → j < n → k < count (i + j) → p ≡ below (λ x. count (i + x)) j + k → piece_value count weight i n p ≡ weight (i + j) k
   value_at i zero j k p lt few is = absurd (omega arith)
   value_at i (suc n) zero k p lt few is =
@@ -94,7 +94,7 @@ module _ (count : ℕ → ℕ) (weight : ℕ → ℕ → ℕ) where
       let c = ap count z in
       value_there i n p (omega arith) ∙ (value_at (i + 1) n j k (p - count i) (omega arith) (omega arith) (omega arith) ∙ ap (λ x. weight x k) (sym z))
 
-  -- past the last piece
+  -- a piece past the last has weight 0
   pub value_past : (i n p : ℕ) → below (λ x. count (i + x)) n ≤ p → piece_value count weight i n p ≡ 0
   value_past i zero p le = value_none i p
   value_past i (suc n) p le =

@@ -1,4 +1,4 @@
--- Rebuilding the free list keeps the files, and so all rules that held; and then the rules of the free list hold too.
+-- Rebuilding the free list keeps the files, so all rules that held still hold, and the rules about the free list hold too.
 use Rattle.std.proofs.Common.{◌≡◌, ◌≢◌, ◌∙◌, sym, ap, subst, refl, ℕ, ◌+◌, ◌*◌, ◌≤◌, true, false, Bool, List, ◌∷◌, Ok, Some, None, inl, inr, get_or, arith}
 use Rattle.std.proofs.lemmas.Bool.{both_ways, cases_Bool}
 use Rattle.pdp_words.specs.Words.{long}
@@ -40,7 +40,7 @@ use Rattle.vol_change.proofs.WholeLaws.{geometry_kept, names_stay, sizes_stay, z
 use Rattle.vol_change.proofs.ReadyLaws.{bounded_kept, whole_kept, sound_by}
 use Rattle.vol_check.specs.SalvagedImages.{IsSalvaged}
 
--- rules 1 and 2 are those that reading the geometry checks
+-- an image that keeps the rules not about the free list has a readable geometry
 pub rules_read : (edition : Edition) (image : List ℕ) → KeepsRules false edition image → geometry_read edition image ≡ Ok (geometry_of edition image)
 unfolding geometry_read Rule
 rules_read edition image rules =
@@ -48,19 +48,19 @@ rules_read edition image rules =
     let bounded : is_bounded edition image ≡ true = rules 2 in
     rw (whole, bounded) refl
 
--- rule 5
+-- the block maps of an image that keeps the rules not about the free list point only to data blocks (rule 5)
 pub rules_zoned : (edition : Edition) (image : List ℕ) (geometry : Geometry) → geometry ≡ geometry_of edition image
     → KeepsRules false edition image → IsZoned geometry image
 unfolding Rule
 rules_zoned edition image geometry same rules = subst (λ g. IsZoned g image) (sym same) (rules 5)
 
--- rule 7, of files
+-- no block of an image that keeps the rules not about the free list belongs to files twice (rule 7 for files)
 pub rules_apart : (edition : Edition) (image : List ℕ) (geometry : Geometry) → geometry ≡ geometry_of edition image
     → KeepsRules false edition image → IsApart geometry image
 unfolding Rule
 rules_apart edition image geometry same rules = subst (λ g. IsApart g image) (sym same) (rules 7).0
 
--- each i-node stays
+-- each i-node is unchanged
 pub remade_inode : (geometry : Geometry) (old new : List ℕ) (used : List Bool) (j : ℕ) → Fits geometry old → KeepsUsed geometry used old new
     → 1 ≤ j → j ≤ geometry.last_inode → KeepsInode geometry old new j
 remade_inode geometry old new used j fits keeps first last =
@@ -69,7 +69,7 @@ remade_inode geometry old new used j fits keeps first last =
     let room = place_room geometry old j fits first last in
     record { bytes = λ k h. keeps.between (inode_place geometry.edition j + k) (omega (arith, order, from)) (omega (arith, room)) }
 
--- each block that a place names stays
+-- each data block that a block map points to is unchanged
 remade_block : (geometry : Geometry) (old new : List ℕ) (used : List Bool) (j : ℕ) (p : List ℕ) → Fits geometry old → AreNamed geometry old used
     → KeepsUsed geometry used old new → IsPlaceOf geometry old j p → in_zone geometry (named geometry old j p) ≡ true
     → IsCopy old new (512 * named geometry old j p) (512 * named geometry old j p) 512
@@ -78,7 +78,7 @@ remade_block geometry old new used j p fits marked keeps place zone =
     (j, p, record { place = place; holds = named_holds geometry old j p (named geometry old j p) fits refl (zone_some geometry old (named geometry old j p) fits zone) }) in
     record { bytes = λ k h. keeps.marked (named geometry old j p) (512 * named geometry old j p + k) set (zone_from geometry (named geometry old j p) zone) (omega arith) (omega arith) }
 
--- and so does each that holds a logical block
+-- each data block that holds a logical block of a file is unchanged
 stored_block : (geometry : Geometry) (old new : List ℕ) (used : List Bool) (j b : ℕ) → IsFile geometry old j
     → in_zone geometry (stored geometry old j (form_at geometry old j) b) ≡ true → Fits geometry old → AreNamed geometry old used
     → KeepsUsed geometry used old new
@@ -94,7 +94,7 @@ stored_block geometry old new used j b file zone fits marked keeps =
           (record { file = file; place = (last_leaf (form_at geometry old j) b p e).place }) here)
     ] refl
 
--- the content of each i-node stays
+-- the content of each i-node is unchanged
 pub remade_content : (geometry : Geometry) (old new : List ℕ) (used : List Bool) (j : ℕ) → Fits geometry old → AreNamed geometry old used
     → KeepsUsed geometry used old new → IsZoned geometry old → 1 ≤ j → j ≤ geometry.last_inode → KeepsContent geometry old new j
 remade_content geometry old new used j fits marked keeps zoned first last =
@@ -119,7 +119,7 @@ remade_content geometry old new used j fits marked keeps zoned first last =
       blocks = λ p r place some h. (remade_block geometry old new used j p fits marked keeps place (zoned j p place some)).bytes r h;
     }
 
--- the bytes that no call changes stay
+-- the bytes that no call changes are unchanged
 remade_around : (geometry : Geometry) (old new : List ℕ) (used : List Bool) → Fits geometry old → KeepsUsed geometry used old new
     → StaysAround geometry old new
 remade_around geometry old new used fits keeps =
@@ -137,12 +137,12 @@ remade_around geometry old new used fits keeps =
 behind_zero : (geometry : Geometry) (image : List ℕ) → Fits geometry image → 1 ≤ geometry.zone_start
 behind_zero geometry image fits = omega (arith, fits.i_list)
 
--- the time with which an image reads is its own
+-- setting the time of an image's state to the time in its super-block changes nothing
 at_own_time : (geometry : Geometry) (image : List ℕ) → at_time (long image (time_place geometry.edition)) (state geometry image) ≡ state geometry image
 unfolding tree
 at_own_time geometry image = refl
 
--- the tree and the shapes stay
+-- the tree and the shapes are unchanged
 remade_state : (geometry : Geometry) (old new : List ℕ) (used : List Bool) → Fits geometry old → AreNamed geometry old used
     → KeepsUsed geometry used old new → IsZoned geometry old → state geometry new ≡ state geometry old
 remade_state geometry old new used fits marked keeps zoned =
@@ -160,7 +160,7 @@ remade_state geometry old new used fits marked keeps zoned =
     ))
     ∙ at_own_time geometry old
 
--- rules 3 to 7 hold, of the free list too, and rule 8 does
+-- rules 3 to 8 hold after the rebuild
 remade_whole : (geometry : Geometry) (old new : List ℕ) (used : List Bool) → Fits geometry old → Fits geometry new → AreNamed geometry old used
     → KeepsUsed geometry used old new → IsFree geometry new (unused geometry used) → HasKinds geometry old → HasSizes geometry old
     → IsZoned geometry old → IsApart geometry old → Rules3To8 geometry new
@@ -205,7 +205,7 @@ remade_whole geometry old new used fits after marked keeps free kinds sizes zone
       ];
     }
 
--- the rules about directories hold
+-- the rules about directories hold after the rebuild
 remade_graph : (geometry : Geometry) (old new : List ℕ) (used : List Bool) → Fits geometry old → AreNamed geometry old used
     → KeepsUsed geometry used old new → IsZoned geometry old → HasSizes geometry old → HasSizes geometry new
     → HasEntries geometry old → HasDots geometry old → IsTree geometry old → HasLinks geometry old
@@ -221,7 +221,7 @@ remade_graph geometry old new used fits marked keeps zoned sizes later entries d
     (λ x is. (content x is.first is.last).size)
     (λ x s is. entry_same geometry old new x s (content x is.first is.last) (file_by geometry old x kinds.Directory is.first is.last is.kind refl))))
 
--- an image whose free list alone was wrong is salvaged once that is rebuilt
+-- an image with faults only in its free list is salvaged after the list is rebuilt
 pub salvaged : (edition : Edition) (old new : List ℕ) (used : List Bool) → KeepsRules false edition old → Fits (geometry_of edition old) old
     → Fits (geometry_of edition old) new → AreNamed (geometry_of edition old) old used → KeepsUsed (geometry_of edition old) used old new
     → IsFree (geometry_of edition old) new (unused (geometry_of edition old) used) → IsSalvaged edition old new

@@ -1,4 +1,4 @@
--- The words of the block report are those that its definition requires.
+-- The words that are counted satisfy the definition of the block report.
 use Rattle.std.proofs.Common.{◌≡◌, ℕ, zero, suc, ◌+◌, ◌-◌, ◌*◌, ◌^◌, ◌%◌, ◌<◌, ◌≤◌, ◌∙◌, ◌==◌, ap, if◌then◌else◌, List, [], ◌∷◌, length, not, ◌&&◌, nat_lt, refl, slice_index, Option, None, arith}
 use Rattle.std.proofs.Math.Nat.{le_trans, mul-le-mul_right}
 use Rattle.std.proofs.lemmas.Bool.{ne_eqb}
@@ -35,11 +35,11 @@ use Rattle.vol_check.proofs.Drawn.{each_once, over_inodes, below_at_most}
 use Rattle.vol_check.proofs.PastPieces.{past_weight, free_piece, inode_piece}
 use Rattle.vol_check.proofs.MarkSums.{AllMarked, either_way, few_blocks, places_summed, frees_summed, files_summed, directories_summed, specials_summed, odds_summed, bads_summed, leasts_found}
 
--- a sum that is below 2^64 is exact
+-- a sum that is below 2^64 is exact although words are modulo 2^64
 pub exact : (w n : ℕ) → w ≡ n % 2 ^ 64 → n < 2 ^ 64 → w ≡ n
 exact w n is small = omega arith
 
--- the walk over the free list meets at most one block in each step
+-- the walk over the free list passes at most one block in each step
 walk_short : (g : Geometry) (image : List ℕ) (fuel head count : ℕ) (met : List ℕ)
     → length (walk_rest g image fuel head count met).met ≤ length met + fuel
 unfolding walk_rest
@@ -66,7 +66,7 @@ few_numbers V6 = omega arith
 few_numbers V7 = omega arith
 
 module _ (g : Geometry) (image : List ℕ) (fits : Fits g image) where
-  -- there are few i-numbers
+  -- there are at most 2^28 i-numbers
   pub few_inodes : g.last_inode ≤ 268435456
   few_inodes =
       let b = few_inode_bytes g.edition in
@@ -106,7 +106,7 @@ module _ (g : Geometry) (image : List ℕ) (fits : Fits g image) where
 
   module _ (shape : TableShape) (v : SeatView) (words : List ℕ) (has : HasWords g shape) (summed : IsSummed shape v words) (stopped : 1 ≤ late shape.pieces v.draws)
       (marks : (weight : Mark → ℕ) → total weight v.marks ≡ total (piece_weight g image weight) v.draws) where
-    -- the marks are those of the free list and of each i-node
+    -- the marks of all pieces are those of the free list and of each i-node
     all_marked : AllMarked g image v.marks
     all_marked = record {
       weighs = λ weight.
@@ -121,7 +121,7 @@ module _ (g : Geometry) (image : List ℕ) (fits : Fits g image) where
           let m = marks weight in omega (arith, once, front, free, rest, m);
     }
 
-    -- the free list was walked over
+    -- the seats keep the fault of the walk over the free list
     pub walked : checker_fault Blocks g image v.draws ≡ (free_walk g image).fault
     walked =
         let once = each_once shape.pieces (slice_index words 0) v.draws (λ p. one_if (p == 0)) summed.drawn stopped
@@ -131,7 +131,7 @@ module _ (g : Geometry) (image : List ℕ) (fits : Fits g image) where
         let some : total (λ p. one_if (p == 0)) v.draws ≡ 0 → ⊥ = λ z. omega (arith, once, front, z) in
         ap (λ t. if t then None else (free_walk g image).fault) (ne_eqb (total (λ p. one_if (p == 0)) v.draws) 0 some)
 
-    -- a count word is the sum of its marks
+    -- a count word is the sum of the marks on it, if that is below 2^64
     counted : (w n : ℕ) → 1 ≤ w → w < 1 + (2 * zone_len g + (g.last_inode + 4)) → sum_at w v.marks ≡ n → n < 2 ^ 64 → slice_index words w ≡ n
     counted w n low high is small =
         exact (slice_index words w) n (summed.counted w low (let e = has.counts in omega arith) ∙ ap (λ k. k % 2 ^ 64) is) small

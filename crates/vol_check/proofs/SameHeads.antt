@@ -22,7 +22,7 @@ use Rattle.vol_check.specs.Parts.{parts_of, part_count, HasStarts}
 use Rattle.vol_check.specs.Layouts.{head_end, HasSameHead}
 use Rattle.vol_check.proofs.Sums.{below_same}
 
--- the geometry is read of the length and the first 518 bytes
+-- the geometry depends only on the image's length and its first 518 bytes
 geometry_same : (edition : Edition) (old new : List ℕ) → length new ≡ length old → ((k : ℕ) → k < 518 → slice_index new k ≡ slice_index old k)
     → geometry_read edition new ≡ geometry_read edition old
 unfolding geometry_read
@@ -46,7 +46,7 @@ geometry_same V7 old new len same =
     omega (arith, same 514 (omega arith), same 515 (omega arith), same 516 (omega arith), same 517 (omega arith)) in
     ap (λ n. F n (list_size new) (block_count V7 new)) len ∙ (ap (λ l. F (length old) l (block_count V7 new)) list ∙ ap (F (length old) (list_size old)) count)
 
--- past its end an image has no bytes
+-- bytes past the end of an image read as 0
 past_end : (image : List ℕ) (k : ℕ) → length image ≤ k → slice_index image k ≡ 0
 past_end image k le = get_or_past image k 0 le
 
@@ -84,7 +84,7 @@ module _ (edition : Edition) (old new : List ℕ) (same : HasSameHead edition ol
         ap (λ k. parts_of k (blocks_in (body_size g new i))) (kinds_same i first last)
         ∙ ap (λ n. parts_of (kind_at g old i) (blocks_in n)) (body_size_kept g old new i (keeps i first last))
 
-    -- the pieces begin as before
+    -- both images have the same starts of pieces
     pub starts_same : (starts : List ℕ) → HasStarts g old starts → HasStarts g new starts
     starts_same starts has = record {
       wide = has.wide;
@@ -92,7 +92,7 @@ module _ (edition : Edition) (old new : List ℕ) (same : HasSameHead edition ol
           (λ k lt. sym (parts_same (k + 1) (omega arith) (omega arith)));
     }
 
-    -- and the link counts are as before
+    -- both images have the same link counts
     pub links_same : (links : List LinkCount) → HasLinkCounts g old links → HasLinkCounts g new links
     links_same links has = record {
       wide = has.wide;
@@ -106,7 +106,7 @@ module _ (edition : Edition) (old new : List ℕ) (same : HasSameHead edition ol
           has.wanted k d lt ∙ ap (λ x. is_allocated x && nat_le (root_of g) (k + 1)) (sym kind);
     }
 
-  -- the geometry is read as it was
+  -- the same geometry is read from both images
   pub read_same : ((g : Geometry) → geometry_read edition old ≡ Ok g → Fits g old) → geometry_read edition new ≡ geometry_read edition old
   read_same fits = go (geometry_read edition old) refl
     where

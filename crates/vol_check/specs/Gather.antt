@@ -11,7 +11,7 @@ use Rattle.vol_check.specs.declared.seats.CheckSeat.{CheckSeat}
 use Rattle.vol_check.specs.Shapes.{Layout}
 use Rattle.vol_check.specs.Seats.{IsOf, found_no_memory}
 
--- one seat has everything that two had (this project)
+-- one seat has the marks and entries of two (this project)
 pub record Joins (tally : Tally) (old other new : CheckSeat) : Type 0 where
   pub own : IsSeatAt tally new.seat
   pub joined : new.seat.me.0 ≡ view (old.seat.me.0.parts + other.seat.me.0.parts) (old.seat.me.0.draws ++ other.seat.me.0.draws) (old.seat.me.0.marks ++ other.seat.me.0.marks)
@@ -19,7 +19,8 @@ pub record Joins (tally : Tally) (old other new : CheckSeat) : Type 0 where
   pub entries : new.entries.items ≡ old.entries.items ++ other.entries.items
   pub spoiled : new.spoiled ≡ (old.spoiled || other.spoiled)
 
--- one seat is the join of several, one of which had stopped, and fits each image that they fit; if none of them ran out of memory, one of its draws is past the pieces (this project)
+-- one seat is the join of several seats, one of which has stopped, and fits each image that they all fit; if none of them ran out of memory, one of
+-- its draws is past the pieces (this project)
 pub record Gathers (tally : Tally) (seats : List CheckSeat) (all : CheckSeat) : Type 0 where
   pub own : IsSeatAt tally all.seat
   pub parts : all.seat.me.0.parts ≡ length seats

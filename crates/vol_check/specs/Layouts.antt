@@ -1,4 +1,4 @@
--- The images that a sweep is for, and its seats and pieces.
+-- The images that a sweep fits, and its seats and pieces.
 use Rattle.std.specs.Prelude.{◌≡◌, ◌≢◌, ℕ, ◌+◌, ◌*◌, ◌<◌, List, length, slice_index, Result, Ok, Err}
 use Rattle.vol_layout.specs.declared.edition.Edition.{Edition}
 use Rattle.vol_layout.specs.declared.geometry.GeometryFault.{GeometryFault}
@@ -14,7 +14,7 @@ use Rattle.vol_check.specs.Shapes.{Layout}
 use Rattle.vol_check.specs.Parts.{HasStarts, parts_before}
 use Rattle.vol_check.specs.Seats.{IsSeatOf, IsOf}
 
--- the byte at which the data zone of an image with some layout begins, or the image's end if it has no geometry (filsys.h)
+-- the byte at which the data zone of an image with this layout begins, or the image's end if it has no geometry (filsys.h)
 abbrev pub head_end : Result Geometry GeometryFault → ℕ → ℕ
 head_end (Ok g) len = 512 * g.zone_start
 head_end (Err fault) len = len
@@ -30,11 +30,11 @@ pub record IsFor (sweep : Sweep) (image : List ℕ) : Type 0 where
   pub starts : (g : Geometry) → sweep.layout ≡ Ok g → sweep.checker ≢ Blocks → HasStarts g image sweep.starts.items
   pub links : (g : Geometry) → sweep.layout ≡ Ok g → sweep.checker ≡ Entries → HasLinkCounts g image sweep.links.items
 
--- a seat is one of a sweep's (this project)
+-- a seat belongs to a sweep (this project)
 abbrev pub IsSeatIn : Sweep → CheckSeat → Type 0
 IsSeatIn sweep = IsSeatOf sweep.tally
 
--- the marks and entries of a seat of a sweep are those of the pieces that it drew, in this image (icheck, dcheck, ncheck)
+-- the marks and entries of a sweep's seat are those of the pieces that it drew, in this image (icheck, dcheck, ncheck)
 abbrev pub HasSwept : Sweep → List ℕ → CheckSeat → Type 0
 HasSwept sweep image = IsOf sweep.checker sweep.layout image
 
@@ -46,7 +46,8 @@ seat_count sweep = (table_shape sweep.tally).seats
 abbrev pub pieces_of : Sweep → ℕ
 pieces_of sweep = (table_shape sweep.tally).pieces
 
--- the number of pieces of an image with some layout for a checker: of the blocks, the free list and each i-number, else the parts of each i-number; 0 without geometry (this project)
+-- the number of pieces of an image for a checker: for blocks, the free list and each i-number; for the others, the parts of each i-number; 0 without
+-- geometry (this project)
 abbrev pub pieces_in : Checker → Layout → List ℕ → ℕ
 pieces_in Blocks (Ok g) image = g.last_inode + 1
 pieces_in Entries (Ok g) image = parts_before g image g.last_inode

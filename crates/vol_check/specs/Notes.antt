@@ -1,4 +1,4 @@
--- The notes of a seat on directories, slot by slot.
+-- The marks that a seat makes for directories, slot by slot.
 use Rattle.std.specs.Prelude.{◌≡◌, ℕ, ◌+◌}
 use Rattle.count_table.specs.declared.rule.Mark.{Mark}
 use Rattle.count_table.specs.declared.words.Tally.{Tally}
@@ -16,7 +16,7 @@ pub record Notes (tally : Tally) (old new : CheckSeat) (amount : (Mark → ℕ) 
   pub ended : new.ended ≡ old.ended
   pub spoiled : new.spoiled ≡ old.spoiled
 
--- a seat belongs to the table as before, and has the draws that it had (this project)
+-- a seat still belongs to the table, and its draws are unchanged (this project)
 pub record Stays (tally : Tally) (old new : CheckSeat) : Type 0 where
   pub own : IsSeatAt tally new.seat
   pub parts : new.seat.me.0.parts ≡ old.seat.me.0.parts

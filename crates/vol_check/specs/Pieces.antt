@@ -1,4 +1,4 @@
--- The marks of each piece of the block report: under each weight, the sum over its marks.
+-- The marks of each piece of the block report, as the sum over its marks under each weight.
 use Rattle.std.specs.Prelude.{◌≡◌, ℕ, ◌+◌, ◌==◌, nat_le, if◌then◌else◌, List}
 use Rattle.atomic_table.specs.declared.shared.Seat.{Seat}
 use Rattle.vol_layout.specs.Geometry.{in_zone}
@@ -16,13 +16,13 @@ use Rattle.count_table.specs.Tallies.{IsSeatAt}
 use Rattle.vol_reports.specs.Words.{place_word, free_word, bad_word, kind_word, least_word}
 use Rattle.vol_free.specs.FreeWalk.{free_walk}
 
--- a place of i-node i that names number k marks the block's word, or i's own two words if k isn't a data block (icheck)
+-- a block-map position of i-node `i` with number `k` marks the word of block `k`, or both words of `i` if `k` isn't a data block (icheck)
 abbrev pub place_weight : Geometry → (Mark → ℕ) → ℕ → ℕ → ℕ
 place_weight g weight i k =
     if in_zone g k then weight (mark (place_word g k) 1)
     else weight (mark (bad_word g i) 1) + weight (mark (least_word g i) k)
 
--- an i-node marks the word of its kind, or none if it is free (icheck)
+-- an i-node marks the word of its kind; a free i-node marks none (icheck)
 abbrev pub kind_weight : Geometry → (Mark → ℕ) → Kind → ℕ
 kind_weight g weight kinds.Free = 0
 kind_weight g weight kinds.Regular = weight (mark (kind_word g 0) 1)
@@ -30,11 +30,11 @@ kind_weight g weight kinds.Directory = weight (mark (kind_word g 1) 1)
 kind_weight g weight kinds.Special = weight (mark (kind_word g 2) 1)
 kind_weight g weight kinds.Odd = weight (mark (kind_word g 3) 1)
 
--- i-node i marks its places and its kind (icheck)
+-- i-node `i` marks the blocks in its block map, and its kind (icheck)
 abbrev pub inode_weight : Geometry → List ℕ → (Mark → ℕ) → ℕ → ℕ
 inode_weight g image weight i = total (place_weight g weight i) (blocks_of g image i) + kind_weight g weight (kind_at g image i)
 
--- the free list marks each block met (icheck)
+-- the free list marks each block that the walk over it passes (icheck)
 abbrev pub free_weight : Geometry → List ℕ → (Mark → ℕ) → ℕ
 free_weight g image weight = total (λ b. weight (mark (free_word g b) 1)) (free_walk g image).met
 

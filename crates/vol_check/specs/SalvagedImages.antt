@@ -11,7 +11,8 @@ use Rattle.vol_layout.specs.declared.edition.Edition.{Edition}
 use Rattle.vol_check.specs.declared.salvage_volume.SalvageFault.{SalvageFault}
 use Rattle.vol_check.specs.declared.salvage_volume.SalvageFault.TheVariants as faults
 
--- an image that broke only the rules about the free list is now sound, and has the tree and the shapes that it had; the data blocks that no place of a file names are free, in ascending order, and all bytes stay except those of these blocks and of the super-block's free list (icheck -s)
+-- an image that broke only the rules about the free list is now sound, with the same tree and shapes as before; the data blocks that belong to no
+-- file are free, in ascending order, and all bytes are unchanged except in these blocks and in the super-block's free list (icheck -s)
 pub record IsSalvaged (edition : Edition) (old new : List ℕ) : Type 0 where
   pub rules : KeepsRules false edition old
   pub sound : IsSound edition new
@@ -22,7 +23,7 @@ pub record IsSalvaged (edition : Edition) (old new : List ℕ) : Type 0 where
   pub free : IsFree (geometry_of edition old) new (unused (geometry_of edition old) used)
   pub stays : KeepsUsed (geometry_of edition old) used old new
 
--- the reason why an image isn't salvaged: NoMemory, or the first rule that fails apart from the free list (this project)
+-- the reason why an image isn't salvaged: NoMemory, or the first broken rule that isn't about the free list (this project)
 abbrev pub IsSalvageFault : Edition → List ℕ → SalvageFault → Type 0
 IsSalvageFault edition bytes faults.NoMemory = Unit {0}
 IsSalvageFault edition bytes (faults.Unsound n) = IsLeastBroken false edition bytes n

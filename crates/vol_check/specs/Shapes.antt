@@ -9,11 +9,11 @@ use Rattle.vol_reports.specs.Words.{HasWords, HasEntryWords, HasNameWords}
 use Rattle.vol_check.specs.declared.checker.Checker.{Checker}
 use Rattle.vol_check.specs.declared.checker.Checker.TheVariants.{Blocks, Entries, Names}
 
--- the layout that an image's super-block states: its geometry, or which of rules 1 and 2 fails (filsys.h)
+-- the layout from an image's super-block: its geometry, or the rule that fails, 1 or 2 (filsys.h)
 abbrev pub Layout : Type 0
 Layout = Result Geometry GeometryFault
 
--- a geometry is within the bounds of its edition, as that of each image is (filsys.h)
+-- a geometry is within the bounds of its edition, like the geometry of any image (filsys.h)
 pub record IsLaidOut (g : Geometry) : Type 0 where
   pub i_list : 1024 + (constants g.edition).inode_bytes * g.last_inode ≡ 512 * g.zone_start
   pub zone : g.zone_start < g.zone_end
@@ -26,20 +26,20 @@ pub record HasWordsOf (checker : Checker) (g : Geometry) (shape : TableShape) : 
   pub of_entries : checker ≡ Entries → HasEntryWords g shape
   pub of_names : checker ≡ Names → HasNameWords g shape
 
--- the number of pieces before those of each i-number, and of all pieces, if they are parts of directories (this project)
+-- for each i-number, the number of pieces before its first one, then the total, if the pieces are parts of directories (this project)
 pub record CountsParts (g : Geometry) (pieces : ℕ) (starts : List ℕ) : Type 0 where
   pub wide : length starts ≡ g.last_inode + 1
   pub first : slice_index starts 0 ≡ 0
   pub last : slice_index starts g.last_inode ≡ pieces
 
--- the parts of a sweep for images with a geometry: the words, the pieces, and for the entries the link counts (this project)
+-- the parts of a sweep over images with a geometry: the words, the pieces, and, for entries, the link counts (this project)
 pub record IsReady (checker : Checker) (g : Geometry) (pieces : ℕ) (starts : List ℕ) (links : List LinkCount) (shape : TableShape) : Type 0 where
   pub bounds : IsLaidOut g
   pub words : HasWordsOf checker g shape
   pub parts : checker ≢ Blocks → CountsParts g pieces starts
   pub counts : checker ≡ Entries → length links ≡ g.last_inode
 
--- the parts of a sweep for images with some layout; those without geometry have no pieces (this project)
+-- the parts of a sweep over images with this layout; images without geometry have no pieces (this project)
 pub record IsShaped (checker : Checker) (layout : Layout) (pieces : ℕ) (starts : List ℕ) (links : List LinkCount) (shape : TableShape) : Type 0 where
   pub count : shape.pieces ≡ pieces
   pub ready : (g : Geometry) → layout ≡ Ok g → IsReady checker g pieces starts links shape

@@ -18,20 +18,20 @@ use Rattle.vol_check.specs.declared.checker.Checker.{Checker}
 use Rattle.vol_check.specs.declared.checker.Checker.TheVariants.{Blocks, Entries, Names}
 use Rattle.vol_check.specs.Parts.{part_count, piece_value}
 
--- a weight of a slot: of its directory, its number, and its entry (manual section 5, directories)
+-- a weight of a slot, computed from its directory, its number, and its entry (manual section 5, directories)
 abbrev pub SlotWeight : Type 0
 SlotWeight = ℕ → ℕ → Option (List ℕ × ℕ) → ℕ
 
--- an entry marks the word of its i-number, up to the last (dcheck)
+-- an entry marks the word of its i-number, unless that is past the last (dcheck)
 abbrev pub entry_weight : Geometry → (Mark → ℕ) → Option (List ℕ × ℕ) → ℕ
 entry_weight g weight None = 0
 entry_weight g weight (Some entry) = if nat_le entry.1 g.last_inode then weight (mark (entry_word entry.1) 1) else 0
 
--- the marks of the slots of data block k (dcheck)
+-- the marks of the slots of data block `k` (dcheck)
 abbrev pub entries_of : Geometry → List ℕ → (Mark → ℕ) → ℕ → ℕ
 entries_of g image weight k = below (λ t. entry_weight g weight (entry_in (slot_at image (512 * k + 16 * t)))) 32
 
--- an entry of a name other than `.` and `..` marks its rank on the word of its i-number, up to the last (ncheck)
+-- an entry whose name is neither `.` nor `..` marks its rank on the word of its i-number, unless that is past the last (ncheck)
 abbrev pub name_weight : Geometry → (Mark → ℕ) → SlotWeight
 name_weight g weight d s None = 0
 name_weight g weight d s (Some entry) =
@@ -44,13 +44,13 @@ slot_weight Blocks g weight d s slot = 0
 slot_weight Entries g weight d s slot = entry_weight g weight slot
 slot_weight Names g weight d s slot = name_weight g weight d s slot
 
--- the entry of a slot that a checker keeps: one for names keeps it (ncheck)
+-- the entry of a slot that a checker keeps: only the name checker keeps it (ncheck)
 abbrev pub slot_kept : Checker → (Placed → ℕ) → SlotWeight
 slot_kept Blocks weight d s slot = 0
 slot_kept Entries weight d s slot = 0
 slot_kept Names weight d s slot = total weight (entered d s slot)
 
--- a number for a directory, and 0 for i-numbers of other kinds (manual section 5, file system)
+-- the given number for a directory, and 0 for i-numbers of other kinds (manual section 5, file system)
 abbrev pub in_directory : Kind → ℕ → ℕ
 in_directory kinds.Directory n = n
 in_directory kinds.Free n = 0
@@ -58,11 +58,11 @@ in_directory kinds.Regular n = 0
 in_directory kinds.Special n = 0
 in_directory kinds.Odd n = 0
 
--- the sum over the slots of part k of i-number d; each part has 64 logical blocks (this project)
+-- the sum over the slots of part `k` of i-number `d`; each part has 64 logical blocks (this project)
 unfoldable pub part_sum : Geometry → List ℕ → SlotWeight → ℕ → ℕ → ℕ
 part_sum g image weight d k =
     in_directory (kind_at g image d) (below (λ t. weight d (2048 * k + t) (entry_at g image d (2048 * k + t))) 2048)
 
--- the sum over the slots of piece p (this project)
+-- the sum over the slots of piece `p` (this project)
 unfoldable pub slots_piece : Geometry → List ℕ → SlotWeight → ℕ → ℕ
 slots_piece g image weight p = piece_value (part_count g image) (part_sum g image weight) 1 g.last_inode p

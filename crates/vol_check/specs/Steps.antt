@@ -16,13 +16,13 @@ use Rattle.vol_check.specs.declared.sweeps.Sweep.{Sweep}
 use Rattle.vol_check.specs.Pieces.{Adds}
 use Rattle.vol_check.specs.Seats.{IsSeatOf, IsOf, is_stopped, checker_weight, checker_kept}
 
--- the fault that is kept after piece p was done (icheck)
+-- the fault that is kept after piece `p` is done (icheck)
 abbrev pub fault_after : Checker → Geometry → List ℕ → ℕ → Option (FreeFault × ℕ) → Option (FreeFault × ℕ)
 fault_after Blocks g image p before = if p == 0 then (free_walk g image).fault else before
 fault_after Entries g image p before = before
 fault_after Names g image p before = before
 
--- a piece was done: its marks are made, and its fault and its entries are kept (icheck, dcheck, ncheck)
+-- a piece was done: its marks were made, and its fault and its entries are kept (icheck, dcheck, ncheck)
 pub record Works (tally : Tally) (checker : Checker) (g : Geometry) (image : List ℕ) (p : ℕ) (old new : CheckSeat) : Type 0 where
   pub adds : Adds tally old.seat new.seat (λ weight. checker_weight checker g image weight p)
   pub entries : (weight : Placed → ℕ) → total weight new.entries.items ≡ total weight old.entries.items + checker_kept checker g image weight p
@@ -30,14 +30,15 @@ pub record Works (tally : Tally) (checker : Checker) (g : Geometry) (image : Lis
   pub ended : new.ended ≡ old.ended
   pub spoiled : new.spoiled ≡ old.spoiled
 
--- the result of a step: the piece that it drew, or that its last draw is past the pieces, or that memory ran out (this project)
+-- the result of a step: the piece that it drew, or `None` if its last draw is past the pieces, or that memory ran out (this project)
 abbrev pub StepAnswers : Sweep → CheckSeat → CheckSeat → Result (Option Piece) AllocError → Type 0
 StepAnswers sweep old new (Ok (Some p)) = (new.seat.me.0.draws ≡ old.seat.me.0.draws ++ p.number ∷ [])
     × (p.number < (table_shape sweep.tally).pieces) × (length old.seat.me.0.draws ≤ p.number) × (new.spoiled ≡ false)
 StepAnswers sweep old new (Ok None) = (new.ended ≡ true) × (new.spoiled ≡ false)
 StepAnswers sweep old new (Err failed) = new.spoiled ≡ true
 
--- a step: the seat still belongs to the sweep and fits the image. It drew at most one number; none if it was at its end or had run out of memory before, which lets every later step fail (this project)
+-- a step: the seat still belongs to the sweep and fits the image. It drew at most one number, and none if it had stopped before. Once a seat has run
+-- out of memory, every step fails (this project)
 pub record Stepped (sweep : Sweep) (image : List ℕ) (old new : CheckSeat) (result : Result (Option Piece) AllocError) : Type 0 where
   pub own : IsSeatOf sweep.tally new
   pub knows : IsOf sweep.checker sweep.layout image new
@@ -46,7 +47,7 @@ pub record Stepped (sweep : Sweep) (image : List ℕ) (old new : CheckSeat) (res
   pub for_good : old.spoiled ≡ true → IsErr result
   pub no_more : is_stopped old ≡ true → new.seat.me.0.draws ≡ old.seat.me.0.draws
 
--- a seat that did pieces until none was left or it ran out of memory (this project)
+-- a seat that worked on pieces until none was left or it ran out of memory (this project)
 pub record Ran (sweep : Sweep) (image : List ℕ) (seat : CheckSeat) : Type 0 where
   pub own : IsSeatOf sweep.tally seat
   pub knows : IsOf sweep.checker sweep.layout image seat

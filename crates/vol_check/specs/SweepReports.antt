@@ -6,7 +6,7 @@ use Rattle.vol_reports.specs.Reports.{block_report, entry_report, IsNameReport}
 use Rattle.vol_check.specs.declared.checker.Checker.{Checker}
 use Rattle.vol_check.specs.declared.checker.Checker.TheVariants.{Blocks, Entries, Names}
 
--- these lines are the report of an image that a checker makes (icheck, dcheck, ncheck)
+-- these lines are a checker's report of an image (icheck, dcheck, ncheck)
 abbrev pub IsReport : Checker → Edition → List ℕ → List Line → Type 0
 IsReport Blocks edition image lines = lines ≡ block_report edition image
 IsReport Entries edition image lines = lines ≡ entry_report edition image

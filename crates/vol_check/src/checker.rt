@@ -1,12 +1,12 @@
-//! The checkers, by their reports.
+//! The checkers, one per kind of report.
 
-/// A checker, by what it reports of an image.
+/// A checker, named by its kind of report on an image.
 #[derive(Clone, Copy, PartialEq, Eq)]
 pub enum Checker {
-    /// `icheck`: the blocks, the places that name them, and the free ones.
+    /// `icheck`: the blocks, the block-map positions that point to them, and the free list.
     Blocks,
     /// `dcheck`: the number of directory entries for each i-number.
     Entries,
-    /// `ncheck`: the names that entries give to i-numbers.
+    /// `ncheck`: the paths of each i-number.
     Names,
 }

@@ -17,12 +17,12 @@ use vol_reports::Report;
 /// The greatest number of threads of a check, and of seats of a sweep.
 pub const MOST_WORKERS: usize = 64;
 
-/// Returns the block report of an image, made by `workers` threads, which wait for no lock. If one can't be started, the others
-/// do its pieces. The gate is called before and after each piece.
+/// Returns the block report of an image, made by `workers` threads, which take no lock. If a thread can't be started, the others do its pieces. The
+/// gate is called before and after each piece.
 ///
-/// Costs a read of each address of each i-node, of each entry of each indirect block below it, once for each of their levels,
-/// of the free list, and of the words of each data block. Takes sixteen bytes for each data block and each i-number, one more
-/// byte for each data block, at most a MB for each thread while it is at a file with indirect blocks, and memory for the lines.
+/// Reads each address of each i-node, each entry of each indirect block below it once for each level at which the block occurs, the free list, and
+/// the words of each data block. Takes sixteen bytes for each data block and each i-number, one more byte for each data block, at most 1 MB for each
+/// thread while it works on a file with indirect blocks, and memory for the lines.
 pub fn icheck<R: Threads + Sync, W: Wait, G: Gate>(
     threads: &R,
     _wait: &W,
@@ -49,8 +49,8 @@ pub fn icheck<R: Threads + Sync, W: Wait, G: Gate>(
 
 /// Returns the entry report of an image, made by `workers` threads, as [`icheck`] does.
 ///
-/// Costs one number for each logical block of a directory that isn't in a hole, and a read of each slot of the data blocks that
-/// hold those of a piece. Takes sixteen bytes for each i-number, a few KB for each thread, and memory for the lines.
+/// Reads one block number for each logical block of a directory that isn't in a hole, and each slot of the data blocks of each piece. Takes sixteen
+/// bytes for each i-number, a few KB for each thread, and memory for the lines.
 pub fn dcheck<R: Threads + Sync, W: Wait, G: Gate>(
     threads: &R,
     _wait: &W,
@@ -77,9 +77,8 @@ pub fn dcheck<R: Threads + Sync, W: Wait, G: Gate>(
 
 /// Returns the name report of an image, made by `workers` threads, as [`icheck`] does.
 ///
-/// Costs a read of each slot of each stored block of each directory, and as much as the report is long, with sorting it. Takes
-/// twelve bytes for each i-number, and memory for each entry and its path. First it takes, for a moment, the least memory that
-/// the lines need, all at once.
+/// Reads each slot of each stored block of each directory, makes the lines and sorts them. Takes twelve bytes for each i-number, and memory for each
+/// entry and its path. It begins with one allocation of the least memory that the lines need, which it frees at once.
 pub fn ncheck<R: Threads + Sync, W: Wait, G: Gate>(
     threads: &R,
     _wait: &W,
@@ -105,7 +104,7 @@ pub fn ncheck<R: Threads + Sync, W: Wait, G: Gate>(
     )
 }
 
-/// Returns the report of an image by this checker, made by `workers` threads.
+/// Returns this checker's report of an image, made by `workers` threads.
 fn check<R: Threads + Sync, G: Gate>(
     threads: &R,
     alloc: Global,

@@ -1,4 +1,4 @@
-//! Making a sweep, with a seat for each of its threads.
+//! Creates a sweep and a seat for each of its threads.
 ghost use Rattle.std.specs.Prelude.{◌≡◌, ◌≢◌, ℕ, ◌+◌, ◌^◌, ◌≤◌, ◌<◌, List, [], All, Ok, Err, IfOk, length, slice_index, vec_len};
 ghost use Rattle.count_table.specs.Tallies.{IsSeatAt};
 ghost use Rattle.count_table.specs.Views.{view};
@@ -25,11 +25,11 @@ use vol_layout::{Edition, Geometry, GeometryFault};
 use vol_reports::{LinkCount, link_counts};
 
 impl Sweep {
-    /// Returns a sweep over this image, or over any other with the same length and the same bytes before the data zone, and its
-    /// seats. Reads none of the image's data blocks.
+    /// Returns a sweep and its seats. The sweep works for this image and for any other of the same length with the same bytes before the data zone.
+    /// Reads none of the image's data blocks.
     ///
-    /// Takes memory for a seat for each thread. A sweep over blocks takes sixteen bytes for each data block and sixteen for
-    /// each i-number, and one over entries or names at most sixteen for each i-number.
+    /// Takes memory for a seat for each thread. A sweep over blocks takes sixteen bytes for each data block and each i-number; a sweep over entries
+    /// or names takes at most sixteen for each i-number.
     pub fn new(
         alloc: Global,
         edition: Edition,
@@ -69,7 +69,7 @@ impl Sweep {
     }
 }
 
-/// Returns the number of pieces before those of each i-number, and of all pieces; nothing if the pieces are not parts of
+/// Returns, for each i-number, the number of pieces before its first one, then the total; returns an empty list if the pieces are not parts of
 /// directories.
 fn starts_for(
     alloc: Global,
@@ -86,7 +86,7 @@ fn starts_for(
     }
 }
 
-/// Returns the link counts for a report of the entries; else nothing.
+/// Returns the link counts if the report is on entries, else an empty list.
 fn links_for(
     alloc: Global,
     checker: Checker,
@@ -102,7 +102,8 @@ fn links_for(
     }
 }
 
-/// Returns the number of pieces: of the blocks, the free list and each i-number; else, the parts of each i-number.
+/// Returns the number of pieces. A sweep over blocks has one for the free list and one for each i-number; any other has one for each part of each
+/// i-number.
 fn piece_count(checker: Checker, layout: &Result<Geometry, GeometryFault>, starts: &[u32]) -> u64
     requires starts { (geometry : Geometry) → layout.now ≡ Ok geometry → checker ≢ Blocks → length starts.now ≡ geometry.last_inode + 1 }
     ensures blocks { (geometry : Geometry) → layout.now ≡ Ok geometry → checker ≡ Blocks → result ≡ geometry.last_inode + 1 }
@@ -117,7 +118,7 @@ fn piece_count(checker: Checker, layout: &Result<Geometry, GeometryFault>, start
     }
 }
 
-/// Returns the words that a sweep needs for images with this layout; none if they have no geometry.
+/// Returns the words that a sweep needs for images with this layout, or no words if they have no geometry.
 fn shape_for(
     checker: Checker,
     layout: &Result<Geometry, GeometryFault>,
@@ -159,7 +160,7 @@ fn words_for(checker: Checker, geometry: &Geometry) -> (u64, u64)
     }
 }
 
-/// Splits `count` seats off the first, which holds all parts.
+/// Splits `count` seats off the first seat, which holds all parts.
 fn deal(
     alloc: Global,
     tally: &Tally,

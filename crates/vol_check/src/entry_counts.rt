@@ -1,4 +1,4 @@
-//! Counting the entries of a directory by blocks: each block is read once for all its places in a piece.
+//! Counts the entries of a directory block by block. Each block of a piece is read once, however often the directory has it.
 ghost use Rattle.std.specs.Prelude.{◌≡◌, ℕ, ◌+◌, ◌-◌, ◌*◌, ◌<◌, ◌≤◌, nat_le, if◌then◌else◌, All, IfOk};
 ghost use Rattle.std.specs.List.{sum_by};
 ghost use Rattle.vol_layout.specs.Geometry.{Fits};
@@ -23,10 +23,10 @@ use vol_layout::slot::SLOT;
 use vol_layout::{Geometry, Slot};
 use vol_reports::words::entry_word;
 
-/// Counts the entries in the logical blocks `from..end` of directory `d`, which it has as whole blocks.
+/// Counts the entries in the logical blocks `from..end` of directory `d`. The directory's size covers these blocks completely.
 ///
-/// Costs one number for each of them, a block-map lookup for each indirect block, and a read of each slot of the blocks that hold
-/// them. Takes sixteen bytes for each.
+/// Costs one number for each of these blocks, a block-map lookup for each indirect block, and a read of each slot of the data blocks. Takes sixteen
+/// bytes for each.
 pub(crate) fn count_blocks(
     alloc: Global,
     tally: &Tally,
@@ -57,7 +57,7 @@ pub(crate) fn count_blocks(
     Ok(())
 }
 
-/// Returns the data blocks that hold these logical blocks; one that holds several occurs once for each.
+/// Returns the data blocks that hold these logical blocks; a data block that holds several of them occurs once for each.
 fn stored_blocks(
     alloc: Global,
     image: &Image,
@@ -84,8 +84,8 @@ fn stored_blocks(
     Ok(named)
 }
 
-/// Adds the data block that holds logical block `b` of directory `d`, if there is one. Returns the next block to check; if
-/// there is none, the blocks from `b` up to that one are a hole.
+/// Adds the data block that holds logical block `b` of directory `d`, if there is one. Returns the next logical block to check; if `b` is in a hole,
+/// the blocks from `b` up to the returned one are all in it.
 fn push_next(
     image: &Image,
     geometry: &Geometry,
@@ -119,7 +119,7 @@ fn push_next(
     Ok(b + 1)
 }
 
-/// Counts the entries of a block, once for each of its places.
+/// Counts the entries of a data block, once for each logical block that it holds.
 fn count_block(
     tally: &Tally,
     seat: &mut TallySeat,

@@ -1,4 +1,4 @@
-//! The report of a sweep, made from its seats.
+//! Makes the report of a sweep from its seats.
 ghost use Rattle.std.specs.Prelude.{◌≡◌, ◌≤◌, ℕ, true, List, All, IfOk, IsErr, vec_len};
 ghost use Rattle.std.specs.List.{count_by, list_any};
 ghost use Rattle.vol_check.specs.Seats.{is_stopped, found_no_memory};
@@ -13,10 +13,10 @@ use std::alloc::{AllocError, Global};
 use vol_reports::{Report, block_report, entry_report, name_report};
 
 impl Sweep {
-    /// Returns the report of the image that the seats swept. Fails if one of them ran out of memory.
+    /// Returns the report of the image that the seats swept. Fails if a seat ran out of memory.
     ///
-    /// Costs a few reads of the words of each data block and i-number, and what the report's checker costs. Takes memory for
-    /// the lines, and for the entries that the seats keep.
+    /// Costs a few reads of the words of each data block and i-number, plus the cost of the checker's report. Takes memory for the lines, and for the
+    /// entries that the seats keep.
     pub fn finish(self, alloc: Global, seats: Vec<CheckSeat>) -> Result<Report, AllocError>
         requires count { vec_len seats ≡ seat_count self }
         requires own { All (IsSeatIn self) seats.items }

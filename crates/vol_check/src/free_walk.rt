@@ -1,4 +1,4 @@
-//! The piece of the free list: a walk over it, up to its first fault.
+//! The piece for the free list: walks the list up to its first fault.
 ghost use Rattle.std.specs.Prelude.{◌≡◌, ℕ, ◌≤◌, false, length, slice_index_or, IfOk, IfErr};
 ghost use Rattle.vol_layout.specs.Geometry.{Fits};
 ghost use Rattle.vol_free.specs.FreeWalk.{free_walk};
@@ -13,8 +13,8 @@ use vol_free::{FreeFault, FreeWalk};
 use vol_layout::Geometry;
 use vol_reports::words::free_word;
 
-/// Marks each block that a walk over the free list meets, and returns the fault that ended it. Takes a byte for
-/// each block of the volume. If there is no memory, nothing is marked.
+/// Marks each block that a walk over the free list passes, and returns the fault that ended the walk. Takes a byte for each block of the volume. If
+/// there is no memory, nothing is marked.
 pub(crate) fn mark_free(
     alloc: Global,
     tally: &Tally,
@@ -34,7 +34,7 @@ pub(crate) fn mark_free(
     Ok(walk(tally, seat, image, geometry, &mut marks))
 }
 
-/// Marks each block that the walk meets. There is a mark for each block of the volume, and none is set before.
+/// Marks each block that the walk passes. There is a mark for each block of the volume, all unset at the start.
 fn walk(
     tally: &Tally,
     seat: &mut TallySeat,

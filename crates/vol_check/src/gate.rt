@@ -1,4 +1,4 @@
-//! Calls before and after each piece.
+//! Hooks that run before and after each piece.
 
 /// A hook that is called before and after the work on each piece.
 pub trait Gate: Sync {

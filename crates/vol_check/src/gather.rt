@@ -9,7 +9,7 @@ use crate::seats::CheckSeat;
 use count_table::Tally;
 use std::alloc::AllocError;
 
-/// Returns one seat that has everything that these have. Takes memory for the entries that they keep.
+/// Returns one seat with the marks and entries of all these seats. Takes memory for the entries that they keep.
 pub(crate) fn gather(tally: &Tally, mut seats: Vec<CheckSeat>) -> Result<CheckSeat, AllocError>
     requires own { All (IsSeatOf tally.now) seats.items }
     requires stopped { 1 ≤ count_by is_stopped seats.items }

@@ -1,4 +1,4 @@
-//! The piece of an i-node: its marks.
+//! The piece for an i-node: marks the blocks of its block map, and its kind.
 ghost use Rattle.std.specs.Prelude.{◌≡◌, ◌+◌, ◌<◌, ◌≤◌, IfOk};
 ghost use Rattle.vol_layout.specs.Geometry.{Fits};
 ghost use Rattle.vol_file.specs.Changes.{blocks_of};
@@ -17,9 +17,9 @@ use vol_layout::i_list::{address, kind, mode};
 use vol_layout::{BlockMap, Geometry, Kind};
 use vol_reports::words::kind_word;
 
-/// Marks the places and the kind of i-node `i`.
+/// Marks the blocks in the block map of i-node `i`, and its kind.
 ///
-/// Takes thirty-two bytes for each place of the file that names an indirect block.
+/// Takes thirty-two bytes for each block-map position of the file that points to an indirect block.
 pub(crate) fn mark_inode(
     alloc: Global,
     tally: &Tally,
@@ -59,7 +59,7 @@ fn mark_kind(tally: &Tally, seat: &mut TallySeat, geometry: &Geometry, kind: Kin
     }
 }
 
-/// Marks the blocks that the places of i-node `i` name.
+/// Marks the blocks that the block map of i-node `i` points to.
 fn mark_places(
     alloc: Global,
     tally: &Tally,

@@ -1,4 +1,4 @@
-//! The blocks below an i-node, level by level: each indirect block is read once for all its places.
+//! Marks the blocks below an i-node level by level, so that each indirect block is read once per level, however many block-map positions point to it.
 ghost use Rattle.std.specs.Prelude.{◌≡◌, ℕ, ◌+◌, ◌*◌, ◌^◌, ◌<◌, ◌≤◌, All, IfOk, IfSome, IfNone};
 ghost use Rattle.std.specs.List.{sum_by};
 ghost use Rattle.vol_layout.specs.declared.geometry.Geometry.{Geometry};
@@ -16,7 +16,7 @@ use std::alloc::{AllocError, Global};
 use vol_layout::{Geometry, number};
 use vol_reports::words::{bad_word, least_word, place_word};
 
-/// A data block, and the number of places of an i-node that name it.
+/// A data block, and the number of an i-node's block-map positions that point to it.
 #[derive(Clone, Copy)]
 pub(crate) struct NamedBlock {
     pub(crate) number: u32,
@@ -24,7 +24,7 @@ pub(crate) struct NamedBlock {
 }
 
 impl NamedBlock {
-    /// Returns both as one if they are the same block, or `None` if not or if the sum doesn't fit a `u64`.
+    /// Returns both as one if they are the same block; returns `None` if they aren't, or if the sum doesn't fit a `u64`.
     fn with(self, other: NamedBlock) -> Option<NamedBlock>
         ensures some { IfSome result (λ both. (both.number ≡ self.number) × (both.number ≡ other.number) × (both.times ≡ self.times + other.times)) }
         ensures none { IfNone result (self.number ≡ other.number → 2 ^ 64 ≤ self.times + other.times) }
@@ -40,9 +40,9 @@ impl NamedBlock {
     }
 }
 
-/// Returns the same blocks, each once with all its places; in two entries only if these are 2^64 or more.
+/// Returns the same blocks, each once with the sum of its positions; a block is in several entries only if its positions number 2^64 or more.
 ///
-/// Costs sorting them. Takes sixteen bytes for each.
+/// Costs as much as sorting them. Takes sixteen bytes for each.
 pub(crate) fn each_once(
     alloc: Global,
     mut named: Vec<NamedBlock>,
@@ -58,7 +58,7 @@ pub(crate) fn each_once(
     Ok(once)
 }
 
-/// Adds a block, or adds its places to those of the last one if that is the same.
+/// Adds a block, or adds its positions to the last block if that is the same block.
 fn push_once(once: &mut Vec<NamedBlock>, n: NamedBlock) -> Result<(), AllocError>
     ensures named { IfOk result (λ _. (geometry : Geometry) → All (IsNamed geometry) once.old.items → IsNamed geometry n → All (IsNamed geometry) once.new.items) }
     ensures same { IfOk result (λ _. (f : ℕ → ℕ) → sum_by (by_times f) once.new.items ≡ sum_by (by_times f) once.old.items + by_times f n) }
@@ -76,10 +76,10 @@ fn push_once(once: &mut Vec<NamedBlock>, n: NamedBlock) -> Result<(), AllocError
     Ok(())
 }
 
-/// Marks number `b`, if it isn't 0, and the numbers below it in `level` levels for i-node `i`.
+/// Marks block number `b`, if it isn't 0, and the numbers in the `level` levels of indirect blocks below it, for i-node `i`.
 ///
-/// Costs a read of each entry of each block that is found, once for each level. Takes thirty-two bytes for each place that
-/// names an indirect block.
+/// Reads each entry of each indirect block below `b` once per level. Takes thirty-two bytes for each block-map position that points to an indirect
+/// block.
 pub(crate) fn mark_from(
     alloc: Global,
     tally: &Tally,
@@ -109,7 +109,8 @@ pub(crate) fn mark_from(
     Ok(())
 }
 
-/// Marks the numbers in some blocks, with `level` levels below each, for i-node `i`. Returns those of indirect blocks.
+/// Marks the numbers in these indirect blocks, which have `level` levels below them, for i-node `i`. Returns the indirect blocks among the marked
+/// numbers.
 fn mark_level(
     alloc: Global,
     tally: &Tally,
@@ -141,7 +142,7 @@ fn mark_level(
     Ok(next)
 }
 
-/// Marks the numbers in a block, once for each of its places, and adds those of indirect blocks to `next`.
+/// Marks the numbers in an indirect block, once for each position of the block, and adds the numbers of indirect blocks to `next`.
 fn mark_entries(
     tally: &Tally,
     seat: &mut TallySeat,
@@ -178,8 +179,8 @@ fn mark_entries(
     Ok(())
 }
 
-/// Marks number `b`, if it isn't 0, for `times` places of i-node `i`, and adds it to `next` if it is that of an indirect block,
-/// with `level` levels of entries.
+/// Marks number `b`, if it isn't 0, for `times` positions of i-node `i`, and adds it to `next` if it is the number of an indirect block with `level`
+/// levels of entries.
 fn mark_found(
     tally: &Tally,
     seat: &mut TallySeat,
@@ -220,7 +221,7 @@ fn mark_found(
     Ok(())
 }
 
-/// Marks number `b` for i-node `i`, of which `times` places name it, with one step for each word.
+/// Marks number `b` for `times` block-map positions of i-node `i`, with one step for each word.
 fn mark_times(tally: &Tally, seat: &mut TallySeat, geometry: &Geometry, i: u16, b: u32, times: u64)
     requires zone { geometry.now.zone_start < geometry.now.zone_end }
     requires first { 1 ≤ i }

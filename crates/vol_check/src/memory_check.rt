@@ -1,4 +1,4 @@
-//! Checking that memory has room for the lines of a name report, as far as they can be counted by blocks.
+//! Checks that memory has room for the lines of a name report that can be counted block by block.
 ghost use Rattle.std.specs.Prelude.{◌≤◌};
 ghost use Rattle.vol_layout.specs.Geometry.{Fits};
 
@@ -11,11 +11,11 @@ use vol_layout::slot::SLOT;
 use vol_layout::{BlockMap, Edition, Geometry, Kind, Slot, number};
 use vol_reports::{EnteredName, Line};
 
-/// Takes the least memory that the lines of an image's name report need, all at once, and frees it. So a report that doesn't
-/// fit is refused before the memory is filled.
+/// Allocates the least memory that the lines of an image's name report need, all at once, and frees it. So a report that doesn't fit is refused
+/// before the memory is filled.
 ///
-/// Counts the entries in the blocks that a directory has as whole blocks. Reads each of these once for each directory, and each
-/// indirect block once for each level, however many places lead to it. Takes sixteen bytes for each place found so.
+/// Counts the entries in the blocks that lie completely within a directory's size. Reads each of these once for each directory, and each indirect
+/// block once for each level, however many block-map positions point to it. Takes sixteen bytes for each such position.
 pub(crate) fn try_room(alloc: Global, edition: Edition, image: &Image) -> Result<(), AllocError> {
     let Ok(geometry) = Geometry::read(edition, image) else {
         return Ok(());
@@ -33,15 +33,15 @@ pub(crate) fn try_room(alloc: Global, edition: Edition, image: &Image) -> Result
     Ok(())
 }
 
-/// Takes the memory for `count` entries, paths and lines in one allocation, and frees it: a system that grants more than it has
-/// in small steps refuses it as a whole.
+/// Allocates the memory for `count` entries, paths and lines at once, and frees it: a system that grants more memory than it has in small steps
+/// refuses it in one piece.
 fn try_lines(alloc: Global, count: u64) -> Result<(), AllocError> {
     let mut room: Vec<(EnteredName, (u16, Vec<u8>), Line)> = Vec::new(alloc);
     room.reserve_exact(count as usize)?;
     Ok(())
 }
 
-/// Returns the number of entries, except `.` and `..`, in the blocks that directory `d` has as whole blocks.
+/// Returns the number of entries, except `.` and `..`, in the blocks that lie completely within the size of directory `d`.
 fn entry_count(alloc: Global, image: &Image, geometry: &Geometry, d: u16) -> Result<u64, AllocError>
     requires fits { Fits geometry.now image.now }
     requires first { 1 ≤ d }
@@ -61,7 +61,7 @@ fn entry_count(alloc: Global, image: &Image, geometry: &Geometry, d: u16) -> Res
     Ok(count)
 }
 
-/// Returns the number of logical blocks below a number that has `levels` levels of indirect blocks.
+/// Returns the number of logical blocks below a block number with `levels` levels of indirect blocks.
 fn blocks_below(geometry: &Geometry, levels: u8) -> u64
     ensures { 1 ≤ result }
 {
@@ -74,8 +74,7 @@ fn blocks_below(geometry: &Geometry, levels: u8) -> u64
     }
 }
 
-/// Returns the number of entries in the first `blocks` logical blocks below a number that has `levels` levels of indirect
-/// blocks.
+/// Returns the number of entries in the first `blocks` logical blocks below a block number with `levels` levels of indirect blocks.
 fn count_first(
     alloc: Global,
     image: &Image,
@@ -108,7 +107,7 @@ fn count_first(
     Ok(count)
 }
 
-/// Returns the number of entries in all logical blocks below some numbers, each with `levels` levels of indirect blocks.
+/// Returns the number of entries in all logical blocks below some block numbers, each with `levels` levels of indirect blocks.
 fn count_below(
     alloc: Global,
     image: &Image,
@@ -135,7 +134,7 @@ fn count_below(
     Ok(count)
 }
 
-/// Adds the entries of an indirect block, each as many times as places name the block. Adds nothing if it isn't a data block.
+/// Adds the entries of an indirect block, each as many times as block-map positions point to the block. Adds nothing if it isn't a data block.
 fn push_entries(
     image: &Image,
     geometry: &Geometry,

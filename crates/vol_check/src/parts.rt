@@ -1,4 +1,4 @@
-//! The pieces of a sweep over directories: each is a part of an i-number.
+//! The pieces of a sweep over directories: each piece is a part of an i-number.
 ghost use Rattle.std.specs.Prelude.{◌≡◌, ◌+◌, ◌-◌, ◌<◌, ◌≤◌, IfOk, length, slice_index};
 ghost use Rattle.vol_layout.specs.Geometry.{Fits};
 ghost use Rattle.vol_check.specs.Parts.{part_count, HasStarts, IsPart};
@@ -11,15 +11,14 @@ use vol_layout::{Geometry, Kind};
 /// The number of logical blocks in a piece of a directory.
 pub(crate) const PART_BLOCKS: u32 = 64;
 
-/// A part of an i-number: in a directory, at most 64 logical blocks, from 64 times the index on.
+/// A part of an i-number: in a directory, at most 64 logical blocks, starting at 64 times the index.
 #[derive(Clone, Copy)]
 pub(crate) struct Part {
     pub inode: u16,
     pub index: u32,
 }
 
-/// Returns the number of pieces before those of each i-number, from 1 on, and of all pieces. Takes four bytes for each
-/// i-number.
+/// Returns, for each i-number starting with 1, the number of pieces before its first one, then the total. Takes four bytes for each i-number.
 pub(crate) fn part_starts(
     alloc: Global,
     image: &Image,
@@ -37,7 +36,7 @@ pub(crate) fn part_starts(
     Ok(starts)
 }
 
-/// Returns the number of pieces of i-number `i`: for a directory one for each 64 logical blocks begun, and at least one.
+/// Returns the number of pieces of i-number `i`: for a directory one for each 64 logical blocks, rounded up, and at least one.
 fn part_count(image: &Image, geometry: &Geometry, i: u16) -> u32
     requires fits { Fits geometry.now image.now }
     requires first { 1 ≤ i }
@@ -54,7 +53,7 @@ fn part_count(image: &Image, geometry: &Geometry, i: u16) -> u32
     }
 }
 
-/// Returns the part that is piece `number`.
+/// Returns the part that piece `number` is.
 pub(crate) fn part_at(starts: &[u32], number: u64) -> Part
     requires few { length starts.now ≤ 65536 }
     requires some { 1 ≤ length starts.now }

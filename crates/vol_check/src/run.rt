@@ -13,7 +13,7 @@ use std::thread;
 use std::thread::Threads;
 
 impl Sweep {
-    /// Draws pieces and does them until none is left or memory runs out.
+    /// Draws pieces and works on them until none is left or memory runs out.
     fn run<G: Gate>(&self, alloc: Global, gate: &G, image: &Image, seat: &mut CheckSeat)
         requires own { IsSeatOf self.now.tally seat.old }
         requires layout { IsFor self.now image.now }

@@ -15,7 +15,7 @@ use vol_layout::{Edition, Geometry};
 /// The reason why an image wasn't salvaged.
 #[derive(Clone, Copy, Debug, Error)]
 pub enum SalvageFault {
-    /// A rule not about the free list is broken: the first of them.
+    /// The first broken rule that isn't about the free list.
     #[error("unsound, rule {0}")]
     Unsound(u8),
     /// Memory ran out.
@@ -23,11 +23,10 @@ pub enum SalvageFault {
     NoMemory,
 }
 
-/// Rebuilds the free list from the data blocks that no file names, if the image breaks only the rules about the free list:
-/// rules 6 and 8, and rule 7 for free blocks. The image is then sound, and its files and directories are as they were. Each
-/// fault hands the same bytes back.
+/// Rebuilds the free list from the data blocks that belong to no file, if the image breaks only the rules about the free list: rules 6 and 8, and
+/// rule 7 for free blocks. The image is then sound, and its files and directories are as they were. If it fails, it hands back the same bytes.
 ///
-/// Costs what judging does. Takes memory to judge the image, and two bytes for each block.
+/// Costs as much as judging an image. Takes memory to judge the image, and two bytes for each block.
 pub fn salvage(
     alloc: Global,
     edition: Edition,

@@ -1,4 +1,4 @@
-//! Marking the slots of directories, and keeping their entries.
+//! Marks the slots of directories, and keeps their entries.
 ghost use Rattle.std.specs.Prelude.{◌≡◌, ◌+◌, ◌-◌, ◌*◌, ◌<◌, ◌≤◌, nat_le, if◌then◌else◌, Some, IfOk, IfErr};
 ghost use Rattle.vol_layout.specs.Geometry.{Fits};
 ghost use Rattle.vol_dir.specs.Entries.{entry_in, entry_at, slot_count};
@@ -45,7 +45,7 @@ fn slot_count(image: &Image, geometry: &Geometry, d: u16) -> u32
 }
 
 impl Sweep {
-    /// Notes the slots of a part of an i-number, if it is a directory.
+    /// Marks the slots of a part of an i-number, if it is a directory, and keeps their entries.
     pub(crate) fn note_part(
         &self,
         alloc: Global,
@@ -77,7 +77,7 @@ impl Sweep {
         }
     }
 
-    /// Notes the slots of the logical blocks `from..end` of directory `d`, block by block if it can.
+    /// Marks the slots of the logical blocks `from..end` of directory `d`, block by block where possible, and keeps their entries.
     fn note_range(
         &self,
         alloc: Global,
@@ -105,8 +105,8 @@ impl Sweep {
         self.note_blocks(image, geometry, seat, d, rest, end)
     }
 
-    /// Notes the slots of those of these logical blocks that the directory has as whole blocks, in a sweep for entries; none in
-    /// other sweeps. Returns the first block that is left.
+    /// In a sweep for entries, marks the slots of the blocks in this range that lie completely within the directory's size; does nothing in other
+    /// sweeps. Returns the first block that is left.
     fn count_whole(
         &self,
         alloc: Global,
@@ -151,7 +151,7 @@ impl Sweep {
         }
     }
 
-    /// Notes the slots of the logical blocks `from..end` of directory `d`. Skips holes as [`next_block`] does.
+    /// Marks the slots of the logical blocks `from..end` of directory `d`, and keeps their entries. Skips holes as [`next_block`] does.
     fn note_blocks(
         &self,
         image: &Image,
@@ -182,7 +182,7 @@ impl Sweep {
         Ok(())
     }
 
-    /// Notes the slots of logical block `b` of directory `d`.
+    /// Marks the slots of logical block `b` of directory `d`, and keeps their entries.
     fn note_block(
         &self,
         image: &Image,
@@ -217,7 +217,7 @@ impl Sweep {
         }
     }
 
-    /// Notes slot `s` of directory `d`.
+    /// Marks slot `s` of directory `d`, and keeps its entry.
     fn note_slot(
         &self,
         geometry: &Geometry,
@@ -247,7 +247,7 @@ impl Sweep {
     }
 }
 
-/// Keeps an entry, unless its name is `.` or `..`, and offers its rank to its i-number.
+/// Keeps an entry, unless its name is `.` or `..`, and offers its rank as the least for its i-number.
 fn keep_entry(
     tally: &Tally,
     seat: &mut CheckSeat,
@@ -271,7 +271,7 @@ fn keep_entry(
     Ok(())
 }
 
-/// Offers an entry's rank to its i-number, unless that is past the last.
+/// Offers an entry's rank as the least for its i-number, unless that is past the last i-number.
 fn give_rank(tally: &Tally, seat: &mut TallySeat, geometry: &Geometry, entry: &EnteredName)
     requires words { HasNameWords geometry.now (table_shape tally.now) }
     requires own { IsSeatAt tally.now seat.old }

@@ -22,11 +22,11 @@ use std::alloc::{AllocError, Global};
 use vol_layout::Geometry;
 
 impl Sweep {
-    /// Draws a piece and does it; returns `None` if none is left.
+    /// Draws a piece and works on it; returns `None` if none is left.
     ///
-    /// Takes a byte for each block of the volume if the piece is the free list, thirty-two for each place of a file that names
-    /// an indirect block, 2 KB in a sweep for entries, and some for each entry in one for names. If memory runs out, this seat
-    /// fails from then on.
+    /// Takes a byte for each block of the volume if the piece is the free list; thirty-two for each block-map position of a file that points to an
+    /// indirect block; 2 KB in a sweep for entries; and some memory for each entry in a sweep for names. If memory runs out, this seat fails from
+    /// then on.
     pub fn step(
         &self,
         alloc: Global,
@@ -41,7 +41,7 @@ impl Sweep {
         self.step_at(alloc, &Open, image, seat)
     }
 
-    /// Does what [`Sweep::step`] does, with calls of a gate before and after the work.
+    /// Does the same as [`Sweep::step`], and calls a gate before and after the work.
     pub(crate) fn step_at<G: Gate>(
         &self,
         alloc: Global,
@@ -77,7 +77,7 @@ impl Sweep {
         }
     }
 
-    /// Does the piece with this number.
+    /// Works on the piece with this number.
     fn work(
         &self,
         alloc: Global,
@@ -102,7 +102,7 @@ impl Sweep {
         }
     }
 
-    /// Does a piece of a sweep over directories.
+    /// Works on a piece of a sweep over directories.
     fn note_piece(
         &self,
         alloc: Global,
@@ -125,7 +125,7 @@ impl Sweep {
         self.note_part(alloc, image, geometry, seat, part)
     }
 
-    /// Does a piece of a sweep over the blocks.
+    /// Works on a piece of a sweep over the blocks.
     fn check_blocks(
         &self,
         alloc: Global,

@@ -12,13 +12,13 @@ pub struct Sweep {
     pub(crate) tally: Tally,
     pub(crate) edition: Edition,
     pub(crate) checker: Checker,
-    /// The geometry of the image that it was made for, or the fault of an image without one.
+    /// The geometry of the image that the sweep was made for, or the fault of an image without geometry.
     pub(crate) layout: Result<Geometry, GeometryFault>,
     /// The number of pieces.
     pub(crate) pieces: u64,
-    /// The number of pieces before those of each i-number, if they are parts of directories.
+    /// For each i-number, the number of pieces before its first one, then the total, if the pieces are parts of directories.
     pub(crate) starts: Vec<u32>,
-    /// The link counts, for a report of the entries.
+    /// The link counts, if the report is on entries.
     pub(crate) links: Vec<LinkCount>,
     ghost shaped: { IsShaped checker layout pieces starts.items links.items tally.table.shared.key },
 }

@@ -3,10 +3,10 @@ use crate::gate::Gate;
 use std::sync::atomic::{AtomicU64, Ordering};
 use std::thread;
 
-/// The number of turns for which a meeting holds a piece.
+/// The number of times that a `Meeting` yields while it holds back a piece.
 const TURNS: u32 = 20_000_000;
 
-/// A gate that holds the first pieces until all of them have come to it.
+/// A gate that holds back the first pieces until all of them have arrived.
 #[derive(Drop)]
 pub struct Meeting {
     pieces: u64,
@@ -26,12 +26,12 @@ impl Meeting {
         }
     }
 
-    /// Returns the number of these pieces that went on without the others.
+    /// Returns the number of these pieces that continued without the others.
     pub fn missed(&self) -> u64 {
         self.missed.load(Ordering::SeqCst)
     }
 
-    /// Returns the number of pieces that were done.
+    /// Returns the number of pieces that are done.
     pub fn left(&self) -> u64 {
         self.left.load(Ordering::SeqCst)
     }

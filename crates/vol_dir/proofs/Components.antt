@@ -10,18 +10,18 @@ use Rattle.std.proofs.lemmas.List.Quantifiers.{position-Some}
 use Rattle.std.proofs.lemmas.List.Sums.{prefix_len-le-length}
 use Rattle.vol_dir.specs.Walk.{onto_first, pieces, is_nil, components, IsComponent}
 
--- the pieces that have a byte
+-- the pieces that are not empty
 abbrev pub kept : List (List ℕ) → List (List ℕ)
 kept = filter (λ piece. not (is_nil piece))
 
--- the kept pieces of a path whose first byte is or isn't a slash
+-- the non-empty pieces of a path whose first byte is a slash or not, as `slash` states
 abbrev kept_at : ℕ → List ℕ → Bool → List (List ℕ)
 kept_at c path b = kept (cond b ([] ∷ pieces path) (onto_first c (pieces path)))
 
 one_more : (n : ℕ) → 1 + n ≡ suc n
 one_more n = omega arith
 
--- slashes before a path make no component
+-- slashes at the start of a path add no component
 pub components-slashes : (path : List ℕ) → components (drop (position_or_len (λ c. not (eqb c 47)) path) path) ≡ components path
 unfolding components
 components-slashes [] = refl
@@ -39,7 +39,7 @@ one_piece (c ∷ name) h =
     let parts = or_parts (eqb c 47) (list_any (λ c. eqb c 47) name) h in
     ap (λ b. cond b ([] ∷ pieces name) (onto_first c (pieces name))) parts.0 ∙ ap (onto_first c) (one_piece name parts.1)
 
--- a path's pieces begin with the bytes before its first slash; the others are those of the rest, whose first is empty
+-- the first piece of a path has its first `n` bytes, and the other non-empty pieces are those of the rest of the path
 pub record HasFirst (path : List ℕ) (n : ℕ) : Type 0 where
   pub others : List (List ℕ)
   pub first : pieces path ≡ take n path ∷ others
@@ -63,7 +63,7 @@ has_first (c ∷ path) =
       })
     ] refl
 
--- the rest of a path after its leading slashes begins with no slash
+-- a path without its leading slashes doesn't begin with a slash
 name_follows : (path : List ℕ) → let rest = drop (position_or_len (λ c. not (eqb c 47)) path) path in
     0 < length rest → 0 < position_or_len (λ c. eqb c 47) rest
 name_follows [] = λ h. h
@@ -80,7 +80,8 @@ has_item zero path h k = absurd (omega arith)
 has_item (suc n) [] h k = absurd (omega arith)
 has_item (suc n) (c ∷ path) h k = refl
 
--- a path that begins with no slash has the bytes before its first slash, cut, as first component, and then those of the rest
+-- the first component of a path that doesn't begin with a slash has the bytes before the first slash, cut to 14; the other components are those of
+-- the rest
 components-first : (path : List ℕ) → let n = position_or_len (λ c. eqb c 47) path in 0 < n → 0 < length path
     → components path ≡ take 14 (take n path) ∷ components (drop n path)
 unfolding components
@@ -91,12 +92,12 @@ components-first path some full =
     ∙ (ap (λ b. map (take 14) (cond (not b) (take n path ∷ kept h.others) (kept h.others))) (has_item n path some full)
     ∙ ap (λ ps. take 14 (take n path) ∷ map (take 14) ps) (sym h.rest))
 
--- no bytes have no component
+-- the empty path has no component
 pub components-nil : components [] ≡ []
 unfolding components
 components-nil = refl
 
--- the first place that passes, or the length
+-- the index of the first item that passes a test, or the length if none does, is `position_or_len`
 pub position_or : (p : ℕ → Bool) (xs : List ℕ) → unwrap_or (position p xs) (length xs) ≡ position_or_len p xs
 position_or p xs =
     let within : position_or_len p xs ≤ length xs = prefix_len-le-length (λ x. not (p x)) xs in
@@ -107,7 +108,7 @@ position_or p xs =
           ∙ omega arith
     ]
 
--- a path of slashes alone has no component
+-- a path that consists of slashes has no component
 pub components-none : (path : List ℕ) → position (λ c. not (eqb c 47)) path ≡ None → components path ≡ []
 components-none path none =
     let n = position_or_len (λ c. not (eqb c 47)) path in
@@ -115,14 +116,14 @@ components-none path none =
     let count : length (drop n path) ≡ length path - n = length-drop n path in
     sym (components-slashes path) ∙ (ap components (nil_from_length (drop n path) (omega (arith, all, count))) ∙ components-nil)
 
--- the first component of a path begins at byte k, with the text `named`, and has n bytes
+-- the first component of a path begins at byte `k`, `named` is the rest of the path from that byte, and the component has `n` bytes before it is cut
 pub record Begins (path named : List ℕ) (k n : ℕ) : Type 0 where
   pub at : k ≡ position_or_len (λ c. not (eqb c 47)) path
   pub is : named ≡ drop k path
   pub full : 0 < length named
   pub stop : n ≡ position_or_len (λ c. eqb c 47) named
 
--- it begins at the first byte that isn't a slash, and ends at the next slash
+-- the first component begins at the first byte that isn't a slash, and ends before the next slash
 pub begins : (path named : List ℕ) (k n : ℕ) (slash : Option ℕ) → Some k ≡ position (λ c. not (eqb c 47)) path → named ≡ drop k path
     → slash ≡ position (λ c. eqb c 47) named → n ≡ unwrap_or slash (length named) → Begins path named k n
 begins path named k n slash start is found stop = record {
@@ -135,14 +136,14 @@ begins path named k n slash start is found stop = record {
   stop = stop ∙ (ap (λ o. unwrap_or o (length named)) found ∙ position_or (λ c. eqb c 47) named);
 }
 
--- it has a byte
+-- the first component has at least one byte
 pub has_byte : (path named : List ℕ) (k n : ℕ) → Begins path named k n → 0 < n
 has_byte path named k n begun =
     let behind : named ≡ drop (position_or_len (λ c. not (eqb c 47)) path) path = begun.is ∙ ap (λ j. drop j path) begun.at in
     subst (λ j. 0 < j) (sym begun.stop)
     (subst (λ xs. 0 < length xs → 0 < position_or_len (λ c. eqb c 47) xs) (sym behind) (name_follows path) begun.full)
 
--- a path's first component is the part from its leading slashes to the next one, cut
+-- the components of a path are the first one, cut to 14 bytes, and those of the rest
 pub components-split : (path named front rest : List ℕ) (k n m : ℕ) → Begins path named k n
     → front ≡ take n named → rest ≡ drop n named → m ≡ min (length front) 14
     → components path ≡ take m front ∷ components rest
@@ -174,7 +175,7 @@ list_any-first (c ∷ xs) =
       | false ↦ λ e. subst (λ k. list_any (λ c. eqb c 47) (take k (c ∷ xs)) ≡ false) (sym (one_more n)) (ap (λ b. b || list_any (λ c. eqb c 47) (take n xs)) e ∙ list_any-first xs)
     ] refl
 
--- the first component is one
+-- the first component has 1 to 14 bytes, and no slash
 pub IsComponent-split : (path named front : List ℕ) (k n m : ℕ) → Begins path named k n
     → front ≡ take n named → m ≡ min (length front) 14 → IsComponent (take m front)
 IsComponent-split path named front k n m begun before cut =

@@ -1,4 +1,4 @@
--- A directory after an entry is removed.
+-- A directory after an entry was removed.
 use Rattle.std.proofs.Common.{◌≡◌, ◌≢◌, ◌∙◌, sym, ap, subst, refl, ℕ, zero, suc, ◌+◌, ◌-◌, ◌*◌, ◌/◌, ◌%◌, ◌<◌, ◌≤◌, Bool, true, false, cond, ◌&&◌, true≢false, not, ◌||◌, List, [], ◌∷◌, map, length, get_or, None, Some, inl, inr, arith, ◌==◌, if◌then◌else◌}
 use Rattle.std.specs.Prelude.{Option}
 use Rattle.std.specs.List.{list_any, range_with_len, count_by}
@@ -31,7 +31,7 @@ use Rattle.vol_dir.proofs.NameMaps.{cleared, get_none}
 use Rattle.vol_dir.proofs.PutSlots.{Replaces, replaces, spliced_inside, length-with_item, with_item_here, with_item_else}
 use Rattle.vol_dir.proofs.ReadSlots.{length-slots, slot_from, slot_is, entry_in_hole, empty_slot}
 
--- each front of a place that names something names something
+-- if a position in the block map points to a block, all positions on the path to it point to blocks
 fronts_named : (geometry : Geometry) (image : List ℕ) (i : ℕ) (p q : List ℕ) → Fits geometry image → named geometry image i q ≢ 0
     → list_any (bytes_eq p) (fronts q) ≡ true → named geometry image i p ≢ 0
 fronts_named geometry image i p [] fits some on = absurd (true≢false (sym on))
@@ -46,7 +46,7 @@ fronts_named geometry image i p (j ∷ (a ∷ q)) fits some on = elim (or_cases 
       (λ e. some (named_stops geometry image i j a q (ap (in_zone geometry) e ∙ zero_out geometry image fits))) above
 ]
 
--- a file doesn't become large at a block that has a block path
+-- a file doesn't become large at a logical block that has a path
 grows_not : (form : BlockMap) (b : ℕ) (p : List ℕ) → last_place form b ≡ Some p → grows_large form (b ∷ []) ≡ false
 grows_not Small b p e = elim (cases_lt b 8) [
   | inl low ↦ ap (λ t. t || false) (lt-leb 8 b low)
@@ -56,7 +56,7 @@ grows_not Large b p e = refl
 grows_not Deep b p e = refl
 grows_not Bare b p e = refl
 
--- a test that no item passes counts none
+-- if no item passes a test, the count is 0
 count_none : {X : Type 0} (test : X → Bool) (xs : List X) → ((x : X) → test x ≡ false) → count_by test xs ≡ 0
 count_none test [] none = refl
 count_none {X} test (x ∷ xs) none =
@@ -64,12 +64,12 @@ count_none {X} test (x ∷ xs) none =
     let first : ◌≡◌ {A = ℕ} (cond (test x) 1 0) 0 = ap (λ b. cond b 1 0) (none x) in
     let split = sum_by-cons {X = X} (λ y. cond (test y) 1 0) x xs in omega (arith, rest, split, first)
 
--- a place on the block path that names a block isn't missing
+-- a position in the block map that points to a block isn't counted as missing
 passes_not : (on : Bool) (k : ℕ) → (on ≡ true → k ≢ 0) → ((on || false) && not (not (k == 0))) ≡ false
 passes_not true k some = ap (λ b. not (not b)) (ne_eqb k 0 (some refl))
 passes_not false k some = refl
 
--- nothing is missing on the block path of a block whose last place names something
+-- no block is missing on the path of a logical block whose position in the block map points to a block
 none_missing : (geometry : Geometry) (image : List ℕ) (i b : ℕ) (form : BlockMap) (q : List ℕ) → Fits geometry image → last_place form b ≡ Some q
     → named geometry image i q ≢ 0 → missing_count form (is_named geometry image i) (b ∷ []) ≡ 0
 unfolding missing_count
@@ -79,7 +79,7 @@ none_missing geometry image i b form q fits e some =
     (λ p. passes_not (list_any (bytes_eq p) (way form b)) (named geometry image i p)
     (λ on. fronts_named geometry image i p q fits some (ap (list_any (bytes_eq p)) (sym ways) ∙ on)))
 
--- two bytes of a block that is stored need no block
+-- a write of two bytes of a stored logical block needs no block
 pub needs_none : (geometry : Geometry) (image : List ℕ) (i b offset : ℕ) → Fits geometry image → offset / 512 ≡ b → (offset + 1) / 512 ≡ b
     → in_zone geometry (stored geometry image i (form_at geometry image i) b) ≡ true → need geometry image i offset 2 ≡ 0
 unfolding need_of
@@ -97,7 +97,7 @@ needs_none geometry image i b offset fits first last zone =
           ∙ ap (λ n. n + 0) (none_missing geometry image i b form p fits e (λ z. some (stored_is geometry image i form b p e ∙ z))))
     ] refl
 
--- the block of a slot with an entry is stored
+-- the logical block of a slot with an entry is stored
 pub held_zone : (geometry : Geometry) (image name : List ℕ) (d s : ℕ) → s < slot_count geometry image d
     → holds name (entry_at geometry image d s) ≡ true
     → in_zone geometry (stored geometry image d (form_at geometry image d) (s / 32)) ≡ true
@@ -108,18 +108,18 @@ held_zone geometry image name d s within held =
     let empty = entry_in_hole geometry image d (s / 32) (s % 32) at (omega arith) (omega arith) refl hole in
     true≢false (sym held ∙ ap (holds name) (ap (entry_at geometry image d) (sym place) ∙ empty)))
 
--- two zeros
+-- both bytes of the list `0 ∷ 0 ∷ []` are 0
 zero_at : (r : ℕ) → r < 2 → ◌≡◌ {A = ℕ} (get_or (0 ∷ (0 ∷ [])) r 0) 0
 zero_at zero h = refl
 zero_at (suc zero) h = refl
 zero_at (suc (suc r)) h = absurd (omega arith)
 
--- if two zeros were put, bytes are zero
+-- after two zeros are written, these bytes are 0
 zeros_put : (whole bytes : List ℕ) (at r : ℕ) → at ≤ length bytes → r < 2 → whole ≡ spliced bytes at (0 ∷ (0 ∷ [])) → get_or whole (at + r) 0 ≡ 0
 zeros_put whole bytes at r start h is =
     ap (λ xs. get_or xs (at + r) 0) is ∙ (spliced_inside bytes at (0 ∷ (0 ∷ [])) r start h ∙ zero_at r h)
 
--- zeros in place of its number empty a slot
+-- writing two zeros over the i-number of a slot empties the slot
 pub removes : (geometry : Geometry) (old new blocks : List ℕ) (d s : ℕ) → IsFile geometry old d → Rules3To7With geometry old blocks
     → size_of geometry old d % 16 ≡ 0 → s < slot_count geometry old d → Writes geometry old new d (16 * s) (0 ∷ (0 ∷ [])) blocks
     → Replaces geometry old new d s None
@@ -146,7 +146,7 @@ removes geometry old new blocks d s file sound whole within writes =
     })
     (empty_slot (slot_at (body geometry new d) (16 * s)) (omega (arith, low, high)))
 
--- a name that the directory has is in its slot
+-- slot `s` of directory `d` has an entry with this name
 pub record StandsIn (geometry : Geometry) (image : List ℕ) (d : ℕ) (name : List ℕ) (s : ℕ) : Type 0 where
   pub within : s < slot_count geometry image d
   pub held : holds name (entry_at geometry image d s) ≡ true
@@ -169,15 +169,15 @@ pub stands_in : (geometry : Geometry) (image name : List ℕ) (d s : ℕ) → s 
     → is_some (get (names_of (slots geometry image d)) name) ≡ true → StandsIn geometry image d name s
 stands_in geometry image name d s is there = subst (StandsIn geometry image d name) (sym is) (stands_there geometry image name d there)
 
--- a slot that doesn't hold the name stays
+-- removing a name does not change a slot without the name
 stays : (name : List ℕ) (slot : Option (List ℕ × ℕ)) → holds name slot ≡ false → slot ≡ cleared name slot
 stays name slot e = rw e
 
--- a slot that holds the name is emptied
+-- removing a name empties a slot with the name
 goes : (name : List ℕ) (slot : Option (List ℕ × ℕ)) → holds name slot ≡ true → None ≡ cleared name slot
 goes name slot e = rw e
 
--- the name's slot is the only one that is emptied
+-- emptying the slot of a name removes the name from all slots, since no other slot has it
 pub slots_cleared : (geometry : Geometry) (image name : List ℕ) (d s : ℕ) → s < slot_count geometry image d → HasNamesOnce geometry image d
     → holds name (entry_at geometry image d s) ≡ true → with_item (slots geometry image d) s None ≡ map (cleared name) (slots geometry image d)
 slots_cleared geometry image name d s within names held =
@@ -201,7 +201,7 @@ slots_cleared geometry image name d s within names held =
           (false_from_ne_true (holds name (entry_at geometry image d k)) (λ is. other (names.once name k s is held))) ∙ sym right))
     ])
 
--- a directory in which a slot is emptied has each name once
+-- after a slot is emptied, no name occurs twice in the directory
 pub once_removed : (geometry : Geometry) (old new : List ℕ) (d s : ℕ) → HasNamesOnce geometry old d → Replaces geometry old new d s None
     → HasNamesOnce geometry new d
 once_removed geometry old new d s names replaced =

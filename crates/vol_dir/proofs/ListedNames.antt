@@ -1,4 +1,4 @@
--- Collecting the names of a directory, slot by slot, in which a name may occur twice.
+-- Collecting the names of a directory, slot by slot. A name may occur in several slots.
 use Rattle.std.proofs.Common.{◌≡◌, ℕ, zero, suc, ◌+◌, ◌-◌, ◌<◌, ◌≤◌, Bool, true, false, cond, List, [], ◌∷◌, ◌++◌, map, None, Some, refl, ap, sym, subst, ◌∙◌, inl, inr, arith}
 use Rattle.std.specs.Prelude.{Option, T, nat_lt, if◌then◌else◌, slice_index_or}
 use Rattle.std.specs.BTreeMap.{insert_entry}
@@ -30,56 +30,56 @@ use Rattle.vol_dir.proofs.NameMaps.{sorted}
 use Rattle.vol_dir.proofs.NextEntries.{entry_some}
 use Rattle.vol_dir.specs.NameList.{by_bytes, put_first}
 
--- the entries in the slots of directory d below slot n
+-- the entries in the slots of directory `d` before slot `n`
 unfoldable pub slots_below : Geometry → List ℕ → ℕ → ℕ → List (Option (List ℕ × ℕ))
 slots_below geometry image d n = map (entry_at geometry image d) (range_with_len 0 n)
 
--- true if a slot is empty or has one of these names
+-- true if a slot is empty or its name is in the map
 abbrev pub is_met : Names → Option (List ℕ × ℕ) → Bool
 is_met names None = true
 is_met names (Some entry) = is_some (get names entry.0)
 
--- the names in the slots of directory d below slot n were collected, and those below marked blocks are among them
+-- the names in the slots of directory `d` before slot `n` have been collected, and the map has all names below marked blocks
 pub record HasCollected (geometry : Geometry) (image : List ℕ) (d n : ℕ) (entries : List (Vec ℕ × ℕ)) (marks : List Bool) : Type 0 where
   pub within : n ≤ slot_count geometry image d
   pub known : PassSlots (is_met (by_bytes entries)) geometry image d 0 n
   pub marked : MarksSlots (is_met (by_bytes entries)) geometry image marks
   pub names : by_bytes entries ≡ names_of (slots_below geometry image d n)
 
--- one more number
+-- a range with one more number is the range followed by that number
 range_more : (a n j : ℕ) → a + n ≡ j → range_with_len a (suc n) ≡ range_with_len a n ++ j ∷ []
 range_more a zero j e = let same : a ≡ j = omega arith in ap (λ k. k ∷ []) same
 range_more a (suc n) j e = ap (λ ks. a ∷ ks) (range_more (a + 1) n j (omega arith))
 
--- one more slot
+-- the slots before slot `n + 1` are those before slot `n`, followed by slot `n`
 slots_more : (geometry : Geometry) (image : List ℕ) (d n : ℕ)
     → slots_below geometry image d (suc n) ≡ slots_below geometry image d n ++ entry_at geometry image d n ∷ []
 unfolding slots_below
 slots_more geometry image d n =
     ap (map (entry_at geometry image d)) (range_more 0 n n (omega arith)) ∙ map-append (entry_at geometry image d) (range_with_len 0 n) (n ∷ [])
 
--- an empty slot after others has no name
+-- adding an empty slot at the end does not change the map
 names_empty : (slots : List (Option (List ℕ × ℕ))) → names_of (slots ++ None ∷ []) ≡ names_of slots
 names_empty [] = refl
 names_empty (None ∷ slots) = names_empty slots
 names_empty (Some entry ∷ slots) = ap (λ names. insert names entry.0 entry.1) (names_empty slots)
 
--- a name that is put in a map is found there, and every other name as before
+-- inserting a name in a map changes only the value of this name
 get_insert : (names : Names) (name q : List ℕ) (i : ℕ) → get (insert names name i) q ≡ cond (bytes_eq q name) (Some i) (get names q)
 get_insert names name q i =
     find-put (slice_cmp nat_cmp) nat_list_cmp_total q name i names ∙ ap (λ b. cond b (Some i) (get names q)) (is_eq-slice_cmp q name)
 
--- the first of two values, if there is one
+-- the first of two values, or the second if the first is None
 abbrev pub or_else : Option ℕ → Option ℕ → Option ℕ
 or_else None second = second
 or_else (Some first) second = Some first
 
--- the first value of a choice
+-- `or_else` of a conditional is the conditional of `or_else`
 cond_else : (b : Bool) (x second : Option ℕ) (i : ℕ) → cond b (Some i) (or_else x second) ≡ or_else (cond b (Some i) x) second
 cond_else true x second i = refl
 cond_else false x second i = refl
 
--- a name after others is found if none of them has it
+-- adding a slot at the end gives its name a value only if no earlier slot has the name
 get_behind : (slots : List (Option (List ℕ × ℕ))) (name q : List ℕ) (i : ℕ)
     → get (names_of (slots ++ Some (name, i) ∷ [])) q ≡ or_else (get (names_of slots) q) (cond (bytes_eq q name) (Some i) None)
 get_behind [] name q i = get_insert [] name q i
@@ -90,7 +90,7 @@ get_behind (Some entry ∷ slots) name q i =
     ∙ (cond_else (bytes_eq q entry.0) (get (names_of slots) q) (cond (bytes_eq q name) (Some i) None) entry.1
     ∙ ap (λ first. or_else first (cond (bytes_eq q name) (Some i) None)) (sym (get_insert (names_of slots) entry.0 q entry.1))))
 
--- the result of a map once a name is put first
+-- `put_first` gives a name a value only if the map doesn't have the name
 get_put_first : (names : Names) (name q : List ℕ) (i : ℕ)
     → get (put_first names name i) q ≡ or_else (get names q) (cond (bytes_eq q name) (Some i) None)
 unfolding put_first
@@ -112,7 +112,7 @@ get_put_first names name q i =
     present false None j here = refl
     present false (Some k) j here = refl
 
--- the names of slots with one after them
+-- adding a slot at the end adds its name to the map with `put_first`
 names_behind : (slots : List (Option (List ℕ × ℕ))) (name : List ℕ) (i : ℕ)
     → names_of (slots ++ Some (name, i) ∷ []) ≡ put_first (names_of slots) name i
 unfolding put_first
@@ -125,7 +125,7 @@ names_behind slots name i =
     still_sorted true = sorted slots
     still_sorted false = is_sorted-put (slice_cmp nat_cmp) nat_list_cmp_total name i (names_of slots) (sorted slots)
 
--- an empty slot, or one whose name is in the map already, adds no name
+-- adding a slot that is empty, or whose name is in the map already, does not change the map
 names_more : (slots : List (Option (List ℕ × ℕ))) (entry : Option (List ℕ × ℕ)) → is_met (names_of slots) entry ≡ true
     → names_of (slots ++ entry ∷ []) ≡ names_of slots
 unfolding put_first
@@ -133,7 +133,7 @@ names_more slots None met = names_empty slots
 names_more slots (Some entry) met =
     names_behind slots entry.0 entry.1 ∙ ap (λ b. cond b (names_of slots) (insert (names_of slots) entry.0 entry.1)) met
 
--- slots that are empty, or have names that those before have, add no names
+-- adding `k` slots that are empty, or have names that are in the map already, does not change the map
 names_kept : (geometry : Geometry) (image : List ℕ) (d n k : ℕ)
     → ((t : ℕ) → n ≤ t → t < k + n → is_met (names_of (slots_below geometry image d n)) (entry_at geometry image d t) ≡ true)
     → names_of (slots_below geometry image d (k + n)) ≡ names_of (slots_below geometry image d n)
@@ -147,7 +147,7 @@ names_kept geometry image d n (suc k) met =
     (ap (λ names. is_met names (entry_at geometry image d (k + n))) before ∙ met (k + n) (omega arith) (omega arith))
     ∙ before))
 
--- the same, up to a later slot
+-- adding the slots `n..m` does not change the map if they are empty or have names that are in the map already
 names_until : (geometry : Geometry) (image : List ℕ) (d n m : ℕ) → n ≤ m → m ≤ slot_count geometry image d
     → PassSlots (is_met (names_of (slots_below geometry image d n))) geometry image d n m
     → names_of (slots_below geometry image d m) ≡ names_of (slots_below geometry image d n)
@@ -156,7 +156,7 @@ names_until geometry image d n m h last met =
     ap (λ k. names_of (slots_below geometry image d k)) (sym m_is)
     ∙ names_kept geometry image d n (m - n) (λ t low high. met t low (omega arith) (omega arith))
 
--- a name put among entries is put in their map
+-- inserting a name among entries inserts it in their map
 pub named_insert : (entries : List (Vec ℕ × ℕ)) (key : Vec ℕ) (i : ℕ)
     → by_bytes (insert_entry (λ x y. slice_cmp nat_cmp x.items y.items) entries key i) ≡ insert (by_bytes entries) key.items i
 named_insert [] key i = refl
@@ -168,7 +168,7 @@ named_insert (e ∷ es) key i =
       | Greater ↦ ap (λ rest. (e.0.items, e.1) ∷ rest) (named_insert es key i)
     ]
 
--- before the first slot there are no names
+-- before the first slot, no names have been collected
 pub collected_none : (geometry : Geometry) (image : List ℕ) (d : ℕ) (entries : List (Vec ℕ × ℕ)) (marks : List Bool) → entries ≡ []
     → ((k : ℕ) → slice_index_or marks k false ≡ false) → HasCollected geometry image d 0 entries marks
 unfolding slots_below
@@ -179,29 +179,29 @@ collected_none geometry image d entries marks empty clear = record {
   marked = clear_passes (passes_in (is_met (by_bytes entries)) geometry image) geometry image marks clear;
 }
 
--- a choice has the value of its first, if that has one
+-- `or_else` has a value if the first value exists
 else_some : (first second : Option ℕ) → is_some first ≡ true → is_some (or_else first second) ≡ true
 else_some None second some = absurd (true≢false (sym some))
 else_some (Some i) second some = refl
 
--- a choice has the value of its second
+-- `or_else` has a value if the second value exists
 some_else : (first : Option ℕ) (i : ℕ) → is_some (or_else first (Some i)) ≡ true
 some_else None i = refl
 some_else (Some j) i = refl
 
--- an entry whose name is in the map still counts as met after one more name is added
+-- a slot that is empty or has a name in the map still is or has after `put_first`
 met_more : (names : Names) (name : List ℕ) (i : ℕ) (entry : Option (List ℕ × ℕ)) → is_met names entry ≡ true → is_met (put_first names name i) entry ≡ true
 met_more names name i None met = refl
 met_more names name i (Some entry) met =
     ap is_some (get_put_first names name entry.0 i) ∙ else_some (get names entry.0) (cond (bytes_eq entry.0 name) (Some i) None) met
 
--- an entry is met once its name is put first
+-- after `put_first` of a name, the map has the name
 met_put : (names : Names) (name : List ℕ) (i : ℕ) → is_met (put_first names name i) (Some (name, i)) ≡ true
 met_put names name i =
     ap is_some (get_put_first names name name i ∙ ap (λ b. or_else (get names name) (cond b (Some i) None)) (bytes_same name name refl))
     ∙ some_else (get names name) i
 
--- a slot that is empty, or whose name is in the map, still is after one more name is added
+-- if all slots below a block are empty or have names in the map, they still are or have after `put_first`
 passes_more : (names : Names) (name : List ℕ) (i : ℕ) (geometry : Geometry) (image : List ℕ) (m part : ℕ)
     → passes_in (is_met names) geometry image m part ≡ true → passes_in (is_met (put_first names name i)) geometry image m part ≡ true
 passes_more names name i geometry image m part = elim (nat_lt part 32) as (λ z. (if z then is_met names (entry_in_block geometry image m part) else true) ≡ true
@@ -210,7 +210,7 @@ passes_more names name i geometry image m part = elim (nat_lt part 32) as (λ z.
       | false ↦ λ met. refl
     ]
 
--- the name of the next entry, put first among those before, gives those up to it
+-- after `put_first` of the next entry's name, the names in the slots up to this entry have been collected
 pub collected_next : (geometry : Geometry) (image : List ℕ) (d from s : ℕ) (slot : Slot) (name : List ℕ) (old new : List (Vec ℕ × ℕ)) (before after : List Bool)
     → HasCollected geometry image d from old before
     → IsEntryFrom geometry image d from s slot → PassSlots (is_met (by_bytes old)) geometry image d from s
@@ -244,7 +244,7 @@ collected_next geometry image d from s slot name old new before after collected 
           (passes_more (by_bytes old) (name_of slot.name) slot.inode geometry image (below geometry image (constants geometry.edition).pointers m n c) part (marked m n mark c part low));
     }
 
--- if no later slot has another name, all names of the directory are collected
+-- if all later slots are empty or have names in the map, all names of the directory have been collected
 pub collected_all : (geometry : Geometry) (image : List ℕ) (d from : ℕ) (entries : List (Vec ℕ × ℕ)) (marks : List Bool)
     → HasCollected geometry image d from entries marks
     → PassSlots (is_met (by_bytes entries)) geometry image d from (slot_count geometry image d)
@@ -254,12 +254,12 @@ collected_all geometry image d from entries marks collected passed =
     collected.names ∙ sym (names_until geometry image d from (slot_count geometry image d) collected.within (omega arith)
     (subst (λ names. PassSlots (is_met names) geometry image d from (slot_count geometry image d)) collected.names passed))
 
--- looking up a name among entries gives the same as in their map
+-- looking up a name among entries gives the same result as in their map
 lookup_listed : (name : List ℕ) (entries : List (Vec ℕ × ℕ)) → lookup (λ k. is_eq (slice_cmp nat_cmp name k.items)) entries ≡ get (by_bytes entries) name
 lookup_listed name [] = refl
 lookup_listed name (e ∷ es) = ap (cond (is_eq (slice_cmp nat_cmp name e.0.items)) (Some e.1)) (lookup_listed name es)
 
--- a new name is put among entries
+-- if the entries don't have a name, inserting it is `put_first`
 pub listed_put : (entries new : List (Vec ℕ × ℕ)) (key : Vec ℕ) (name : List ℕ) (i : ℕ)
     → is_some (lookup (λ k. is_eq (slice_cmp nat_cmp name k.items)) entries) ≡ false
     → new ≡ insert_entry (λ x y. slice_cmp nat_cmp x.items y.items) entries key i → key.items ≡ name → by_bytes new ≡ put_first (by_bytes entries) name i
@@ -269,7 +269,7 @@ listed_put entries new key name i missing put is =
     ∙ sym (ap (λ found. cond (is_some found) (by_bytes entries) (insert (by_bytes entries) name i)) (sym (lookup_listed name entries))
     ∙ ap (λ b. cond b (by_bytes entries) (insert (by_bytes entries) name i)) missing)))
 
--- adding a name that exists changes nothing
+-- if the entries have a name, `put_first` of it changes nothing
 pub listed_kept : (entries : List (Vec ℕ × ℕ)) (name : List ℕ) (i : ℕ)
     → is_some (lookup (λ k. is_eq (slice_cmp nat_cmp name k.items)) entries) ≡ true → by_bytes entries ≡ put_first (by_bytes entries) name i
 unfolding put_first

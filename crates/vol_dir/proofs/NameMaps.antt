@@ -18,18 +18,18 @@ use Rattle.vol_dir.specs.Names.{Names, get, insert, remove, names_of, names_in}
 use Rattle.vol_dir.specs.Names.{is_dots}
 use Rattle.vol_dir.specs.Search.{holds, holds_other, emptied, slot_named}
 
--- a name that is put in a map is found there, and every other name as before
+-- inserting a name in a map changes only the value of this name
 get_insert : (names : Names) (name q : List ℕ) (i : ℕ) → get (insert names name i) q ≡ cond (bytes_eq q name) (Some i) (get names q)
 get_insert names name q i =
     find-put (slice_cmp nat_cmp) nat_list_cmp_total q name i names ∙ ap (λ b. cond b (Some i) (get names q)) (is_eq-slice_cmp q name)
 
--- the names of a map ascend
+-- the names of a map are in ascending order
 pub sorted : (slots : List (Option (List ℕ × ℕ))) → T (is_sorted (slice_cmp nat_cmp) (names_of slots))
 sorted [] = tt
 sorted (None ∷ slots) = sorted slots
 sorted (Some entry ∷ slots) = is_sorted-put (slice_cmp nat_cmp) nat_list_cmp_total entry.0 entry.1 (names_of slots) (sorted slots)
 
--- a name has the i-number of the first slot that holds it
+-- the i-number of a name is the one in the first slot that has the name
 pub get_first : (slots : List (Option (List ℕ × ℕ))) (name : List ℕ) (s : ℕ) → s < length slots → holds name (get_or slots s None) ≡ true
     → ((t : ℕ) → t < s → holds name (get_or slots t None) ≡ false)
     → get (names_of slots) name ≡ option_map (λ (entry : List ℕ × ℕ). entry.1) (get_or slots s None)
@@ -43,7 +43,7 @@ get_first (Some entry ∷ slots) name (suc s) h here before =
     ∙ (ap (λ b. cond b (Some entry.1) (get (names_of slots) name)) (before zero (omega arith))
     ∙ get_first slots name s (omega arith) here (λ t l. before (suc t) (omega arith)))
 
--- a name that no slot holds isn't found
+-- a name that no slot has is not in the map
 pub get_none : (slots : List (Option (List ℕ × ℕ))) (name : List ℕ)
     → ((t : ℕ) → t < length slots → holds name (get_or slots t None) ≡ false) → get (names_of slots) name ≡ None
 get_none [] name none = refl
@@ -53,7 +53,7 @@ get_none (Some entry ∷ slots) name none =
     ∙ (ap (λ b. cond b (Some entry.1) (get (names_of slots) name)) (none zero (omega arith))
     ∙ get_none slots name (λ t h. none (suc t) (omega arith)))
 
--- a test of the names of a map, once one is put in
+-- after a name is inserted, some name of the map passes a test if it does or if an old name does
 any_put : (test : List ℕ → Bool) (name : List ℕ) (i : ℕ) (names : Names)
     → list_any (λ (entry : List ℕ × ℕ). test entry.0) (put (slice_cmp nat_cmp) name i names)
     ≡ (test name || list_any (λ (entry : List ℕ × ℕ). test entry.0) names)
@@ -77,7 +77,7 @@ any_put test name i (e ∷ es) =
     or_turned true false c = refl
     or_turned false b c = refl
 
--- the map has a name other than `.` and `..` if a slot holds one
+-- the map has a name other than `.` and `..` if and only if a slot has one
 pub any_other : (slots : List (Option (List ℕ × ℕ)))
     → list_any (λ (entry : List ℕ × ℕ). not (is_dots entry.0)) (names_of slots) ≡ list_any holds_other slots
 any_other [] = refl
@@ -85,7 +85,7 @@ any_other (None ∷ slots) = any_other slots
 any_other (Some entry ∷ slots) =
     any_put (λ name. not (is_dots name)) entry.0 entry.1 (names_of slots) ∙ ap (λ b. not (is_dots entry.0) || b) (any_other slots)
 
--- the slot that holds a name, after one more
+-- adding a slot without the name in front does not change the entry found for the name
 slot_next : (name : List ℕ) (slot : Option (List ℕ × ℕ)) (slots : List (Option (List ℕ × ℕ))) → holds name slot ≡ false
     → get_or (slot ∷ slots) (slot_named name (slot ∷ slots)) None ≡ get_or slots (slot_named name slots) None
 slot_next name slot slots e =
@@ -93,7 +93,7 @@ slot_next name slot slots e =
     let next : 1 + k ≡ suc k = omega arith in
     ap (λ b. get_or (slot ∷ slots) (cond (not b) (1 + k) 0) None) e ∙ ap (λ n. get_or (slot ∷ slots) n None) next
 
--- a name has the i-number of the first slot that holds it, if one does
+-- the i-number of a name is the one in the first slot that has the name, or None if no slot has it
 pub get_named : (slots : List (Option (List ℕ × ℕ))) (name : List ℕ)
     → get (names_of slots) name ≡ option_map (λ (entry : List ℕ × ℕ). entry.1) (get_or slots (slot_named name slots) None)
 get_named [] name = refl
@@ -107,7 +107,7 @@ get_named (Some entry ∷ slots) name =
       | false ↦ λ e. get_named slots name ∙ sym (ap (option_map (λ (entry : List ℕ × ℕ). entry.1)) (slot_next name (Some entry) slots e))
     ] refl
 
--- if a name isn't found, no slot holds it
+-- if a name is not in the map, no slot has it
 pub none_held : (slots : List (Option (List ℕ × ℕ))) (name : List ℕ) → get (names_of slots) name ≡ None → list_any (holds name) slots ≡ false
 none_held [] name none = refl
 none_held (None ∷ slots) name none = none_held slots name none
@@ -117,21 +117,21 @@ none_held (Some entry ∷ slots) name none =
       | false ↦ λ e. none_held slots name e
     ] (sym (get_insert (names_of slots) entry.0 name entry.1) ∙ none)
 
--- two tests that don't both pass may be made in either order
+-- the order of two conditionals makes no difference if both conditions can't be true
 turned : {X : Type 0} (a b : Bool) (x y z : X) → (a ≡ true → b ≡ true → ⊥) → cond a x (cond b y z) ≡ cond b y (cond a x z)
 turned true true x y z apart = absurd (apart refl refl)
 turned true false x y z apart = refl
 turned false b x y z apart = refl
 
--- another item after the first
+-- replacing an item other than the first keeps the first item
 with_item_next : {X : Type 0} (first x : X) (xs : List X) (s : ℕ) → with_item (first ∷ xs) (suc s) x ≡ first ∷ with_item xs s x
 with_item_next first x xs s = let next : suc s + 1 ≡ suc (s + 1) = omega arith in ap (λ n. first ∷ (take s xs ++ x ∷ drop n (first ∷ xs))) next
 
--- an item put past the end of an empty list
+-- appending to an empty list gives a list of one item
 with_item_none : {X : Type 0} (x : X) (s : ℕ) → with_item [] (suc s) x ≡ x ∷ []
 with_item_none x s = let next : suc s + 1 ≡ suc (s + 1) = omega arith in ap (λ n. x ∷ drop n []) next
 
--- the result of the map once a name is put in an empty slot, or after the last
+-- after a new name is stored in an empty slot or after the last slot, only the value of this name has changed
 get_with : (slots : List (Option (List ℕ × ℕ))) (s i : ℕ) (name q : List ℕ) → s ≤ length slots → get_or slots s None ≡ None
     → list_any (holds name) slots ≡ false
     → get (names_of (with_item slots s (Some (name, i)))) q ≡ cond (bytes_eq q name) (Some i) (get (names_of slots) q)
@@ -150,7 +150,7 @@ get_with (Some entry ∷ slots) (suc s) i name q h empty none =
     (λ a b. true≢false (sym (bytes_same name entry.0 (sym (same_bytes q name b) ∙ same_bytes q entry.0 a)) ∙ parts.0))
     ∙ ap (cond (bytes_eq q name) (Some i)) (sym (get_insert (names_of slots) entry.0 q entry.1)))))
 
--- a name put in an empty slot, or after the last, is put in the map
+-- storing a new name in an empty slot or after the last slot inserts it in the map
 pub names_with : (slots : List (Option (List ℕ × ℕ))) (s i : ℕ) (name : List ℕ) → s ≤ length slots → get_or slots s None ≡ None
     → list_any (holds name) slots ≡ false → names_of (with_item slots s (Some (name, i))) ≡ insert (names_of slots) name i
 names_with slots s i name h empty none =
@@ -159,7 +159,7 @@ names_with slots s i name h empty none =
     (is_sorted-put (slice_cmp nat_cmp) nat_list_cmp_total name i (names_of slots) (sorted slots))
     (λ q. get_with slots s i name q h empty none ∙ sym (get_insert (names_of slots) name q i))
 
--- the names in slots after one of them is replaced
+-- replacing a slot replaces its name in the list of names
 pub names_in_with : (slots : List (Option (List ℕ × ℕ))) (s : ℕ) (slot : Option (List ℕ × ℕ))
     → names_in (with_item slots s slot) ≡ with_item (names_in slots) s (option_map (λ (entry : List ℕ × ℕ). entry.0) slot)
 names_in_with [] zero slot = refl
@@ -171,11 +171,11 @@ names_in_with (first ∷ slots) (suc s) slot =
     ∙ (ap (λ names. option_map (λ (entry : List ℕ × ℕ). entry.0) first ∷ names) (names_in_with slots s slot)
     ∙ sym (with_item_next (option_map (λ (entry : List ℕ × ℕ). entry.0) first) (option_map (λ (entry : List ℕ × ℕ). entry.0) slot) (names_in slots) s))
 
--- a slot once a name is removed
+-- a slot after a name is removed: empty if it had the name
 abbrev pub cleared : List ℕ → Option (List ℕ × ℕ) → Option (List ℕ × ℕ)
 cleared name slot = cond (holds name slot) None slot
 
--- the result of the map once a name is removed
+-- removing a name from a map changes only the value of this name
 pub get_remove : (names : Names) (name q : List ℕ) → get (remove names name) q ≡ cond (bytes_eq name q) None (get names q)
 get_remove names name q =
     find-where_key (slice_cmp nat_cmp) (λ other. not (eq_by_cmp (slice_cmp nat_cmp) name other)) q
@@ -186,7 +186,7 @@ get_remove names name q =
     not_cond true x y = refl
     not_cond false x y = refl
 
--- the result of the map once a name is cleared out of its slots
+-- after a name is removed from all slots, only the value of this name has changed
 get_cleared : (slots : List (Option (List ℕ × ℕ))) (name q : List ℕ)
     → get (names_of (map (cleared name) slots)) q ≡ cond (bytes_eq name q) None (get (names_of slots) q)
 get_cleared [] name q = elim (bytes_eq name q) as (λ b. get [] q ≡ cond b None (get [] q)) [ true ↦ refl | false ↦ refl ]
@@ -210,7 +210,7 @@ get_cleared (Some entry ∷ slots) name q =
           ∙ ap (cond (bytes_eq name q) None) (sym (get_insert (names_of slots) entry.0 q entry.1))))
     ] refl
 
--- a name cleared out of its slots is removed from the map
+-- removing a name from all slots removes it from the map
 pub names_cleared : (slots : List (Option (List ℕ × ℕ))) (name : List ℕ) → names_of (map (cleared name) slots) ≡ remove (names_of slots) name
 names_cleared slots name =
     same_entries (slice_cmp nat_cmp) nat_list_cmp_total exact_bytes (names_of (map (cleared name) slots)) (remove (names_of slots) name)
@@ -218,7 +218,7 @@ names_cleared slots name =
     (is_sorted-where_key (slice_cmp nat_cmp) (λ other. not (eq_by_cmp (slice_cmp nat_cmp) name other)) (names_of slots) (sorted slots))
     (λ q. get_cleared slots name q ∙ sym (get_remove (names_of slots) name q))
 
--- a name cleared out of its slots leaves those slots without a name
+-- removing a name from all slots empties these slots in the list of names
 pub names_in_cleared : (slots : List (Option (List ℕ × ℕ))) (name : List ℕ) → names_in (map (cleared name) slots) ≡ map (emptied name) (names_in slots)
 names_in_cleared [] name = refl
 names_in_cleared (None ∷ slots) name = ap (λ names. None ∷ names) (names_in_cleared slots name)

@@ -1,4 +1,4 @@
--- A directory after a new entry is added.
+-- A directory after a new entry was added.
 use Rattle.std.proofs.Common.{◌≡◌, ◌≢◌, ◌∙◌, sym, ap, not, subst, refl, ℕ, ◌+◌, ◌-◌, ◌*◌, ◌/◌, ◌%◌, ◌<◌, ◌≤◌, true, true≢false, List, length, take, get_or, None, Some, inl, inr, arith, ◌==◌, if◌then◌else◌}
 use Rattle.std.specs.Prelude.{Option, replicate}
 use Rattle.std.specs.List.{position_or_len}
@@ -27,7 +27,7 @@ use Rattle.vol_dir.proofs.NameMaps.{none_held}
 use Rattle.vol_dir.proofs.PutSlots.{Replaces, replaces, spliced_inside}
 use Rattle.vol_dir.proofs.ReadSlots.{length-slots, slot_is}
 
--- zeros are after a name
+-- the bytes of a padded name after the name are 0
 zeros_behind : (name : List ℕ) (k : ℕ) → length name ≤ k → get_or (padded_name name) k 0 ≡ 0
 zeros_behind name k h =
     get_or-append_right name (replicate (14 - length name) 0) (length name) k 0 refl h
@@ -45,7 +45,7 @@ name_padded name some =
     (λ h. ap (λ c. c == 0) (zeros_behind name (length name) (omega arith))) in
     ap (λ n. take n (padded_name name)) first ∙ take-append_seam name (replicate (14 - length name) 0)
 
--- the slot of a name's bytes
+-- the bytes of a slot with this name and i-number are read back as the same entry
 pub slot_of_text : (name : List ℕ) (i : ℕ) → length name ≤ 14 → 1 ≤ i → ((k : ℕ) → k < length name → get_or name k 0 ≢ 0)
     → entry_in (slot_at (slot_bytes name i) 0) ≡ Some (name, i)
 slot_of_text name i short first some =
@@ -56,19 +56,19 @@ slot_of_text name i short first some =
     ∙ (ap (λ b. if b then None else Some (name_of (take 14 (padded_name name)), i)) (ne_eqb i 0 (λ e. omega (arith, e)))
     ∙ ap (λ xs. Some (xs, i)) (ap name_of whole ∙ name_padded name some))
 
--- the place of a new entry is within the slots, or right after them
+-- the slot for a new entry is one of the slots, or the one after the last
 pub new_within : (geometry : Geometry) (image : List ℕ) (d : ℕ) → new_slot (names_in (slots geometry image d)) ≤ slot_count geometry image d
 new_within geometry image d =
     let most = prefix_len-le-length (λ slot. not (is_none slot)) (names_in (slots geometry image d)) in
     let names = length-names_in (slots geometry image d) in
     let len = length-slots geometry image d in omega arith
 
--- a slot without name is empty
+-- a slot without a name is empty
 no_entry : (slot : Option (List ℕ × ℕ)) → is_none (option_map (λ (entry : List ℕ × ℕ). entry.0) slot) ≡ true → slot ≡ None
 no_entry None e = refl
 no_entry (Some entry) e = absurd (true≢false (sym e))
 
--- it is empty
+-- the slot for a new entry is empty
 pub new_empty : (geometry : Geometry) (image : List ℕ) (d : ℕ)
     → get_or (slots geometry image d) (new_slot (names_in (slots geometry image d))) None ≡ None
 new_empty geometry image d =
@@ -82,11 +82,11 @@ new_empty geometry image d =
       | inr high ↦ get_or_past (slots geometry image d) at None high
     ]
 
--- a slot's bytes are 16
+-- a slot has 16 bytes
 pub length-slot_bytes : (name : List ℕ) (i : ℕ) → length name ≤ 14 → length (slot_bytes name i) ≡ 16
 length-slot_bytes name i short = omega (arith, length-append name (replicate (14 - length name) 0), length-replicate {A = ℕ} (14 - length name) 0)
 
--- a text of 16 bytes that was put in a slot is that slot
+-- a slot to which 16 bytes were written is the slot with these bytes
 slot_put : (text bytes whole : List ℕ) (s : ℕ) → length text ≡ 16 → 16 * s ≤ length bytes → 16 * s + 16 ≤ length whole
     → whole ≡ spliced bytes (16 * s) text → slot_at whole (16 * s) ≡ slot_at text 0
 slot_put text bytes whole s len start room is =
@@ -96,7 +96,7 @@ slot_put text bytes whole s len start room is =
           ap (λ xs. get_or xs (16 * s + r) 0) is ∙ (spliced_inside bytes (16 * s) text r start (omega (arith, h, len)) ∙ ap (λ n. get_or text n 0) place);
     }) (omega arith) room
 
--- a name written in the place of a new entry is the entry of its slot
+-- writing a name to the slot for a new entry adds the entry
 pub adds : (geometry : Geometry) (old new blocks name : List ℕ) (d i : ℕ) → IsFile geometry old d → Rules3To7With geometry old blocks
     → size_of geometry old d % 16 ≡ 0 → length name ≤ 14 → ((k : ℕ) → k < length name → get_or name k 0 ≢ 0) → 1 ≤ i
     → 16 * new_slot (names_in (slots geometry old d)) + 16 ≤ (constants geometry.edition).greatest
@@ -126,7 +126,7 @@ adds geometry old new blocks name d i file sound whole short some first great wr
     (omega (arith, len_new, limit, within, sixteen, size, great)) writes.body)
     ∙ slot_of_text name i short first some)
 
--- no slot holds a name that the map doesn't have
+-- if a name is not in the map, no slot has it
 pub not_held : (geometry : Geometry) (image : List ℕ) (d t : ℕ) (name : List ℕ) → get (names_of (slots geometry image d)) name ≡ None
     → holds name (entry_at geometry image d t) ≡ true → ⊥
 not_held geometry image d t name none held = elim (cases_lt t (length (slots geometry image d))) [
@@ -136,7 +136,7 @@ not_held geometry image d t name none held = elim (cases_lt t (length (slots geo
   | inr high ↦ true≢false (sym held ∙ ap (holds name) (sym (slot_is geometry image d t) ∙ get_or_past (slots geometry image d) t None high))
 ]
 
--- a directory with a new name has each name once
+-- after a new name is added, no name occurs twice in the directory
 pub once_added : (geometry : Geometry) (old new name : List ℕ) (d s i : ℕ) → HasNamesOnce geometry old d
     → get (names_of (slots geometry old d)) name ≡ None → Replaces geometry old new d s (Some (name, i)) → HasNamesOnce geometry new d
 once_added geometry old new name d s i names none replaced =
@@ -156,7 +156,7 @@ once_added geometry old new name d s i names none replaced =
       ];
     }
 
--- a write, by its position and its bytes
+-- a write is the same write if the offset and the bytes are equal
 pub writes_as : (geometry : Geometry) (old new blocks : List ℕ) (d at offset : ℕ) (bytes text : List ℕ) → at ≡ offset → bytes ≡ text
     → Writes geometry old new d at bytes blocks → Writes geometry old new d offset text blocks
 writes_as geometry old new blocks d at offset bytes text e f writes =

@@ -10,16 +10,16 @@ use Rattle.vol_dir.specs.Entries.{entry_in, entry_at, slot_count}
 use Rattle.vol_dir.specs.Scan.{IsNextEntry}
 use Rattle.vol_dir.proofs.ReadSlots.{entry_at_past}
 
--- a slot with an i-number holds an entry
+-- a slot with an i-number other than 0 has an entry
 pub entry_some : (slot : Slot) → slot.inode ≢ 0 → entry_in slot ≡ Some (name_of slot.name, slot.inode)
 entry_some slot some = let is : (slot.inode == 0) ≡ false = grind (arith, nat_tests) in rw is
 
--- the next entry is the content of its slot
+-- the entry that a search returns is the content of its slot
 pub entry_next : {entry : ℕ → Option (List ℕ × ℕ)} {from count s : ℕ} {slot : Slot} → IsNextEntry entry from count s slot
     → entry s ≡ Some (name_of slot.name, slot.inode)
 entry_next {slot = slot} next = next.holds ∙ entry_some slot next.some
 
--- if no slot of a directory from one on has an entry, none past its last has one
+-- if no slot of a directory at or after slot `from` has an entry, no later number has one either
 pub none_from : (geometry : Geometry) (image : List ℕ) (d from : ℕ) → ((t : ℕ) → from ≤ t → t < slot_count geometry image d → entry_at geometry image d t ≡ None)
     → (t : ℕ) → from ≤ t → entry_at geometry image d t ≡ None
 none_from geometry image d from none t low = elim (cases_lt t (slot_count geometry image d)) [

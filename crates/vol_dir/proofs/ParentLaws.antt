@@ -1,4 +1,4 @@
--- Lemmas on walks to the parent.
+-- Lemmas on walks to the parent directory.
 use Rattle.std.proofs.Common.{◌≡◌, ℕ, List, [], ◌∷◌, Some, Result, Ok, Err, refl, ap}
 use Rattle.std.specs.Option.{option_map}
 use Rattle.vol_layout.specs.Edition.{constants}
@@ -8,12 +8,12 @@ use Rattle.vol_dir.specs.Walk.{components, search, and_then, find_in, walk_from,
 use Rattle.vol_dir.specs.declared.cred.Cred.{Cred}
 use Rattle.vol_dir.specs.declared.refusal.Refusal.{Refusal}
 
--- the parent to which a name, and then others, lead from node i, and the last of them
+-- the parent directory and the last name of a walk from node `i` over a name and then others
 abbrev pub parent_walk : Tree → Cred → ℕ → List ℕ → List (List ℕ) → Result (ℕ × List ℕ) Refusal
 parent_walk tree cred i name [] = and_then (search tree cred i) (λ _. Ok (i, name))
 parent_walk tree cred i name (next ∷ names) = and_then (find_in tree cred i name) (λ j. parent_walk tree cred j next names)
 
--- the same over the names before the last, and the last
+-- the parent directory and the last name of a walk from node `i` over the names before the last, and the last
 abbrev parent_at : Tree → Cred → ℕ → List (List ℕ) × List ℕ → Result (ℕ × List ℕ) Refusal
 parent_at tree cred i names =
     and_then (walk_from tree cred i names.0) (λ k. and_then (search tree cred k) (λ _. Ok (k, names.1)))
@@ -27,14 +27,14 @@ split tree cred (next ∷ names) i name =
       | Err refusal ↦ refl
     ]
 
--- the walk to the parent begins at the root
+-- the walk to the parent directory begins at the root
 pub parent-begins : (geometry : Geometry) (image : List ℕ) (cred : Cred) (name : List ℕ) (names : List (List ℕ))
     → parent_over (tree geometry image) cred (name ∷ names)
     ≡ Some (parent_walk (tree geometry image) cred (constants geometry.edition).root name names)
 unfolding tree
 parent-begins geometry image cred name names = split (tree geometry image) cred names (constants geometry.edition).root name
 
--- the parent that a path leads to, by its components
+-- the parent directory of a path, computed from its components
 pub walk_parent-over : (tree : Tree) (cred : Cred) (path : List ℕ) (names : List (List ℕ)) → components path ≡ names
     → walk_parent tree cred path ≡ parent_over tree cred names
 unfolding walk_parent

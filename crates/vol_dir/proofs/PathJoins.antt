@@ -1,4 +1,4 @@
--- Lemmas on paths that are put together, and on walks over them.
+-- Lemmas on joined paths, and on walks along them.
 use Rattle.std.proofs.Common.{◌≡◌, ℕ, true, false, cond, eqb, List, [], ◌∷◌, ◌++◌, map, take, Ok, Err, refl, ap, sym, ◌∙◌}
 use Rattle.std.specs.Prelude.{not}
 use Rattle.std.proofs.lemmas.List.{map-append, append-nil}
@@ -9,7 +9,7 @@ use Rattle.vol_dir.specs.PathLaws.{JoinsComponents, HasNoOuterSlashes, CountsSla
 use Rattle.vol_dir.proofs.Components.{kept, has_first, components-nil}
 use Rattle.vol_dir.specs.declared.cred.Cred.{Cred}
 
--- a byte is put before the first piece, if there is one, whatever follows
+-- `onto_first` changes only the first piece, so it commutes with appending pieces
 onto_first-append : (c : ℕ) (ps qs others : List (List ℕ)) (first : List ℕ) → ps ≡ first ∷ others → onto_first c (ps ++ qs) ≡ onto_first c ps ++ qs
 onto_first-append c [] qs others first e = cc
 onto_first-append c (p ∷ ps) qs others first e = refl
@@ -50,7 +50,7 @@ pub walk-nothing : BeginsAtRoot
 unfolding walk walk_parent
 walk-nothing tree cred path e = (ap (walk_from tree cred (root tree)) e, ap (parent_over tree cred) e)
 
--- a walk over more names continues from where the first lead
+-- a walk along joined lists of names is the walk along the first list, continued along the second
 pub walk_from-append : (tree : Tree) (cred : Cred) (i : ℕ) (names others : List (List ℕ))
     → walk_from tree cred i (names ++ others) ≡ and_then (walk_from tree cred i names) (λ j. walk_from tree cred j others)
 walk_from-append tree cred i [] others = refl

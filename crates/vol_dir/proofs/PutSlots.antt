@@ -1,4 +1,4 @@
--- The slots of a directory after bytes are put in one of them.
+-- The slots of a directory after bytes were written to one of them.
 use Rattle.std.proofs.Common.{suc, ◌≡◌, ◌≢◌, ◌∙◌, sym, ap, refl, ℕ, ◌+◌, ◌-◌, ◌*◌, ◌/◌, ◌%◌, ◌<◌, ◌≤◌, max, List, ◌∷◌, ◌++◌, map, length, take, drop, get_or, None, inl, inr, arith, ltb, if◌then◌else◌}
 use Rattle.std.specs.Prelude.{Option, replicate, ◌⊎◌}
 use Rattle.std.specs.List.{range_with_len}
@@ -16,12 +16,12 @@ use Rattle.vol_dir.specs.EntryEdits.{with_item}
 use Rattle.vol_dir.specs.Entries.{entry_in, slot_count, entry_at, slots}
 use Rattle.vol_dir.proofs.ReadSlots.{entry_at_in, entry_at_past, length-slots, slot_from}
 
--- the bytes before the text
+-- the part of `spliced` before the text ends at the offset
 front_length : (bytes : List ℕ) (offset : ℕ) → offset ≤ length bytes → length (take offset bytes ++ replicate (offset - length bytes) 0) ≡ offset
 front_length bytes offset h =
     omega (arith, length-append (take offset bytes) (replicate (offset - length bytes) 0), length-take offset bytes, length-replicate {A = ℕ} (offset - length bytes) 0)
 
--- a byte before the text
+-- a byte of `spliced` before the text is unchanged
 pub spliced_before : (bytes : List ℕ) (offset : ℕ) (text : List ℕ) (n : ℕ) → offset ≤ length bytes → n < offset
     → get_or (spliced bytes offset text) n 0 ≡ get_or bytes n 0
 spliced_before bytes offset text n h low =
@@ -30,7 +30,7 @@ spliced_before bytes offset text n h low =
     get_or_append_left (take offset bytes ++ replicate (offset - length bytes) 0) (text ++ drop (offset + length text) bytes) 0 n (omega arith)
     ∙ (get_or_append_left (take offset bytes) (replicate (offset - length bytes) 0) 0 n (omega arith) ∙ get_or-take offset bytes n 0 low)
 
--- a byte of the text
+-- a byte of `spliced` within the text is a byte of the text
 pub spliced_inside : (bytes : List ℕ) (offset : ℕ) (text : List ℕ) (r : ℕ) → offset ≤ length bytes → r < length text
     → get_or (spliced bytes offset text) (offset + r) 0 ≡ get_or text r 0
 spliced_inside bytes offset text r h low =
@@ -40,7 +40,7 @@ spliced_inside bytes offset text r h low =
     ∙ (ap (λ m. get_or (text ++ drop (offset + length text) bytes) m 0) back
     ∙ get_or_append_left text (drop (offset + length text) bytes) 0 r low)
 
--- a byte after the text
+-- a byte of `spliced` after the text is unchanged
 pub spliced_after : (bytes : List ℕ) (offset : ℕ) (text : List ℕ) (n : ℕ) → offset ≤ length bytes → offset + length text ≤ n
     → get_or (spliced bytes offset text) n 0 ≡ get_or bytes n 0
 spliced_after bytes offset text n h high =
@@ -50,14 +50,14 @@ spliced_after bytes offset text n h high =
     ∙ (get_or-append_right text (drop (offset + length text) bytes) (length text) (n - offset) 0 refl (omega arith)
     ∙ (get_or-drop (offset + length text) bytes (n - offset - length text) 0 ∙ ap (λ m. get_or bytes m 0) place))
 
--- slot s of directory d holds another entry, or none; the other slots are as before
+-- slot `s` of directory `d` has another entry or none, and the other slots are unchanged
 pub record Replaces (geometry : Geometry) (old new : List ℕ) (d s : ℕ) (slot : Option (List ℕ × ℕ)) : Type 0 where
   pub within : s ≤ slot_count geometry old d
   pub count : slot_count geometry new d ≡ max (slot_count geometry old d) (s + 1)
   pub here : entry_at geometry new d s ≡ slot
   pub others : (t : ℕ) → t ≢ s → entry_at geometry new d t ≡ entry_at geometry old d t
 
--- a text that was put at the beginning of slot s
+-- a text was written at the start of slot `s`
 pub record PutsInSlot (geometry : Geometry) (old new : List ℕ) (d s : ℕ) (text : List ℕ) : Type 0 where
   pub limit : size_of geometry old d ≤ (constants geometry.edition).greatest
   pub whole : size_of geometry old d % 16 ≡ 0
@@ -69,7 +69,7 @@ pub record PutsInSlot (geometry : Geometry) (old new : List ℕ) (d s : ℕ) (te
   pub size : size_of geometry new d ≡ max (size_of geometry old d) (16 * s + length text)
   pub body : body geometry new d ≡ spliced (body geometry old d) (16 * s) text
 
--- the slots are those before, and one more if the text was put after them
+-- the number of slots is unchanged, or one more if the text was written after the last slot
 count_after : (geometry : Geometry) (old new : List ℕ) (d s : ℕ) (text : List ℕ) → PutsInSlot geometry old new d s text
     → slot_count geometry new d ≡ max (slot_count geometry old d) (s + 1)
 count_after geometry old new d s text puts =
@@ -78,7 +78,7 @@ count_after geometry old new d s text puts =
       | inr all ↦ omega (arith, puts.limit, puts.whole, puts.within, puts.room, puts.some, puts.most, puts.size, all)
     ]
 
--- a slot that the text isn't in
+-- the other slots are unchanged
 slot_stays : (geometry : Geometry) (old new : List ℕ) (d s t : ℕ) (text : List ℕ) → PutsInSlot geometry old new d s text
     → t ≢ s → t < slot_count geometry old d → entry_at geometry new d t ≡ entry_at geometry old d t
 slot_stays geometry old new d s t text puts other h =
@@ -99,7 +99,7 @@ slot_stays geometry old new d s t text puts other h =
     }) (omega arith) (omega arith))
     ∙ sym (entry_at_in geometry old d t h))
 
--- a text at the beginning of a slot replaces its entry
+-- writing a text at the start of a slot replaces the entry of this slot
 pub replaces : (geometry : Geometry) (old new : List ℕ) (d s : ℕ) (text : List ℕ) (slot : Option (List ℕ × ℕ)) → PutsInSlot geometry old new d s text
     → entry_in (slot_at (body geometry new d) (16 * s)) ≡ slot → Replaces geometry old new d s slot
 replaces geometry old new d s text slot puts is =
@@ -115,19 +115,19 @@ replaces geometry old new d s text slot puts is =
       ];
     }
 
--- a list with another item at its end has one more item
+-- the length of `with_item` is unchanged, or one more if the item was appended
 pub length-with_item : {X : Type 0} (xs : List X) (s : ℕ) (x : X) → s ≤ length xs → length (with_item xs s x) ≡ max (length xs) (s + 1)
 length-with_item xs s x h =
     omega (arith, length-append (take s xs) (x ∷ drop (s + 1) xs), length-take s xs, length-drop (s + 1) xs)
 
--- the other item
+-- item `s` of `with_item` is the new item
 pub with_item_here : {X : Type 0} (xs : List X) (s : ℕ) (x d : X) → s ≤ length xs → get_or (with_item xs s x) s d ≡ x
 with_item_here xs s x d h =
     let none : s - s ≡ 0 = omega arith in
     get_or-append_right (take s xs) (x ∷ drop (s + 1) xs) s s d (length-take-le s xs h) (omega arith)
     ∙ ap (λ k. get_or (x ∷ drop (s + 1) xs) k d) none
 
--- every other item is as before
+-- the other items of `with_item` are unchanged
 pub with_item_else : {X : Type 0} (xs : List X) (s k : ℕ) (x d : X) → s ≤ length xs → k ≢ s → get_or (with_item xs s x) k d ≡ get_or xs k d
 with_item_else xs s k x d h other = elim (cases_lt k s) [
   | inl low ↦ get_or_append_left (take s xs) (x ∷ drop (s + 1) xs) d k (let len = length-take-le s xs h in omega arith) ∙ get_or-take s xs k d low
@@ -138,7 +138,7 @@ with_item_else xs s k x d h other = elim (cases_lt k s) [
       ∙ (ap (λ n. get_or (x ∷ drop (s + 1) xs) n d) next ∙ (get_or-drop (s + 1) xs (k - s - 1) d ∙ ap (λ n. get_or xs n d) place))
 ]
 
--- the list of the slots, with another entry in one
+-- replacing a slot of a directory replaces it in the list of slots
 pub slots_with : (geometry : Geometry) (old new : List ℕ) (d s : ℕ) (slot : Option (List ℕ × ℕ)) → Replaces geometry old new d s slot
     → slots geometry new d ≡ with_item (slots geometry old d) s slot
 slots_with geometry old new d s slot replaced =
@@ -160,11 +160,11 @@ slots_with geometry old new d s slot replaced =
           ∙ slot_from geometry old d k e (omega (arith, other, h, within, count, len_new))))
     ])
 
--- slots from a body
+-- the slots in the bytes of a body
 slots_in : List ℕ → ℕ → List (Option (List ℕ × ℕ))
 slots_in bytes count = map (λ s. if ltb s count then entry_in (slot_at bytes (16 * s)) else None) (range_with_len 0 count)
 
--- directories with the same body have the same slots
+-- a directory with the same body has the same slots
 pub same_slots : (geometry : Geometry) (old new : List ℕ) (d : ℕ) → body geometry new d ≡ body geometry old d
     → slots geometry new d ≡ slots geometry old d
 unfolding slots entry_at slots_in

@@ -1,4 +1,4 @@
--- A search over the slots of a directory, and the directory's map.
+-- Searching the slots of a directory, and its map.
 use Rattle.std.proofs.Common.{◌≡◌, ◌∙◌, ap, refl, sym, ℕ, ◌+◌, ◌*◌, ◌^◌, ◌<◌, ◌||◌, ◌==◌, Bor, Bool, eqb, if◌then◌else◌, inl, inr, Result, Ok, Err, IfOk, IfErr, OnErr, true, false, not, List, [], ◌∷◌, length, get_or, None, Some, arith, zero, suc}
 use Rattle.std.specs.Prelude.{Option}
 use Rattle.std.specs.List.{list_any}
@@ -21,7 +21,7 @@ use Rattle.vol_dir.specs.Search.{holds, holds_other, Searches, Finds, IsFirst, I
 use Rattle.vol_dir.proofs.NameMaps.{get_first, get_none, any_other}
 use Rattle.vol_dir.proofs.ReadSlots.{length-slots, get_or-slots, slot_is}
 
--- the i-number that a name has is that in the first slot that holds it
+-- the i-number of a name is the one in the first slot that has the name
 pub found_number : (geometry : Geometry) (image : List ℕ) (d s i : ℕ) (name : List ℕ) → s < slot_count geometry image d
     → holds name (entry_at geometry image d s) ≡ true → ((t : ℕ) → t < s → holds name (entry_at geometry image d t) ≡ false)
     → option_map (λ (entry : List ℕ × ℕ). entry.1) (entry_at geometry image d s) ≡ Some i → get (names_of (slots geometry image d)) name ≡ Some i
@@ -32,7 +32,7 @@ found_number geometry image d s i name within found before is =
     (λ t h. ap (holds name) (get_or-slots geometry image d t (omega arith)) ∙ before t h)
     ∙ (ap (option_map (λ (entry : List ℕ × ℕ). entry.1)) here ∙ is)
 
--- a name that no slot holds has no i-number
+-- a name that no slot has has no i-number
 pub missing_number : (geometry : Geometry) (image : List ℕ) (d : ℕ) (name : List ℕ)
     → ((t : ℕ) → t < slot_count geometry image d → holds name (entry_at geometry image d t) ≡ false)
     → get (names_of (slots geometry image d)) name ≡ None
@@ -40,7 +40,7 @@ missing_number geometry image d name none =
     let len = length-slots geometry image d in
     get_none (slots geometry image d) name (λ t h. ap (holds name) (get_or-slots geometry image d t (omega arith)) ∙ none t (omega arith))
 
--- the number of an entry that has a name is that of its slot
+-- the i-number of an entry is the i-number in its slot
 pub number_held : (name : List ℕ) (slot : Slot) → holds name (entry_in slot) ≡ true
     → option_map (λ (entry : List ℕ × ℕ). entry.1) (entry_in slot) ≡ Some slot.inode
 number_held name slot = elim (eqb slot.inode 0) as (λ z. holds name (if z then None else Some (name_of slot.name, slot.inode)) ≡ true
@@ -49,13 +49,13 @@ number_held name slot = elim (eqb slot.inode 0) as (λ z. holds name (if z then 
       | false ↦ λ held. refl
     ]
 
--- the first entry that has a name has its i-number
+-- the first entry with a name has the i-number that the map has for the name
 pub named_number : (geometry : Geometry) (image name : List ℕ) (d s i : ℕ)
     → IsFirstNamed name (entry_at geometry image d) 0 (slot_count geometry image d) s i → get (names_of (slots geometry image d)) name ≡ Some i
 named_number geometry image name d s i first =
     found_number geometry image d s i name first.within first.found (λ t h. first.before t (omega arith) h) first.number
 
--- and is in the slot of that name
+-- the first entry with a name is in the slot `slot_named`
 pub named_slot : (geometry : Geometry) (image name : List ℕ) (d s i : ℕ)
     → IsFirstNamed name (entry_at geometry image d) 0 (slot_count geometry image d) s i → slot_named name (slots geometry image d) ≡ s
 named_slot geometry image name d s i first =
@@ -63,17 +63,17 @@ named_slot geometry image name d s i first =
     position_or_len_is (holds name) (slots geometry image d) s None (let within = first.within in omega arith)
     (λ t h. ap (holds name) (slot_is geometry image d t) ∙ first.before t (omega arith) h) (λ h. ap (holds name) (slot_is geometry image d s) ∙ first.found)
 
--- a slot has a name if it has an entry
+-- a slot has a name if and only if it has an entry
 none_of_name : (slot : Option (List ℕ × ℕ)) → is_none (option_map (λ (entry : List ℕ × ℕ). entry.0) slot) ≡ is_none slot
 none_of_name None = refl
 none_of_name (Some entry) = refl
 
--- there are as many names as slots
+-- the list of names has as many items as the list of slots
 pub length-names_in : (slots : List (Option (List ℕ × ℕ))) → length (names_in slots) ≡ length slots
 length-names_in [] = refl
 length-names_in (slot ∷ slots) = ap suc (length-names_in slots)
 
--- a slot of the list of names is empty or not
+-- a slot is empty in the list of names if and only if it has no entry
 empty_named : (geometry : Geometry) (image : List ℕ) (d t : ℕ) → t < slot_count geometry image d
     → is_none (get_or (names_in (slots geometry image d)) t None) ≡ is_none (entry_at geometry image d t)
 empty_named geometry image d t h =
@@ -81,12 +81,12 @@ empty_named geometry image d t h =
     ap is_none (get_or-map (option_map (λ (entry : List ℕ × ℕ). entry.0)) (slots geometry image d) t None None (omega arith))
     ∙ (none_of_name (get_or (slots geometry image d) t None) ∙ ap is_none (get_or-slots geometry image d t h))
 
--- a slot that is empty doesn't have a name
+-- an empty slot has no name
 not_held_empty : (name : List ℕ) (slot : Option (List ℕ × ℕ)) → is_none slot ≡ true → holds name slot ≡ false
 not_held_empty name None e = refl
 not_held_empty name (Some entry) e = absurd (false≢true e)
 
--- the place of a new entry is the first empty slot
+-- the slot for a new entry is the first empty slot
 pub new_slot_at : (geometry : Geometry) (image : List ℕ) (d s : ℕ) → s < slot_count geometry image d → is_none (entry_at geometry image d s) ≡ true
     → ((t : ℕ) → t < s → is_none (entry_at geometry image d t) ≡ false) → new_slot (names_in (slots geometry image d)) ≡ s
 new_slot_at geometry image d s within empty before =
@@ -100,7 +100,7 @@ pub new_slot_found : (geometry : Geometry) (image : List ℕ) (d : ℕ) {s : ℕ
     → IsFirst Empty (entry_at geometry image d) 0 (slot_count geometry image d) s slot → new_slot (names_in (slots geometry image d)) ≡ s
 new_slot_found geometry image d {s} first = new_slot_at geometry image d s first.within first.found (λ t h. first.before t (omega arith) h)
 
--- the place of a new entry is past the last slot if none is empty
+-- the slot for a new entry is the one after the last if no slot is empty
 pub new_slot_past : (geometry : Geometry) (image : List ℕ) (d : ℕ)
     → IsMissing Empty (entry_at geometry image d) 0 (slot_count geometry image d)
     → new_slot (names_in (slots geometry image d)) ≡ slot_count geometry image d
@@ -110,12 +110,12 @@ new_slot_past geometry image d none =
     position_or_len_is (λ slot. is_none slot) (names_in (slots geometry image d)) (slot_count geometry image d) None (omega arith)
     (λ t h. empty_named geometry image d t h ∙ none t (omega arith) h) (λ h. absurd (omega arith))
 
--- a test that no item passes
+-- if no item of a list passes a test, a search finds nothing
 none_any : {X : Type 0} (test : X → Bool) (xs : List X) (d : X) → ((t : ℕ) → t < length xs → test (get_or xs t d) ≡ false) → list_any test xs ≡ false
 none_any test [] d none = refl
 none_any test (x ∷ xs) d none = or_from (test x) (list_any test xs) (none zero (omega arith)) (none_any test xs d (λ t h. none (suc t) (omega arith)))
 
--- the map has a name other than `.` and `..` if a search for one finds a slot
+-- the map has a name other than `.` and `..` if and only if a search for one finds a slot
 pub others_are : (geometry : Geometry) (image : List ℕ) (d : ℕ) (r : Option (ℕ × Slot))
     → Searches Other (entry_at geometry image d) 0 (slot_count geometry image d) r
     → list_any (λ (entry : List ℕ × ℕ). not (is_dots entry.0)) (names_of (slots geometry image d)) ≡ is_some r
@@ -138,11 +138,11 @@ greatest_low V7 = omega arith
 pub slots_low : (geometry : Geometry) (image : List ℕ) (d : ℕ) → 16 * slot_count geometry image d < 2 ^ 32
 slots_low geometry image d = let low = greatest_low geometry.edition in omega arith
 
--- a slot that a search for a name or an empty slot passes
+-- a slot that a search for a name or an empty slot skips has an entry, with another name
 passed_open : (name : List ℕ) (slot : Option (List ℕ × ℕ)) → (is_none slot || holds name slot) ≡ false → (is_none slot ≡ false) × (holds name slot ≡ false)
 passed_open name slot e = or_parts (is_none slot) (holds name slot) e
 
--- a slot with an i-number that ends such a search has the name
+-- a slot with an i-number that ends a search for a name or an empty slot has the name
 held_open : (name : List ℕ) (slot : Slot) → eqb slot.inode 0 ≡ false → (is_none {T = List ℕ × ℕ} (entry_in slot) || holds name (entry_in slot)) ≡ true
     → holds name (entry_in slot) ≡ true
 held_open name slot = elim (eqb slot.inode 0) as (λ z. z ≡ false
@@ -152,11 +152,11 @@ held_open name slot = elim (eqb slot.inode 0) as (λ z. z ≡ false
       | false ↦ λ some held. held
     ]
 
--- and one without is empty
+-- a slot without an i-number is empty
 pub empty_open : (slot : Slot) → slot.inode ≡ 0 → is_none (entry_in slot) ≡ true
 empty_open slot e = ap (λ i. is_none {T = List ℕ × ℕ} (if i == 0 then None else Some (name_of slot.name, i))) e
 
--- the result of looking up a name
+-- the result of `lookup` of a name: its entry, or the slot for a new entry
 pub record IsLookedUp (geometry : Geometry) (image : List ℕ) (d : ℕ) (name : List ℕ) (result : Result Entry ℕ) : Type 0 where
   pub number : IfOk result (λ entry. get (names_of (slots geometry image d)) name ≡ Some entry.inode)
   pub slot : IfOk result (λ entry. entry.slot ≡ slot_named name (slots geometry image d))
@@ -164,7 +164,7 @@ pub record IsLookedUp (geometry : Geometry) (image : List ℕ) (d : ℕ) (name :
   pub new_slot : IfErr result (λ slot. slot ≡ new_slot (names_in (slots geometry image d)))
 
 module _ (geometry : Geometry) (image name : List ℕ) (d : ℕ) where
-  -- no slot has the name, and none is empty
+  -- the result of `lookup` if no slot has the name and none is empty
   pub looked_past : ((t : ℕ) → t < slot_count geometry image d → (is_none (entry_at geometry image d t) || holds name (entry_at geometry image d t)) ≡ false)
       → IsLookedUp geometry image d name (Err (slot_count geometry image d))
   looked_past none = record {
@@ -174,7 +174,7 @@ module _ (geometry : Geometry) (image name : List ℕ) (d : ℕ) where
     new_slot = sym (new_slot_past geometry image d (λ t low h. (passed_open name (entry_at geometry image d t) (none t h)).0));
   }
 
-  -- the first slot that is empty or has the name has it
+  -- the result of `lookup` if slot `s` is the first with the name
   pub looked_at : (s i : ℕ) → IsFirstNamed name (entry_at geometry image d) 0 (slot_count geometry image d) s i
       → IsLookedUp geometry image d name (Ok (record { slot = s; inode = i }))
   looked_at s i first = record {
@@ -184,7 +184,7 @@ module _ (geometry : Geometry) (image name : List ℕ) (d : ℕ) where
     new_slot = tt;
   }
 
-  -- a search for the name or an empty slot ended at a slot with an i-number
+  -- the result of `lookup` if a search for the name or an empty slot ends at a slot with an i-number
   pub looked_first : (s : ℕ) (slot : Slot) (search : Bor (List ℕ)) → search.now ≡ name → eqb slot.inode 0 ≡ false
       → IsFirst (NamedOrEmpty search) (entry_at geometry image d) 0 (slot_count geometry image d) s slot
       → IsLookedUp geometry image d name (Ok (record { slot = s; inode = slot.inode }))
@@ -198,7 +198,7 @@ module _ (geometry : Geometry) (image name : List ℕ) (d : ℕ) where
         before = λ t low h. (passed_open name (entry_at geometry image d t) (rw (sym is) (first.before t low h))).1;
       })
 
-  -- a slot at or before the first empty one that doesn't have the name
+  -- a slot up to the first empty slot `s` doesn't have the name
   before_empty : (s t : ℕ) → is_none (entry_at geometry image d s) ≡ true
       → ((r : ℕ) → r < s → holds name (entry_at geometry image d r) ≡ false) → t < s + 1 → holds name (entry_at geometry image d t) ≡ false
   before_empty s t empty before h = elim (cases_lt t s) [
@@ -208,7 +208,7 @@ module _ (geometry : Geometry) (image name : List ℕ) (d : ℕ) where
         ap (λ n. holds name (entry_at geometry image d n)) same ∙ not_held_empty name (entry_at geometry image d s) empty
   ]
 
-  -- the first slot that is empty or has the name is empty, and the search for the name continued after it
+  -- the result of `lookup` if the first slot that is empty or has the name is empty, so that the search for the name continues after it
   pub looked_on : (s : ℕ) (found : Option Entry) → s < slot_count geometry image d → is_none (entry_at geometry image d s) ≡ true
       → ((t : ℕ) → t < s → (is_none (entry_at geometry image d t) || holds name (entry_at geometry image d t)) ≡ false)
       → Finds name (entry_at geometry image d) (s + 1) (slot_count geometry image d) found → IsLookedUp geometry image d name (ok_or found s)

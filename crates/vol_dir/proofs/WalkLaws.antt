@@ -22,7 +22,7 @@ use Rattle.vol_dir.specs.declared.cred.Cred.{Cred}
 use Rattle.vol_dir.specs.declared.refusal.Refusal.{Refusal}
 use Rattle.vol_dir.specs.declared.refusal.Refusal.TheVariants as refusals
 
--- if a search finds a name, one of the slots has it
+-- if the map has a name, one of the slots has an entry with its i-number
 named_from : (f : ℕ → Option (List ℕ × ℕ)) (xs : List ℕ) (name : List ℕ) (j : ℕ)
     → get (names_of (map f xs)) name ≡ Some j → (s : ℕ) × (other : List ℕ) × (f s ≡ Some (other, j))
 named_from f [] name j e = cc
@@ -35,7 +35,7 @@ named_from f (x ∷ xs) name j e =
       ] (sym (find-put (slice_cmp nat_cmp) nat_list_cmp_total name entry.0 entry.1 (names_of (map f xs))) ∙ h)
     ] refl e
 
--- a node that a name of a directory leads to is in use
+-- the i-number of a name in a directory is in use if rule 9 holds
 pub found_in_use : (geometry : Geometry) (image : List ℕ) (d : ℕ) (name : List ℕ) (j : ℕ) → HasEntries geometry image
     → IsDirectory geometry image d → get (names_of (slots geometry image d)) name ≡ Some j → IsInUse geometry image j
 unfolding slots
@@ -44,7 +44,7 @@ found_in_use geometry image d name j h directory e =
     let r = h.allocated d p.0 j p.1 (record { directory = directory; entry = p.2 }) in
     record { first = r.0; last = r.1; allocated = r.2 }
 
--- the same, with a result if the directory doesn't have the name
+-- the i-number that a step of a walk returns is in use if rule 9 holds
 pub IfOk-found : (geometry : Geometry) (image : List ℕ) (d : ℕ) (name : List ℕ) (found : Option ℕ) (r : Result ℕ Refusal)
     → HasEntries geometry image → IsDirectory geometry image d → found ≡ get (names_of (slots geometry image d)) name
     → r ≡ ok_or found refusals.NoEntry → IfOk r (λ j. IsInUse geometry image j)
@@ -61,36 +61,36 @@ IsInUse-root geometry image h = record {
   allocated = λ e. let directory = h.sound.kinds.root in let free : kinds.Directory ≡ kinds.Free = sym directory ∙ e in cc;
 }
 
--- a walk begins at the root
+-- a walk along a path begins at the root
 pub walk-begins : (geometry : Geometry) (image : List ℕ) (cred : Cred) (path : List ℕ)
     → walk_from (tree geometry image) cred (constants geometry.edition).root (components path) ≡ walk (tree geometry image) cred path
 unfolding tree walk
 walk-begins geometry image cred path = refl
 
--- an i-number of the volume has the node that its i-node reads as
+-- the node with an i-number of the volume is the node that its i-node represents
 pub node_inside : (geometry : Geometry) (image : List ℕ) (i : ℕ) → 1 ≤ i → i ≤ geometry.last_inode → (tree geometry image).nodes i ≡ node_of geometry image i
 unfolding tree
 node_inside geometry image i low high =
     let number : is_number geometry i ≡ true = grind (arith, nat_tests) in
     ap (λ b. cond b (node_of geometry image i) None) number
 
--- the result of searching a node, if there is one
+-- the result of searching a node; NotDirectory if there is no node
 abbrev searched : Cred → Option Node → Result Names Refusal
 searched cred node = option_map_or (search_node cred) node (Err refusals.NotDirectory)
 
--- another number has no node, and isn't searched
+-- searching a number that is not an i-number of the volume returns NotDirectory
 pub search-outside : (geometry : Geometry) (image : List ℕ) (cred : Cred) (i : ℕ) → is_number geometry i ≡ false
     → search (tree geometry image) cred i ≡ Err refusals.NotDirectory
 unfolding tree
 search-outside geometry image cred i number = ap (λ b. searched cred (cond b (node_of geometry image i) None)) number
 
--- the node that an i-node of a kind reads as
+-- the node that i-node `i` represents, if its kind is known
 node-of-kind : (geometry : Geometry) (image : List ℕ) (i : ℕ) (kind : Kind) → kind_at geometry image i ≡ kind
     → node_of geometry image i ≡ option_map (node_with (inode_of geometry.edition image i)) (content_of geometry image i kind)
 unfolding node_of
 node-of-kind geometry image i kind e = ap (λ k. option_map (node_with (inode_of geometry.edition image i)) (content_of geometry image i k)) e
 
--- a directory is searched if it grants execute
+-- searching a directory returns its map if it grants execute, else Access
 pub search-directory : (geometry : Geometry) (image : List ℕ) (cred : Cred) (i : ℕ) (b : Bool) → IsDirectory geometry image i
     → grants_at geometry image i may_execute cred ≡ b
     → search (tree geometry image) cred i ≡ (if b then Ok (names_of (slots geometry image i)) else Err refusals.Access)
@@ -106,7 +106,7 @@ searched_other geometry image cred i kinds.Directory h = absurd (h refl)
 searched_other geometry image cred i kinds.Special h = refl
 searched_other geometry image cred i kinds.Odd h = refl
 
--- a node that isn't a directory isn't searched
+-- searching an i-node that isn't a directory returns NotDirectory
 pub search-other : (geometry : Geometry) (image : List ℕ) (cred : Cred) (i : ℕ) → 1 ≤ i → i ≤ geometry.last_inode
     → kind_at geometry image i ≢ kinds.Directory → search (tree geometry image) cred i ≡ Err refusals.NotDirectory
 search-other geometry image cred i low high h =

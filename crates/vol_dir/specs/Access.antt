@@ -12,30 +12,30 @@ use Rattle.vol_dir.specs.declared.cred.Cred.{Cred}
 abbrev pub user : Cred
 user = record { uid = 0; gid = 0 }
 
--- the bit that grants read, in a triple of permissions (manual section 5, file system)
+-- the permission bit for reading, in a group of three (manual section 5, file system)
 abbrev pub may_read : ℕ
 may_read = 4
 
--- the bit that grants write (manual section 5, file system)
+-- the permission bit for writing (manual section 5, file system)
 abbrev pub may_write : ℕ
 may_write = 2
 
--- the bit that grants execute, and searching a directory (manual section 5, file system)
+-- the permission bit for executing a file, and for searching a directory (manual section 5, file system)
 abbrev pub may_execute : ℕ
 may_execute = 1
 
--- the bit of an access (manual section 5, file system)
+-- the permission bit for an access (manual section 5, file system)
 abbrev pub bit_of : Access → ℕ
 bit_of Read = may_read
 bit_of Write = may_write
 bit_of Execute = may_execute
 
--- true if permissions have a bit, given by its value (manual section 5, file system)
+-- true if the permissions have the bit with this value (manual section 5, file system)
 abbrev pub has_bit : ℕ → ℕ → Bool
 has_bit permissions value = permissions / value % 2 == 1
 
--- true if permissions grant an access to a user: the owner's by the first triple, else the group's by the second, else by
--- the third; and always to user 0 (Lions on access)
+-- true if permissions grant an access to a user: the first three bits apply to the owner, the next three to the group, and the last three to all
+-- others; user 0 gets every access (Lions on access)
 abbrev pub grants_by : ℕ → Cred → ℕ → ℕ → ℕ → Bool
 grants_by bit cred permissions uid gid =
     if cred.uid == 0 then true

@@ -1,4 +1,4 @@
--- Laws of the map of a directory, and of the test for places.
+-- Laws of the map of a directory, and of the test for positions in a block map.
 use Rattle.std.specs.Prelude.{◌≡◌, ℕ, ◌↔◌, T, true, List, Option, None, get_or}
 use Rattle.std.specs.Cmp.Lexicographic.{slice_cmp}
 use Rattle.std.specs.FinMap.Entries.{is_sorted}
@@ -19,6 +19,6 @@ FindsFirstSlot = (slots : List (Option (List ℕ × ℕ))) (name : List ℕ)
 abbrev pub AscendsByName : Type 0
 AscendsByName = (slots : List (Option (List ℕ × ℕ))) → T (is_sorted (slice_cmp nat_cmp) (names_of slots))
 
--- exactly the places pass the test for places (this project)
+-- the test `is_place` accepts exactly the positions in the block map (this project)
 abbrev pub TestsPlaces : Type 0
 TestsPlaces = (form : BlockMap) (p : List ℕ) → (is_place form p ≡ true) ↔ IsPlace form p

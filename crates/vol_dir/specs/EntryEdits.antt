@@ -5,11 +5,11 @@ use Rattle.vol_layout.specs.declared.geometry.Geometry.{Geometry}
 use Rattle.vol_dir.specs.Entries.{entry_at}
 use Rattle.vol_dir.specs.Search.{holds}
 
--- the bytes of a slot with a name for an i-number (manual section 5, directories)
+-- the bytes of a slot with this name and i-number (manual section 5, directories)
 abbrev pub slot_bytes : List ℕ → ℕ → List ℕ
 slot_bytes name i = (i % 256) ∷ (i / 256) ∷ padded_name name
 
--- a list with item s replaced by another, or with that one appended if s is its length (this project)
+-- a list in which item s is replaced by another item, or to which this item is appended if s is its length (this project)
 abbrev pub with_item : {X : Type 0} → List X → ℕ → X → List X
 with_item xs s x = take s xs ++ (x ∷ drop (s + 1) xs)
 

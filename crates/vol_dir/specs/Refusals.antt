@@ -3,7 +3,7 @@ use Rattle.std.specs.Prelude.{ℕ}
 use Rattle.vol_dir.specs.declared.refusal.Refusal.{Refusal}
 use Rattle.vol_dir.specs.declared.refusal.Refusal.TheVariants as refusals
 
--- the number of a refusal (intro to section 2 of the manual; from 101 on this project's)
+-- the number of a refusal (intro to section 2 of the manual; numbers of 101 and above are this project's)
 abbrev pub number_of : Refusal → ℕ
 number_of refusals.NotOwner = 1
 number_of refusals.NoEntry = 2

@@ -3,7 +3,7 @@ use Rattle.std.specs.Prelude.{◌≡◌, ◌≢◌, ℕ, ◌<◌, ◌≤◌, Lis
 use Rattle.vol_dir.specs.Entries.{entry_in}
 use Rattle.vol_layout.specs.declared.slot.Slot.{Slot}
 
--- slot s is the first of `count`, from slot `from` on, that has an entry, and this slot has its i-number and name (manual section 5, directories)
+-- slot s is the first of `count` slots, at or after slot `from`, that has an entry, and `slot` is its content (manual section 5, directories)
 pub record IsNextEntry (entry : ℕ → Option (List ℕ × ℕ)) (from count s : ℕ) (slot : Slot) : Type 0 where
   pub reached : from ≤ s
   pub within : s < count
@@ -11,7 +11,7 @@ pub record IsNextEntry (entry : ℕ → Option (List ℕ × ℕ)) (from count s 
   pub holds : entry s ≡ entry_in slot
   pub none : (t : ℕ) → from ≤ t → t < s → entry t ≡ None
 
--- the result of a search for the next entry from slot `from` on: None if no slot from there on has one (manual section 5, directories)
+-- the result of a search for the next entry at or after slot `from`: None if none of these slots has an entry (manual section 5, directories)
 abbrev pub GoesOn : (ℕ → Option (List ℕ × ℕ)) → ℕ → ℕ → Option (ℕ × Slot) → Type 0
 GoesOn entry from count result =
     MatchOption result ((t : ℕ) → from ≤ t → t < count → entry t ≡ None) (λ found. IsNextEntry entry from count found.0 found.1)

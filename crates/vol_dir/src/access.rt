@@ -20,7 +20,7 @@ pub enum Access {
 }
 
 impl Access {
-    /// Returns its bit in a triple of permissions.
+    /// Returns the bit for this access in a group of three permission bits.
     fn bit(self) -> u16
         ensures bit { result ≡ bit_of self }
         ensures low { 1 ≤ result }
@@ -34,8 +34,8 @@ impl Access {
     }
 }
 
-/// True if i-node `i`, from 1 to the last, grants an access: user 0 gets every access, the owner those of the owner's
-/// triple of permissions, else the group those of the group's, and others those of the last (Lions on access).
+/// True if i-node `i`, an i-number of the volume, grants an access. User 0 gets every access. The first three permission bits apply to the owner, the
+/// next three to the owner's group, and the last three to all others (Lions on access).
 #[tactic(auto, unfolding(crate::specs::Tree::node_of))]
 pub fn grants(image: &Image, geometry: &Geometry, i: u16, access: Access, cred: Cred) -> bool
     requires fits { Fits geometry.now image.now }
@@ -58,7 +58,7 @@ pub fn grants(image: &Image, geometry: &Geometry, i: u16, access: Access, cred: 
     }
 }
 
-/// True if permissions have a bit, given by its value.
+/// True if the permissions have the bit with this value.
 fn has_bit(permissions: u16, value: u16) -> bool
     requires { 1 ≤ value }
     ensures { result ≡ has_bit permissions value }

@@ -17,9 +17,8 @@ use vol_file::write;
 use vol_layout::slot::SLOT;
 use vol_layout::{Geometry, Slot};
 
-/// Adds an entry for i-number `i` to directory `dir`, which doesn't have `name` yet, in its first empty slot or else at its
-/// end. Writes all 16 bytes of the slot, as [`write`] does: it takes blocks if the slot's block, or one on the way to it,
-/// is missing.
+/// Adds an entry for i-number `i` to directory `dir`, which must not have `name` yet. Uses the first empty slot, or else a new slot at the end.
+/// Writes all 16 bytes of the slot as [`write`] does, which allocates blocks if the slot's block, or an indirect block on its path, is missing.
 ///
 /// Costs as much as [`place_for`](crate::place_for), and the write.
 pub fn add(image: &mut Image, geometry: &Geometry, dir: u16, name: &[u8], i: u16)
@@ -51,8 +50,8 @@ pub fn add(image: &mut Image, geometry: &Geometry, dir: u16, name: &[u8], i: u16
     add_at(image, geometry, dir, slot, name, i);
 }
 
-/// Adds an entry for i-number `i` to directory `dir`, as [`add`] does, in the slot for a new entry that
-/// [`lookup`](crate::lookup) of the name returned.
+/// Adds an entry for i-number `i` to directory `dir`, as [`add`] does, in the slot that [`lookup`](crate::lookup) of the name returned for a new
+/// entry.
 ///
 /// Costs the write of 16 bytes.
 pub fn add_at(image: &mut Image, geometry: &Geometry, dir: u16, slot: u32, name: &[u8], i: u16)

@@ -1,4 +1,4 @@
-//! The entries of a directory: finding one, and the slot for a new one.
+//! The entries of a directory: looking up an entry, and choosing the slot for a new one.
 ghost use Rattle.std.specs.Prelude.{◌≡◌, ℕ, ◌+◌, ◌-◌, ◌*◌, ◌<◌, ◌≤◌, not, true, false, length, OnErr, IfOk, IfErr, Some, None};
 ghost use Rattle.std.specs.List.{list_any};
 ghost use Rattle.vol_layout.specs.Geometry.{Fits};
@@ -25,7 +25,7 @@ pub(crate) enum Sought<'a> {
     Named(&'a [u8]),
     /// An empty slot.
     Empty,
-    /// The entry with this name, or an empty slot, whichever comes first.
+    /// The entry with this name or an empty slot, whichever comes first.
     NamedOrEmpty(&'a [u8]),
     /// Any entry.
     Any,
@@ -33,7 +33,7 @@ pub(crate) enum Sought<'a> {
     Other,
 }
 
-/// The slot of a name in a directory, and the i-number that it names.
+/// The slot of an entry in a directory, and its i-number.
 #[derive(Clone, Copy)]
 pub struct Entry {
     /// The slot, counted from 0.
@@ -42,7 +42,7 @@ pub struct Entry {
     pub inode: u16,
 }
 
-/// True if a search ends at a slot.
+/// True if a slot is the target of a search.
 fn is_sought(slot: &Slot, sought: Sought<'_>) -> bool
     ensures { result ≡ is_sought sought.entry (entry_in slot.now) }
 {
@@ -73,8 +73,7 @@ pub(crate) fn slot_count(image: &Image, geometry: &Geometry, dir: u16) -> u32
     size(image, geometry, dir).min(geometry.edition.constants().greatest) / SLOT as u32
 }
 
-/// True if a search skips the slot at byte `at` because it is empty and an entry is sought. Only the i-number is read, not
-/// the name.
+/// True if the slot at byte `at` can be skipped because it is empty and the search is for an entry. Reads only the i-number, not the name.
 fn is_passed(bytes: &[u8], at: usize, sought: Sought<'_>) -> bool
     requires room { at + 16 ≤ length bytes.now }
     ensures { result ≡ true → is_sought sought.entry (entry_in (slot_at bytes.now at)) ≡ false }
@@ -85,7 +84,7 @@ fn is_passed(bytes: &[u8], at: usize, sought: Sought<'_>) -> bool
     }
 }
 
-/// Returns the first sought slot from `start` on, of `count` slots from byte `at` on.
+/// Returns the first slot at or after slot `start` that is a target of the search. There are `count` slots, which begin at byte `at`.
 fn first_from(
     image: &Image,
     at: usize,
@@ -110,7 +109,7 @@ fn first_from(
     None
 }
 
-/// Returns the first sought slot from `start` on, of `count` empty ones: those of a hole.
+/// Returns the first slot at or after slot `start` that is a target of the search, among the `count` empty slots of a hole.
 fn first_in_hole(start: u32, count: u32, sought: Sought<'_>) -> Option<(u32, Slot)>
     ensures { Searches sought.entry (λ t. None) start count result }
 {
@@ -124,7 +123,7 @@ fn first_in_hole(start: u32, count: u32, sought: Sought<'_>) -> Option<(u32, Slo
     }
 }
 
-/// Returns the first sought slot from `start` on, of `count` slots in logical block `b` of directory `dir`.
+/// Returns the first slot at or after slot `start` that is a target of the search, among the `count` slots in logical block `b` of directory `dir`.
 pub(crate) fn first_in_block(
     image: &Image,
     geometry: &Geometry,
@@ -149,8 +148,8 @@ pub(crate) fn first_in_block(
     }
 }
 
-/// Returns the logical block of directory `dir` at which a search continues after block `b`, of `blocks`: the next one,
-/// or, after a hole, the next that is stored, unless empty slots are sought.
+/// Returns the logical block at which a search of directory `dir`, which has `blocks` logical blocks, continues after block `b`: the next block or,
+/// if `b` is a hole and the search isn't for empty slots, the next stored block.
 pub(crate) fn block_after(
     image: &Image,
     geometry: &Geometry,
@@ -175,8 +174,8 @@ pub(crate) fn block_after(
     }
 }
 
-/// Returns the logical block of directory `dir` at which a search continues after the hole `b`, of `blocks`: the next
-/// that is stored, or, if empty slots are sought, the next one.
+/// Returns the logical block at which a search of directory `dir`, which has `blocks` logical blocks, continues after the hole `b`: the next stored
+/// block or, if the search is for empty slots, the next block.
 fn after_hole(
     image: &Image,
     geometry: &Geometry,
@@ -200,11 +199,10 @@ fn after_hole(
     }
 }
 
-/// Returns the first sought slot of directory `dir` from slot `from` on, and its content.
+/// Returns the first slot of directory `dir` at or after slot `from` that is a target of the search, with its content.
 ///
-/// Costs two block-map lookups for each stored logical block that is passed, a read of each of its slots, and a lookup and
-/// what [`next_block`] does for each run of holes between them: the time depends on the blocks that the directory names,
-/// indirect ones included, not on its size.
+/// Costs two block-map lookups for each stored logical block that is searched, a read of each of its slots, and a lookup and a [`next_block`] for
+/// each run of holes between stored blocks: the time depends on the number of the directory's blocks, indirect blocks included, not on its size.
 pub(crate) fn first_slot(
     image: &Image,
     geometry: &Geometry,
@@ -231,11 +229,11 @@ pub(crate) fn first_slot(
     None
 }
 
-/// Returns the first slot of directory `dir` from slot `from` on that has an entry, with its i-number and name. The bytes
-/// after the name's first zero byte are unspecified.
+/// Returns the first slot of directory `dir` at or after slot `from` that has an entry, with its i-number and name. The bytes after the name's first
+/// zero byte are unspecified.
 ///
-/// Costs two block-map lookups for each stored logical block that is passed, a read of each of its slots, and a step for
-/// each pointer that is passed because it is 0, whatever the directory's size.
+/// Costs two block-map lookups for each stored logical block that is searched, a read of each of its slots, and a step for each zero block number
+/// that is skipped, whatever the directory's size.
 pub fn next_entry(image: &Image, geometry: &Geometry, dir: u16, from: u32) -> Option<(u32, Slot)>
     requires fits { Fits geometry.now image.now }
     requires directory { IsDirectory geometry.now image.now dir }
@@ -244,11 +242,11 @@ pub fn next_entry(image: &Image, geometry: &Geometry, dir: u16, from: u32) -> Op
     first_slot(image, geometry, dir, from, Sought::Any)
 }
 
-/// Returns the entry of `name` in directory `dir`, or, as the error, the slot for a new entry if there is none: the first
-/// empty one, else the one after the last. If several slots have the name, the first counts.
+/// Looks `name` up in directory `dir`, and returns its entry or, as the error, the slot for a new entry: the first empty slot, or else the one after
+/// the last. If several slots have the name, the first counts.
 ///
-/// Reads each slot at most once. Costs what [`next_entry`] does for the slots before the entry, or for all slots if the
-/// directory doesn't have the name.
+/// Reads each slot at most once. Costs as much as [`next_entry`] over the slots before the entry, or over all slots if the directory doesn't have the
+/// name.
 pub fn lookup(image: &Image, geometry: &Geometry, dir: u16, name: &[u8]) -> Result<Entry, u32>
     requires fits { Fits geometry.now image.now }
     requires first { 1 ≤ dir }
@@ -270,7 +268,7 @@ pub fn lookup(image: &Image, geometry: &Geometry, dir: u16, name: &[u8]) -> Resu
     first_entry(image, geometry, dir, slot + 1, name).ok_or(slot)
 }
 
-/// Returns the first entry of directory `dir`, from slot `from` on, that has `name`.
+/// Returns the first entry of directory `dir` at or after slot `from` that has `name`.
 pub(crate) fn first_entry(
     image: &Image,
     geometry: &Geometry,
@@ -293,7 +291,7 @@ pub(crate) fn first_entry(
 /// Returns the i-number of `name` in directory `dir`, or `None` if it doesn't have the name. If several slots have the
 /// name, the first counts.
 ///
-/// Costs what [`next_entry`] does for the slots before the entry.
+/// Costs as much as [`next_entry`] over the slots before the entry.
 pub fn find(image: &Image, geometry: &Geometry, dir: u16, name: &[u8]) -> Option<u16>
     requires fits { Fits geometry.now image.now }
     requires first { 1 ≤ dir }
@@ -303,7 +301,7 @@ pub fn find(image: &Image, geometry: &Geometry, dir: u16, name: &[u8]) -> Option
     Some(first_entry(image, geometry, dir, 0, name)?.inode)
 }
 
-/// Returns the byte of directory `dir` at which its next entry is put: that of its first empty slot, else its end.
+/// Returns the byte of directory `dir` at which its next entry will be written: the start of its first empty slot, or else its end.
 ///
 /// Costs as much as [`find`] of a name in that slot.
 pub fn place_for(image: &Image, geometry: &Geometry, dir: u16) -> u32
@@ -315,7 +313,7 @@ pub fn place_for(image: &Image, geometry: &Geometry, dir: u16) -> u32
     SLOT as u32 * new_slot(image, geometry, dir)
 }
 
-/// Returns the slot for the next entry of directory `dir`: the first empty one, else the one after the last.
+/// Returns the slot for the next entry of directory `dir`: the first empty slot, or else the one after the last.
 pub(crate) fn new_slot(image: &Image, geometry: &Geometry, dir: u16) -> u32
     requires fits { Fits geometry.now image.now }
     requires first { 1 ≤ dir }

@@ -1,5 +1,4 @@
-//! Laws about the definitions of directories, paths and walks. These functions do nothing: the contract, which is proved,
-//! is the point.
+//! Laws about the definitions of directories, paths and walks. These functions do nothing: their purpose is the contract, which is proved.
 ghost use Rattle.std.specs.Prelude.{◌≡◌, [], ◌∷◌};
 ghost use Rattle.vol_dir.specs.DirectoryLaws.{FindsFirstSlot, AscendsByName, TestsPlaces};
 ghost use Rattle.vol_dir.specs.Walk.{components};
@@ -11,8 +10,8 @@ ghost use Rattle.vol_dir.specs.PathLaws.{
   WalksOn,
 };
 
-/// Slashes separate the components of a path, and do nothing else. So `//d///x/` has the components of `d/x`, and `/` and
-/// the empty path have none.
+/// Slashes separate the components of a path and have no other meaning: `//d///x/` has the same components as `d/x`, and `/` and the empty path have
+/// none.
 pub fn slashes_part_components()
     ensures joined { JoinsComponents }
     ensures outer { HasNoOuterSlashes }
@@ -21,20 +20,19 @@ pub fn slashes_part_components()
     ensures slash { components (47 ∷ []) ≡ [] }
 {}
 
-/// Walks begin at the root, and continue from the node to which the front of the path leads.
+/// The walk along a path begins at the root. The walk along `path/rest` is the walk along `path`, continued along `rest`.
 pub fn walks_begin_at_the_root()
     ensures root { BeginsAtRoot }
     ensures onward { WalksOn }
 {}
 
-/// In the map of a directory, a name has the i-number of the first slot with that name, and the names are in ascending
-/// order.
+/// In the map of a directory, a name has the i-number of the first slot with that name, and the names are in ascending order.
 pub fn names_are_those_of_slots()
     ensures first { FindsFirstSlot }
     ensures ascending { AscendsByName }
 {}
 
-/// Exactly the places of a block map pass the test for places, with which the shape of a file is computed.
+/// The test that is used to compute the shape of a file accepts exactly the positions in the block map.
 pub fn places_pass_their_test()
     ensures { TestsPlaces }
 {}

@@ -16,9 +16,8 @@ use vol_layout::Geometry;
 /// Returns the names of directory `dir` with their i-numbers, in ascending order of their bytes. If several entries have
 /// the same name, the first counts.
 ///
-/// Costs a pass over the slots, and sorting the names. If the directory has more than 320 slots plus one for each four
-/// blocks of the volume, slots below a block that it names again are skipped; this takes three bytes for each block of the
-/// volume.
+/// Costs a pass over the slots, and sorting the names. If the directory has more than 320 slots plus one for every four blocks of the volume, slots
+/// below a block to which its block map points again are skipped; this takes three bytes for each block of the volume.
 pub fn list_names(
     alloc: Global,
     image: &Image,
@@ -36,7 +35,7 @@ pub fn list_names(
         .collect(alloc)
 }
 
-/// Returns the names of directory `dir`, with the i-numbers of their first entries.
+/// Returns the names of directory `dir`, each with the i-number of the first entry that has it.
 fn collect_names(
     alloc: Global,
     image: &Image,
@@ -51,7 +50,7 @@ fn collect_names(
     collect_unmarked(alloc, image, geometry, dir, &mut marks)
 }
 
-/// Does what [`collect_names`] does, with `marks` that are not set at first.
+/// Like [`collect_names`], with `marks` that are all unset at first.
 fn collect_unmarked(
     alloc: Global,
     image: &Image,
@@ -73,8 +72,7 @@ fn collect_unmarked(
     Ok(names)
 }
 
-/// Returns unset marks for a search of directory `dir`, or none at all if making them would cost more than a pass over its
-/// slots.
+/// Returns unset marks for a search of directory `dir`, or no marks if allocating them would cost more than a pass over the slots.
 fn marks_for(
     alloc: Global,
     image: &Image,
@@ -92,7 +90,7 @@ fn marks_for(
     }
 }
 
-/// Adds a name to the others, unless they have it.
+/// Adds a name to the map, unless the map has it already.
 fn put_first(
     alloc: Global,
     names: &mut BTreeMap<Vec<u8>, u16>,

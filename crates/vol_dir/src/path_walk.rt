@@ -16,12 +16,11 @@ use pdp_words::Image;
 use vol_layout::i_list::kind;
 use vol_layout::{Geometry, Kind};
 
-/// Returns the i-number to which a path leads from the root, as a user walks it; the empty path leads to the root. Each
-/// component is refused if the i-node so far isn't a directory (NotDirectory), doesn't grant execute (Access) or doesn't
-/// have the name (NoEntry), in this order (Lions on namei). In an unsound image, an entry may have a number outside the
-/// volume, which doesn't count as a directory.
+/// Returns the i-number of the node at a path, walked from the root as a user; the empty path is the root. At each component the walk is refused if
+/// the current i-node isn't a directory (NotDirectory), doesn't grant execute (Access) or doesn't have the name (NoEntry), checked in this order
+/// (Lions on namei). In an unsound image, an entry may have a number outside the volume, which doesn't count as a directory.
 ///
-/// Costs what [`find`] does for each component.
+/// Costs one [`find`] for each component.
 pub fn walk(image: &Image, geometry: &Geometry, cred: Cred, path: &[u8]) -> Result<u16, Refusal>
     requires { Fits geometry.now image.now }
     ensures exact { result ≡ walk (tree geometry.now image.now) cred path.now }
@@ -37,11 +36,11 @@ pub fn walk(image: &Image, geometry: &Geometry, cred: Cred, path: &[u8]) -> Resu
     Ok(i)
 }
 
-/// Returns the parent directory to which a path leads, and the path's last component, cut to 14 bytes, or `None` for a
-/// path without components. The walk over all components but the last is refused as that of [`walk`] is; then also if the
-/// parent isn't a directory (NotDirectory) or doesn't grant execute (Access) (Lions on namei).
+/// Returns the parent directory of a path and the path's last component, cut to 14 bytes, or `None` for a path without components. The walk over all
+/// components but the last is refused in the same cases as [`walk`]; then also if the parent isn't a directory (NotDirectory) or doesn't grant
+/// execute (Access) (Lions on namei).
 ///
-/// Costs what [`find`] does for each component but the last.
+/// Costs one [`find`] for each component but the last.
 pub fn walk_parent<'a>(
     image: &Image,
     geometry: &Geometry,
@@ -61,7 +60,8 @@ pub fn walk_parent<'a>(
     Some(parent_from(image, geometry, cred, first, rest))
 }
 
-/// Returns the parent to which component `first` and then those of `rest` lead from the root, and the last of these.
+/// Returns the parent directory of the path that consists of component `first` and the components of `rest`, walked from the root, and its last
+/// component.
 fn parent_from<'a>(
     image: &Image,
     geometry: &Geometry,
@@ -90,7 +90,7 @@ fn parent_from<'a>(
     Ok((dir, name))
 }
 
-/// Returns the i-number to which one name leads from i-node `i`.
+/// Looks one name up in i-node `i`, and returns its i-number.
 fn step(image: &Image, geometry: &Geometry, cred: Cred, i: u16, name: &[u8]) -> Result<u16, Refusal>
     requires { Fits geometry.now image.now }
     ensures exact { result ≡ find_in (tree geometry.now image.now) cred i name.now }
@@ -100,7 +100,7 @@ fn step(image: &Image, geometry: &Geometry, cred: Cred, i: u16, name: &[u8]) -> 
     find(image, geometry, i, name).ok_or(Refusal::NoEntry)
 }
 
-/// Checks that `i` is the i-number of a directory that may be searched.
+/// Checks that `i`, which may be any number, is the i-number of a directory that may be searched.
 fn search(image: &Image, geometry: &Geometry, cred: Cred, i: u16) -> Result<(), Refusal>
     requires { Fits geometry.now image.now }
     ensures exact { MatchResult result
@@ -115,7 +115,7 @@ fn search(image: &Image, geometry: &Geometry, cred: Cred, i: u16) -> Result<(), 
     }
 }
 
-/// Checks that i-node `i` is a directory that may be searched.
+/// Checks that i-node `i` of the volume is a directory that may be searched.
 fn search_node(image: &Image, geometry: &Geometry, cred: Cred, i: u16) -> Result<(), Refusal>
     requires fits { Fits geometry.now image.now }
     requires first { 1 ≤ i }

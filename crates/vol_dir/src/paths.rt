@@ -5,9 +5,8 @@ ghost use Rattle.vol_dir.specs.Walk.{components, has_zero, IsComponent};
 
 use vol_layout::slot::NAME;
 
-/// Returns the first component of a path, cut to 14 bytes, and the rest of the path, or `None` if the path has no
-/// component. Several slashes in a row count as one, and those at the end don't count. Costs a read of each byte that is
-/// passed.
+/// Returns the first component of a path, cut to 14 bytes, and the rest of the path, or `None` if the path has no component. Several slashes in a row
+/// count as one, and slashes at the end don't count. Costs a read of each byte up to the end of the component.
 pub fn split_component(path: &[u8]) -> Option<(&[u8], &[u8])>
     ensures parts { MatchOption result (components path.now ≡ [])
         (λ parts. components path.now ≡ parts.0.now ∷ components parts.1.now) }
@@ -22,7 +21,7 @@ pub fn split_component(path: &[u8]) -> Option<(&[u8], &[u8])>
     Some((&component[..component.len().min(NAME)], rest))
 }
 
-/// Returns the position of a path's first component: that of its first byte other than a slash.
+/// Returns the position of a path's first component: of its first byte that isn't a slash.
 fn component_start(path: &[u8]) -> Option<usize>
     ensures { result ≡ position (λ c. not (c == 47)) path.now }
 {

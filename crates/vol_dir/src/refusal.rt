@@ -1,19 +1,19 @@
-//! The reasons to refuse a call.
+//! The reasons for refusing a call.
 ghost use Rattle.std.specs.Prelude.{◌≡◌};
 
 use thiserror::Error;
 
-/// The reason why a call or a query is refused. Its text is its number and name. The numbers up to 31 are those of the
-/// system's errors (intro to section 2 of the manual); those from 101 on are this project's.
+/// The reason why a call or a query is refused. It is displayed as its number and name. The numbers up to 31 are the error numbers of the system
+/// (intro to section 2 of the manual); numbers of 101 and above are this project's.
 #[derive(Clone, Copy, Debug, PartialEq, Eq, Error)]
 pub enum Refusal {
-    /// The caller is neither the owner nor user 0, or must be user 0.
+    /// The caller is neither the owner nor user 0, or the call is only for user 0.
     #[error("1 NotOwner")]
     NotOwner,
     /// A directory on the path doesn't have the name.
     #[error("2 NoEntry")]
     NoEntry,
-    /// Memory ran out.
+    /// Out of memory.
     #[error("12 NoMemory")]
     NoMemory,
     /// The permissions don't grant the access.
@@ -22,13 +22,13 @@ pub enum Refusal {
     /// The name exists already.
     #[error("17 Exists")]
     Exists,
-    /// A node on the path, or at its end, is not a directory.
+    /// A node on the path or at its end is not a directory.
     #[error("20 NotDirectory")]
     NotDirectory,
     /// The node is a directory.
     #[error("21 IsDirectory")]
     IsDirectory,
-    /// The path has a zero byte, or the call makes no sense for it.
+    /// The path has a zero byte, or the call makes no sense for this path.
     #[error("22 Invalid")]
     Invalid,
     /// The file would be larger than the greatest size.

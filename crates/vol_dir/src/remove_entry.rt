@@ -16,8 +16,8 @@ use vol_file::write;
 use vol_layout::Geometry;
 use vol_layout::slot::SLOT;
 
-/// Removes `name`, which directory `dir` has: the i-number in its slot becomes 0, and the name's bytes stay. The size of
-/// the directory stays, and no block is taken or freed.
+/// Removes `name`, which directory `dir` must have: the i-number in its slot becomes 0, and the name's bytes stay. The size of the directory stays,
+/// and no block is allocated or freed.
 ///
 /// Costs as much as [`find`](crate::find) of the name.
 pub fn remove(image: &mut Image, geometry: &Geometry, dir: u16, name: &[u8])
@@ -43,7 +43,7 @@ pub fn remove(image: &mut Image, geometry: &Geometry, dir: u16, name: &[u8])
     }
 }
 
-/// Removes `name` from directory `dir`, as [`remove`] does, from the slot that [`lookup`](crate::lookup) returned.
+/// Removes `name` from directory `dir`, as [`remove`] does, from the slot that [`lookup`](crate::lookup) of the name returned.
 ///
 /// Costs the write of two bytes.
 pub fn remove_at(image: &mut Image, geometry: &Geometry, dir: u16, slot: u32, name: &[u8])
@@ -65,7 +65,7 @@ pub fn remove_at(image: &mut Image, geometry: &Geometry, dir: u16, slot: u32, na
     ensures fits { Fits geometry.now image.new }
     ensures file { IsFile geometry.now image.new dir }
 {
-    // Only the slot is needed.
+    // Only the contract uses the name.
     let _ = name;
     write(image, geometry, dir, SLOT as u32 * slot, &[0, 0]);
 }

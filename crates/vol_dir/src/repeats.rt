@@ -1,4 +1,4 @@
-//! Iterating over the entries of a directory without reading blocks twice, however often the directory names them.
+//! Iterating over the entries of a directory without reading a block twice, even if the directory has it more than once.
 ghost use Rattle.std.specs.Prelude.{◌≡◌, ℕ, ◌+◌, ◌*◌, ◌<◌, ◌≤◌, Bool, true, List, Option, None, IfOk, IfErr, IfSome, MatchOption};
 ghost use Rattle.vol_layout.specs.Geometry.{Fits};
 ghost use Rattle.vol_dir.specs.Entries.{IsDirectory, slot_count, entry_at};
@@ -10,13 +10,13 @@ use pdp_words::Image;
 use vol_file::{mark_passed, passed_end};
 use vol_layout::{Geometry, Slot};
 
-/// Returns the first entry of directory `dir` from slot `from` on that is not below a marked block, with its i-number and
-/// name. `marks` has three marks for each block, or none.
+/// Returns the first entry of directory `dir` at or after slot `from` that is not below a marked block, with its i-number and name. `marks` has three
+/// marks for each block, or none.
 ///
-/// Marks what is below each block that was passed from slot `known` on. So the marks mean whatever is true of all slots
-/// from `known` to the returned entry, or to the end: if `known` is `from`, that they are empty; if it is 0, that they are
-/// empty or have names that the caller met. Costs at most what [`next_entry`](crate::next_entry) does, and two more
-/// block-map lookups for each logical block that is read.
+/// Also marks each block whose slots are all at or after slot `known` and have been passed. Every slot below a marked block then has each property
+/// that empty slots and the slots `known..from` have: if `known` is `from`, it is empty; if `known` is 0, it is empty or has a name that the caller
+/// has already visited. Costs at most as much as [`next_entry`](crate::next_entry), and two more block-map lookups for each logical block that is
+/// read.
 pub fn next_unmarked(
     image: &Image,
     geometry: &Geometry,
@@ -50,11 +50,10 @@ pub fn next_unmarked(
     None
 }
 
-/// Returns the entry that [`next_entry`](crate::next_entry) returns, skipping marked blocks, below which there is none.
+/// Returns the same entry as [`next_entry`](crate::next_entry), and skips marked blocks, below which no slot has an entry.
 ///
-/// Costs at most what that does, and two more block-map lookups for each logical block that is read; what is below
-/// marked blocks costs nothing. Searches of several directories that share their marks read the slots below a block without
-/// entries once.
+/// Costs at most as much as `next_entry`, and two more block-map lookups for each logical block that is read; marked blocks cost nothing. If several
+/// searches share their marks, the slots below a block without entries are read only once.
 pub fn next_entry_marked(
     image: &Image,
     geometry: &Geometry,
@@ -71,8 +70,8 @@ pub fn next_entry_marked(
     next_unmarked(image, geometry, dir, from, from, marks)
 }
 
-/// Returns the first entry in logical block `b` of directory `dir`, from the directory's slot `from` on, or else the
-/// logical block at which the search continues, after those below a marked block and after holes.
+/// Returns the first entry in logical block `b` of directory `dir`, from the directory's slot `from` on. If there is none, returns as the error the
+/// logical block at which the search continues, skipping holes and the blocks below a marked block.
 fn first_or_end(
     image: &Image,
     geometry: &Geometry,

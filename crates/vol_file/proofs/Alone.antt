@@ -1,4 +1,4 @@
--- The other files, if all bytes outside one file stay.
+-- Other files are unchanged if only the bytes of one file change.
 use Rattle.std.proofs.Common.{◌≡◌, ◌≢◌, ℕ, ◌+◌, ◌*◌, ◌<◌, ◌≤◌, ◌∙◌, sym, subst, List, ◌∷◌, length, refl, arith, inl, inr, Some, None, true}
 use Rattle.std.specs.Option.{option_map_or}
 use Rattle.std.proofs.lemmas.Bool.{cases_lt}
@@ -17,16 +17,16 @@ use Rattle.vol_layout.proofs.FrameLaws.{named_frame, places_kept, stored_kept, b
 use Rattle.vol_free.specs.Stack.{IsIn}
 use Rattle.vol_file.specs.Changes.{StaysElsewhere, ChangesFileAlone, KeepsBlocks}
 
--- an image of the same length fits too
+-- a geometry that fits an image also fits another image of the same length
 pub fits_len : (geometry : Geometry) (old new : List ℕ) → length new ≡ length old → Fits geometry old → Fits geometry new
 fits_len geometry old new len fits =
     record { blocks = omega (arith, fits.blocks); i_list = fits.i_list; zone = fits.zone; root = fits.root; limit = fits.limit }
 
--- bytes that are those of another image are the other image's too
+-- bytes that are the same in two images are the same in either order
 pub copy_back : (old new : List ℕ) (at size : ℕ) → IsCopy old new at at size → IsCopy new old at at size
 copy_back old new at size copy = record { bytes = λ r h. sym (copy.bytes r h) }
 
--- a kept i-node has the same places
+-- an i-node with the same bytes has the same positions in its block map
 pub place_kept : (geometry : Geometry) (old new : List ℕ) (j : ℕ) (p : List ℕ) → KeepsInode geometry old new j → IsPlaceOf geometry old j p
     → IsPlaceOf geometry new j p
 place_kept geometry old new j p kept place = record {
@@ -34,7 +34,7 @@ place_kept geometry old new j p kept place = record {
   place = subst (λ form. IsPlace form p) (sym (form_kept geometry old new j kept)) place.place;
 }
 
--- a place that names a data block names it by the rules
+-- a position in the block map that holds the number of a data block points to it by the step-by-step rules
 pub names_zone : (geometry : Geometry) (image : List ℕ) (j : ℕ) (p : List ℕ) → Fits geometry image → IsPlaceOf geometry image j p
     → in_zone geometry (named geometry image j p) ≡ true → NamesBlock geometry image j p (named geometry image j p)
 names_zone geometry image j p fits place zone = record {
@@ -42,7 +42,7 @@ names_zone geometry image j p fits place zone = record {
   holds = named_holds geometry image j p (named geometry image j p) fits refl (zone_some geometry image (named geometry image j p) fits zone);
 }
 
--- the other i-nodes stay
+-- a change of file `i` does not change another i-node
 pub elsewhere_inode : (geometry : Geometry) (old new : List ℕ) (i j : ℕ) → Fits geometry old → StaysElsewhere geometry old new i
     → 1 ≤ i → 1 ≤ j → j ≤ geometry.last_inode → j ≢ i → KeepsInode geometry old new j
 elsewhere_inode geometry old new i j fits stays one first last other =
@@ -57,13 +57,13 @@ elsewhere_inode geometry old new i j fits stays one first last other =
           record { bytes = λ r h. stays.higher_inodes (inode_place geometry.edition j + r) (omega arith) (omega arith) }
     ]
 
--- the places of the other files stay
+-- a change of file `i` keeps the positions in another file's block map
 pub elsewhere_place : (geometry : Geometry) (old new : List ℕ) (i j : ℕ) (p : List ℕ) → Fits geometry old → StaysElsewhere geometry old new i
     → 1 ≤ i → j ≢ i → IsPlaceOf geometry old j p → IsPlaceOf geometry new j p
 elsewhere_place geometry old new i j p fits stays one other place =
     place_kept geometry old new j p (elsewhere_inode geometry old new i j fits stays one place.file.first place.file.last other) place
 
--- a place of another file was one before
+-- a change of file `i` adds no position to another file's block map
 pub elsewhere_before : (geometry : Geometry) (old new : List ℕ) (i j : ℕ) (p : List ℕ) → Fits geometry old → StaysElsewhere geometry old new i
     → 1 ≤ i → j ≢ i → IsPlaceOf geometry new j p → IsPlaceOf geometry old j p
 elsewhere_before geometry old new i j p fits stays one other place =
@@ -71,7 +71,7 @@ elsewhere_before geometry old new i j p fits stays one other place =
     place_kept geometry new old j p
     (copy_back old new (inode_place geometry.edition j) (constants geometry.edition).inode_bytes kept) place
 
--- the places of the other files name the same blocks as before
+-- a change of file `i` does not change the block numbers in another file's block map
 pub elsewhere_named : (geometry : Geometry) (old new : List ℕ) (i j : ℕ) (p : List ℕ) → Fits geometry old → StaysElsewhere geometry old new i
     → 1 ≤ i → j ≢ i → IsPlaceOf geometry old j p → named geometry new j p ≡ named geometry old j p
 elsewhere_named geometry old new i j p fits stays one other place =
@@ -82,7 +82,7 @@ elsewhere_named geometry old new i j p fits stays one other place =
     let above : IsPlaceOf geometry old j (a ∷ q) = record { file = place.file; place = here.2 } in
     record { bytes = λ r h. stays.blocks j (a ∷ q) (named geometry old j (a ∷ q)) r other (names_zone geometry old j (a ∷ q) fits above zone) h })
 
--- the data block stored for a logical block of another file stays
+-- a change of file `i` does not change the data blocks of another file
 pub elsewhere_stored : (geometry : Geometry) (old new : List ℕ) (i j b : ℕ) → Fits geometry old → StaysElsewhere geometry old new i
     → j ≢ i → IsFile geometry old j → in_zone geometry (stored geometry old j (form_at geometry old j) b) ≡ true
     → IsCopy old new (512 * stored geometry old j (form_at geometry old j) b) (512 * stored geometry old j (form_at geometry old j) b) 512
@@ -96,7 +96,7 @@ elsewhere_stored geometry old new i j b fits stays other file =
           record { bytes = λ r h. stays.blocks j p (named geometry old j p) r other (names_zone geometry old j p fits place zone) h }
     ] refl
 
--- the bodies of the other files stay
+-- a change of file `i` does not change the body of another file
 pub elsewhere_body : (geometry : Geometry) (old new : List ℕ) (i j : ℕ) → Fits geometry old → StaysElsewhere geometry old new i
     → 1 ≤ i → j ≢ i → IsFile geometry old j → body geometry new j ≡ body geometry old j
 elsewhere_body geometry old new i j fits stays one other file =
@@ -107,7 +107,7 @@ elsewhere_body geometry old new i j fits stays one other file =
     (record { file = file; place = (last_leaf (form_at geometry old j) b p e).place })))
     (λ b low zone. elsewhere_stored geometry old new i j b fits stays other file zone)
 
--- nothing changes if nothing is done
+-- an unchanged image is a change of file `i` that affects no other file
 pub elsewhere_self : (geometry : Geometry) (image : List ℕ) (i : ℕ) → StaysElsewhere geometry image image i
 elsewhere_self geometry image i = record {
   len = refl;
@@ -120,7 +120,7 @@ elsewhere_self geometry image i = record {
   behind = λ k h. refl;
 }
 
--- a block that another file names is named by it afterwards
+-- a change of file `i` does not change the blocks to which another file points
 pub elsewhere_names : (geometry : Geometry) (old new : List ℕ) (i j : ℕ) (p : List ℕ) (k : ℕ) → Fits geometry old → StaysElsewhere geometry old new i
     → 1 ≤ i → j ≢ i → NamesBlock geometry old j p k → NamesBlock geometry new j p k
 elsewhere_names geometry old new i j p k fits stays one other names =
@@ -131,7 +131,7 @@ elsewhere_names geometry old new i j p k fits stays one other names =
           (elsewhere_named geometry old new i j p fits stays one other names.place ∙ held.0) held.1;
     }
 
--- two steps one after the other
+-- two successive changes of file `i` are a change of file `i`
 pub elsewhere_then : (geometry : Geometry) (old mid new : List ℕ) (i : ℕ) → Fits geometry old → 1 ≤ i
     → StaysElsewhere geometry old mid i → StaysElsewhere geometry mid new i → StaysElsewhere geometry old new i
 elsewhere_then geometry old mid new i fits one s t = record {
@@ -146,7 +146,7 @@ elsewhere_then geometry old mid new i fits one s t = record {
   behind = λ k h. t.behind k h ∙ s.behind k h;
 }
 
--- the effect on the other files if all other bytes stay
+-- if only the bytes of file `i` and the free list change, the block maps and bodies of the other files stay the same
 pub elsewhere_changes : (geometry : Geometry) (old new : List ℕ) (i : ℕ) → Fits geometry old → 1 ≤ i → StaysElsewhere geometry old new i
     → ChangesFileAlone geometry old new i
 elsewhere_changes geometry old new i fits one s = record {
@@ -155,7 +155,7 @@ elsewhere_changes geometry old new i fits one s = record {
   bodies = λ j other file. elsewhere_body geometry old new i j fits s one other file;
 }
 
--- blocks keep their bytes in two steps
+-- if two successive changes leave blocks unchanged, both together do
 pub keeps_then : (old mid new blocks rest : List ℕ) → ((k : ℕ) → IsIn k rest → IsIn k blocks) → KeepsBlocks old mid blocks → KeepsBlocks mid new rest
     → KeepsBlocks old new rest
 keeps_then old mid new blocks rest less first second k r within low = second k r within low ∙ first k r (less k within) low

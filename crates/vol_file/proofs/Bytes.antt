@@ -1,4 +1,4 @@
--- Writing bytes in a data block of a file: names stay, and the file's bytes there are the ones written.
+-- Writing bytes to a data block of a file: block numbers are unchanged, and the file's bytes there are the written ones.
 use Rattle.std.proofs.Common.{◌≡◌, ◌≢◌, ℕ, ◌+◌, ◌-◌, ◌*◌, ◌/◌, ◌%◌, ◌<◌, ◌≤◌, ◌⊎◌, ◌∙◌, sym, ap, subst, List, get_or, refl, arith, inl, inr, true, Some, None}
 use Rattle.std.specs.Option.{option_map_or}
 use Rattle.std.proofs.lemmas.Bool.{cases_lt, cases_eq}
@@ -27,7 +27,7 @@ use Rattle.vol_file.proofs.StoredNames.{kinds_kept, sizes_kept, modes_kept, plac
 use Rattle.vol_file.proofs.TakenBlocks.{zone_two}
 use Rattle.vol_file.specs.Changes.{StaysElsewhere}
 
--- each place of the new image was one before, and names the same block
+-- if file `i` keeps its mode and block numbers, each position in the block map in the new image was there before, with the same block number
 pub same_names : (geometry : Geometry) (old new : List ℕ) (i j : ℕ) (p : List ℕ) → Fits geometry old → 1 ≤ i → StaysElsewhere geometry old new i
     → mode_of geometry new i ≡ mode_of geometry old i
     → ((q : List ℕ) → IsPlaceOf geometry old i q → named geometry new i q ≡ named geometry old i q)
@@ -45,7 +45,7 @@ same_names geometry old new i j p fits one stays mode names place =
           (before, elsewhere_named geometry old new i j p fits stays one other before)
     ]
 
--- the rules hold if the names, the kinds, the sizes and the free blocks stay
+-- rules 3 to 7 still hold if the block numbers, the kinds, the sizes and the free blocks are unchanged
 pub same_sound : (geometry : Geometry) (old new blocks : List ℕ) (i : ℕ) → Rules3To7With geometry old blocks → 1 ≤ i → StaysElsewhere geometry old new i
     → mode_of geometry new i ≡ mode_of geometry old i → size_of geometry new i ≡ size_of geometry old i
     → ((q : List ℕ) → IsPlaceOf geometry old i q → named geometry new i q ≡ named geometry old i q)
@@ -66,7 +66,7 @@ same_sound geometry old new blocks i sound one stays mode size names free =
       outside = λ j p place within. let s = same j p place in sound.outside j p s.0 (subst (λ k. IsIn k blocks) s.1 within);
     }
 
--- each data block stays free or named if the names stay
+-- each data block is still free or in a file if the block numbers are unchanged
 pub same_covered : (geometry : Geometry) (old new blocks : List ℕ) (i : ℕ) → Rules3To7With geometry old blocks → 1 ≤ i → StaysElsewhere geometry old new i
     → mode_of geometry new i ≡ mode_of geometry old i
     → ((q : List ℕ) → IsPlaceOf geometry old i q → named geometry new i q ≡ named geometry old i q)
@@ -90,7 +90,7 @@ same_covered geometry old new blocks i sound one stays mode names covered k zone
       )
     ]
 
--- a logical block whose last place names the same data block is the same
+-- two logical blocks of a file that are stored in the same data block are the same
 stored_once : (geometry : Geometry) (image blocks : List ℕ) (i b c k : ℕ) (p : List ℕ) → Rules3To7With geometry image blocks → IsFile geometry image i
     → last_place (form_at geometry image i) b ≡ Some p → named geometry image i p ≡ k → k ≢ 0
     → stored geometry image i (form_at geometry image i) c ≡ k → c ≡ b
@@ -105,7 +105,7 @@ stored_once geometry image blocks i b c k p sound file e is some same =
           last_apart (form_at geometry image i) c b p (f ∙ ap Some twice.1) e
     ] refl same
 
--- no indirect block of the file is the data block of a last place
+-- no indirect block of a file is one of its data blocks
 leaf_apart : (geometry : Geometry) (image blocks : List ℕ) (i b k : ℕ) (p q : List ℕ) → Rules3To7With geometry image blocks → IsFile geometry image i
     → last_place (form_at geometry image i) b ≡ Some p → named geometry image i p ≡ k → k ≢ 0
     → IsPlace (form_at geometry image i) q → 1 ≤ levels_below (form_at geometry image i) q → named geometry image i q ≢ k
@@ -116,7 +116,7 @@ leaf_apart geometry image blocks i b k p q sound file e is some place deep same 
     let bottom : levels_below (form_at geometry image i) q ≡ 0 = ap (levels_below (form_at geometry image i)) twice.1 ∙ leaf.bottom in
     omega (arith, deep, bottom)
 
--- bytes s to e of the data block of logical block b are written
+-- a write of bytes `s..e` of a data block writes these bytes of the logical block stored there
 pub rewrites_block : (geometry : Geometry) (old new blocks : List ℕ) (i b k s e : ℕ) (p : List ℕ) (content : ℕ → ℕ)
     → Rules3To7With geometry old blocks → IsFile geometry old i → last_place (form_at geometry old i) b ≡ Some p
     → named geometry old i p ≡ k → in_zone geometry k ≡ true → s ≤ e → e ≤ 512
@@ -169,7 +169,7 @@ rewrites_block geometry old new blocks i b k s e p content sound file last is zo
           (copy_block old new m k wide (λ e. sound.outside i p place (subst (λ x. IsIn x blocks) (e ∙ sym is) within))).bytes r low;
     }
 
--- nothing is written if the bytes are the wanted ones
+-- bytes that already have the new values need no write
 pub rewrites_none : (geometry : Geometry) (image blocks : List ℕ) (i lo hi : ℕ) (content : ℕ → ℕ) → Rules3To7With geometry image blocks
     → ((n : ℕ) → lo ≤ n → n < hi → body_byte geometry image i n ≡ content n) → Rewrites geometry image image i lo hi content blocks
 rewrites_none geometry image blocks i lo hi content sound bytes = record {
@@ -185,7 +185,7 @@ rewrites_none geometry image blocks i lo hi content sound bytes = record {
   unused = λ k r within low. refl;
 }
 
--- two pieces one after the other
+-- writes of `lo..at` and then of `at..hi` are a write of `lo..hi`
 pub rewrites_then : (geometry : Geometry) (old mid new blocks : List ℕ) (i lo at hi : ℕ) (content : ℕ → ℕ) → Rules3To7With geometry old blocks → 1 ≤ i
     → lo ≤ at → at ≤ hi → Rewrites geometry old mid i lo at content blocks → Rewrites geometry mid new i at hi content blocks
     → Rewrites geometry old new i lo hi content blocks
@@ -202,7 +202,7 @@ rewrites_then geometry old mid new blocks i lo at hi content sound one low high 
   unused = keeps_then old mid new blocks blocks (λ k within. within) a.unused b.unused;
 }
 
--- bytes from byte `at` on are written, in the data block that is stored for their logical block
+-- a write of `len` bytes of a data block writes the same bytes of the file, starting at byte `at`
 pub rewrites_stored : (geometry : Geometry) (old new blocks : List ℕ) (i at len k : ℕ) (content : ℕ → ℕ) → Rules3To7With geometry old blocks
     → IsFile geometry old i → stored geometry old i (form_at geometry old i) (at / 512) ≡ k → in_zone geometry k ≡ true → at % 512 + len ≤ 512
     → SameOutside old new (512 * k + at % 512) (512 * k + at % 512 + len)
@@ -229,7 +229,7 @@ rewrites_stored geometry old new blocks i at len k content sound file is zone sm
           (subst (λ x. Rewrites geometry old new i x (512 * (at / 512) + (at % 512 + len)) content blocks) lo written)
     ] refl is
 
--- a hole is zero
+-- a byte of a hole is 0
 pub hole_zero : (geometry : Geometry) (image : List ℕ) (i at n : ℕ) → Fits geometry image
     → stored geometry image i (form_at geometry image i) (at / 512) ≡ 0 → n / 512 ≡ at / 512 → body_byte geometry image i n ≡ 0
 hole_zero geometry image i at n fits hole same =
@@ -237,7 +237,7 @@ hole_zero geometry image i at n fits hole same =
     ∙ (ap (λ b. zone_byte geometry image (stored geometry image i (form_at geometry image i) b) (n % 512)) same
     ∙ (ap (λ m. zone_byte geometry image m (n % 512)) hole ∙ zone_byte_out geometry image 0 (n % 512) (zero_out geometry image fits)))
 
--- a block that is stored, and isn't 0, is a data block
+-- a block number stored for a logical block is the number of a data block, or 0
 pub stored_zone : (geometry : Geometry) (image blocks : List ℕ) (i b : ℕ) → Rules3To7With geometry image blocks → IsFile geometry image i
     → stored geometry image i (form_at geometry image i) b ≢ 0 → in_zone geometry (stored geometry image i (form_at geometry image i) b) ≡ true
 stored_zone geometry image blocks i b sound file =
@@ -247,7 +247,7 @@ stored_zone geometry image blocks i b sound file =
       | Some p ↦ λ e some. sound.zoned i p (record { file = file; place = (last_leaf (form_at geometry image i) b p e).place }) some
     ] refl
 
--- stored numbers stay if the names do
+-- a write of bytes does not change the block numbers stored for logical blocks
 pub stored_same : (geometry : Geometry) (old new blocks : List ℕ) (i lo hi b : ℕ) (form : BlockMap) (content : ℕ → ℕ) → IsFile geometry old i
     → form ≡ form_at geometry old i → Rewrites geometry old new i lo hi content blocks → stored geometry new i form b ≡ stored geometry old i form b
 stored_same geometry old new blocks i lo hi b form content file is r =

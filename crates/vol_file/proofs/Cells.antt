@@ -1,4 +1,4 @@
--- The names of places after a number is stored in an address of an i-node, or in an entry of an indirect block.
+-- The block numbers in a file's block map after a number is stored in an address of the i-node or in an entry of an indirect block.
 use Rattle.std.proofs.Common.{◌≡◌, ◌≢◌, ℕ, ◌+◌, ◌*◌, ◌<◌, ◌≤◌, ◌⊎◌, ◌∙◌, sym, ap, subst, List, [], ◌∷◌, arith, inl, inr, true}
 use Rattle.std.proofs.lemmas.Bool.{cases_lt, cases_eq}
 use Rattle.std.proofs.lemmas.Bool.Decides.{nat_tests}
@@ -29,7 +29,7 @@ use Rattle.vol_file.specs.Changes.{StaysElsewhere, is_kept_byte}
 use Rattle.vol_file.proofs.Stores.{Stores}
 use Rattle.vol_file.proofs.Fronts.{front_longer}
 
--- another number of an array stays if one is written
+-- a write of one number of an array does not change the other numbers
 pub number_other : (edition : Edition) (old new : List ℕ) (at j h : ℕ)
     → SameOutside old new (at + (constants edition).number_bytes * j) (at + (constants edition).number_bytes * (j + 1))
     → h ≢ j → number edition new at h ≡ number edition old at h
@@ -38,13 +38,13 @@ number_other V6 old new at j h same other =
 number_other V7 old new at j h same other =
     elim (cases_lt h j) [ inl less ↦ long_below same (at + 4 * h) (omega arith) | inr more ↦ long_above same (at + 4 * h) (omega arith) ]
 
--- the numbers of a block above a write stay
+-- a write before a block does not change the numbers in the block
 pub number_above : (edition : Edition) (old new : List ℕ) (m h from to : ℕ) → SameOutside old new from to → to ≤ 512 * m
     → number edition new (512 * m) h ≡ number edition old (512 * m) h
 number_above V6 old new m h from to same high = word_above same (512 * m + 2 * h) (omega arith)
 number_above V7 old new m h from to same high = long_above same (512 * m + 4 * h) (omega arith)
 
--- a byte of an i-node that a write of a file keeps is outside each of its addresses
+-- the bytes of an i-node that a change of a file must keep don't overlap any address
 kept_apart : (edition : Edition) (i k r : ℕ) → is_kept_byte edition r ≡ true → k < address_count edition
     → (inode_place edition i + r < address_place edition i k)
     ⊎ (address_place edition i k + address_bytes edition ≤ inode_place edition i + r)
@@ -53,14 +53,14 @@ kept_apart V6 i k r kept h =
 kept_apart V7 i k r kept h =
     elim (cases_lt r 12) [ inl less ↦ inl (omega arith) | inr more ↦ let high : 51 ≤ r = grind (arith, nat_tests) in inr (omega arith) ]
 
--- a block that a file names by the rules is a data block, if the rules hold
+-- if rules 3 to 7 hold, a block to which a file points is a data block
 pub names_zoned : (geometry : Geometry) (image : List ℕ) (blocks : List ℕ) (j : ℕ) (p : List ℕ) (k : ℕ) → Rules3To7With geometry image blocks
     → NamesBlock geometry image j p k → in_zone geometry k ≡ true
 names_zoned geometry image blocks j p k sound names =
     let held = holds_named geometry image j p k names.holds in
     subst (λ m. in_zone geometry m ≡ true) held.0 (sound.zoned j p names.place (λ zero. held.1 (sym held.0 ∙ zero)))
 
--- a write of an address leaves all but file i
+-- a write of an address of i-node `i` changes only file `i`
 address_elsewhere : (geometry : Geometry) (old new blocks : List ℕ) (i k : ℕ) → Rules3To7With geometry old blocks → IsFile geometry old i
     → k < address_count geometry.edition
     → SameOutside old new (address_place geometry.edition i k) (address_place geometry.edition i k + address_bytes geometry.edition)
@@ -86,7 +86,8 @@ address_elsewhere geometry old new blocks i k sound file h same =
       behind = λ x b. same.above x (omega (arith, room.1, zone));
     }
 
--- a number put in address k of file i becomes the name of that address, and places that don't begin with it keep theirs
+-- after number `v` is stored in address `k` of file `i`, this position in the block map holds `v`, and the numbers at positions not below it are
+-- unchanged
 pub stores_address : (geometry : Geometry) (old new blocks : List ℕ) (i k v : ℕ) → Rules3To7With geometry old blocks → IsFile geometry old i
     → k < address_count geometry.edition
     → SameOutside old new (address_place geometry.edition i k) (address_place geometry.edition i k + address_bytes geometry.edition)
@@ -116,16 +117,16 @@ stores_address geometry old new blocks i k v sound file h same put =
       free = IsFree-before_zone same (omega (arith, room.0)) room.1 sound.free;
     }
 
--- a byte of an i-node that is kept is one of its bytes
+-- a byte that a change of a file must keep is one of the i-node's bytes
 pub kept_within : (edition : Edition) (r : ℕ) → is_kept_byte edition r ≡ true → r < (constants edition).inode_bytes
 kept_within V6 r kept = grind (arith, nat_tests)
 kept_within V7 r kept = grind (arith, nat_tests)
 
--- the end of an entry
+-- an entry of an array that fits a block ends within the block
 pub entry_end : (at size j : ℕ) → size * j + size ≤ 512 → at + size * (j + 1) ≤ at + 512
 entry_end at size j h = let more : size * (j + 1) ≡ size * j + size = grind arith in omega arith
 
--- a write within a block that a place of file i names leaves all but file i
+-- a write within a block of file `i` changes only file `i`
 pub block_elsewhere : (geometry : Geometry) (old new blocks : List ℕ) (i m : ℕ) (q : List ℕ) → Rules3To7With geometry old blocks
     → IsPlaceOf geometry old i q → named geometry old i q ≡ m → in_zone geometry m ≡ true
     → SameOutside old new (512 * m) (512 * m + 512) → StaysElsewhere geometry old new i
@@ -148,8 +149,8 @@ block_elsewhere geometry old new blocks i m q sound place is zone same =
       behind = λ x b. same.above x (omega (arith, bounds.1));
     }
 
--- a number put in entry j of the block that a place of file i names becomes the name of that entry, and places that don't pass
--- through it keep theirs
+-- after number `v` is stored in entry `j` of a block of file `i`, this position in the block map holds `v`, and the numbers at positions not below it
+-- are unchanged
 pub stores_entry : (geometry : Geometry) (old new blocks : List ℕ) (i m j a v : ℕ) (p : List ℕ) → Rules3To7With geometry old blocks
     → IsPlaceOf geometry old i (j ∷ (a ∷ p)) → named geometry old i (a ∷ p) ≡ m → in_zone geometry m ≡ true
     → SameOutside old new (512 * m + (constants geometry.edition).number_bytes * j) (512 * m + (constants geometry.edition).number_bytes * (j + 1))

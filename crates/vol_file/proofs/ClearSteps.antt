@@ -1,4 +1,4 @@
--- Steps of a truncation one after another.
+-- Combining steps of a truncation.
 use Rattle.std.proofs.Common.{◌≡◌, ℕ, ◌+◌, ◌-◌, ◌*◌, ◌<◌, ◌≤◌, ◌⊎◌, ◌∙◌, Bool, sym, ap, subst, List, [], ◌∷◌, ◌++◌, slice_index, refl, arith, inl, inr, true, false, true≢false, append_assoc}
 use Rattle.vol_layout.specs.Edition.{number}
 use Rattle.vol_layout.specs.Geometry.{in_zone, Fits}
@@ -18,7 +18,7 @@ use Rattle.vol_file.proofs.Fronts.{front_zero, front_under, under_front, under_l
 use Rattle.vol_file.proofs.StoredNames.{place_same}
 use Rattle.vol_file.proofs.TakenBlocks.{rest_within}
 
--- if places name nothing already, nothing is done to clear them
+-- if no position in the block map that must be cleared points to a block, nothing needs to be done
 pub clears_none : (geometry : Geometry) (image : List ℕ) (i : ℕ) (Cleared : List ℕ → Type 0) (blocks : List ℕ) → Rules3To7With geometry image blocks
     → ((q : List ℕ) → IsPlaceOf geometry image i q → Cleared q → named geometry image i q ≡ 0)
     → Clears geometry image image i Cleared [] blocks
@@ -35,7 +35,7 @@ clears_none geometry image i Cleared blocks sound none = record {
   unused = λ k r within low. refl;
 }
 
--- two steps one after the other clear the places that each clears
+-- two successive steps clear the positions in the block map that each of them clears
 pub clears_then : (geometry : Geometry) (old mid new : List ℕ) (i : ℕ) (First Second Both : List ℕ → Type 0) (given more blocks : List ℕ)
     → Fits geometry old → 1 ≤ i
     → ((q : List ℕ) → Both q → First q ⊎ Second q) → ((q : List ℕ) → First q → Both q) → ((q : List ℕ) → Second q → Both q)
@@ -71,7 +71,8 @@ clears_then geometry old mid new i First Second Both given more blocks fits one 
       unused = λ k r within low. t.unused k r (rest_within k given blocks (given ++ blocks) refl within) low ∙ s.unused k r within low;
     }
 
--- the same with another description of the cleared places and the blocks given
+-- a step also clears a larger set of positions in the block map if the additional ones point to no block already; the list of freed blocks can be
+-- replaced by an equal list
 pub clears_as : (geometry : Geometry) (old new : List ℕ) (i : ℕ) (Cleared Other : List ℕ → Type 0) (given same blocks : List ℕ)
     → given ≡ same
     → ((q : List ℕ) → IsPlaceOf geometry old i q → Other q → Cleared q ⊎ (named geometry new i q ≡ 0)) → ((q : List ℕ) → Cleared q → Other q)
@@ -89,13 +90,13 @@ clears_as geometry old new i Cleared Other given same blocks e split other s = r
   unused = s.unused;
 }
 
--- of `count` entries of place p, those from entry j on are cleared, if they are past the kept blocks; each has `level` more
--- levels below it
+-- of the first `count` entries of the block to which position `p` in the block map points, entry `j` and later ones, and the positions below them,
+-- are cleared if they are past the blocks kept by a truncation; entry x has `level x` levels below it
 abbrev pub ClearsFrom : Geometry → List ℕ → List ℕ → ℕ → (List ℕ → Bool) → ℕ → (ℕ → ℕ) → List ℕ → ℕ → ℕ → List ℕ → Type 0
 ClearsFrom geometry old new i past n level p count j blocks =
     Clears geometry old new i (IsPastUnder past p j) (past_at geometry old i past (places_among n level p j (count - j))) blocks
 
--- before the first step no entry is cleared
+-- before the first step no entry has been cleared
 pub from_start : (geometry : Geometry) (image : List ℕ) (i : ℕ) (past : List ℕ → Bool) (n : ℕ) (level : ℕ → ℕ) (p : List ℕ) (count j : ℕ) (blocks : List ℕ)
     → j ≡ count → Rules3To7With geometry image blocks → ((x : ℕ) → IsPlaceOf geometry image i (x ∷ p) → x < count)
     → ClearsFrom geometry image image i past n level p count j blocks
@@ -113,7 +114,7 @@ from_start geometry image i past n level p count j blocks e sound few =
     let from : j ≤ under.index = under.from in
     absurd (omega arith)))
 
--- an entry at or under which nothing past the kept blocks is named is cleared already
+-- an entry is cleared already if no position in the block map at or below it that is past the blocks kept by a truncation points to a block
 pub from_none_on : (geometry : Geometry) (old new : List ℕ) (i : ℕ) (past : List ℕ → Bool) (n : ℕ) (level : ℕ → ℕ) (p : List ℕ) (count j k : ℕ) (blocks : List ℕ)
     → k ≡ j + 1 → k ≤ count → Fits geometry old → IsPlaceOf geometry old i (j ∷ p)
     → n ≤ pointer_count (form_at geometry old i) → level j ≤ levels_below (form_at geometry old i) (j ∷ p) → named geometry new i (j ∷ p) ≡ 0
@@ -135,7 +136,7 @@ from_none_on geometry old new i past n level p count j k blocks next few fits pl
     ])
     (λ q under. (under_more p q j k (omega arith) under.0, under.1)) s
 
--- an entry that names a block is cleared once the places below it are, and then the entry itself
+-- an entry that points to a block is cleared by clearing the positions in the block map below it and then the entry itself
 pub from_some_on : (geometry : Geometry) (old mid low new : List ℕ) (i : ℕ) (past : List ℕ → Bool) (n b : ℕ) (level : ℕ → ℕ) (p : List ℕ) (count j k : ℕ) (blocks : List ℕ)
     → k ≡ j + 1 → k ≤ count → Fits geometry old → IsPlaceOf geometry old i (j ∷ p)
     → n ≤ pointer_count (form_at geometry old i) → level j ≤ levels_below (form_at geometry old i) (j ∷ p) → IsNamedAt geometry mid i (j ∷ p) b
@@ -169,7 +170,7 @@ from_some_on geometry old mid low new i past n b level p count j k blocks next f
     (λ q front. (under_here p q j front, all q front)) s rest in
     subst (λ xs. Clears geometry old new i (IsPastUnder past p j) xs blocks) list whole
 
--- an entry with kept blocks below it is cleared once the places after them are
+-- an entry with kept blocks below it is cleared by clearing the positions in the block map below it that are past them
 pub from_part_on : (geometry : Geometry) (old mid new : List ℕ) (i : ℕ) (past : List ℕ → Bool) (n : ℕ) (level : ℕ → ℕ) (p : List ℕ) (count j k : ℕ) (blocks : List ℕ)
     → k ≡ j + 1 → k ≤ count → Fits geometry old → IsPlaceOf geometry old i (j ∷ p)
     → n ≤ pointer_count (form_at geometry old i) → level j ≤ levels_below (form_at geometry old i) (j ∷ p) → past (j ∷ p) ≡ false
@@ -202,7 +203,7 @@ from_part_on geometry old mid new i past n level p count j k blocks next few fit
     (λ q under. (under_here p q j (under_front j 0 p q under.0), under.1)) s t in
     subst (λ xs. Clears geometry old new i (IsPastUnder past p j) xs blocks) list whole
 
--- entries below which nothing but kept blocks lies are cleared already
+-- entries with only kept blocks below them are cleared already
 pub from_kept_on : (geometry : Geometry) (old new : List ℕ) (i : ℕ) (past : List ℕ → Bool) (n : ℕ) (level : ℕ → ℕ) (p : List ℕ) (count j k : ℕ) (blocks : List ℕ)
     → k ≡ j + 1 → k ≤ count → IsPlaceOf geometry old i (j ∷ p)
     → n ≤ pointer_count (form_at geometry old i) → level j ≤ levels_below (form_at geometry old i) (j ∷ p)
@@ -223,7 +224,7 @@ from_kept_on geometry old new i past n level p count j k blocks next few place m
     ])
     (λ q under. (under_more p q j k (omega arith) under.0, under.1)) s
 
--- an entry before its step: its block still names what it did
+-- clearing entries of a block does not change the position in the block map that points to the block
 pub from_above : (geometry : Geometry) (old new : List ℕ) (i : ℕ) (past : List ℕ → Bool) (n m : ℕ) (level : ℕ → ℕ) (p : List ℕ) (count k : ℕ) (blocks : List ℕ)
     → IsNamedAt geometry old i p m → ClearsFrom geometry old new i past n level p count k blocks → IsNamedAt geometry new i p m
 from_above geometry old new i past n m level p count k blocks is s = record {
@@ -232,12 +233,12 @@ from_above geometry old new i past n m level p count k blocks is s = record {
   some = is.some;
 }
 
--- a place with a level below it has entries
+-- a position in the block map with a level below it points to a block whose entries are positions too
 pub entry_place : (geometry : Geometry) (image : List ℕ) (i j a : ℕ) (p : List ℕ) → IsPlaceOf geometry image i (a ∷ p)
     → 1 ≤ levels_below (form_at geometry image i) (a ∷ p) → j < pointer_count (form_at geometry image i) → IsPlaceOf geometry image i (j ∷ (a ∷ p))
 entry_place geometry image i j a p place deep low = record { file = place.file; place = (low, deep, place.place) }
 
--- the number at an entry of a block that a place names is the entry's name
+-- the number at an entry's position in the block map is the number stored in the entry
 pub entry_named : (geometry : Geometry) (image blocks : List ℕ) (i j a m : ℕ) (p : List ℕ) → Rules3To7With geometry image blocks
     → IsNamedAt geometry image i (a ∷ p) m → named geometry image i (j ∷ (a ∷ p)) ≡ number geometry.edition image (512 * m) j
 entry_named geometry image blocks i j a m p sound is =
@@ -246,7 +247,7 @@ entry_named geometry image blocks i j a m p sound is =
     subst (λ x. named geometry image i (j ∷ (a ∷ p)) ≡ number geometry.edition image (512 * x) j) is.names
     (entry_in geometry image (named geometry image i (a ∷ p)) j (ap (in_zone geometry) is.names ∙ zone))
 
--- a place still names its block once the places below it are cleared
+-- clearing the positions in the block map below a position does not change the position itself
 pub below_named : (geometry : Geometry) (old new : List ℕ) (i : ℕ) (past : List ℕ → Bool) (b : ℕ) (q given blocks : List ℕ) → IsNamedAt geometry old i q b
     → Clears geometry old new i (IsPastUnder past q 0) given blocks → IsNamedAt geometry new i q b
 below_named geometry old new i past b q given blocks is s = record {
@@ -255,7 +256,7 @@ below_named geometry old new i past b q given blocks is s = record {
   some = is.some;
 }
 
--- nothing below a place is named once everything below it is cleared
+-- after all positions in the block map below a position are cleared, none of them points to a block
 pub below_empty : (geometry : Geometry) (old new : List ℕ) (i : ℕ) (past : List ℕ → Bool) (q given blocks : List ℕ)
     → ((p : List ℕ) → IsUnder q 0 p → past p ≡ true) → Clears geometry old new i (IsPastUnder past q 0) given blocks → IsEmptyUnder geometry new i q
 below_empty geometry old new i past q given blocks all s p place under =

@@ -1,4 +1,4 @@
--- Making the number at a place 0, and giving back the block that it named.
+-- Clearing the number at a position in the block map, and freeing the block to which the position pointed.
 use Rattle.std.proofs.Common.{◌≡◌, ◌≢◌, ℕ, ◌≤◌, ◌⊎◌, ◌∙◌, sym, ap, subst, List, [], ◌∷◌, arith, inl, inr, true}
 use Rattle.std.proofs.lemmas.Bool.{cases_eq}
 use Rattle.vol_layout.specs.Edition.{constants}
@@ -23,13 +23,13 @@ use Rattle.vol_file.proofs.StoredNames.{place_same}
 use Rattle.vol_file.proofs.TakenBlocks.{IsUnnamed, stays_block, stays_inode, stays_named, stays_around, zone_two, rest_in}
 use Rattle.vol_file.specs.Changes.{StaysElsewhere}
 
--- block b is a data block that no place names
+-- `b` is a data block to which no position in the block map points
 pub record IsReleased (geometry : Geometry) (image : List ℕ) (b : ℕ) : Type 0 where
   pub fits : Fits geometry image
   pub zone : in_zone geometry b ≡ true
   pub unnamed : IsUnnamed geometry image b
 
--- once the number at its place is 0, no place names a block
+-- after the position in the block map that pointed to block `b` is cleared, no position points to `b`
 stored_unnamed : (geometry : Geometry) (old mid blocks : List ℕ) (i b : ℕ) (q : List ℕ) → Rules3To7With geometry old blocks
     → IsNamedAt geometry old i q b → Stores geometry old mid i q 0 blocks → IsReleased geometry mid b
 stored_unnamed geometry old mid blocks i b q sound is store =
@@ -58,7 +58,8 @@ stored_unnamed geometry old mid blocks i b q sound is store =
       ];
     }
 
--- the result of the two steps: file i's place and those below it name nothing, and its other places keep their names
+-- the effect on file `i` of clearing position `q` in the block map and freeing its block: `q` and the positions below it point to no block, and the
+-- other positions are unchanged
 record Dropped (geometry : Geometry) (old new : List ℕ) (i : ℕ) (q : List ℕ) : Type 0 where
   alone : StaysElsewhere geometry old new i
   mode : mode_of geometry new i ≡ mode_of geometry old i
@@ -66,7 +67,7 @@ record Dropped (geometry : Geometry) (old new : List ℕ) (i : ℕ) (q : List �
   gone : (p : List ℕ) → IsPlaceOf geometry old i p → IsFront q p → named geometry new i p ≡ 0
   kept : (p : List ℕ) → IsPlaceOf geometry old i p → (IsFront q p → ⊥) → named geometry new i p ≡ named geometry old i p
 
--- the two steps leave that
+-- clearing position `q` in the block map and then freeing its block has this effect
 dropped : (geometry : Geometry) (old mid new blocks : List ℕ) (i b : ℕ) (q : List ℕ) → Rules3To7With geometry old blocks
     → IsNamedAt geometry old i q b → Stores geometry old mid i q 0 blocks → StaysBut geometry mid new b 202 → Dropped geometry old new i q
 dropped geometry old mid new blocks i b q sound is store stays =
@@ -91,7 +92,7 @@ dropped geometry old mid new blocks i b q sound is store stays =
       kept = λ p place apart. same p place ∙ store.others p place apart;
     }
 
--- file i lessens by it
+-- clearing a position in the block map and freeing its block changes file `i` only by clearing positions
 lessens : (geometry : Geometry) (old new blocks : List ℕ) (i : ℕ) (q : List ℕ) → Rules3To7With geometry old blocks → IsFile geometry old i
     → Dropped geometry old new i q → Lessens geometry old new i
 lessens geometry old new blocks i q sound file drop = record {
@@ -107,17 +108,17 @@ lessens geometry old new blocks i q sound file drop = record {
       ];
 }
 
--- a number of a longer list is its first or one of the rest
+-- an item of `b ∷ blocks` is `b` or an item of `blocks`
 pub in_more : (k b : ℕ) (blocks : List ℕ) → IsIn k (b ∷ blocks) → (k ≡ b) ⊎ IsIn k blocks
 unfolding IsIn
 in_more k b blocks within = within
 
--- the first number of a list is one of the list
+-- a number equal to the first item of a list is in the list
 first_in : (k b : ℕ) (blocks : List ℕ) → k ≡ b → IsIn k (b ∷ blocks)
 unfolding IsIn
 first_in k b blocks e = inl e
 
--- each data block is free or named, also after block b was given
+-- after block `b` is freed, each data block is still free or in a file
 dropped_covered : (geometry : Geometry) (old new blocks : List ℕ) (i b : ℕ) (q : List ℕ) → Rules3To7With geometry old blocks
     → IsNamedAt geometry old i q b → IsEmptyUnder geometry old i q → Dropped geometry old new i q
     → IsCovered geometry old blocks → IsCovered geometry new (b ∷ blocks)
@@ -147,7 +148,7 @@ dropped_covered geometry old new blocks i b q sound is empty drop covered k zone
       ]
 ]
 
--- making the number at a place 0 and giving back its block clears the place
+-- storing 0 at a position in the block map and freeing the block to which it pointed clears the position
 pub drops : (geometry : Geometry) (old mid new blocks : List ℕ) (i b : ℕ) (q : List ℕ) → Rules3To7With geometry old blocks
     → IsNamedAt geometry old i q b → IsEmptyUnder geometry old i q → Stores geometry old mid i q 0 blocks
     → StaysBut geometry mid new b 202 → IsFree geometry new (b ∷ blocks) → Clears geometry old new i (IsFront q) (b ∷ []) blocks

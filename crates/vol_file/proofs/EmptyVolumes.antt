@@ -1,4 +1,4 @@
--- A volume with an empty root directory and an empty file, on which tests begin.
+-- A volume with an empty root directory and an empty file, with which tests start.
 use Rattle.std.proofs.Common.{◌≡◌, ◌≢◌, ℕ, ◌+◌, ◌*◌, ◌<◌, ◌≤◌, ◌∙◌, sym, ap, List, [], ◌∷◌, get_or, refl, arith, inl, inr, true, false, if◌then◌else◌, ltb}
 use Rattle.std.proofs.lemmas.Bool.{cases_lt, cases_eq}
 use Rattle.pdp_words.specs.Words.{word, SameOutside}
@@ -23,7 +23,7 @@ use Rattle.vol_file.proofs.Truncated.{addresses_file}
 use Rattle.vol_file.proofs.PlaceLists.{front_first}
 use Rattle.vol_file.proofs.StoredNames.{root_first}
 
--- the size, the links and the addresses of an i-node are 0 if its bytes after the mode are
+-- the size of an i-node is 0 if all its bytes after the mode are 0
 size_zero : (edition : Edition) (image : List ℕ) (at : ℕ)
     → ((r : ℕ) → 2 ≤ r → r < (constants edition).inode_bytes → get_or image (at + r) 0 ≡ 0) → size_at edition image at ≡ 0
 size_zero V6 image at zero =
@@ -39,7 +39,7 @@ size_zero V7 image at zero =
     let third : get_or image (at + 8 + 2 + 1) 0 ≡ 0 = rw three (zero 11 (omega arith) (omega arith)) in
     omega (arith, zero 8 (omega arith) (omega arith))
 
--- an i-node with such bytes has no links
+-- the link count of an i-node is 0 if all its bytes after the mode are 0
 links_zero : (edition : Edition) (image : List ℕ) (at : ℕ)
     → ((r : ℕ) → 2 ≤ r → r < (constants edition).inode_bytes → get_or image (at + r) 0 ≡ 0) → (inode_at edition image at).links ≡ 0
 links_zero V6 image at zero = (inode_v6 image at).0 ∙ zero 2 (omega arith) (omega arith)
@@ -49,7 +49,7 @@ links_zero V7 image at zero =
     let none : word image (at + 2) ≡ 0 = omega (arith, zero 2 (omega arith) (omega arith)) in
     (inode_v7 image at).0 ∙ none
 
--- and no addresses
+-- each address of an i-node is 0 if all its bytes after the mode are 0
 address_zero : (edition : Edition) (image : List ℕ) (at k : ℕ)
     → ((r : ℕ) → 2 ≤ r → r < (constants edition).inode_bytes → get_or image (at + r) 0 ≡ 0) → k < address_count edition
     → address_at edition image at k ≡ 0
@@ -69,12 +69,12 @@ address_zero V7 image at k zero low =
     let third : get_or image (at + 12 + 3 * k + 2) 0 ≡ 0 = rw two (zero (14 + 3 * k) (omega arith) (omega arith)) in
     omega arith
 
--- each i-node has nothing but a mode
+-- all bytes of each i-node after its mode are 0
 pub record HasBareInodes (geometry : Geometry) (image : List ℕ) : Type 0 where
   pub bytes : (j : ℕ) → 1 ≤ j → j ≤ geometry.last_inode → (r : ℕ) → 2 ≤ r → r < (constants geometry.edition).inode_bytes
       → get_or image (inode_place geometry.edition j + r) 0 ≡ 0
 
--- putting a mode keeps it so
+-- a write of a mode keeps all bytes of i-nodes after their modes 0
 bare_after : (geometry : Geometry) (old new : List ℕ) (x : ℕ) → 1 ≤ x
     → SameOutside old new (inode_place geometry.edition x) (inode_place geometry.edition x + 2) → HasBareInodes geometry old → HasBareInodes geometry new
 bare_after geometry old new x one same bare = record {
@@ -96,7 +96,7 @@ bare_after geometry old new x one same bare = record {
       byte ∙ bare.bytes j first last r low high;
 }
 
--- if the i-list is zeros each i-node has nothing
+-- if the i-list is zeros, all bytes of i-nodes after their modes are 0
 pub bare_zeros : (geometry : Geometry) (image : List ℕ) → Fits geometry image
     → ((k : ℕ) → 1024 ≤ k → k < 512 * geometry.zone_start → get_or image k 0 ≡ 0) → HasBareInodes geometry image
 bare_zeros geometry image fits zero = record {
@@ -106,7 +106,7 @@ bare_zeros geometry image fits zero = record {
       zero (inode_place geometry.edition j + r) (omega (arith, from)) (omega (arith, room));
 }
 
--- then places name nothing
+-- if all bytes of i-nodes after their modes are 0, no position in the block map points to a block
 bare_named : (geometry : Geometry) (image : List ℕ) (j : ℕ) (p : List ℕ) → Fits geometry image → HasBareInodes geometry image
     → IsPlaceOf geometry image j p → named geometry image j p ≡ 0
 bare_named geometry image j p fits bare place =
@@ -116,7 +116,7 @@ bare_named geometry image j p fits bare place =
     (address_zero geometry.edition image (inode_place geometry.edition j) base.0 (bare.bytes j place.file.first place.file.last) (omega (arith, base.1, few)))
     base.2
 
--- the rules hold if each i-node has nothing but a mode, and the kinds are as they must be
+-- rules 3 to 7 hold if all bytes of i-nodes after their modes are 0, rule 3 holds, and the free list is a stack
 pub bare_sound : (geometry : Geometry) (image blocks : List ℕ) → Fits geometry image → HasBareInodes geometry image → HasKinds geometry image
     → IsFree geometry image blocks → Rules3To7With geometry image blocks
 bare_sound geometry image blocks fits bare kinds free =
@@ -139,7 +139,7 @@ bare_sound geometry image blocks fits bare kinds free =
           (bare_named geometry image j p fits bare place);
     }
 
--- the kinds of an i-list of zeros with a root and a file
+-- rule 3 holds for an i-list of zeros after the root's mode and a file's mode are written
 kinds_put : (geometry : Geometry) (old mid new : List ℕ) (i : ℕ) → Fits geometry old
     → ((k : ℕ) → 1024 ≤ k → k < 512 * geometry.zone_start → get_or old k 0 ≡ 0)
     → SameOutside old mid (inode_place geometry.edition (constants geometry.edition).root) (inode_place geometry.edition (constants geometry.edition).root + 2)
@@ -181,7 +181,7 @@ kinds_put geometry old mid new i fits zero first directory second regular from a
           inl (free 1 (omega arith) (omega arith) (λ same. let f : 1 ≡ i = same in omega arith) (λ same. let f : 1 ≡ root = same in omega arith));
     }
 
--- a volume of zeros with a free list is sound once it has a root and a file
+-- rules 3 to 7 hold for a volume of zeros with a free list after the root's mode and a file's mode are written
 pub volume_sound : (geometry : Geometry) (old mid new blocks : List ℕ) (i directory regular : ℕ) → Fits geometry old → IsFree geometry old blocks
     → ((k : ℕ) → 1024 ≤ k → k < 512 * geometry.zone_start → get_or old k 0 ≡ 0)
     → SameOutside old mid (inode_place geometry.edition (constants geometry.edition).root) (inode_place geometry.edition (constants geometry.edition).root + 2)

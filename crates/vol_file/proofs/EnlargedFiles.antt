@@ -1,4 +1,4 @@
--- The names of a small file's places after the writes that make it large.
+-- The block numbers in a small file's block map after the writes that make it large.
 use Rattle.std.proofs.Common.{◌≡◌, ℕ, ◌+◌, ◌*◌, ◌<◌, ◌≤◌, ◌⊎◌, ◌∙◌, sym, ap, List, [], ◌∷◌, get_or, refl, arith, inl, inr, true, false, if◌then◌else◌, ltb}
 use Rattle.std.proofs.lemmas.Bool.{cases_lt, lt-ltb, ltb-true}
 use Rattle.std.proofs.lemmas.Bool.Decides.{nat_tests}
@@ -28,7 +28,8 @@ use Rattle.vol_file.proofs.Cells.{number_above, names_zoned}
 use Rattle.vol_file.proofs.TakenBlocks.{IsUnnamed, stays_block, stays_inode, stays_named, stays_before, stays_elsewhere, stays_sound, zone_two, first_unnamed, first_zoned, first_once, taken_sound}
 use Rattle.vol_file.proofs.LargeFiles.{Moves}
 
--- the writes: block b was taken, the addresses of file i were copied into it and cleared, the first one names it, and the mode says so
+-- the writes that make file `i` large: block `b` was taken from the free list, the addresses were copied to it and cleared, the first address was set
+-- to `b`, and the large flag was set
 pub record IsMoved (geometry : Geometry) (old mid one two three new : List ℕ) (i b : ℕ) (rest : List ℕ) : Type 0 where
   pub popped : Popped geometry old mid b rest
   pub copied : (k : ℕ) → k < 16 → get_or one (512 * b + k) 0 ≡ get_or mid (inode_place geometry.edition i + 8 + k) 0
@@ -53,20 +54,20 @@ large_form : (edition : Edition) (mode : ℕ) → edition ≡ V6 → has_places 
 large_form V6 mode v6 kind flag = rw (kind, flag) refl
 large_form V7 mode v6 kind flag = absurd (cc)
 
--- the first address of the sixth edition
+-- the constants and the first address of a sixth edition i-node
 first_place : (edition : Edition) (i : ℕ) → edition ≡ V6
     → (address_place edition i 0 ≡ inode_place edition i + 8) × (address_place edition i 0 + address_bytes edition ≡ inode_place edition i + 10)
     × (address_offset edition ≡ 8) × ((constants edition).inode_bytes ≡ 32) × ((constants edition).pointers ≡ 256)
 first_place V6 i v6 = (omega arith, omega arith, refl, refl, refl)
 first_place V7 i v6 = absurd (cc)
 
--- the kept bytes of the sixth edition are between the mode and the addresses, or after these
+-- the bytes of a sixth edition i-node that a change of a file must keep are between the mode and the addresses, or after the addresses
 kept_between : (edition : Edition) (r : ℕ) → edition ≡ V6 → is_kept_byte edition r ≡ true → (2 ≤ r) × ((r < 8) ⊎ (24 ≤ r)) × (r < 32)
 kept_between V6 r v6 kept =
     (grind (arith, nat_tests), elim (cases_lt r 8) [ inl less ↦ inl less | inr more ↦ inr (grind (arith, nat_tests)) ], grind (arith, nat_tests))
 kept_between V7 r v6 kept = absurd (cc)
 
--- an address is copied as a word
+-- the copied addresses are the first eight numbers of the indirect block
 word_moved : (edition : Edition) (mid one : List ℕ) (i b j : ℕ) → edition ≡ V6 → j < 8
     → ((k : ℕ) → k < 16 → get_or one (512 * b + k) 0 ≡ get_or mid (inode_place edition i + 8 + k) 0)
     → number edition one (512 * b) j ≡ address_at edition mid (inode_place edition i) j
@@ -80,7 +81,7 @@ word_moved V6 mid one i b j v6 h copied =
     same ∙ sym (ap (λ t. if t then word mid (inode_place V6 i + 8 + 2 * j) else 0) (lt-ltb j 8 h))
 word_moved V7 mid one i b j v6 h copied = absurd (cc)
 
--- a cleared address names nothing
+-- a cleared address is 0
 word_cleared : (edition : Edition) (two : List ℕ) (i k : ℕ) → edition ≡ V6
     → ((r : ℕ) → 8 ≤ r → r < 24 → get_or two (inode_place edition i + r) 0 ≡ 0)
     → address_at edition two (inode_place edition i) k ≡ 0
@@ -97,7 +98,7 @@ word_cleared V6 two i k v6 zero =
     ] refl
 word_cleared V7 two i k v6 zero = absurd (cc)
 
--- after the addresses the block is zero
+-- the numbers of the new indirect block after the first eight are 0
 word_empty : (edition : Edition) (one : List ℕ) (b j : ℕ) → edition ≡ V6 → 8 ≤ j → j < 256
     → ((r : ℕ) → 16 ≤ r → r < 512 → get_or one (512 * b + r) 0 ≡ 0) → number edition one (512 * b) j ≡ 0
 word_empty V6 one b j v6 low high zero =
@@ -107,7 +108,7 @@ word_empty V6 one b j v6 low high zero =
     omega (arith, first, second)
 word_empty V7 one b j v6 low high zero = absurd (cc)
 
--- two writes within the i-node of file i leave all but it
+-- two writes within i-node `i` change only file `i`
 inode_elsewhere : (geometry : Geometry) (one three new rest : List ℕ) (i : ℕ) → geometry.edition ≡ V6 → Rules3To7With geometry one rest
     → 1 ≤ i → i ≤ geometry.last_inode
     → SameOutside one three (inode_place geometry.edition i + 8) (inode_place geometry.edition i + 24)
@@ -135,7 +136,7 @@ inode_elsewhere geometry one three new rest i v6 sound first last s t =
       behind = λ k h. t.above k (omega (arith, h, room, facts.3, sound.fits.zone)) ∙ s.above k (omega (arith, h, room, facts.3, sound.fits.zone));
     }
 
--- the writes move the addresses down
+-- these writes move the addresses of file `i` to the new indirect block
 pub moves : (geometry : Geometry) (old mid one two three new : List ℕ) (i b : ℕ) (rest : List ℕ) → Rules3To7With geometry old (b ∷ rest)
     → IsFile geometry old i → form_at geometry old i ≡ Small → IsMoved geometry old mid one two three new i b rest → Moves geometry old new i b rest
 moves geometry old mid one two three new i b rest sound file small m =
@@ -215,7 +216,7 @@ moves geometry old mid one two three new i b rest sound file small m =
           ∙ (stays_block geometry old mid b 512 k m.popped.stays (omega arith) two_k other).bytes r h));
     }
 
--- the kind stays
+-- setting the large flag does not change the kind
 pub large_kind : (geometry : Geometry) (old new : List ℕ) (i bits : ℕ) → form_at geometry old i ≡ Small → IsFile geometry old i
     → mode_of geometry new i ≡ bits → (32768 ≤ mode_of geometry old i → kind_of V6 bits ≡ kind_of V6 (mode_of geometry old i))
     → kind_at geometry new i ≡ kind_at geometry old i

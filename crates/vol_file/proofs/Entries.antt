@@ -1,4 +1,4 @@
--- Entries of indirect blocks and addresses of i-nodes that name a block, once they are made 0.
+-- Entries of indirect blocks and addresses of i-nodes that pointed to a block and are set to 0.
 use Rattle.std.proofs.Common.{◌≡◌, ℕ, ◌+◌, ◌*◌, ◌<◌, ◌≤◌, ◌∙◌, sym, ap, subst, List, [], ◌∷◌, length, arith, true}
 use Rattle.pdp_words.specs.Words.{SameOutside}
 use Rattle.vol_layout.specs.Edition.{constants, number}
@@ -18,13 +18,13 @@ use Rattle.vol_file.proofs.Stores.{Stores}
 use Rattle.vol_file.specs.Clears.{IsNamedAt}
 use Rattle.vol_file.proofs.Cells.{entry_end, stores_entry, stores_address}
 
--- a block that a place names is a data block
+-- if rules 3 to 7 hold, a block to which a position in the block map points is a data block
 pub named_zone : (geometry : Geometry) (image blocks : List ℕ) (i b : ℕ) (q : List ℕ) → Rules3To7With geometry image blocks
     → IsNamedAt geometry image i q b → in_zone geometry b ≡ true
 named_zone geometry image blocks i b q sound is =
     ap (in_zone geometry) (sym is.names) ∙ sound.zoned i q is.place (λ none. is.some (sym is.names ∙ none))
 
--- the block of an entry that names something is a data block, and the place that names it is one
+-- if an entry points to a block, the position in the block map above it points to the entry's block
 pub entry_above : (geometry : Geometry) (image blocks : List ℕ) (i j a m b : ℕ) (p : List ℕ) → Rules3To7With geometry image blocks
     → named geometry image i (a ∷ p) ≡ m → IsNamedAt geometry image i (j ∷ (a ∷ p)) b → IsNamedAt geometry image i (a ∷ p) m
 entry_above geometry image blocks i j a m b p sound block is = record {
@@ -35,7 +35,7 @@ entry_above geometry image blocks i j a m b p sound block is = record {
       is.some (sym is.names ∙ named_stops geometry image i j a p (ap (in_zone geometry) zero ∙ zero_out geometry image sound.fits));
 }
 
--- an entry lies within the image
+-- an entry that points to a block is within the image
 pub entry_room : (geometry : Geometry) (image blocks : List ℕ) (i j a m b : ℕ) (p : List ℕ) → Rules3To7With geometry image blocks
     → named geometry image i (a ∷ p) ≡ m → IsNamedAt geometry image i (j ∷ (a ∷ p)) b
     → 512 * m + (constants geometry.edition).number_bytes * (j + 1) ≤ length image
@@ -47,7 +47,7 @@ entry_room geometry image blocks i j a m b p sound block is =
     let end = entry_end (512 * m) (constants geometry.edition).number_bytes j fit in
     omega (arith, end, bounds.1, sound.fits.blocks)
 
--- 0 put in an entry
+-- storing 0 in an entry clears its position in the block map and changes nothing else
 pub entry_stores : (geometry : Geometry) (old new blocks : List ℕ) (i j a m b : ℕ) (p : List ℕ) → Rules3To7With geometry old blocks
     → named geometry old i (a ∷ p) ≡ m → IsNamedAt geometry old i (j ∷ (a ∷ p)) b
     → SameOutside old new (512 * m + (constants geometry.edition).number_bytes * j) (512 * m + (constants geometry.edition).number_bytes * (j + 1))
@@ -56,7 +56,7 @@ entry_stores geometry old new blocks i j a m b p sound block is same put =
     stores_entry geometry old new blocks i m j a 0 p sound is.place block
     (named_zone geometry old blocks i m (a ∷ p) sound (entry_above geometry old blocks i j a m b p sound block is)) same put
 
--- 0 put in an address
+-- storing 0 in an address clears its position in the block map and changes nothing else
 pub address_stores : (geometry : Geometry) (old new blocks : List ℕ) (i k b : ℕ) → Rules3To7With geometry old blocks
     → IsNamedAt geometry old i (k ∷ []) b
     → SameOutside old new (address_place geometry.edition i k) (address_place geometry.edition i k + address_bytes geometry.edition)
@@ -66,7 +66,7 @@ address_stores geometry old new blocks i k b sound is same put =
     let low : k < first_count (form_at geometry old i) = is.place.place in
     stores_address geometry old new blocks i k 0 sound is.place.file (omega (arith, few, low)) same put
 
--- the block that a place named may be given back once the number there is 0
+-- after a position in the block map is set to 0, the block to which it pointed isn't free yet
 pub stored_fresh : (geometry : Geometry) (old mid blocks : List ℕ) (i b : ℕ) (q : List ℕ) → Rules3To7With geometry old blocks
     → IsNamedAt geometry old i q b → Stores geometry old mid i q 0 blocks
     → (others : List ℕ) → IsFree geometry mid others → IsIn b others → ⊥

@@ -1,4 +1,4 @@
--- All places on the block paths of the touched blocks named: how many blocks that takes, and the file's block map then.
+-- Allocating all missing blocks on the paths of touched logical blocks: the number of blocks taken, and the new block map.
 use Rattle.std.proofs.Common.{◌≡◌, ℕ, zero, suc, ◌+◌, ◌*◌, ◌<◌, ◌≤◌, ◌∙◌, sym, ap, subst, List, [], ◌∷◌, ◌++◌, length, map, refl, arith, inl, inr, true, false, Bool, if◌then◌else◌, leb}
 use Rattle.std.specs.Prelude.{◌&&◌, ◌||◌, not}
 use Rattle.std.specs.List.{count_by, list_any, range_with_len}
@@ -28,13 +28,13 @@ use Rattle.vol_file.proofs.TakenBlocks.{rest_within}
 use Rattle.vol_file.proofs.Ranges.{missing_all_same}
 use Rattle.vol_file.proofs.Lasts.{or_true}
 
--- a test on the places that exist
+-- `x && not (y || x)` is false
 and_gone : (x y : Bool) → (x && not (y || x)) ≡ false
 and_gone true true = refl
 and_gone true false = refl
 and_gone false y = refl
 
--- no place is missing once all the wanted ones name blocks
+-- after all positions in `wanted` point to blocks, none of them is left to fill
 lacking_none : (geometry : Geometry) (old new : List ℕ) (i : ℕ) (wanted : List ℕ → Bool) → IsFile geometry old i
     → mode_of geometry new i ≡ mode_of geometry old i
     → ((p : List ℕ) → IsPlaceOf geometry old i p → is_named geometry new i p ≡ (is_named geometry old i p || wanted p))
@@ -47,7 +47,7 @@ lacking_none geometry old new i wanted file mode names =
     ap (λ t. wanted p && not t) (names p (record { file = file; place = place })) ∙ and_gone (wanted p) (is_named geometry old i p))
     ∙ count_none (λ p. false) (places (form_at geometry new i)) (λ p. refl)
 
--- the places that some paths lack are those missing there
+-- the number of positions in the block map on some paths that are left to fill is `missing_count`
 lacking_missing : (geometry : Geometry) (image : List ℕ) (i : ℕ) (form : BlockMap) (names : List ℕ → Bool) (touches : List ℕ)
     → form_at geometry image i ≡ form → ((p : List ℕ) → IsPlace form p → is_named geometry image i p ≡ names p)
     → lacking geometry image i (is_on_ways form touches) ≡ missing_count form names touches
@@ -57,34 +57,34 @@ lacking_missing geometry image i form names touches is same =
     ∙ count_among (λ p. is_on_ways form touches p && not (is_named geometry image i p)) (λ p. is_on_ways form touches p && not (names p)) (places form)
     (λ p among. ap (λ t. is_on_ways form touches p && not t) (same p (among_places form p among)))
 
--- a file that becomes large is a small one, and its ninth block or a later one is touched
+-- a file that becomes large is small, and `last` is its ninth logical block or a later one
 pub grows_small : (form : BlockMap) (last : ℕ) → grows_at form last ≡ true → (form ≡ Small) × (8 ≤ last)
 grows_small Small last e = (refl, grind (arith, nat_tests))
 grows_small Large last e = absurd (cc)
 grows_small Deep last e = absurd (cc)
 grows_small Bare last e = absurd (cc)
 
--- of a small file that doesn't become large one of the first eight blocks is touched
+-- if a small file doesn't become large, `last` is one of its first eight logical blocks
 pub grows_few : (form : BlockMap) (last : ℕ) → grows_at form last ≡ false → form ≡ Small → last < 8
 grows_few Small last e small = grind (arith, nat_tests)
 grows_few Large last e small = absurd (cc)
 grows_few Deep last e small = absurd (cc)
 grows_few Bare last e small = absurd (cc)
 
--- the need if the file keeps its block map
+-- if a file keeps its block map, it needs as many blocks as are missing
 need_plain : (form : BlockMap) (names : List ℕ → Bool) (touches : List ℕ) → grows_large form touches ≡ false
     → need_of form names touches ≡ missing_count form names touches
 unfolding need_of
 need_plain form names touches grows =
     rw grows (omega arith)
 
--- the need if the file becomes large
+-- if a file becomes large, it needs one block more than are missing in its new block map
 need_large : (form : BlockMap) (names : List ℕ → Bool) (touches : List ℕ) → grows_large form touches ≡ true
     → need_of form names touches ≡ missing_count Large (moved_down names) touches + 1
 unfolding need_of
 need_large form names touches grows = rw grows refl
 
--- the paths are wanted, if the file keeps its block map and the need is met
+-- if a file keeps its block map, enough free blocks for a write are enough for the paths of its logical blocks
 pub wants_plain : (geometry : Geometry) (image : List ℕ) (i from n : ℕ) (blocks : List ℕ) → IsFile geometry image i → Rules3To7With geometry image blocks
     → grows_large (form_at geometry image i) (range_with_len from n) ≡ false
     → need_of (form_at geometry image i) (is_named geometry image i) (range_with_len from n) ≤ length blocks
@@ -101,23 +101,23 @@ wants_plain geometry image i from n blocks file sound grows room limit =
       want = λ p on. on;
     }
 
--- the number of blocks taken
+-- the number of free blocks is the number of taken blocks plus the number of remaining ones
 taken_count : (blocks taken rest : List ℕ) → blocks ≡ taken ++ rest → length blocks ≡ length taken + length rest
 taken_count blocks taken rest e = ap length e ∙ length-append taken rest
 
--- the places for which blocks are taken if the file keeps its block map
+-- if a file keeps its block map, the positions that get a block are the missing ones
 taken_plain : (form : BlockMap) (names : List ℕ → Bool) (touches : List ℕ) → grows_large form touches ≡ false
     → places_taken form names touches ≡ missing_places form names touches
 taken_plain form names touches grows =
     ap (λ t. (if t then (0 ∷ []) ∷ [] else []) ++ missing_places (if t then Large else form) (if t then moved_down names else names) touches) grows
 
--- the places for which blocks are taken if the file becomes large
+-- if a file becomes large, the positions that get a block are `[0]` and the missing ones in its new block map
 taken_large : (form : BlockMap) (names : List ℕ → Bool) (touches : List ℕ) → grows_large form touches ≡ true
     → places_taken form names touches ≡ (0 ∷ []) ∷ missing_places Large (moved_down names) touches
 taken_large form names touches grows =
     ap (λ t. (if t then (0 ∷ []) ∷ [] else []) ++ missing_places (if t then Large else form) (if t then moved_down names else names) touches) grows
 
--- all paths are named, if the file keeps its block map
+-- if a file keeps its block map, allocating the blocks on all paths allocates the blocks that the write needs
 pub fills_plain : (geometry : Geometry) (old new : List ℕ) (i from n : ℕ) (blocks : List ℕ) → IsFile geometry old i
     → grows_large (form_at geometry old i) (range_with_len from n) ≡ false
     → NamesWays geometry old new i (is_on_ways (form_at geometry old i) (range_with_len from n)) from n blocks
@@ -156,7 +156,7 @@ fills_plain geometry old new i from n blocks file grows ways =
       unused = e.unused;
     }
 
--- the paths are wanted once the file is large
+-- after a file becomes large, the remaining free blocks are enough for the paths of its logical blocks
 pub wants_large : (geometry : Geometry) (old mid : List ℕ) (i from n : ℕ) (blocks : List ℕ) → IsFile geometry mid i
     → grows_large (form_at geometry old i) (range_with_len from n) ≡ true
     → need_of (form_at geometry old i) (is_named geometry old i) (range_with_len from n) ≤ length blocks
@@ -173,7 +173,7 @@ wants_large geometry old mid i from n blocks file grows room enlarged limit =
       want = λ p on. ap (λ f. is_on_ways f touches p) (sym enlarged.form) ∙ on;
     }
 
--- all paths are named once the file is large
+-- if a file becomes large, making it large and then allocating the blocks on all paths allocates the blocks that the write needs
 pub fills_large : (geometry : Geometry) (old mid new : List ℕ) (i from n : ℕ) (blocks : List ℕ) → Rules3To7With geometry old blocks → IsFile geometry old i
     → IsFile geometry mid i
     → grows_large (form_at geometry old i) (range_with_len from n) ≡ true → (enlarged : Enlarges geometry old mid i blocks)
@@ -234,31 +234,31 @@ fills_large geometry old mid new i from n blocks sound file file_mid grows enlar
           enlarged.unused e.unused;
     }
 
--- no block of a run is its ninth or later
+-- a range of logical blocks that ends by block 8 contains only the first eight
 low_run : (from n : ℕ) → from + n ≤ 8 → list_any (λ b. leb 8 b) (range_with_len from n) ≡ false
 low_run from zero h = refl
 low_run from (suc n) h =
     ap (λ t. t || list_any (λ b. leb 8 b) (range_with_len (from + 1) n)) (lt-leb 8 from (omega arith)) ∙ low_run (from + 1) n (omega arith)
 
--- the last block of a run is its ninth or later
+-- a range of logical blocks that ends after block 8 contains the ninth or a later one
 high_run : (from n : ℕ) → 1 ≤ n → 8 < from + n → list_any (λ b. leb 8 b) (range_with_len from n) ≡ true
 high_run from zero some h = absurd (omega arith)
 high_run from (suc zero) some h = ap (λ t. t || false) (le-leb 8 from (omega arith))
 high_run from (suc (suc n)) some h =
     ap (λ t. leb 8 from || t) (high_run (from + 1) (suc n) (omega arith) (omega arith)) ∙ or_true (leb 8 from)
 
--- a run within the first eight blocks, or of a file that isn't small, makes no file large
+-- a range within the first eight logical blocks, or of a file that isn't small, makes no file large
 pub grows_not : (form : BlockMap) (from n : ℕ) → (form ≡ Small → from + n ≤ 8) → grows_large form (range_with_len from n) ≡ false
 grows_not Small from n low = low_run from n (low refl)
 grows_not Large from n low = refl
 grows_not Deep from n low = refl
 grows_not Bare from n low = refl
 
--- a run past the first eight blocks makes a small file large
+-- a range that ends after the first eight logical blocks makes a small file large
 pub grows_then : (form : BlockMap) (from n : ℕ) → form ≡ Small → 1 ≤ n → 8 < from + n → grows_large form (range_with_len from n) ≡ true
 grows_then form from n is some high = ap (λ f. grows_large f (range_with_len from n)) is ∙ high_run from n some high
 
--- the bound on blocks that the greatest size gives
+-- the logical blocks of a file within the greatest size are below the block map's limit
 pub limit_of : (edition : Edition) (mode to : ℕ) → has_places (kind_of edition mode) ≡ true → 512 * to < (constants edition).greatest + 512
     → (form_of edition mode ≡ Small → to ≤ 8) → to ≤ block_limit (form_of edition mode)
 limit_of V6 mode to kind h low =
@@ -270,24 +270,24 @@ limit_of V6 mode to kind h low =
 limit_of V7 mode to kind h low =
     let is : form_of V7 mode ≡ Deep = ap (λ t. if t then Deep else Bare) kind in subst (λ f. to ≤ block_limit f) (sym is) (omega arith)
 
--- the same in the sixth edition
+-- in the sixth edition, the logical blocks of a file within the greatest size are below 32768
 pub limit_large : (edition : Edition) (to : ℕ) → edition ≡ V6 → 512 * to < (constants edition).greatest + 512 → to ≤ 32768
 limit_large V6 to v6 h = omega arith
 limit_large V7 to v6 h = absurd (cc)
 
--- only files have the large block map
+-- an i-node with the large block map is a regular file or directory
 large_kind : (edition : Edition) (mode : ℕ) → form_of edition mode ≡ Large → has_places (kind_of edition mode) ≡ true
 large_kind edition mode large =
     elim (has_places (kind_of edition mode)) as (λ t. (if t then file_form edition mode else Bare) ≡ Large → t ≡ true)
     [ true ↦ λ e. refl | false ↦ λ e. absurd (cc) ] large
 
--- a large file is one
+-- a file that was made large is still a regular file or directory
 pub enlarged_file : (geometry : Geometry) (old mid : List ℕ) (i : ℕ) (blocks : List ℕ) → IsFile geometry old i → Enlarges geometry old mid i blocks
     → IsFile geometry mid i
 enlarged_file geometry old mid i blocks file enlarged =
     record { first = file.first; last = file.last; kind = large_kind geometry.edition (mode_of geometry mid i) enlarged.form }
 
--- if the file becomes large a block is needed
+-- if a file becomes large, at least one block is needed
 pub room_some : (form : BlockMap) (names : List ℕ → Bool) (touches blocks : List ℕ) → grows_large form touches ≡ true
     → need_of form names touches ≤ length blocks → 1 ≤ length blocks
 room_some form names touches blocks grows room = let need = need_large form names touches grows in omega (arith, need, room)

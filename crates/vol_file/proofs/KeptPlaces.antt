@@ -1,4 +1,4 @@
--- The places on the block paths of the first logical blocks are those that aren't past them.
+-- The positions in the block map on the paths of the first logical blocks are those that aren't past them.
 use Rattle.std.proofs.Common.{◌≡◌, ℕ, zero, suc, ◌+◌, ◌-◌, ◌*◌, ◌/◌, ◌%◌, ◌^◌, ◌<◌, ◌≤◌, ◌∙◌, Bool, true, false, sym, ap, List, [], ◌∷◌, length, filter, cond, refl, arith, inl, inr, None, Some}
 use Rattle.std.specs.Prelude.{◌||◌, not}
 use Rattle.std.specs.Option.{option_map_or}
@@ -24,7 +24,7 @@ use Rattle.vol_file.proofs.PlaceLists.{among_places}
 use Rattle.vol_file.proofs.Ranges.{is_on_at}
 use Rattle.vol_file.proofs.ReachedPlaces.{has_front_is}
 
--- two indexes, and three
+-- lists of two indexes are equal if the indexes are
 two_same : (a b c d : ℕ) → a ≡ c → b ≡ d → a ∷ (b ∷ []) ≡ c ∷ (d ∷ [])
 two_same a b c d e f = cc
 
@@ -46,7 +46,7 @@ large_some k = (grind (arith, nat_tests), grind (arith, nat_tests))
 large_one : (k : ℕ) → k < 8 → levels Large k - 1 ≡ 0 → k < 7
 large_one k low none = grind (arith, nat_tests)
 
--- the first logical blocks of the seventh edition's indirect addresses
+-- the first logical block below the doubly indirect block of the seventh edition is block 138
 deep_eleven : first_at Deep 11 ≡ 138
 deep_eleven = refl
 
@@ -56,19 +56,19 @@ deep_twelve = refl
 deep_low : (k : ℕ) → k < 11 → first_at Deep k ≡ k
 deep_low k low = grind (arith, nat_tests)
 
--- a place of a large file has at most three indexes, fewer if there are levels below it
+-- a position in a large file's block map has at most three indexes minus the number of levels below it
 large_long : (q : List ℕ) → IsPlace Large q → levels_below Large q + length q ≤ 3
 large_long [] place = absurd place
 large_long (k ∷ []) place = let few = large_some k in omega (arith, few.1)
 large_long (j ∷ (a ∷ p)) place = let above = large_long (a ∷ p) place.2 in omega (arith, above, place.1)
 
--- one of the seventh edition has at most four
+-- a position in a seventh edition block map has at most four indexes minus the number of levels below it
 deep_long : (q : List ℕ) → IsPlace Deep q → levels_below Deep q + length q ≤ 4
 deep_long [] place = absurd place
 deep_long (k ∷ []) place = omega (arith, place)
 deep_long (j ∷ (a ∷ p)) place = let above = deep_long (a ∷ p) place.2 in omega (arith, above, place.1)
 
--- the first logical block at a place with nothing below it is the one that ends there
+-- the first logical block at a position in the block map without a level below it is the one to which it points
 pub first_leaf : (form : BlockMap) (q : List ℕ) → IsPlace form q → levels_below form q ≡ 0 → first_block form q ≡ leaf_block form q
 first_leaf form [] place bottom = absurd place
 first_leaf Small (k ∷ []) place bottom = refl
@@ -107,7 +107,7 @@ first_leaf Deep (x ∷ (r ∷ (c ∷ (a ∷ (k ∷ p))))) place bottom =
 first_leaf Bare (k ∷ []) place bottom = refl
 first_leaf Bare (j ∷ (a ∷ p)) place bottom = absurd (omega (arith, place.0))
 
--- the path of the logical block of a place with nothing below it ends there, if a file can have that block
+-- if a file can have the logical block to which a position in the block map points, its path ends at that position
 last_at : (form : BlockMap) (q : List ℕ) → IsPlace form q → levels_below form q ≡ 0 → leaf_block form q < block_limit form
     → last_place form (leaf_block form q) ≡ Some q
 last_at form [] place bottom low = absurd place
@@ -145,7 +145,7 @@ last_at Deep (x ∷ (r ∷ (c ∷ (a ∷ (k ∷ p))))) place bottom low =
 last_at Bare (k ∷ []) place bottom low = absurd (omega (arith, place))
 last_at Bare (j ∷ (a ∷ p)) place bottom low = absurd (omega (arith, place.0))
 
--- the first place with nothing below it that has a place as a front, and the same first logical block
+-- a position in the block map without a level below it, at or below position `p`, with the same first logical block
 record Bottom (form : BlockMap) (p : List ℕ) : Type 0 where
   leaf : List ℕ
   place : IsPlace form leaf
@@ -153,7 +153,7 @@ record Bottom (form : BlockMap) (p : List ℕ) : Type 0 where
   front : IsFront p leaf
   same : first_block form leaf ≡ first_block form p
 
--- if the first place below another has the property, so has the other
+-- if entry 0 of a position in the block map has such a position, the position has it too
 bottom_above : (form : BlockMap) (a : ℕ) (p : List ℕ) → Bottom form (0 ∷ (a ∷ p)) → Bottom form (a ∷ p)
 bottom_above form a p next =
     let start : first_block form (0 ∷ (a ∷ p)) ≡ first_block form (a ∷ p) = omega arith in
@@ -165,7 +165,7 @@ bottom_above form a p next =
       same = next.same ∙ start;
     }
 
--- each place has one
+-- each position in the block map has a position without a level below it, with the same first logical block
 bottom_of : (form : BlockMap) (d a : ℕ) (p : List ℕ) → IsPlace form (a ∷ p) → levels_below form (a ∷ p) ≡ d → Bottom form (a ∷ p)
 bottom_of form zero a p place deep = record { leaf = a ∷ p; place = place; bottom = deep; front = inl refl; same = refl }
 bottom_of form (suc d) a p place deep =
@@ -173,7 +173,7 @@ bottom_of form (suc d) a p place deep =
     let entry : IsPlace form (0 ∷ (a ∷ p)) = (omega (arith, some), omega (arith, deep), place) in
     bottom_above form a p (bottom_of form d 0 (a ∷ p) entry (omega (arith, deep)))
 
--- a place is on the path of its first logical block
+-- a position in the block map is on the path of its first logical block
 on_first : (form : BlockMap) (a : ℕ) (p : List ℕ) → IsPlace form (a ∷ p) → first_block form (a ∷ p) < block_limit form
     → list_any (bytes_eq (a ∷ p)) (way form (first_block form (a ∷ p))) ≡ true
 on_first form a p place low =
@@ -183,7 +183,7 @@ on_first form a p place low =
     ap (last_place form) (sym block) ∙ last_at form q.leaf q.place q.bottom (omega (arith, low, block)) in
     ap (list_any (bytes_eq (a ∷ p))) (way_is form (first_block form (a ∷ p)) q.leaf end) ∙ front_true q.leaf (a ∷ p) q.front
 
--- a place is on the path of no logical block before its first
+-- a position in the block map is on the path of no logical block before its first one
 off_before : (form : BlockMap) (a : ℕ) (p : List ℕ) (b : ℕ) → b < first_block form (a ∷ p) → list_any (bytes_eq (a ∷ p)) (way form b) ≡ false
 off_before form a p b low =
     elim (last_place form b) as (λ o. last_place form b ≡ o → list_any (bytes_eq (a ∷ p)) (way form b) ≡ false) [
@@ -200,7 +200,7 @@ off_before form a p b low =
           ] refl
     ] refl
 
--- a place on the path of no block of a run is on no path of the run
+-- a position in the block map on the path of no logical block of a range is not on the paths of the range
 off_run : (form : BlockMap) (p : List ℕ) (a n : ℕ) → ((b : ℕ) → a ≤ b → b < a + n → list_any (bytes_eq p) (way form b) ≡ false)
     → is_on_ways form (range_with_len a n) p ≡ false
 off_run form p a zero off = refl
@@ -208,7 +208,7 @@ off_run form p a (suc n) off =
     ap (λ t. t || is_on_ways form (range_with_len (a + 1) n) p) (off a (omega arith) (omega arith))
     ∙ off_run form p (a + 1) n (λ b from low. off b (omega arith) (omega arith))
 
--- the places on the paths of the first blocks are those that aren't past them
+-- a position in the block map is on the paths of the first `kept` logical blocks if and only if it isn't past them
 kept_first : (form : BlockMap) (kept a : ℕ) (p : List ℕ) → IsPlace form (a ∷ p) → kept ≤ block_limit form
     → is_on_ways form (range_with_len 0 kept) (a ∷ p) ≡ not (is_past form kept (a ∷ p))
 kept_first form kept a p place few =
@@ -223,25 +223,25 @@ kept_first form kept a p place few =
           ∙ sym (ap not (past_true form kept (a ∷ p) past))
     ]
 
--- the kept places are those that aren't past the kept blocks
+-- a position in the block map is kept if and only if it isn't past the blocks kept by a truncation
 pub kept_is : (form : BlockMap) (left : ℕ) (p : List ℕ) → IsPlace form p → whole_blocks left ≤ block_limit form
     → is_kept form left p ≡ not (is_past form (whole_blocks left) p)
 kept_is form left [] place few = absurd place
 kept_is form left (a ∷ p) place few = kept_first form (whole_blocks left) a p place few
 
--- tests that agree on a list pick the same of it
+-- two tests that agree on the items of a list filter it in the same way
 filter_same : (f g : List ℕ → Bool) (ps : List (List ℕ)) → ((p : List ℕ) → IsAmong p ps → f p ≡ g p) → filter f ps ≡ filter g ps
 filter_same f g [] same = refl
 filter_same f g (p ∷ ps) same =
     ap (λ t. cond t (p ∷ filter f ps) (filter f ps)) (same p (inl refl))
     ∙ ap (λ xs. cond (g p) (p ∷ xs) xs) (filter_same f g ps (λ q among. same q (inr among)))
 
--- not of not
+-- the negation of a negation is the value itself
 not_not : (t : Bool) → not (not t) ≡ t
 not_not true = refl
 not_not false = refl
 
--- the blocks past the kept ones are those of the places that are past them
+-- the blocks freed by a truncation are those at positions in the block map past the blocks kept by a truncation
 pub past_list : (geometry : Geometry) (image : List ℕ) (i left : ℕ) → whole_blocks left ≤ block_limit (form_at geometry image i)
     → blocks_at geometry image i (filter (is_past (form_at geometry image i) (whole_blocks left)) (places (form_at geometry image i)))
     ≡ blocks_past geometry image i left

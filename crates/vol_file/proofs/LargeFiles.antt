@@ -1,4 +1,4 @@
--- Making a small file of the sixth edition large: names, soundness and bytes.
+-- Making a small file of the sixth edition large: block numbers, rules 3 to 7 and bytes.
 use Rattle.std.proofs.Common.{◌≡◌, ◌≢◌, ℕ, ◌+◌, ◌-◌, ◌*◌, ◌/◌, ◌%◌, ◌<◌, ◌≤◌, ◌∙◌, sym, ap, subst, List, [], ◌∷◌, ◌++◌, get_or, refl, arith, inl, inr, true, Some, None, ltb, eqb}
 use Rattle.std.specs.Prelude.{◌&&◌, not}
 use Rattle.std.specs.Option.{option_map_or}
@@ -27,7 +27,7 @@ use Rattle.vol_layout.proofs.LastPlaces.{last_small, last_large}
 use Rattle.vol_file.proofs.TakenBlocks.{first_unnamed, first_zoned, first_once, rest_in}
 use Rattle.vol_file.specs.Changes.{StaysElsewhere}
 
--- the change to file i, with the free block b: its addresses are moved down into b, and it is large
+-- file `i` became large: its addresses were moved to the free block `b`, to which its first address now points
 pub record Moves (geometry : Geometry) (old new : List ℕ) (i b : ℕ) (rest : List ℕ) : Type 0 where
   pub alone : StaysElsewhere geometry old new i
   pub free : IsFree geometry new rest
@@ -42,20 +42,19 @@ pub record Moves (geometry : Geometry) (old new : List ℕ) (i b : ℕ) (rest : 
   pub empty : (j : ℕ) → 8 ≤ j → j < 256 → named geometry new i (j ∷ (0 ∷ [])) ≡ 0
   pub bytes : (k r : ℕ) → in_zone geometry k ≡ true → k ≢ b → r < 512 → get_or new (512 * k + r) 0 ≡ get_or old (512 * k + r) 0
 
--- the block that a place of the large file, or of another file, names: the block taken, the one that the address moved down to
--- it named, the one that it named before, or none
+-- the origin of the block number at a position in the block map of the new image: the block taken, a moved address, unchanged, or 0
 data Origin (geometry : Geometry) (old new : List ℕ) (i b j : ℕ) (p : List ℕ) : Type 0 where
   fresh : j ≡ i → p ≡ 0 ∷ [] → named geometry new j p ≡ b → Origin geometry old new i b j p
   moved : (x : ℕ) → j ≡ i → x < 8 → p ≡ x ∷ (0 ∷ []) → named geometry new j p ≡ named geometry old i (x ∷ []) → Origin geometry old new i b j p
   kept : j ≢ i → IsPlaceOf geometry old j p → named geometry new j p ≡ named geometry old j p → Origin geometry old new i b j p
   none : named geometry new j p ≡ 0 → Origin geometry old new i b j p
 
--- below an entry that names nothing nothing is named
+-- no entry below a position in the block map that points to no block points to a block
 entry_none : (geometry : Geometry) (image : List ℕ) (i j a : ℕ) (p : List ℕ) → Fits geometry image → named geometry image i (a ∷ p) ≡ 0
     → named geometry image i (j ∷ (a ∷ p)) ≡ 0
 entry_none geometry image i j a p fits zero = named_stops geometry image i j a p (ap (in_zone geometry) zero ∙ zero_out geometry image fits)
 
--- a large file has two levels at most below a place
+-- a position in a large file's block map has at most two levels below it
 few_levels : (h : ℕ) (q : List ℕ) → levels_below Large (h ∷ q) ≤ 2
 few_levels h [] = elim (cases_eq h 7) [
   | inl e ↦ rw e (omega arith)
@@ -63,13 +62,13 @@ few_levels h [] = elim (cases_eq h 7) [
 ]
 few_levels h (a ∷ q) = let less : levels_below Large (a ∷ q) ≤ 2 = few_levels a q in omega arith
 
--- no place of a large file has four indexes
+-- no position in a large file's block map has four indexes
 deep_absurd : (l j k h : ℕ) (q : List ℕ) → IsPlace Large (l ∷ (j ∷ (k ∷ (h ∷ q)))) → ⊥
 deep_absurd l j k h q place =
     let few : levels_below Large (h ∷ q) ≤ 2 = few_levels h q in
     let deep : 1 ≤ levels_below Large (h ∷ q) - 1 - 1 = place.1 in omega (arith, few, deep)
 
--- a place with three indexes or more names nothing, since only those below the last address have as many
+-- a position in the block map with three indexes points to no block in a file that has just become large
 deep_none : (geometry : Geometry) (old new : List ℕ) (i b : ℕ) (rest : List ℕ) (l j k : ℕ) (q : List ℕ) → Fits geometry new → Moves geometry old new i b rest
     → IsPlace Large (l ∷ (j ∷ (k ∷ q))) → named geometry new i (l ∷ (j ∷ (k ∷ q))) ≡ 0
 deep_none geometry old new i b rest l j k [] fits moves place =
@@ -81,7 +80,7 @@ deep_none geometry old new i b rest l j k [] fits moves place =
 deep_none geometry old new i b rest l j k (h ∷ q) fits moves place =
     absurd (deep_absurd l j k h q place)
 
--- the places of the large file
+-- one of the cases of `Origin` holds for each position in the block map of the large file
 origin_here : (geometry : Geometry) (old new : List ℕ) (i b : ℕ) (rest p : List ℕ) → Fits geometry new → Moves geometry old new i b rest
     → IsPlace Large p → Origin geometry old new i b i p
 origin_here geometry old new i b rest [] fits moves place = absurd place
@@ -101,14 +100,14 @@ origin_here geometry old new i b rest (j ∷ (k ∷ [])) fits moves place =
 origin_here geometry old new i b rest (l ∷ (j ∷ (k ∷ q))) fits moves place =
     Origin.none (deep_none geometry old new i b rest l j k q fits moves place)
 
--- a place of another file
+-- one of the cases of `Origin` holds for each position in the block map of another file
 origin_there : (geometry : Geometry) (old new : List ℕ) (i b : ℕ) (rest : List ℕ) (j : ℕ) (p : List ℕ) → Fits geometry old → 1 ≤ i
     → Moves geometry old new i b rest → j ≢ i → IsPlaceOf geometry new j p → Origin geometry old new i b j p
 origin_there geometry old new i b rest j p fits one moves other place =
     let before = elsewhere_before geometry old new i j p fits moves.alone one other place in
     Origin.kept other before (elsewhere_named geometry old new i j p fits moves.alone one other before)
 
--- each place
+-- one of the cases of `Origin` holds for each position in any block map
 origin : (geometry : Geometry) (old new : List ℕ) (i b : ℕ) (rest : List ℕ) → Rules3To7With geometry old (b ∷ rest) → 1 ≤ i
     → Moves geometry old new i b rest → (j : ℕ) (p : List ℕ) → IsPlaceOf geometry new j p → Origin geometry old new i b j p
 origin geometry old new i b rest sound one moves j p place =
@@ -120,12 +119,12 @@ origin geometry old new i b rest sound one moves j p place =
       | inr other ↦ origin_there geometry old new i b rest j p sound.fits one moves other place
     ]
 
--- an old address was a place of the small file
+-- each of the eight old addresses was a position in the block map of the small file
 old_place : (geometry : Geometry) (old new : List ℕ) (i b x : ℕ) (rest : List ℕ) → IsFile geometry old i → Moves geometry old new i b rest → x < 8
     → IsPlaceOf geometry old i (x ∷ [])
 old_place geometry old new i b x rest file moves h = record { file = file; place = subst (λ f. IsPlace f (x ∷ [])) (sym moves.small) h }
 
--- each number named is a data block's
+-- each block number in a block map of the new image is the number of a data block
 origin_zoned : (geometry : Geometry) (old new : List ℕ) (i b : ℕ) (rest : List ℕ) (j : ℕ) (p : List ℕ) → Rules3To7With geometry old (b ∷ rest)
     → IsFile geometry old i → Moves geometry old new i b rest → Origin geometry old new i b j p → named geometry new j p ≢ 0
     → in_zone geometry (named geometry new j p) ≡ true
@@ -136,7 +135,7 @@ origin_zoned geometry old new i b rest j p sound file moves (Origin.kept other p
     ap (in_zone geometry) is ∙ sound.zoned j p place (λ zero. some (is ∙ zero))
 origin_zoned geometry old new i b rest j p sound file moves (Origin.none zero) some = absurd (some zero)
 
--- no block that is named is free
+-- no block number in a block map of the new image is a free block
 origin_outside : (geometry : Geometry) (old new : List ℕ) (i b : ℕ) (rest : List ℕ) (j : ℕ) (p : List ℕ) → Rules3To7With geometry old (b ∷ rest)
     → IsFile geometry old i → Moves geometry old new i b rest → Origin geometry old new i b j p → IsIn (named geometry new j p) rest → ⊥
 origin_outside geometry old new i b rest j p sound file moves (Origin.fresh e f is) within =
@@ -148,11 +147,11 @@ origin_outside geometry old new i b rest j p sound file moves (Origin.kept other
 origin_outside geometry old new i b rest j p sound file moves (Origin.none zero) within =
     let from = free_from moves.free (named geometry new j p) within in omega (arith, from, zero, sound.fits.i_list)
 
--- lists of one number are the same if the numbers are
+-- lists with the same first item and rest are equal only if the first items are
 head_same : (x y : ℕ) (p : List ℕ) → x ∷ p ≡ y ∷ p → x ≡ y
 head_same x y p e = cc
 
--- no block is named twice
+-- no two positions in the block map of the new image point to the same block
 origin_apart : (geometry : Geometry) (old new : List ℕ) (i b : ℕ) (rest : List ℕ) (j k : ℕ) (p r : List ℕ) → Rules3To7With geometry old (b ∷ rest)
     → IsFile geometry old i → Moves geometry old new i b rest → Origin geometry old new i b j p → Origin geometry old new i b k r
     → named geometry new j p ≢ 0 → named geometry new j p ≡ named geometry new k r → (j ≡ k) × (p ≡ r)
@@ -181,7 +180,7 @@ origin_apart geometry old new i b rest j k p r sound file moves (Origin.kept oth
 origin_apart geometry old new i b rest j k p r sound file moves (Origin.kept other place is) (Origin.kept other' place' is') some same =
     sound.apart j k p r place place' (λ zero. some (is ∙ zero)) (sym is ∙ (same ∙ is'))
 
--- the kinds stay
+-- making a file large does not change the kinds
 large_kinds : (geometry : Geometry) (old new : List ℕ) (i b : ℕ) (rest : List ℕ) → Rules3To7With geometry old (b ∷ rest) → IsFile geometry old i
     → Moves geometry old new i b rest → (j : ℕ) → 1 ≤ j → j ≤ geometry.last_inode → kind_at geometry new j ≡ kind_at geometry old j
 large_kinds geometry old new i b rest sound file moves j first last =
@@ -191,11 +190,11 @@ large_kinds geometry old new i b rest sound file moves j first last =
           (mode_kept geometry old new j (elsewhere_inode geometry old new i j sound.fits moves.alone file.first first last other))
     ]
 
--- a large file isn't small
+-- the block maps Large and Small are different
 large_small : Large ≡ Small → ⊥
 large_small e = cc
 
--- the sizes keep their rule
+-- rule 4 holds after a file was made large
 large_sizes : (geometry : Geometry) (old new : List ℕ) (i b : ℕ) (rest : List ℕ) → Rules3To7With geometry old (b ∷ rest) → IsFile geometry old i
     → Moves geometry old new i b rest → HasSizes geometry new
 large_sizes geometry old new i b rest sound file moves =
@@ -215,7 +214,7 @@ large_sizes geometry old new i b rest sound file moves =
           (sound.sizes.links j first last (λ free. used (kinds j first last ∙ free)));
     }
 
--- the rules hold once the file is large
+-- rules 3 to 7 hold after a file was made large
 large_sound : (geometry : Geometry) (old new : List ℕ) (i b : ℕ) (rest : List ℕ) → Rules3To7With geometry old (b ∷ rest) → IsFile geometry old i
     → Moves geometry old new i b rest → Rules3To7With geometry new rest
 large_sound geometry old new i b rest sound file moves =
@@ -230,23 +229,23 @@ large_sound geometry old new i b rest sound file moves =
       outside = λ j p place within. origin_outside geometry old new i b rest j p sound file moves (from j p place) within;
     }
 
--- a place of a small file is an address
+-- position `p` in the block map is one of the eight addresses of a small file
 record IsAddress (p : List ℕ) : Type 0 where
   index : ℕ
   low : index < 8
   is : p ≡ index ∷ []
 
--- each place of a small file is an address
+-- each position in the block map of a small file is an address
 small_place : (p : List ℕ) → IsPlace Small p → IsAddress p
 small_place [] place = absurd place
 small_place (k ∷ []) place = record { index = k; low = place; is = refl }
 small_place (j ∷ (a ∷ p)) place = let none : levels_below Small (a ∷ p) ≡ 0 = small_levels (a ∷ p) in let deep = place.1 in absurd (omega (arith, none, deep))
 
--- the place to which an address moves down
+-- each moved address is a position in the block map of the large file
 moved_place : (x : ℕ) → x < 8 → IsPlace Large (x ∷ (0 ∷ []))
 moved_place x h = (omega arith, omega arith, omega arith)
 
--- each data block is free or named, if it was before
+-- each data block is still free or in a file after a file was made large
 large_covered : (geometry : Geometry) (old new : List ℕ) (i b : ℕ) (rest : List ℕ) → Rules3To7With geometry old (b ∷ rest) → IsFile geometry old i
     → Moves geometry old new i b rest → IsFile geometry new i → IsCovered geometry old (b ∷ rest) → IsCovered geometry new rest
 unfolding IsIn
@@ -280,7 +279,7 @@ large_covered geometry old new i b rest sound file moves file_new covered k zone
       ]
     ]
 
--- the names of the large file are those moved down
+-- the positions in the block map of the large file that point to blocks are those of `moved_down`
 large_names : (geometry : Geometry) (old new : List ℕ) (i b : ℕ) (rest : List ℕ) → Fits geometry new → b ≢ 0 → Moves geometry old new i b rest
     → (p : List ℕ) → IsPlace Large p → is_named geometry new i p ≡ moved_down (is_named geometry old i) p
 large_names geometry old new i b rest fits some moves [] place = absurd place
@@ -308,13 +307,13 @@ large_names geometry old new i b rest fits some moves (j ∷ (k ∷ [])) place =
 large_names geometry old new i b rest fits some moves (l ∷ (j ∷ (k ∷ q))) place =
     unnamed_false geometry new i (l ∷ (j ∷ (k ∷ q))) (deep_none geometry old new i b rest l j k q fits moves place)
 
--- the first eight logical blocks are in the first indirect block
+-- the first eight logical blocks of a large file are the first eight entries of its first indirect block
 first_leaf : (c : ℕ) → c < 8 → (c % 256) ∷ ((c / 256) ∷ []) ≡ c ∷ (0 ∷ [])
 first_leaf c h =
     let rest : c % 256 ≡ c = omega arith in
     let none : c / 256 ≡ 0 = omega arith in ap (λ x. x ∷ ((c / 256) ∷ [])) rest ∙ ap (λ x. c ∷ (x ∷ [])) none
 
--- a last place other than the first eight names nothing
+-- the positions in the block map for logical blocks after the first eight point to no block
 leaf_none : (geometry : Geometry) (old new : List ℕ) (i b : ℕ) (rest : List ℕ) (c : ℕ) (p : List ℕ) → IsLeaf Large c p → 8 ≤ c
     → Origin geometry old new i b i p → named geometry new i p ≡ 0
 leaf_none geometry old new i b rest c p leaf high (Origin.fresh e f is) =
@@ -324,7 +323,7 @@ leaf_none geometry old new i b rest c p leaf high (Origin.moved x e h f is) =
 leaf_none geometry old new i b rest c p leaf high (Origin.kept other place is) = absurd (other refl)
 leaf_none geometry old new i b rest c p leaf high (Origin.none zero) = zero
 
--- nothing is stored for the other logical blocks of the large file
+-- no block number is stored for the logical blocks of the large file after the first eight
 large_stored : (geometry : Geometry) (old new : List ℕ) (i b : ℕ) (rest : List ℕ) (c : ℕ) → Fits geometry new → Moves geometry old new i b rest → 8 ≤ c
     → stored geometry new i Large c ≡ 0
 large_stored geometry old new i b rest c fits moves high =
@@ -335,7 +334,7 @@ large_stored geometry old new i b rest c fits moves high =
           leaf_none geometry old new i b rest c p leaf high (origin_here geometry old new i b rest p fits moves leaf.place)
     ] refl
 
--- the bytes of the file stay
+-- making a file large does not change its bytes
 large_bytes : (geometry : Geometry) (old new : List ℕ) (i b : ℕ) (rest : List ℕ) → Rules3To7With geometry old (b ∷ rest) → IsFile geometry old i
     → Moves geometry old new i b rest → (n : ℕ) → body_byte geometry new i n ≡ body_byte geometry old i n
 large_bytes geometry old new i b rest sound file moves n =
@@ -364,7 +363,7 @@ large_bytes geometry old new i b rest sound file moves n =
     ]
     ∙ sym (body_byte_is geometry old i n ∙ ap (λ f. zone_byte geometry old (stored geometry old i f c) r) moves.small)))
 
--- a file that was made large
+-- moving the addresses to a free block makes a small file large
 pub enlarges : (geometry : Geometry) (old new : List ℕ) (i b : ℕ) (rest : List ℕ) → Rules3To7With geometry old (b ∷ rest) → IsFile geometry old i
     → Moves geometry old new i b rest → Enlarges geometry old new i (b ∷ rest)
 enlarges geometry old new i b rest sound file moves =

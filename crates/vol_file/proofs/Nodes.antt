@@ -26,13 +26,13 @@ use Rattle.vol_file.proofs.Entries.{named_zone}
 use Rattle.vol_file.proofs.Cells.{entry_end}
 use Rattle.vol_file.proofs.StoredNames.{place_same}
 
--- an indirect block of a file holds as many numbers as one of its edition
+-- for a regular file or directory, `pointer_count` is the edition's number of entries in an indirect block
 pub pointers_file : (geometry : Geometry) (image : List ℕ) (i : ℕ) → IsFile geometry image i
     → pointer_count (form_at geometry image i) ≡ (constants geometry.edition).pointers
 pointers_file geometry image i file =
     ap pointer_count (form_file geometry.edition (mode_of geometry image i) file.kind) ∙ pointers_in geometry.edition (mode_of geometry image i)
 
--- the places cleared below a place, by the block map that the file had before
+-- clearing positions below a position, stated with the block map that the file had before
 below_form : (geometry : Geometry) (old mid low : List ℕ) (i bound n level : ℕ) (q others : List ℕ) → mode_of geometry mid i ≡ mode_of geometry old i
     → Clears geometry mid low i (IsPastUnder (is_past (form_at geometry mid i) bound) q 0)
     (past_at geometry mid i (is_past (form_at geometry mid i) bound) (places_below n q level)) others
@@ -42,11 +42,11 @@ below_form geometry old mid low i bound n level q others mode t =
     subst (λ f. Clears geometry mid low i (IsPastUnder (is_past f bound) q 0) (past_at geometry mid i (is_past f bound) (places_below n q level)) others)
     (form_same geometry old mid i mode) t
 
--- a place below one that is past the kept blocks is past them
+-- a position in the block map below an entry that is past the blocks kept by a truncation is past them
 under_past : (form : BlockMap) (bound j : ℕ) (p q : List ℕ) → is_past form bound (j ∷ p) ≡ true → IsUnder (j ∷ p) 0 q → is_past form bound q ≡ true
 under_past form bound j p q on under = past_front form bound j p q on (under_front j 0 p q under)
 
--- an entry or address of the last kept blocks is cleared by clearing the places after them below it
+-- an entry or address in which the blocks kept by a truncation end is cleared by clearing the positions in the block map below it that are past them
 one_parted : (geometry : Geometry) (old mid low : List ℕ) (i b bound rest : ℕ) (level : ℕ → ℕ) (p : List ℕ) (count j k : ℕ) (blocks : List ℕ)
     → k ≡ j + 1 → k ≤ count → Fits geometry old → IsPlaceOf geometry old i (j ∷ p)
     → level j ≡ levels_below (form_at geometry old i) (j ∷ p) → IsNamedAt geometry mid i (j ∷ p) b
@@ -66,7 +66,8 @@ one_parted geometry old mid low i b bound rest level p count j k blocks next few
     from_part_on geometry old mid low i past n level p count j k blocks next few fits place (omega arith) (omega arith)
     (rest_kept (form_at geometry old i) bound rest (j ∷ p) left some) s t
 
--- an entry or address after them that names a block is cleared by clearing the places below it, and then itself
+-- an entry or address after the blocks kept by a truncation that points to a block is cleared by clearing the positions in the block map below it and
+-- then itself
 one_cleared : (geometry : Geometry) (old mid low new : List ℕ) (i b bound rest : ℕ) (level : ℕ → ℕ) (p : List ℕ) (count j k : ℕ) (blocks : List ℕ)
     → k ≡ j + 1 → k ≤ count → Fits geometry old → IsPlaceOf geometry old i (j ∷ p)
     → level j ≡ levels_below (form_at geometry old i) (j ∷ p) → IsNamedAt geometry mid i (j ∷ p) b
@@ -92,12 +93,12 @@ one_cleared geometry old mid low new i b bound rest level p count j k blocks nex
     from_some_on geometry old mid low new i past n b level p count j k blocks next few fits place (omega arith) (omega arith) is
     (λ q front. past_front (form_at geometry old i) bound j p q on front) s t u
 
--- one level for all entries
+-- the same number of levels for all entries
 abbrev pub same_level : ℕ → ℕ → ℕ
 same_level d x = d
 
--- the entries of block m from entry j on are cleared after the first `kept` logical blocks below it, wherever a place with
--- `level` levels below it named the block
+-- entry `j` of block `m` and the later entries are cleared after the first `kept` logical blocks below `m`, if a position in the block map with
+-- `level` levels below it pointed to `m`
 abbrev pub ClearsEntries : Geometry → List ℕ → List ℕ → ℕ → ℕ → ℕ → ℕ → Type 0
 ClearsEntries geometry old new m level kept j = (i a bound : ℕ) (p blocks : List ℕ) → Rules3To7With geometry old blocks
     → IsNamedAt geometry old i (a ∷ p) m → levels_below (form_at geometry old i) (a ∷ p) ≡ level
@@ -105,16 +106,16 @@ ClearsEntries geometry old new m level kept j = (i a bound : ℕ) (p blocks : Li
     → ClearsFrom geometry old new i (is_past (form_at geometry old i) bound) (constants geometry.edition).pointers (same_level (level - 1)) (a ∷ p)
     (constants geometry.edition).pointers j blocks
 
--- the logical block after the kept ones, at a place
+-- the first logical block below a position in the block map that isn't kept, if `kept` logical blocks below it are
 abbrev bound_at : Geometry → List ℕ → ℕ → List ℕ → ℕ → ℕ
 bound_at geometry image i q kept = first_block (form_at geometry image i) q + kept
 
--- the number of blocks kept up to it
+-- the number of kept logical blocks, computed from that block
 bound_is : (geometry : Geometry) (image : List ℕ) (i : ℕ) (q : List ℕ) (kept : ℕ)
     → kept ≡ bound_at geometry image i q kept - first_block (form_at geometry image i) q
 bound_is geometry image i q kept = omega arith
 
--- if there are no levels below a block, nothing lies below it
+-- if block `m` has no levels below it, there is nothing below it to clear
 pub below_none : (geometry : Geometry) (image : List ℕ) (m kept : ℕ) → ClearsBelow geometry image image m 0 kept
 below_none geometry image m kept i a bound p blocks sound is level left =
     let past = is_past (form_at geometry image i) bound in
@@ -125,7 +126,7 @@ below_none geometry image m kept i a bound p blocks sound is level left =
     let here = place_front (form_at geometry image i) q (under.0.index ∷ (a ∷ p)) place.place under.0.front in
     absurd (omega (arith, here.1))))
 
--- before the first entry is cleared
+-- before the first step no entry has been cleared
 pub entries_start : (geometry : Geometry) (image : List ℕ) (m level kept j : ℕ) → j ≡ (constants geometry.edition).pointers
     → ClearsEntries geometry image image m level kept j
 entries_start geometry image m level kept j e i a bound p blocks sound is deep left =
@@ -134,7 +135,7 @@ entries_start geometry image m level kept j e i a bound p blocks sound is deep l
     (constants geometry.edition).pointers j blocks e
     sound (λ x place. let low : x < pointer_count (form_at geometry image i) = place.place.0 in omega arith)
 
--- the entries before the one in which the kept blocks end are cleared already
+-- the entries before the entry in which the blocks kept by a truncation end are cleared already
 entries_kept : (geometry : Geometry) (old new : List ℕ) (m level kept j : ℕ) → 1 ≤ level → j ≤ (constants geometry.edition).pointers
     → j ≤ kept / (constants geometry.edition).pointers ^ (level - 1)
     → ClearsEntries geometry old new m level kept j → ClearsEntries geometry old new m level kept 0
@@ -150,7 +151,7 @@ entries_kept geometry old new m level kept (suc j) some few within cleared i a b
     (λ q place front. entry_kept (form_at geometry old i) n level j (suc j) a bound kept p q many deep left (omega arith) within place.place front)
     (cleared i a bound p blocks sound is deep left)) i a bound p blocks sound is deep left
 
--- once all entries but those are cleared, everything below the block is
+-- if the entry in which the kept blocks end and all later entries are cleared, everything below the block is cleared
 pub entries_end : (geometry : Geometry) (old new : List ℕ) (m level kept j : ℕ) → 1 ≤ level → j ≤ (constants geometry.edition).pointers
     → j ≤ kept / (constants geometry.edition).pointers ^ (level - 1)
     → ClearsEntries geometry old new m level kept j → ClearsBelow geometry old new m level kept
@@ -164,7 +165,7 @@ entries_end geometry old new m (suc d) kept j some few within cleared i a bound 
     (subst (λ x. Clears geometry old new i (IsPastUnder past (a ∷ p) 0) (past_at geometry old i past (places_among n (same_level x) (a ∷ p) 0 (n - 0))) blocks) less
     (entries_kept geometry old new m (suc d) kept j some few within cleared i a bound p blocks sound is deep left))
 
--- the number at entry j is the entry's name, while later entries are cleared
+-- the number in entry `j` is the number at its position in the block map while later entries are cleared
 entries_named : (geometry : Geometry) (old new : List ℕ) (m level kept j k i a bound : ℕ) (p blocks : List ℕ) → ClearsEntries geometry old new m level kept k
     → Rules3To7With geometry old blocks → IsNamedAt geometry old i (a ∷ p) m → levels_below (form_at geometry old i) (a ∷ p) ≡ level
     → kept ≡ bound - first_block (form_at geometry old i) (a ∷ p)
@@ -176,7 +177,7 @@ entries_named geometry old new m level kept j k i a bound p blocks cleared sound
     entry_named geometry new (past_at geometry old i past (places_among n (same_level (level - 1)) (a ∷ p) k (n - k)) ++ blocks) i j a m p s.sound
     (from_above geometry old new i past n m (same_level (level - 1)) (a ∷ p) n k blocks is s)
 
--- an entry that isn't 0 names a block
+-- an entry that isn't 0 points to a block
 entries_at : (geometry : Geometry) (old new : List ℕ) (m level kept j k b i a bound : ℕ) (p blocks : List ℕ) → ClearsEntries geometry old new m level kept k
     → Rules3To7With geometry old blocks → IsNamedAt geometry old i (a ∷ p) m → levels_below (form_at geometry old i) (a ∷ p) ≡ level
     → kept ≡ bound - first_block (form_at geometry old i) (a ∷ p)
@@ -191,7 +192,7 @@ entries_at geometry old new m level kept j k b i a bound p blocks cleared sound 
       some = not_zero;
     }
 
--- the entry lies within the image
+-- an entry of block `m` is within the image
 pub entries_room : (geometry : Geometry) (old new : List ℕ) (m level kept j k : ℕ) → ClearsEntries geometry old new m level kept k → IsNamedAtLevel geometry old m level
     → j < (constants geometry.edition).pointers → 512 * m + (constants geometry.edition).number_bytes * (j + 1) ≤ length new
 entries_room geometry old new m level kept j k cleared node low =
@@ -214,7 +215,7 @@ entries_none geometry old new m level kept j k next few some none cleared i a bo
     (entries_named geometry old new m level kept j k i a bound p blocks cleared sound is deep left ∙ none)
     (cleared i a bound p blocks sound is deep left)
 
--- the block that an entry names has one fewer level below it
+-- the block to which an entry points has one level fewer below it
 pub entries_node : (geometry : Geometry) (old new : List ℕ) (m level kept j k b : ℕ) → ClearsEntries geometry old new m level kept k
     → IsNamedAtLevel geometry old m level → 1 ≤ level → j < (constants geometry.edition).pointers → b ≡ number geometry.edition new (512 * m) j → b ≢ 0
     → IsNamedAtLevel geometry new b (level - 1)
@@ -235,7 +236,7 @@ entries_node geometry old new m level kept j k b cleared node some low number_is
       below = ap (λ f. levels_below f (j ∷ (node.index ∷ node.place))) form ∙ ap (λ x. x - 1) node.below;
     }
 
--- the entry still names its block once the places below it are cleared
+-- an entry still points to its block after the positions in the block map below it are cleared
 pub entries_entry : (geometry : Geometry) (old mid low : List ℕ) (m level kept rest j k b : ℕ) → ClearsEntries geometry old mid m level kept k
     → IsNamedAtLevel geometry old m level → 1 ≤ level → j < (constants geometry.edition).pointers → b ≡ number geometry.edition mid (512 * m) j → b ≢ 0
     → ClearsBelow geometry mid low b (level - 1) rest → HasPointer geometry low m j b
@@ -263,7 +264,7 @@ entries_entry geometry old mid low m level kept rest j k b cleared node some ind
       is = below_named geometry mid low node.file beyond b (j ∷ q) given next.blocks next.is t;
     }
 
--- the kept blocks that are left at an entry
+-- the number of logical blocks kept by a truncation that are at or after entry `j`
 entries_rest : (geometry : Geometry) (old : List ℕ) (level kept rest j i a bound : ℕ) (p : List ℕ) → IsFile geometry old i
     → levels_below (form_at geometry old i) (a ∷ p) ≡ level → kept ≡ bound - first_block (form_at geometry old i) (a ∷ p)
     → rest ≡ kept - j * (constants geometry.edition).pointers ^ (level - 1)
@@ -271,7 +272,7 @@ entries_rest : (geometry : Geometry) (old : List ℕ) (level kept rest j i a bou
 entries_rest geometry old level kept rest j i a bound p file deep left rest_is =
     entry_rest (form_at geometry old i) (constants geometry.edition).pointers level j a bound kept rest p (pointers_file geometry old i file) deep left rest_is
 
--- an entry in which the kept blocks end is cleared once the places after them below it are
+-- an entry in which the blocks kept by a truncation end is cleared by clearing the positions in the block map below it that are past them
 pub entries_part : (geometry : Geometry) (old mid low : List ℕ) (m level kept rest j k b : ℕ) → k ≡ j + 1 → k ≤ (constants geometry.edition).pointers
     → 1 ≤ level → b ≡ number geometry.edition mid (512 * m) j → b ≢ 0
     → rest ≡ kept - j * (constants geometry.edition).pointers ^ (level - 1) → rest ≢ 0
@@ -286,7 +287,7 @@ entries_part geometry old mid low m level kept rest j k b next few some number_i
     (entry_place geometry old i j a p is.place (omega arith) (omega arith)) (sym (ap (λ x. x - 1) deep)) at
     (entries_rest geometry old level kept rest j i a bound p is.place.file deep left rest_is) more s below
 
--- an entry after them that names a block is cleared once the block is given back
+-- an entry after the blocks kept by a truncation that points to a block is cleared after the block is freed
 pub entries_some : (geometry : Geometry) (old mid low new : List ℕ) (m level kept rest j k b : ℕ) → k ≡ j + 1 → k ≤ (constants geometry.edition).pointers
     → 1 ≤ level → b ≡ number geometry.edition mid (512 * m) j → b ≢ 0
     → rest ≡ kept - j * (constants geometry.edition).pointers ^ (level - 1) → rest ≡ 0
@@ -313,20 +314,20 @@ entries_some geometry old mid low new m level kept rest j k b next few some numb
     (entry_place geometry old i j a p is.place (omega arith) (omega arith)) (sym (ap (λ x. x - 1) deep)) at at_rest none s below
     (λ others. drop i a p others block)
 
--- the addresses of file i from address k on are cleared after its first `kept` logical blocks
+-- address `k` of file `i` and the later addresses are cleared after its first `kept` logical blocks
 abbrev pub ClearsAddresses : Geometry → List ℕ → List ℕ → ℕ → ℕ → ℕ → Type 0
 ClearsAddresses geometry old new i kept k = (blocks : List ℕ) → Rules3To7With geometry old blocks
     → ClearsFrom geometry old new i (is_past (form_at geometry old i) kept) (constants geometry.edition).pointers (levels (form_at geometry old i)) []
     (first_count (form_at geometry old i)) k blocks
 
--- before the first address is cleared
+-- before the first step no address has been cleared
 pub addresses_start : (geometry : Geometry) (image : List ℕ) (i kept k : ℕ) → k ≡ first_count (form_at geometry image i)
     → ClearsAddresses geometry image image i kept k
 addresses_start geometry image i kept k e blocks sound =
     from_start geometry image i (is_past (form_at geometry image i) kept) (constants geometry.edition).pointers (levels (form_at geometry image i)) []
     (first_count (form_at geometry image i)) k blocks e sound (λ x place. place.place)
 
--- an address that isn't 0 names a block
+-- an address that isn't 0 points to a block
 addresses_at : (geometry : Geometry) (old new : List ℕ) (i kept j k b : ℕ) (blocks : List ℕ) → IsFile geometry old i → ClearsAddresses geometry old new i kept k
     → Rules3To7With geometry old blocks → j < first_count (form_at geometry old i)
     → b ≡ address_at geometry.edition new (inode_place geometry.edition i) j → b ≢ 0 → IsNamedAt geometry new i (j ∷ []) b
@@ -346,7 +347,7 @@ addresses_none geometry old new i kept j k next few file none cleared blocks sou
     (first_count (form_at geometry old i)) j k blocks
     next few sound.fits (record { file = file; place = omega arith }) (omega arith) (omega arith) none (cleared blocks sound)
 
--- the block that an address names has as many levels below it as the address
+-- the block to which an address points has as many levels below it as the address
 pub addresses_node : (geometry : Geometry) (old new : List ℕ) (i kept j k b : ℕ) (blocks : List ℕ) → IsFile geometry old i → ClearsAddresses geometry old new i kept k
     → Rules3To7With geometry old blocks → j < first_count (form_at geometry old i)
     → b ≡ address_at geometry.edition new (inode_place geometry.edition i) j → b ≢ 0 → IsNamedAtLevel geometry new b (levels (form_at geometry old i) j)
@@ -363,7 +364,7 @@ addresses_node geometry old new i kept j k b blocks file cleared sound low is no
       below = ap (λ f. levels f j) (form_same geometry old new i s.mode);
     }
 
--- the address still names its block once the places below it are cleared
+-- an address still points to its block after the positions in the block map below it are cleared
 pub addresses_address : (geometry : Geometry) (old mid low : List ℕ) (i kept rest j k b : ℕ) (blocks : List ℕ) → IsFile geometry old i
     → ClearsAddresses geometry old mid i kept k → Rules3To7With geometry old blocks → j < first_count (form_at geometry old i)
     → b ≡ address_at geometry.edition mid (inode_place geometry.edition i) j → b ≢ 0
@@ -378,7 +379,7 @@ addresses_address geometry old mid low i kept rest j k b blocks file cleared sou
     below i j bound [] next.blocks next.sound next.is next.below (bound_is geometry mid i (j ∷ []) rest) in
     record { blocks = given ++ next.blocks; sound = t.sound; is = below_named geometry mid low i past b (j ∷ []) given next.blocks next.is t }
 
--- an address in which the kept blocks end is cleared once the places after them below it are
+-- an address in which the blocks kept by a truncation end is cleared by clearing the positions in the block map below it that are past them
 pub addresses_part : (geometry : Geometry) (old mid low : List ℕ) (i kept rest j k b : ℕ) → k ≡ j + 1 → k ≤ first_count (form_at geometry old i)
     → IsFile geometry old i → b ≡ address_at geometry.edition mid (inode_place geometry.edition i) j → b ≢ 0
     → rest ≡ kept - first_at (form_at geometry old i) j → rest ≢ 0
@@ -389,7 +390,7 @@ addresses_part geometry old mid low i kept rest j k b next few file is not_zero 
     (record { file = file; place = omega arith }) refl
     (addresses_at geometry old mid i kept j k b blocks file cleared sound (omega arith) is not_zero) rest_is some (cleared blocks sound) below
 
--- an address after them that names a block is cleared once the block is given back
+-- an address after the blocks kept by a truncation that points to a block is cleared after the block is freed
 pub addresses_some : (geometry : Geometry) (old mid low new : List ℕ) (i kept rest j k b : ℕ) → k ≡ j + 1 → k ≤ first_count (form_at geometry old i)
     → IsFile geometry old i → b ≡ address_at geometry.edition mid (inode_place geometry.edition i) j → b ≢ 0
     → rest ≡ kept - first_at (form_at geometry old i) j → rest ≡ 0
@@ -400,7 +401,7 @@ addresses_some geometry old mid low new i kept rest j k b next few file is not_z
     (record { file = file; place = omega arith }) refl
     (addresses_at geometry old mid i kept j k b blocks file cleared sound (omega arith) is not_zero) rest_is none (cleared blocks sound) below drop
 
--- all blocks of a file past the kept ones are those of its addresses
+-- the blocks of a file past the kept ones are those at and below its addresses
 all_past : (geometry : Geometry) (image : List ℕ) (i : ℕ) (past : List ℕ → Bool) → IsFile geometry image i
     → past_at geometry image i past
     (places_among (constants geometry.edition).pointers (levels (form_at geometry image i)) [] 0 (first_count (form_at geometry image i) - 0))
@@ -412,7 +413,7 @@ all_past geometry image i past file =
     ap (λ c. past_at geometry image i past (places_among (constants geometry.edition).pointers (levels form) [] 0 c)) none
     ∙ ap (λ n. past_at geometry image i past (places_among n (levels form) [] 0 (first_count form))) (sym (pointers_file geometry image i file))
 
--- once all addresses are cleared, all places are
+-- if all addresses are cleared, all positions in the block map past the blocks kept by a truncation are cleared
 pub addresses_end : (geometry : Geometry) (old new : List ℕ) (i kept k : ℕ) → k ≡ 0 → IsFile geometry old i → ClearsAddresses geometry old new i kept k
     → (blocks : List ℕ) → Rules3To7With geometry old blocks → ClearsPast geometry old new i kept blocks
 addresses_end geometry old new i kept k end file cleared blocks sound =

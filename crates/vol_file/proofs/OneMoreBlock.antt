@@ -1,4 +1,4 @@
--- One more place of a file names a block: the first free one, which was zeroed.
+-- One more position in the block map of a file points to a block: the first free block, which was cleared.
 use Rattle.std.proofs.Common.{◌≡◌, ◌≢◌, ℕ, ◌+◌, ◌*◌, ◌/◌, ◌%◌, ◌<◌, ◌≤◌, ◌∙◌, sym, ap, subst, List, [], ◌∷◌, get_or, refl, arith, inl, inr, true, false, Bool, cond, None, Some, eqb}
 use Rattle.std.specs.Prelude.{◌&&◌, ◌||◌, not}
 use Rattle.std.specs.Option.{option_map_or}
@@ -34,11 +34,11 @@ use Rattle.vol_file.proofs.StoredNames.{MayStand, stores_only, stores_sound, pla
 use Rattle.vol_file.proofs.TakenBlocks.{IsUnnamed, stays_block, stays_inode, zone_two, stays_named, stays_before, stays_elsewhere, first_unnamed, first_zoned, first_once, taken_sound}
 use Rattle.vol_file.proofs.Fronts.{same_or}
 
--- a byte at the same place
+-- if byte `b` of the image is 0 and `a` is `b`, byte `a` is 0
 byte_at : (image : List ℕ) (a b : ℕ) → a ≡ b → get_or image b 0 ≡ 0 → get_or image a 0 ≡ 0
 byte_at image a b e zero = ap (λ x. get_or image x 0) e ∙ zero
 
--- a number of a block of zeros is 0
+-- each number in a block of zeros is 0
 pub number_zero : (edition : Edition) (image : List ℕ) (b x : ℕ) → ((r : ℕ) → r < 512 → get_or image (512 * b + r) 0 ≡ 0)
     → x < (constants edition).pointers → number edition image (512 * b) x ≡ 0
 number_zero V6 image b x zero h =
@@ -52,7 +52,7 @@ number_zero V7 image b x zero h =
     let four : get_or image (512 * b + 4 * x + 2 + 1) 0 ≡ 0 = byte_at image (512 * b + 4 * x + 2 + 1) (512 * b + (4 * x + 3)) (omega arith) (zero (4 * x + 3) (omega arith)) in
     omega (arith, one, two, three, four)
 
--- the bytes of a body stay if those of each last place's block do
+-- the bytes of a body are unchanged if the bytes of the block at each position in the block map for a logical block are unchanged
 pub body_same : (geometry : Geometry) (old new : List ℕ) (i : ℕ) → Fits geometry old → form_at geometry new i ≡ form_at geometry old i
     → ((b : ℕ) (p : List ℕ) (r : ℕ) → last_place (form_at geometry old i) b ≡ Some p → r < 512
     → zone_byte geometry new (named geometry new i p) r ≡ zone_byte geometry old (named geometry old i p) r)
@@ -66,7 +66,7 @@ body_same geometry old new i fits form same n =
       | Some p ↦ λ e. same (n / 512) p (n % 512) e (omega arith)
     ] refl ∙ sym (body_byte_is geometry old i n)))
 
--- if all places of a list except one are counted as before, and that one occurs once, one fewer is counted
+-- if two tests differ only on an item that occurs once in a list, one fewer item is counted
 pub count_less : (f g : List ℕ → Bool) (q : List ℕ) (qs : List (List ℕ)) (n : ℕ) → count_by (bytes_eq q) qs ≡ n → f q ≡ true → g q ≡ false
     → ((p : List ℕ) → IsAmong p qs → p ≢ q → g p ≡ f p) → count_by g qs + n ≡ count_by f qs
 count_less f g q [] n once here gone others = omega (arith, once)
@@ -87,15 +87,15 @@ count_less f g q (p ∷ qs) n once here gone others =
           omega (arith, rest, split_f, split_g, split, once, none, equal)
     ]
 
--- a place that names 0 names nothing
+-- a position in the block map that holds 0 fails the test `is_named`
 pub unnamed_false : (geometry : Geometry) (image : List ℕ) (i : ℕ) (p : List ℕ) → named geometry image i p ≡ 0 → is_named geometry image i p ≡ false
 unnamed_false geometry image i p e = rw e refl
 
--- a place that names another number names something
+-- a position in the block map that doesn't hold 0 passes the test `is_named`
 pub named_true : (geometry : Geometry) (image : List ℕ) (i : ℕ) (p : List ℕ) → named geometry image i p ≢ 0 → is_named geometry image i p ≡ true
 named_true geometry image i p some = ap not (ne_eqb (named geometry image i p) 0 some)
 
--- one fewer wanted place lacks a name
+-- after one position in `wanted` gets a block, one fewer is left to fill
 lacking_less : (geometry : Geometry) (old new : List ℕ) (i : ℕ) (q : List ℕ) (wanted : List ℕ → Bool) → form_at geometry new i ≡ form_at geometry old i
     → IsPlaceOf geometry old i q → wanted q ≡ true → is_named geometry old i q ≡ false → is_named geometry new i q ≡ true
     → ((p : List ℕ) → IsPlaceOf geometry old i p → p ≢ q → is_named geometry new i p ≡ is_named geometry old i p)
@@ -109,7 +109,7 @@ lacking_less geometry old new i q wanted form place want before after others =
     (λ p among differ. ap (λ t. wanted p && not t)
     (others p (record { file = place.file; place = among_places (form_at geometry old i) p among }) differ))
 
--- the bytes of file i stay if a zeroed block is put at one of its places
+-- storing the number of a cleared block at a position in the block map does not change the bytes of file `i`
 extends_bytes : (geometry : Geometry) (old mid new : List ℕ) (i b : ℕ) (q rest : List ℕ) → Rules3To7With geometry old (b ∷ rest) → IsFile geometry old i
     → IsPlaceOf geometry old i q → named geometry old i q ≡ 0 → Popped geometry old mid b rest → Rules3To7With geometry mid rest
     → mode_of geometry mid i ≡ mode_of geometry old i
@@ -150,7 +150,7 @@ extends_bytes geometry old mid new i b q rest sound file place none popped after
           (zone_two geometry old (named geometry old i p) sound.fits zone) (unnamed i p place_p)).bytes r low)
     ])
 
--- each data block is free or named, if it was before and the first free block is now named
+-- each data block is still free or in a file after the first free block is stored at a position in the block map
 extends_covered : (geometry : Geometry) (old new : List ℕ) (i b : ℕ) (q rest : List ℕ) → Rules3To7With geometry old (b ∷ rest) → IsFile geometry old i
     → IsPlaceOf geometry old i q → named geometry old i q ≡ 0 → StaysElsewhere geometry old new i → mode_of geometry new i ≡ mode_of geometry old i
     → named geometry new i q ≡ b → b ≢ 0
@@ -180,7 +180,7 @@ extends_covered geometry old new i b q rest sound file place none stays mode her
       )
     ]
 
--- the names after one place was named
+-- the positions in the block map that point to blocks after one more position got a block
 extends_names : (geometry : Geometry) (old new : List ℕ) (i b : ℕ) (q : List ℕ) → named geometry old i q ≡ 0 → named geometry new i q ≡ b → b ≢ 0
     → ((p : List ℕ) → IsPlaceOf geometry old i p → p ≢ q → named geometry new i p ≡ named geometry old i p)
     → (p : List ℕ) → IsPlaceOf geometry old i p → is_named geometry new i p ≡ (is_named geometry old i p || bytes_eq p q)
@@ -195,7 +195,7 @@ extends_names geometry old new i b q none here some only p place =
           same ∙ sym (ap (λ t. is_named geometry old i p || t) (other_place p q differ) ∙ or-false (is_named geometry old i p))
     ]
 
--- the blocks that stay free keep their bytes if the first was taken and put at a place
+-- storing the first free block at a position in the block map does not change the bytes of the other free blocks
 keeps_stored : (geometry : Geometry) (old mid new : List ℕ) (i b : ℕ) (q rest : List ℕ) → Rules3To7With geometry old (b ∷ rest)
     → Popped geometry old mid b rest → Rules3To7With geometry mid rest → Stores geometry mid new i q b rest → KeepsBlocks old new rest
 keeps_stored geometry old mid new i b q rest sound popped after_take stores k r within low =
@@ -204,7 +204,7 @@ keeps_stored geometry old mid new i b q rest sound popped after_take stores k r 
     stores.bytes k r zone (λ p place deep e. after_take.outside i p place (subst (λ x. IsIn x rest) (sym e) within)) low
     ∙ (stays_block geometry old mid b 512 k popped.stays (omega arith) (zone_two geometry old k sound.fits zone) other).bytes r low
 
--- the block taken is put at a place that named nothing
+-- storing the first free block at a position in the block map that pointed to no block gives this position a block
 pub extends_one : (geometry : Geometry) (old mid new : List ℕ) (i b : ℕ) (q rest : List ℕ) (wanted : List ℕ → Bool)
     → Rules3To7With geometry old (b ∷ rest) → IsPlaceOf geometry old i q → named geometry old i q ≡ 0 → wanted q ≡ true
     → Popped geometry old mid b rest → Stores geometry mid new i q b rest

@@ -1,4 +1,4 @@
--- Laws of the lists of blocks that are named by places past the kept blocks.
+-- Laws of the lists of blocks at positions in the block map past the blocks kept by a truncation.
 use Rattle.std.proofs.Common.{◌≡◌, ℕ, zero, suc, ◌+◌, ◌<◌, ◌≤◌, ◌∙◌, Bool, true, false, sym, ap, List, [], ◌∷◌, ◌++◌, filter, cond, refl, arith, inl}
 use Rattle.std.proofs.lemmas.List.Elements.{filter-append}
 use Rattle.std.specs.List.{flat_map, range_with_len}
@@ -11,33 +11,33 @@ use Rattle.vol_layout.proofs.PlaceLaws.{front_above}
 use Rattle.vol_file.specs.Clears.{blocks_at, places_among, places_below}
 use Rattle.vol_file.proofs.BlockLists.{at_nil, at_append, at_zero, at_some, at_same}
 
--- the blocks named by those of some places that are past the kept blocks
+-- the blocks at those of some positions in the block map that are past the blocks kept by a truncation
 abbrev pub past_at : Geometry → List ℕ → ℕ → (List ℕ → Bool) → List (List ℕ) → List ℕ
 past_at geometry image i past ps = blocks_at geometry image i (filter past ps)
 
--- those of two lists of places
+-- the blocks for two joined lists of positions in the block map are those for the first followed by those for the second
 pub past_append : (geometry : Geometry) (image : List ℕ) (i : ℕ) (past : List ℕ → Bool) (ps qs : List (List ℕ))
     → past_at geometry image i past (ps ++ qs) ≡ past_at geometry image i past ps ++ past_at geometry image i past qs
 past_append geometry image i past ps qs =
     ap (blocks_at geometry image i) (filter-append past ps qs) ∙ at_append geometry image i (filter past ps) (filter past qs)
 
--- a kept place adds nothing
+-- a kept position in the block map adds nothing to the list
 pub past_kept : (geometry : Geometry) (image : List ℕ) (i : ℕ) (past : List ℕ → Bool) (p : List ℕ) (ps : List (List ℕ)) → past p ≡ false
     → past_at geometry image i past (p ∷ ps) ≡ past_at geometry image i past ps
 past_kept geometry image i past p ps e = ap (λ t. blocks_at geometry image i (cond t (p ∷ filter past ps) (filter past ps))) e
 
--- another place is one of the list
+-- a position in the block map past the blocks kept by a truncation is one of the positions in the list
 past_here : (geometry : Geometry) (image : List ℕ) (i : ℕ) (past : List ℕ → Bool) (p : List ℕ) (ps : List (List ℕ)) → past p ≡ true
     → past_at geometry image i past (p ∷ ps) ≡ blocks_at geometry image i (p ∷ filter past ps)
 past_here geometry image i past p ps e = ap (λ t. blocks_at geometry image i (cond t (p ∷ filter past ps) (filter past ps))) e
 
--- it adds the block that it names
+-- a position in the block map past the blocks kept by a truncation adds the block to which it points
 pub past_some : (geometry : Geometry) (image : List ℕ) (i b : ℕ) (past : List ℕ → Bool) (p : List ℕ) (ps : List (List ℕ)) → past p ≡ true
     → named geometry image i p ≡ b → (b ≡ 0 → ⊥) → past_at geometry image i past (p ∷ ps) ≡ b ∷ past_at geometry image i past ps
 past_some geometry image i b past p ps e is some =
     past_here geometry image i past p ps e ∙ at_some geometry image i b p (filter past ps) is some
 
--- a place that names nothing if it is past the kept blocks adds nothing
+-- a position in the block map past the blocks kept by a truncation that points to no block adds nothing
 past_zero : (geometry : Geometry) (image : List ℕ) (i : ℕ) (past : List ℕ → Bool) (p : List ℕ) (ps : List (List ℕ))
     → (past p ≡ true → named geometry image i p ≡ 0) → past_at geometry image i past (p ∷ ps) ≡ past_at geometry image i past ps
 past_zero geometry image i past p ps none =
@@ -46,7 +46,7 @@ past_zero geometry image i past p ps none =
       | false ↦ λ e. past_kept geometry image i past p ps e
     ] refl
 
--- a place that names the same in both images
+-- if a position in the block map holds the same number in both images, adding it keeps the lists of blocks equal
 past_same : (geometry : Geometry) (old new : List ℕ) (i : ℕ) (past : List ℕ → Bool) (p : List ℕ) (ps : List (List ℕ))
     → named geometry new i p ≡ named geometry old i p → past_at geometry new i past ps ≡ past_at geometry old i past ps
     → past_at geometry new i past (p ∷ ps) ≡ past_at geometry old i past (p ∷ ps)
@@ -57,7 +57,7 @@ past_same geometry old new i past p ps same rest =
       | false ↦ λ e. past_kept geometry new i past p ps e ∙ (rest ∙ sym (past_kept geometry old i past p ps e))
     ] refl
 
--- lists of places that name the same, one after another
+-- lists of positions in the block map that hold the same numbers in both images, joined, give the same blocks
 flat_same : (geometry : Geometry) (old new : List ℕ) (i : ℕ) (past : List ℕ → Bool) (f : ℕ → List (List ℕ)) (from count n : ℕ) → from + count ≤ n
     → ((x : ℕ) → x < n → past_at geometry new i past (f x) ≡ past_at geometry old i past (f x))
     → past_at geometry new i past (flat_map f (range_with_len from count)) ≡ past_at geometry old i past (flat_map f (range_with_len from count))
@@ -72,7 +72,7 @@ flat_same geometry old new i past f from (suc count) n fit same =
     ∙ (ap (λ xs. past_at geometry old i past (f from) ++ xs) later
     ∙ sym (past_append geometry old i past (f from) rest)))
 
--- lists of places that name nothing, one after another
+-- lists of positions in the block map that give no blocks, joined, give no blocks
 pub flat_none : (geometry : Geometry) (image : List ℕ) (i : ℕ) (past : List ℕ → Bool) (f : ℕ → List (List ℕ)) (from count n : ℕ) → from + count ≤ n
     → ((x : ℕ) → x < n → past_at geometry image i past (f x) ≡ [])
     → past_at geometry image i past (flat_map f (range_with_len from count)) ≡ []
@@ -83,7 +83,7 @@ flat_none geometry image i past f from (suc count) n fit none =
     ∙ (ap (λ xs. xs ++ past_at geometry image i past rest) (none from (omega arith))
     ∙ flat_none geometry image i past f (from + 1) count n (omega arith) none)
 
--- if the places at or below a place name the same in both images, so do the places from it on
+-- if the positions in the block map at and below a position hold the same numbers in both images, the list of them gives the same blocks
 from_same : (geometry : Geometry) (old new : List ℕ) (i : ℕ) (past : List ℕ → Bool) (form : BlockMap) (n d a : ℕ) (p : List ℕ) → n ≤ pointer_count form
     → IsPlace form (a ∷ p) → d ≤ levels_below form (a ∷ p)
     → ((q : List ℕ) → IsPlace form q → IsFront (a ∷ p) q → named geometry new i q ≡ named geometry old i q)
@@ -96,7 +96,7 @@ from_same geometry old new i past form n (suc d) a p many place deep same =
     (λ x h. from_same geometry old new i past form n d x (a ∷ p) many (omega arith, omega arith, place) (omega arith)
     (λ q place_q front. same q place_q (front_above q p x a front))))
 
--- if the places below a place name the same in both images, so do those listed below it
+-- if the positions in the block map at and below a position hold the same numbers in both images, the list of those below it gives the same blocks
 pub below_same : (geometry : Geometry) (old new : List ℕ) (i : ℕ) (past : List ℕ → Bool) (form : BlockMap) (n d a : ℕ) (p : List ℕ) → n ≤ pointer_count form
     → IsPlace form (a ∷ p) → d ≤ levels_below form (a ∷ p)
     → ((q : List ℕ) → IsPlace form q → IsFront (a ∷ p) q → named geometry new i q ≡ named geometry old i q)
@@ -107,7 +107,8 @@ below_same geometry old new i past form n (suc d) a p many place deep same =
     (λ x h. from_same geometry old new i past form n d x (a ∷ p) many (omega arith, omega arith, place) (omega arith)
     (λ q place_q front. same q place_q (front_above q p x a front)))
 
--- if nothing past the kept blocks is named at or under a place, the places from it on name no blocks
+-- if no position in the block map at or below a position that is past the blocks kept by a truncation points to a block, the list of them gives no
+-- blocks
 pub past_none : (geometry : Geometry) (image : List ℕ) (i : ℕ) (past : List ℕ → Bool) (form : BlockMap) (n d a : ℕ) (p : List ℕ) → n ≤ pointer_count form
     → IsPlace form (a ∷ p) → d ≤ levels_below form (a ∷ p)
     → ((q : List ℕ) → IsPlace form q → IsFront (a ∷ p) q → past q ≡ true → named geometry image i q ≡ 0)
@@ -120,7 +121,7 @@ past_none geometry image i past form n (suc d) a p many place deep none =
     (λ x h. past_none geometry image i past form n d x (a ∷ p) many (omega arith, omega arith, place) (omega arith)
     (λ q place_q front. none q place_q (front_above q p x a front)))
 
--- the blocks of an entry are before those of the later ones
+-- the blocks at and below an entry come before those of the later entries
 pub among_step : (geometry : Geometry) (image : List ℕ) (i : ℕ) (past : List ℕ → Bool) (n : ℕ) (level : ℕ → ℕ) (p : List ℕ) (j k count rest : ℕ)
     → k ≡ j + 1 → count ≡ rest + 1
     → past_at geometry image i past (places_among n level p j count)

@@ -1,4 +1,4 @@
--- Putting the size of a file, after its bytes.
+-- Writing the size of a file, after its bytes.
 use Rattle.std.proofs.Common.{◌≡◌, ℕ, ◌+◌, ◌*◌, ◌<◌, ◌≤◌, ◌⊎◌, ◌∙◌, sym, ap, subst, List, ◌∷◌, length, max, min, arith, inl, inr, true}
 use Rattle.std.proofs.lemmas.Bool.{cases_lt, cases_eq}
 use Rattle.std.proofs.lemmas.Bool.Decides.{nat_tests}
@@ -29,7 +29,7 @@ use Rattle.vol_file.proofs.StoredNames.{kinds_kept, links_kept, modes_kept, file
 use Rattle.vol_file.proofs.OneMoreBlock.{body_same}
 use Rattle.vol_file.proofs.Bytes.{same_names, same_covered}
 
--- a kept byte of an i-node is outside the size
+-- the bytes of an i-node that a change of a file must keep don't overlap the size
 pub size_apart : (edition : Edition) (i r : ℕ) → is_kept_byte edition r ≡ true
     → (inode_place edition i + r < size_place edition i) ⊎ (size_place edition i + size_bytes edition ≤ inode_place edition i + r)
 size_apart V6 i r kept =
@@ -37,7 +37,7 @@ size_apart V6 i r kept =
 size_apart V7 i r kept =
     elim (cases_lt r 8) [ inl less ↦ inl (omega arith) | inr more ↦ let high : 51 ≤ r = grind (arith, nat_tests) in inr (omega arith) ]
 
--- a write of the size leaves all but file i
+-- a write of the size changes only file `i`
 size_elsewhere : (geometry : Geometry) (old new blocks : List ℕ) (i : ℕ) → Rules3To7With geometry old blocks → IsFile geometry old i
     → SameOutside old new (size_place geometry.edition i) (size_place geometry.edition i + size_bytes geometry.edition) → StaysElsewhere geometry old new i
 size_elsewhere geometry old new blocks i sound file same =
@@ -61,7 +61,7 @@ size_elsewhere geometry old new blocks i sound file same =
       behind = λ x b. same.above x (omega (arith, within.1, within.2, room, sound.fits.zone, b));
     }
 
--- the size was put, and everything else of the file stays
+-- the size of file `i` was set to `s`, and nothing else of the file changed
 pub record Resized (geometry : Geometry) (old new : List ℕ) (i s : ℕ) (blocks : List ℕ) : Type 0 where
   pub alone : StaysElsewhere geometry old new i
   pub sound : Rules3To7With geometry new blocks
@@ -72,7 +72,7 @@ pub record Resized (geometry : Geometry) (old new : List ℕ) (i s : ℕ) (block
   pub bytes : (n : ℕ) → body_byte geometry new i n ≡ body_byte geometry old i n
   pub unused : KeepsBlocks old new blocks
 
--- a write of the size
+-- a write of the size changes only the size of file `i`
 pub resized : (geometry : Geometry) (old new blocks : List ℕ) (i s : ℕ) → Rules3To7With geometry old blocks → IsFile geometry old i
     → SameOutside old new (size_place geometry.edition i) (size_place geometry.edition i + size_bytes geometry.edition)
     → size_of geometry new i ≡ s → s ≤ (constants geometry.edition).greatest → (form_at geometry old i ≡ Small → s ≤ 4096)
@@ -142,7 +142,7 @@ resized geometry old new blocks i s sound file same put great low =
           same.above (512 * k + r) (omega (arith, within.1, within.2, room, bounds.0));
     }
 
--- zeros up to the offset, then the text, then the size
+-- clearing the bytes up to the offset, writing the text, and then writing the size is a write of the text
 pub puts : (geometry : Geometry) (old a b new blocks : List ℕ) (i offset from : ℕ) (text : List ℕ) → Rules3To7With geometry old blocks → IsFile geometry old i
     → from ≡ min (size_of geometry old i) offset
     → Rewrites geometry old a i from offset zeros_at blocks → Rewrites geometry a b i offset (offset + length text) (text_at offset text) blocks

@@ -1,4 +1,4 @@
--- The places on the block paths of a run of logical blocks.
+-- The positions in the block map on the paths of a range of logical blocks.
 use Rattle.std.proofs.Common.{◌≡◌, ℕ, zero, suc, ◌+◌, ◌<◌, ◌∙◌, sym, ap, subst, List, [], ◌∷◌, ◌++◌, filter, reverse, refl, arith, rules, true, false, Bool, None, Some, inl, inr}
 use Rattle.std.specs.Prelude.{◌||◌, not}
 use Rattle.std.specs.Option.{option_map_or}
@@ -21,7 +21,7 @@ use Rattle.vol_file.proofs.Lasts.{or_true}
 use Rattle.vol_file.proofs.PlaceLists.{among_append}
 use Rattle.vol_file.proofs.ReachedPlaces.{extends_as, extends_then, extends_none, ready_after}
 
--- a run with one more logical block
+-- the paths of a range with one more logical block have the positions in the block map of the paths so far and those of the last path
 is_on_suc : (form : BlockMap) (p : List ℕ) (a d : ℕ)
     → is_on_ways form (range_with_len a (suc d)) p ≡ (is_on_ways form (range_with_len a d) p || list_any (bytes_eq p) (way form (a + d)))
 is_on_suc form p a zero =
@@ -33,12 +33,12 @@ is_on_suc form p a (suc d) =
     (is_on_suc form p (a + 1) d ∙ ap (λ b. is_on_ways form (range_with_len (a + 1) d) p || list_any (bytes_eq p) (way form b)) same)
     ∙ sym (or_assoc (list_any (bytes_eq p) (way form a)) (is_on_ways form (range_with_len (a + 1) d) p) (list_any (bytes_eq p) (way form (a + suc d))))
 
--- the same with a sum
+-- the paths of a range with one more logical block, with its length as a sum
 pub is_on_more : (form : BlockMap) (p : List ℕ) (a d : ℕ)
     → is_on_ways form (range_with_len a (d + 1)) p ≡ (is_on_ways form (range_with_len a d) p || list_any (bytes_eq p) (way form (a + d)))
 is_on_more form p a d = let next : d + 1 ≡ suc d = omega arith in ap (λ n. is_on_ways form (range_with_len a n) p) next ∙ is_on_suc form p a d
 
--- a place on the path of one block of a run is on the paths of the run
+-- a position in the block map on the path of one logical block of a range is on the paths of the range
 pub is_on_at : (form : BlockMap) (p : List ℕ) (a n d : ℕ) → d < n → list_any (bytes_eq p) (way form (a + d)) ≡ true
     → is_on_ways form (range_with_len a n) p ≡ true
 is_on_at form p a zero d h on = absurd (omega arith)
@@ -51,19 +51,19 @@ is_on_at form p a (suc n) (suc d) h on =
     (is_on_at form p (a + 1) n d (omega arith) (ap (λ b. list_any (bytes_eq p) (way form b)) same ∙ on))
     ∙ or_true (list_any (bytes_eq p) (way form a))
 
--- of no blocks no place is missing
+-- no position in the block map is missing if there are no logical blocks
 pub missing_nil : (form : BlockMap) (names : List ℕ → Bool) → missing_places form names [] ≡ []
 unfolding missing_places
 missing_nil form names = refl
 
--- those of a list that pass are the same for two tests that agree on each of its members
+-- two tests that agree on the items of a list filter it in the same way
 filter_same : (f g : List ℕ → Bool) (qs : List (List ℕ)) → ((q : List ℕ) → IsAmong q qs → f q ≡ g q) → filter f qs ≡ filter g qs
 filter_same f g [] same = refl
 filter_same f g (q ∷ qs) same =
     let here : f q ≡ g q = same q (inl refl) in
     let rest : filter f qs ≡ filter g qs = filter_same f g qs (λ p among. same p (inr among)) in rw (here, rest) refl
 
--- a member of a reversed list is one of the list
+-- an item of a reversed list is in the list
 pub among_reverse : (p : List ℕ) (qs : List (List ℕ)) → IsAmong p (reverse qs) → IsAmong p qs
 among_reverse p [] among = among
 among_reverse p (q ∷ qs) among =
@@ -73,13 +73,13 @@ among_reverse p (q ∷ qs) among =
       | inr (inr none) ↦ absurd none
     ]
 
--- a member of the fronts of a place is one of its fronts
+-- an item of the list `fronts q` is on the path to `q`
 pub among_fronts : (p q : List ℕ) → IsAmong p (fronts q) → IsFront p q
 among_fronts p [] among = among
 among_fronts p (j ∷ q) (inl e) = inl e
 among_fronts p (j ∷ q) (inr above) = inr (among_fronts p q above)
 
--- each place on the path of a logical block is a place
+-- each position on the path of a logical block is in the block map
 pub way_places : (form : BlockMap) (b : ℕ) (p : List ℕ) → IsAmong p (way form b) → IsPlace form p
 way_places form b p among =
     elim (last_place form b) as (λ o. last_place form b ≡ o → IsAmong p (option_map_or fronts o []) → IsPlace form p) [
@@ -87,14 +87,14 @@ way_places form b p among =
       | Some q ↦ λ e on. place_front form q p (last_leaf form b q e).place (among_fronts p q on)
     ] refl among
 
--- the places missing on a path depend on which of its places name a block
+-- the positions in the block map missing on a path depend only on which of its positions point to blocks
 pub missing_same : (form : BlockMap) (names same : List ℕ → Bool) (b : ℕ) → ((p : List ℕ) → IsPlace form p → names p ≡ same p)
     → missing_on_way form names b ≡ missing_on_way form same b
 missing_same form names same b equal =
     filter_same (λ p. not (names p)) (λ p. not (same p)) (reverse (way form b))
     (λ p among. ap not (equal p (way_places form b p (among_reverse p (way form b) among))))
 
--- the same of several paths
+-- the positions in the block map missing on several paths depend only on which of their positions point to blocks
 pub missing_all_same : (form : BlockMap) (names same : List ℕ → Bool) (blocks : List ℕ) → ((p : List ℕ) → IsPlace form p → names p ≡ same p)
     → missing_places form names blocks ≡ missing_places form same blocks
 unfolding missing_places
@@ -106,7 +106,8 @@ missing_all_same form names same (b ∷ blocks) equal =
     (missing_all_same form more (λ p. same p || list_any (bytes_eq p) (way form b)) blocks
     (λ p place. ap (λ t. t || list_any (bytes_eq p) (way form b)) (equal p place)))
 
--- a run with one more logical block lacks the places that the last path lacks once the paths before are named
+-- the positions in the block map missing for a range with one more logical block are those missing for the range, and those that are then still
+-- missing on the last path
 missing_suc : (form : BlockMap) (names : List ℕ → Bool) (a d : ℕ)
     → missing_places form names (range_with_len a (suc d))
     ≡ missing_places form names (range_with_len a d) ++ missing_on_way form (λ p. names p || is_on_ways form (range_with_len a d) p) (a + d)
@@ -127,14 +128,14 @@ missing_suc form names a (suc d) =
     ∙ sym (append_assoc (missing_on_way form names a) (missing_places form more (range_with_len (a + 1) d))
     (missing_on_way form (λ p. names p || is_on_ways form (range_with_len a (suc d)) p) (a + suc d)))
 
--- the same with a sum
+-- the positions in the block map missing for a range with one more logical block, with its length as a sum
 missing_more : (form : BlockMap) (names : List ℕ → Bool) (a d : ℕ)
     → missing_places form names (range_with_len a (d + 1))
     ≡ missing_places form names (range_with_len a d) ++ missing_on_way form (λ p. names p || is_on_ways form (range_with_len a d) p) (a + d)
 missing_more form names a d =
     let next : d + 1 ≡ suc d = omega arith in ap (λ n. missing_places form names (range_with_len a n)) next ∙ missing_suc form names a d
 
--- no block's paths are named before the first
+-- before the first step no path has been filled
 pub ways_none : (geometry : Geometry) (image : List ℕ) (i : ℕ) (wanted : List ℕ → Bool) (from n d : ℕ) (blocks : List ℕ)
     → WantsWays geometry image i wanted from n blocks → d ≡ 0 → NamesWays geometry image image i wanted from d blocks
 ways_none geometry image i wanted from n d blocks wants none =
@@ -147,7 +148,7 @@ ways_none geometry image i wanted from n d blocks wants none =
           (λ p e. absurd (search (e, rules))));
     })
 
--- the next block's path is wanted
+-- the path of the next logical block can be filled
 pub ways_next : (geometry : Geometry) (old mid : List ℕ) (i : ℕ) (wanted : List ℕ → Bool) (from n d b : ℕ) (blocks : List ℕ)
     → WantsWays geometry old i wanted from n blocks → (named : NamesWays geometry old mid i wanted from d blocks) → d < n → from + d ≡ b
     → WantsWay geometry mid i wanted b named.rest
@@ -161,7 +162,7 @@ ways_next geometry old mid i wanted from n d b blocks wants named h at =
           (ap (λ c. list_any (bytes_eq p) (way (form_at geometry old i) c)) at ∙ (ap (λ f. list_any (bytes_eq p) (way f b)) (sym form) ∙ on)));
     }
 
--- one more block's path is named
+-- filling the path of one more logical block fills the paths of a range with one more logical block
 pub ways_more : (geometry : Geometry) (old mid new : List ℕ) (i : ℕ) (wanted : List ℕ → Bool) (from n d b e : ℕ) (blocks : List ℕ)
     → WantsWays geometry old i wanted from n blocks → (named : NamesWays geometry old mid i wanted from d blocks) → from + d ≡ b → d + 1 ≡ e
     → NamesWay geometry mid new i wanted b named.rest → NamesWays geometry old new i wanted from e blocks

@@ -1,4 +1,4 @@
--- One more place of a block path names something, after the path so far.
+-- One more position in the block map on a path gets a block, after the positions above it.
 use Rattle.std.proofs.Common.{◌≡◌, ◌≢◌, ℕ, ◌+◌, ◌*◌, ◌<◌, ◌≤◌, ◌∙◌, sym, ap, subst, List, [], ◌∷◌, ◌++◌, length, map, filter, reverse, refl, arith, rules, true, false, true≢false, Bool, None, Some, inl, inr}
 use Rattle.std.specs.Prelude.{◌&&◌, ◌||◌, not}
 use Rattle.std.specs.Str.{bytes_eq}
@@ -33,7 +33,7 @@ use Rattle.vol_file.proofs.TakenBlocks.{stays_inode, stays_named, first_unnamed,
 use Rattle.vol_file.proofs.Fronts.{front_longer}
 use Rattle.vol_file.proofs.OneMoreBlock.{count_less, unnamed_false, named_true, extends_one}
 
--- a place that has another as a front by the test has it
+-- if the search `has_front` finds position `p` in the block map, it is on the path to `q`
 pub has_front_is : (q p : List ℕ) → has_front q p ≡ true → IsFront p q
 has_front_is [] p e = absurd (true≢false (sym e))
 has_front_is (j ∷ q) p e = elim (or_cases (bytes_eq p (j ∷ q)) (has_front q p) e) [
@@ -41,21 +41,21 @@ has_front_is (j ∷ q) p e = elim (or_cases (bytes_eq p (j ∷ q)) (has_front q 
   | inr above ↦ inr (has_front_is q p above)
 ]
 
--- one step: place q names block k now
+-- the effect of one step: position `q` in the block map points to block `k`, which was allocated if `q` pointed to no block
 pub record Steps (geometry : Geometry) (old new : List ℕ) (i : ℕ) (wanted : List ℕ → Bool) (q blocks : List ℕ) (k : ℕ) : Type 0 where
   pub rest : List ℕ
   pub extends : Extends geometry old new i wanted (λ p. bytes_eq p q) (unnamed_of (is_named geometry old i) (q ∷ [])) blocks rest
   pub is : named geometry new i q ≡ k
   pub some : k ≢ 0
 
--- the order of a choice doesn't matter
+-- the operands of `||` can be swapped
 or_comm : (x y : Bool) → (x || y) ≡ (y || x)
 or_comm true true = refl
 or_comm true false = refl
 or_comm false true = refl
 or_comm false false = refl
 
--- the same for an equal set
+-- `Extends` also holds for an equal set and an equal list of positions in the block map
 pub extends_as : (geometry : Geometry) (old new : List ℕ) (i : ℕ) (wanted set same : List ℕ → Bool) (gained list : List (List ℕ)) (blocks rest : List ℕ)
     → ((p : List ℕ) → set p ≡ same p) → gained ≡ list → Extends geometry old new i wanted set gained blocks rest
     → Extends geometry old new i wanted same list blocks rest
@@ -76,13 +76,13 @@ extends_as geometry old new i wanted set same gained list blocks rest equal is e
   unused = e.unused;
 }
 
--- the names of a list of places, if each is the same
+-- two functions that agree on the items of a list map it to the same list
 pub map_same : (f g : List ℕ → ℕ) (ps : List (List ℕ)) → ((p : List ℕ) → IsAmong p ps → f p ≡ g p) → map f ps ≡ map g ps
 map_same f g [] same = refl
 map_same f g (p ∷ ps) same =
     ap (λ k. k ∷ map f ps) (same p (inl refl)) ∙ ap (λ ks. g p ∷ ks) (map_same f g ps (λ q among. same q (inr among)))
 
--- two steps one after the other
+-- if `Extends` holds for two successive changes, it holds for both together, with both sets of positions in the block map
 pub extends_then : (geometry : Geometry) (old mid new : List ℕ) (i : ℕ) (wanted first second : List ℕ → Bool) (gained more : List (List ℕ))
     (blocks some rest : List ℕ) → IsReadyToName geometry old i wanted blocks
     → Extends geometry old mid i wanted first gained blocks some → Extends geometry mid new i wanted second more some rest
@@ -118,13 +118,13 @@ extends_then geometry old mid new i wanted first second gained more blocks some 
   unused = keeps_then old mid new some rest (λ k within. rest_within k f.taken rest some f.free within) e.unused f.unused;
 }
 
--- a test and a part of it
+-- `x || y` is `x` if `y` implies `x`
 or_there : (x y : Bool) → (y ≡ true → x ≡ true) → x ≡ (x || y)
 or_there true y h = refl
 or_there false true h = h refl
 or_there false false h = refl
 
--- nothing is done if the places of the set name something
+-- `Extends` holds without a change if all positions in `set` point to blocks
 pub extends_none : (geometry : Geometry) (image : List ℕ) (i : ℕ) (wanted set : List ℕ → Bool) (blocks : List ℕ) → Rules3To7With geometry image blocks
     → ((p : List ℕ) → set p ≡ true → is_named geometry image i p ≡ true) → Extends geometry image image i wanted set [] blocks blocks
 extends_none geometry image i wanted set blocks sound all = record {
@@ -144,7 +144,7 @@ extends_none geometry image i wanted set blocks sound all = record {
   unused = λ k r within low. refl;
 }
 
--- there is room left after a step
+-- after a change with `Extends`, the remaining free blocks are enough for the positions in `wanted` that still point to no block
 pub ready_after : (geometry : Geometry) (old new : List ℕ) (i : ℕ) (wanted set : List ℕ → Bool) (gained : List (List ℕ)) (blocks rest : List ℕ)
     → IsReadyToName geometry old i wanted blocks → Extends geometry old new i wanted set gained blocks rest → IsReadyToName geometry new i wanted rest
 ready_after geometry old new i wanted set gained blocks rest ready e = record {
@@ -153,12 +153,12 @@ ready_after geometry old new i wanted set gained blocks rest ready e = record {
   room = omega (arith, e.count, ready.room);
 }
 
--- a test and one that always passes
+-- `x && true` is `x`
 and_all : (x : Bool) → (x && true) ≡ x
 and_all true = refl
 and_all false = refl
 
--- a wanted place that names nothing is missing
+-- a position in `wanted` that points to no block is counted as lacking
 lacking_some : (geometry : Geometry) (image : List ℕ) (i : ℕ) (wanted : List ℕ → Bool) (q : List ℕ) → IsPlaceOf geometry image i q → wanted q ≡ true
     → named geometry image i q ≡ 0 → 1 ≤ lacking geometry image i wanted
 unfolding lacking
@@ -176,37 +176,37 @@ pops_none : (geometry : Geometry) (old new blocks : List ℕ) → Pops geometry 
 pops_none geometry old new [] pops = refl
 pops_none geometry old new (b ∷ rest) pops = absurd (search (pops.0, rules))
 
--- a block that was taken is the first
+-- block `b` is the first of the free blocks, and was taken
 pub record IsFirst (geometry : Geometry) (old new blocks : List ℕ) (b : ℕ) : Type 0 where
   pub rest : List ℕ
   pub is : blocks ≡ b ∷ rest
   pub popped : Popped geometry old new b rest
 
--- the value in an option
+-- two options with equal values have the same value
 some_same : (b c : ℕ) → Some b ≡ Some c → b ≡ c
 some_same b c e = cc
 
--- the block that is taken is the first of the free ones
+-- the block that is taken is the first free block
 pub pops_some : (geometry : Geometry) (old new blocks : List ℕ) (b : ℕ) → Pops geometry old new blocks (Some b) → IsFirst geometry old new blocks b
 pops_some geometry old new [] b pops = absurd (search (pops.0, rules))
 pops_some geometry old new (c ∷ rest) b pops =
     let e : b ≡ c = some_same b c pops.0 in
     record { rest = rest; is = ap (λ x. x ∷ rest) (sym e); popped = subst (λ x. Popped geometry old new x rest) (sym e) pops.1 }
 
--- a place that names something isn't among those that don't
+-- a position in the block map that points to a block is not listed among the positions that point to none
 unnamed_none : (names : List ℕ → Bool) (q : List ℕ) → names q ≡ true → unnamed_of names (q ∷ []) ≡ []
 unnamed_none names q e = rw e refl
 
--- a place that names nothing is one of those that don't
+-- a position in the block map that points to no block is listed among the positions that point to none
 unnamed_one : (names : List ℕ → Bool) (q : List ℕ) → names q ≡ false → unnamed_of names (q ∷ []) ≡ q ∷ []
 unnamed_one names q e = rw e refl
 
--- a place after its fronts
+-- with one more position in front of a list, the positions in the block map that point to no block are those of the list, and then this one
 pub unnamed_step : (names : List ℕ → Bool) (q : List ℕ) (qs : List (List ℕ)) → unnamed_of names (q ∷ qs) ≡ unnamed_of names qs ++ unnamed_of names (q ∷ [])
 unnamed_step names q qs =
     ap (filter (λ p. not (names p))) (reverse-append (q ∷ []) qs) ∙ filter-append (λ p. not (names p)) (reverse qs) (q ∷ [])
 
--- a place that names something needs no step
+-- `Steps` holds without a change for a position in the block map that points to a block
 pub steps_named : (geometry : Geometry) (image : List ℕ) (i : ℕ) (wanted : List ℕ → Bool) (q blocks : List ℕ) (k : ℕ)
     → IsWanted geometry image i wanted q blocks → named geometry image i q ≡ k → k ≢ 0 → Steps geometry image image i wanted q blocks k
 steps_named geometry image i wanted q blocks k want is some = record {
@@ -219,14 +219,14 @@ steps_named geometry image i wanted q blocks k want is some = record {
   some = some;
 }
 
--- enough blocks are free for a wanted place
+-- taking a block for a position in `wanted` never fails, since enough blocks are free
 pub steps_out : (geometry : Geometry) (image new : List ℕ) (i : ℕ) (wanted : List ℕ → Bool) (q blocks : List ℕ)
     → IsWanted geometry image i wanted q blocks → named geometry image i q ≡ 0 → Pops geometry image new blocks None → ⊥
 steps_out geometry image new i wanted q blocks want none pops =
     let empty : length blocks ≡ 0 = ap length (pops_none geometry image new blocks pops) in
     omega (arith, empty, want.ready.room, lacking_some geometry image i wanted q want.place want.want none)
 
--- a block is taken for a place that names nothing, and put there
+-- taking a block for a position in the block map that points to no block, and storing its number there, satisfies `Steps`
 steps_taken : (geometry : Geometry) (old mid new : List ℕ) (i : ℕ) (wanted : List ℕ → Bool) (q blocks : List ℕ) (b : ℕ)
     → IsWanted geometry old i wanted q blocks → named geometry old i q ≡ 0 → Pops geometry old mid blocks (Some b)
     → ((rest : List ℕ) → Rules3To7With geometry mid rest → mode_of geometry mid i ≡ mode_of geometry old i
@@ -249,7 +249,7 @@ steps_taken geometry old mid new i wanted q blocks b want none pops stores =
       some = zone_some geometry old b sound.fits zoned;
     }
 
--- a block is taken for an address that names nothing, and put there
+-- taking a block for an address that is 0, and storing its number there, satisfies `Steps`
 pub steps_address : (geometry : Geometry) (old mid new : List ℕ) (i : ℕ) (wanted : List ℕ → Bool) (k : ℕ) (blocks : List ℕ) (b : ℕ)
     → IsWanted geometry old i wanted (k ∷ []) blocks → named geometry old i (k ∷ []) ≡ 0 → Pops geometry old mid blocks (Some b)
     → SameOutside mid new (address_place geometry.edition i k) (address_place geometry.edition i k + address_bytes geometry.edition)
@@ -260,7 +260,7 @@ steps_address geometry old mid new i wanted k blocks b want none pops same put =
     (let few = addresses_few geometry.edition (mode_of geometry old i) in let index : k < first_count (form_at geometry old i) = want.place.place in omega (arith, index, few))
     same put)
 
--- a block is taken for an entry that names nothing, and put there
+-- taking a block for an entry that is 0, and storing its number there, satisfies `Steps`
 pub steps_entry : (geometry : Geometry) (old mid new : List ℕ) (i : ℕ) (wanted : List ℕ → Bool) (j a : ℕ) (p blocks : List ℕ) (m b : ℕ)
     → IsWanted geometry old i wanted (j ∷ (a ∷ p)) blocks → named geometry old i (j ∷ (a ∷ p)) ≡ 0 → Pops geometry old mid blocks (Some b)
     → named geometry old i (a ∷ p) ≡ m → in_zone geometry m ≡ true
@@ -271,7 +271,7 @@ steps_entry geometry old mid new i wanted j a p blocks m b want none pops is zon
     (λ rest sound mode names. stores_entry geometry mid new rest i m j a b p sound (place_same geometry old mid i (j ∷ (a ∷ p)) mode want.place)
     (names (a ∷ p) (record { file = want.place.file; place = want.place.place.2 }) ∙ is) zone same put)
 
--- an address reached by a step
+-- after a step for an address, the path down to it points to blocks
 pub reaches_first : (geometry : Geometry) (old new : List ℕ) (i : ℕ) (wanted : List ℕ → Bool) (k : ℕ) (blocks : List ℕ) (b : ℕ)
     → Steps geometry old new i wanted (k ∷ []) blocks b → Reaches geometry old new i wanted (k ∷ []) blocks b
 reaches_first geometry old new i wanted k blocks b steps = record {
@@ -283,22 +283,22 @@ reaches_first geometry old new i wanted k blocks b steps = record {
   some = steps.some;
 }
 
--- one place alone, by the same answer
+-- whether a single position in the block map is listed as pointing to no block depends only on the test of that position
 unnamed_same : (names same : List ℕ → Bool) (q : List ℕ) → names q ≡ same q → unnamed_of names (q ∷ []) ≡ unnamed_of same (q ∷ [])
 unnamed_same names same q e = rw e refl
 
--- a place is not a front of a place above it
+-- a position in the block map below `p` is not on the path to `p`
 front_below : (j : ℕ) (p : List ℕ) → has_front p (j ∷ p) ≡ false
 front_below j p = false_from_ne_true (has_front p (j ∷ p)) (λ e. front_longer j p (has_front_is p (j ∷ p) e))
 
--- naming the fronts of an entry's block doesn't change whether the entry names a block
+-- allocating the blocks on the path to an entry's block does not change whether the entry points to a block
 next_same : (geometry : Geometry) (old mid : List ℕ) (i : ℕ) (wanted : List ℕ → Bool) (j a : ℕ) (p blocks : List ℕ) (m : ℕ)
     → NamesNext geometry old mid i wanted j a p blocks m → is_named geometry mid i (j ∷ (a ∷ p)) ≡ is_named geometry old i (j ∷ (a ∷ p))
 next_same geometry old mid i wanted j a p blocks m next =
     next.reached.extends.names (j ∷ (a ∷ p)) next.want.place
     ∙ (ap (λ t. is_named geometry old i (j ∷ (a ∷ p)) || t) (front_below j (a ∷ p)) ∙ or-false (is_named geometry old i (j ∷ (a ∷ p))))
 
--- an entry reached by a step once its block was reached
+-- after a step for an entry, the path down to it points to blocks
 pub reaches_next : (geometry : Geometry) (old mid new : List ℕ) (i : ℕ) (wanted : List ℕ → Bool) (j a : ℕ) (p blocks : List ℕ) (m b : ℕ)
     → (next : NamesNext geometry old mid i wanted j a p blocks m) → Steps geometry mid new i wanted (j ∷ (a ∷ p)) next.reached.rest b
     → Reaches geometry old new i wanted (j ∷ (a ∷ p)) blocks b
@@ -318,7 +318,7 @@ reaches_next geometry old mid new i wanted j a p blocks m b next steps = record 
   some = steps.some;
 }
 
--- an entry is wanted if its block was reached
+-- an entry in `wanted` is still to be filled after the path down to its block is filled
 pub wanted_next : (geometry : Geometry) (old mid : List ℕ) (i : ℕ) (wanted : List ℕ → Bool) (j a : ℕ) (p blocks : List ℕ) (m : ℕ)
     → (next : NamesNext geometry old mid i wanted j a p blocks m) → IsWanted geometry mid i wanted (j ∷ (a ∷ p)) next.reached.rest
 wanted_next geometry old mid i wanted j a p blocks m next = record {
@@ -327,7 +327,7 @@ wanted_next geometry old mid i wanted j a p blocks m next = record {
   want = next.want.want;
 }
 
--- the block that was reached is a data block
+-- the block reached so far is a data block
 pub reached_zone : (geometry : Geometry) (old mid : List ℕ) (i : ℕ) (wanted : List ℕ → Bool) (j a : ℕ) (p blocks : List ℕ) (m : ℕ)
     → NamesNext geometry old mid i wanted j a p blocks m → in_zone geometry m ≡ true
 reached_zone geometry old mid i wanted j a p blocks m next =
@@ -336,7 +336,7 @@ reached_zone geometry old mid i wanted j a p blocks m next =
     subst (λ k. in_zone geometry k ≡ true) next.reached.is
     (next.reached.extends.sound.zoned i (a ∷ p) place (λ zero. next.reached.some (sym next.reached.is ∙ zero)))
 
--- the block taken is a data block
+-- the block that is taken is a data block
 pub taken_zoned : (geometry : Geometry) (old new blocks : List ℕ) (b : ℕ) → Rules3To7With geometry old blocks → Pops geometry old new blocks (Some b)
     → in_zone geometry b ≡ true
 taken_zoned geometry old new blocks b sound pops =
@@ -348,7 +348,7 @@ pub zone_limit : (geometry : Geometry) (image : List ℕ) (b : ℕ) → Fits geo
     → b < (constants geometry.edition).number_limit
 zone_limit geometry image b fits zone = let bounds = zone_bounds geometry b zone in omega (arith, bounds.1, fits.limit)
 
--- an entry of a data block lies within the image
+-- an entry of a data block is within the image
 pub entry_room : (geometry : Geometry) (image : List ℕ) (m j : ℕ) → Fits geometry image → in_zone geometry m ≡ true
     → j < (constants geometry.edition).pointers → 512 * m + (constants geometry.edition).number_bytes * (j + 1) ≤ length image
 entry_room geometry image m j fits zone low =
@@ -356,14 +356,14 @@ entry_room geometry image m j fits zone low =
     let fit = number_room geometry.edition j low in
     let end = entry_end (512 * m) (constants geometry.edition).number_bytes j fit in omega (arith, room, end)
 
--- a wanted entry is one of its block's
+-- an entry in `wanted` is an entry of an indirect block
 pub next_index : (geometry : Geometry) (old mid : List ℕ) (i : ℕ) (wanted : List ℕ → Bool) (j a : ℕ) (p blocks : List ℕ) (m : ℕ)
     → NamesNext geometry old mid i wanted j a p blocks m → j < (constants geometry.edition).pointers
 next_index geometry old mid i wanted j a p blocks m next =
     let many = pointers_of geometry.edition (mode_of geometry old i) in
     let index : j < pointer_count (form_at geometry old i) = next.want.place.place.0 in omega (arith, index, many)
 
--- the name of a wanted entry is the number stored there
+-- the number at the position in the block map of an entry in `wanted` is the number stored in the entry
 pub next_named : (geometry : Geometry) (old mid : List ℕ) (i : ℕ) (wanted : List ℕ → Bool) (j a : ℕ) (p blocks : List ℕ) (m : ℕ)
     → NamesNext geometry old mid i wanted j a p blocks m → named geometry mid i (j ∷ (a ∷ p)) ≡ number geometry.edition mid (512 * m) j
 next_named geometry old mid i wanted j a p blocks m next =

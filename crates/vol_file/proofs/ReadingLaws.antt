@@ -9,7 +9,7 @@ use Rattle.vol_layout.proofs.BodyLaws.{body_byte_at, length-body, get_or-body, l
 use Rattle.std.specs.Prelude.{slice_range}
 use Rattle.vol_layout.specs.declared.geometry.Geometry.{Geometry}
 
--- a byte n places after byte `at` of the body, within the same block
+-- byte `at + n` of the body is in the same data block as byte `at` if it is in the same logical block
 pub zone_byte-body : (geometry : Geometry) (image : List ℕ) (i at n : ℕ) → at % 512 + n < 512
     → zone_byte geometry image (stored geometry image i (form_at geometry image i) (at / 512)) (at % 512 + n)
     ≡ body_byte geometry image i (at + n)
@@ -17,7 +17,7 @@ zone_byte-body geometry image i at n h =
     let place : 512 * (at / 512) + (at % 512 + n) ≡ at + n = omega arith in
     sym (body_byte_at geometry image i (at / 512) (at % 512 + n) h) ∙ ap (body_byte geometry image i) place
 
--- if the first a elements are those of f, and a part written after them continues with f, the first a + k are
+-- if the first `a` items agree with `f`, and a part written after them continues with `f`, the first `a + k` items agree with `f`
 pub written_on : (f : ℕ → ℕ) (xs ys : List ℕ) (a k m : ℕ) → m ≡ k → length ys ≡ k → a + k ≤ length xs
     → ((n : ℕ) → n < a → get_or xs n 0 ≡ f n) → ((n : ℕ) → n < k → get_or ys n 0 ≡ f (a + n))
     → (n : ℕ) → n < a + k → get_or (put_mid a m xs ys) n 0 ≡ f n
@@ -26,7 +26,7 @@ written_on f xs ys a k m e len room before part n h = elim (cases_lt n a) [
   | inr high ↦ let at : get_or ys (n - a) 0 ≡ f (a + (n - a)) = part (n - a) (omega arith) in grind (arith, common_steps, at)
 ]
 
--- as many bytes of the body as there are from an offset on are that part of it
+-- a list of `count` bytes that agrees with the bytes of the body at `offset` is that slice of the body
 pub body_part : (geometry : Geometry) (image : List ℕ) (i offset count : ℕ) (xs : List ℕ) → length xs ≡ count
     → offset + count ≤ body_size geometry image i
     → ((n : ℕ) → n < count → get_or xs n 0 ≡ body_byte geometry image i (offset + n))

@@ -1,4 +1,4 @@
--- The numbers stored for the logical blocks of a file, by the blocks that lead to them.
+-- The block numbers stored for the logical blocks of a file, found from an indirect block on their path.
 use Rattle.std.proofs.Common.{◌≡◌, ℕ, zero, suc, ◌+◌, ◌-◌, ◌*◌, ◌/◌, ◌%◌, ◌<◌, ◌≤◌, ◌∙◌, sym, ap, subst, List, [], ◌∷◌, length, drop, ◌^◌, refl, arith, inl, inr, true, false, Some}
 use Rattle.std.specs.Prelude.{Bool, ◌&&◌, nat_lt, slice_index_or}
 use Rattle.std.proofs.Math.Nat.{pow-zero, pow-suc, mul-le-mul, one-le-pow}
@@ -19,28 +19,29 @@ use Rattle.vol_file.specs.Holes.{blocks_left}
 use Rattle.vol_file.specs.Repeats.{below, PassesBelow, MarksPassed}
 use Rattle.vol_file.proofs.Subtrees.{some_is, drop_to, length_to, pointers_at}
 
--- logical block t, of those below place p of block b without its last n indexes, has the number found below the block that is named there
+-- the number stored for logical block `t` can be found from the block at position `p` in the block map without its last `n` indexes, if `t` is below
+-- it; logical block `b` is at position `p`
 abbrev IsBelow : Geometry → List ℕ → ℕ → BlockMap → ℕ → ℕ → ℕ → List ℕ → ℕ → Type 0
 IsBelow geometry image i form pointers n b p t =
     t < block_limit form → b + blocks_left pointers n p ≤ t + pointers ^ n → t < b + blocks_left pointers n p
     → stored geometry image i form t
     ≡ below geometry image pointers (named geometry image i (drop n p)) n (t + pointers ^ n - (b + blocks_left pointers n p))
 
--- the number stored for a logical block, by its last place
+-- the block number stored for a logical block is the number at its position in the block map
 stored_as : (geometry : Geometry) (image : List ℕ) (i : ℕ) (form : BlockMap) (t : ℕ) (q : List ℕ) → last_place form t ≡ Some q
     → stored geometry image i form t ≡ named geometry image i q
 stored_as geometry image i form t q is = ap (λ o. option_map_or (named geometry image i) o 0) is
 
--- a pointer of one block, by an index that is the same
+-- equal indexes select the same entry of a block
 pointer_as : (geometry : Geometry) (image : List ℕ) (m j k : ℕ) → j ≡ k → pointer_in geometry image m j ≡ pointer_in geometry image m k
 pointer_as geometry image m j k same = ap (pointer_in geometry image m) same
 
--- a pointer of a block to which a pointer leads, by equal indexes
+-- equal indexes select the same entry of the block to which an entry points
 pointers_as : (geometry : Geometry) (image : List ℕ) (m a b j k : ℕ) → a ≡ b → j ≡ k
     → pointer_in geometry image (pointer_in geometry image m a) j ≡ pointer_in geometry image (pointer_in geometry image m b) k
 pointers_as geometry image m a b j k same also = ap (λ x. pointer_in geometry image (pointer_in geometry image m x) j) same ∙ pointer_as geometry image (pointer_in geometry image m b) j k also
 
--- of a large file, below an indirect block
+-- `IsBelow` holds for logical blocks of a large file below an indirect block
 below_large : (geometry : Geometry) (image : List ℕ) (i b t : ℕ) → b < 1792 → IsBelow geometry image i Large 256 1 b ((b % 256) ∷ ((b / 256) ∷ [])) t
 below_large geometry image i b t low limit from within =
     let same : t / 256 ≡ b / 256 = omega arith in
@@ -48,7 +49,7 @@ below_large geometry image i b t low limit from within =
     ∙ (ap (λ a. pointer_in geometry image (named geometry image i (a ∷ [])) (t % 256)) same
     ∙ pointer_as geometry image (named geometry image i ((b / 256) ∷ [])) (t % 256) _ (omega arith))
 
--- of a large file, below an indirect block of the doubly indirect one
+-- `IsBelow` holds for logical blocks of a large file below an indirect block that is an entry of the doubly indirect block
 below_huge : (geometry : Geometry) (image : List ℕ) (i b t : ℕ) → 1792 ≤ b → b < 32768
     → IsBelow geometry image i Large 256 1 b ((b % 256) ∷ ((b / 256 - 7) ∷ (7 ∷ []))) t
 below_huge geometry image i b t low high limit from within =
@@ -56,38 +57,38 @@ below_huge geometry image i b t low high limit from within =
     stored_as geometry image i Large t ((t % 256) ∷ ((t / 256 - 7) ∷ (7 ∷ []))) (last_huge t (omega arith) limit)
     ∙ pointers_as geometry image (named geometry image i (7 ∷ [])) (t / 256 - 7) (b / 256 - 7) (t % 256) _ same (omega arith)
 
--- of a large file, below the doubly indirect block
+-- `IsBelow` holds for logical blocks of a large file below the doubly indirect block
 below_all_huge : (geometry : Geometry) (image : List ℕ) (i b t : ℕ) → 1792 ≤ b → b < 32768
     → IsBelow geometry image i Large 256 2 b ((b % 256) ∷ ((b / 256 - 7) ∷ (7 ∷ []))) t
 below_all_huge geometry image i b t low high limit from within =
     stored_as geometry image i Large t ((t % 256) ∷ ((t / 256 - 7) ∷ (7 ∷ []))) (last_huge t (omega arith) limit)
     ∙ pointers_as geometry image (named geometry image i (7 ∷ [])) (t / 256 - 7) _ (t % 256) _ (omega arith) (omega arith)
 
--- of the seventh edition, below the indirect block
+-- `IsBelow` holds for logical blocks of the seventh edition below the indirect block
 below_single : (geometry : Geometry) (image : List ℕ) (i b t : ℕ) → 10 ≤ b → b < 138 → IsBelow geometry image i Deep 128 1 b ((b - 10) ∷ (10 ∷ [])) t
 below_single geometry image i b t low high limit from within =
     stored_as geometry image i Deep t ((t - 10) ∷ (10 ∷ [])) (last_single t (omega arith) (omega arith))
     ∙ pointer_as geometry image (named geometry image i (10 ∷ [])) (t - 10) _ (omega arith)
 
--- of the seventh edition, below an indirect block of the doubly indirect one
+-- `IsBelow` holds for logical blocks of the seventh edition below an indirect block that is an entry of the doubly indirect block
 below_double : (geometry : Geometry) (image : List ℕ) (i b t : ℕ) → 138 ≤ b → b < 16522
     → IsBelow geometry image i Deep 128 1 b (((b - 138) % 128) ∷ (((b - 138) / 128) ∷ (11 ∷ []))) t
 below_double geometry image i b t low high limit from within =
     stored_as geometry image i Deep t (((t - 138) % 128) ∷ (((t - 138) / 128) ∷ (11 ∷ []))) (last_double t (omega arith) (omega arith))
     ∙ pointers_as geometry image (named geometry image i (11 ∷ [])) ((t - 138) / 128) ((b - 138) / 128) ((t - 138) % 128) _ (omega arith) (omega arith)
 
--- of the seventh edition, below the doubly indirect block
+-- `IsBelow` holds for logical blocks of the seventh edition below the doubly indirect block
 below_all_double : (geometry : Geometry) (image : List ℕ) (i b t : ℕ) → 138 ≤ b → b < 16522
     → IsBelow geometry image i Deep 128 2 b (((b - 138) % 128) ∷ (((b - 138) / 128) ∷ (11 ∷ []))) t
 below_all_double geometry image i b t low high limit from within =
     stored_as geometry image i Deep t (((t - 138) % 128) ∷ (((t - 138) / 128) ∷ (11 ∷ []))) (last_double t (omega arith) (omega arith))
     ∙ pointers_as geometry image (named geometry image i (11 ∷ [])) ((t - 138) / 128) _ ((t - 138) % 128) _ (omega arith) (omega arith)
 
--- the place of the triply indirect block's path to block b, from its second level on
+-- the position in the block map that points to logical block `b` below the triply indirect block of the seventh edition
 abbrev pub triple_place : ℕ → List ℕ
 triple_place b = ((b - 16522) % 128) ∷ (((b - 16522) / 128 % 128) ∷ (((b - 16522) / 16384) ∷ (12 ∷ [])))
 
--- of the seventh edition, below an indirect block two levels below the triply indirect one
+-- `IsBelow` holds for logical blocks of the seventh edition below an indirect block on the lowest level of the triply indirect block
 below_triple : (geometry : Geometry) (image : List ℕ) (i b t : ℕ) → 16522 ≤ b → b < 2113674 → IsBelow geometry image i Deep 128 1 b (triple_place b) t
 below_triple geometry image i b t low high limit from within =
     let over : (t - 16522) / 16384 ≡ (b - 16522) / 16384 = omega arith in
@@ -96,7 +97,7 @@ below_triple geometry image i b t low high limit from within =
     ∙ pointers_as geometry image (named geometry image i (((b - 16522) / 16384) ∷ (12 ∷ []))) ((t - 16522) / 128 % 128) ((b - 16522) / 128 % 128) ((t - 16522) % 128) _
     (omega arith) (omega arith))
 
--- of the seventh edition, below a doubly indirect block of the triply indirect one
+-- `IsBelow` holds for logical blocks of the seventh edition below a doubly indirect block that is an entry of the triply indirect block
 below_all_triple : (geometry : Geometry) (image : List ℕ) (i b t : ℕ) → 16522 ≤ b → b < 2113674 → IsBelow geometry image i Deep 128 2 b (triple_place b) t
 below_all_triple geometry image i b t low high limit from within =
     let over : (t - 16522) / 16384 ≡ (b - 16522) / 16384 = omega arith in
@@ -105,7 +106,7 @@ below_all_triple geometry image i b t low high limit from within =
     ∙ pointers_as geometry image (named geometry image i (((b - 16522) / 16384) ∷ (12 ∷ []))) ((t - 16522) / 128 % 128) _ ((t - 16522) % 128) _
     (omega arith) (omega arith))
 
--- if no level lies below, a block is itself
+-- with no level below it, the block found is the block itself
 below_itself : (geometry : Geometry) (image : List ℕ) (i : ℕ) (form : BlockMap) (pointers b t : ℕ) (p : List ℕ) → last_place form b ≡ Some p
     → IsBelow geometry image i form pointers 0 b p t
 below_itself geometry image i form pointers b t p is limit from within =
@@ -113,12 +114,12 @@ below_itself geometry image i form pointers b t p is limit from within =
     let same : t ≡ b = omega arith in
     ap (stored geometry image i form) same ∙ stored_as geometry image i form b p is
 
--- the same, for a place that is another's
+-- `IsBelow` holds for a position in the block map if it holds for an equal position
 as_place : (geometry : Geometry) (image : List ℕ) (i : ℕ) (form : BlockMap) (pointers n b t : ℕ) (p q : List ℕ) → q ≡ p
     → IsBelow geometry image i form pointers n b q t → IsBelow geometry image i form pointers n b p t
 as_place geometry image i form pointers n b t p q same is = subst (λ r. IsBelow geometry image i form pointers n b r t) same is
 
--- the numbers below each place of a path, up to two levels above its end
+-- the block numbers below each block on a path, up to two levels above its end
 falls : (geometry : Geometry) (image : List ℕ) (i : ℕ) (form : BlockMap) (n b t : ℕ) (p : List ℕ) → last_place form b ≡ Some p → n < length p → n < 3
     → IsBelow geometry image i form (pointer_count form) n b p t
 falls geometry image i form zero b t p e long few = below_itself geometry image i form (pointer_count form) b t p e
@@ -178,7 +179,7 @@ falls geometry image i Deep (suc (suc zero)) b t p e long few =
       ]
     ]
 
--- the number stored for a logical block, by the block that the first d entries of another's path name
+-- the block number stored for logical block `t`, found from the block reached by the first `d` entries of another logical block's path
 pub stored_below : (geometry : Geometry) (image : List ℕ) (i : ℕ) (form : BlockMap) (b d n t : ℕ) (way : BlockPath) → form ≡ form_at geometry image i
     → Some (end_of way) ≡ last_place form b → n + d ≡ way.depth → n < 3 → t < block_limit form
     → b + blocks_left (constants geometry.edition).pointers n (end_of way) ≤ t + (constants geometry.edition).pointers ^ n
@@ -198,7 +199,7 @@ stored_below geometry image i form b d n t way is end whole few limit =
     (t + pointer_count form ^ n - (b + blocks_left (pointer_count form) n (end_of way)))) front
     (falls geometry image i form n b t (end_of way) (sym end) (omega arith) few limit))
 
--- the blocks that are left below a place are at most as many as there are below it
+-- the number of logical blocks left below a position in the block map is at most the number of all logical blocks below it
 left_most : (pointers n : ℕ) (p : List ℕ) → 1 ≤ pointers → blocks_left pointers n p ≤ pointers ^ n
 left_most pointers zero p some = let one : pointers ^ 0 ≡ 1 = pow-zero pointers in omega arith
 left_most pointers (suc n) [] some = one-le-pow (suc n) pointers some
@@ -206,12 +207,12 @@ left_most pointers (suc n) (j ∷ p) some =
     let more : blocks_left pointers n p * pointers ≤ pointers ^ n * pointers = mul-le-mul (left_most pointers n p some) (omega arith) in
     rw (pow-suc pointers n) (omega (arith, more))
 
--- an indirect block has pointers
+-- an indirect block has at least one entry
 some_pointers : (edition : Edition) → 1 ≤ (constants edition).pointers
 some_pointers V6 = omega arith
 some_pointers V7 = omega arith
 
--- if everything below the block to which the first d entries of a path lead passes a test, so do the numbers stored for the logical blocks there
+-- if everything below the block reached by the first `d` entries of a path passes a test, so do the block numbers stored for the logical blocks there
 pub stored_passes : (test : ℕ → ℕ → Bool) (geometry : Geometry) (image : List ℕ) (i : ℕ) (form : BlockMap) (b d n t part : ℕ) (way : BlockPath)
     → form ≡ form_at geometry image i → Some (end_of way) ≡ last_place form b → n + d ≡ way.depth → n < 3
     → PassesBelow test geometry image (named geometry image i (place_to way.address way.entries d)) n → ((part : ℕ) → test 0 part ≡ true)
@@ -225,7 +226,8 @@ stored_passes test geometry image i form b d n t part way is end whole few passe
   | inr past ↦ ap (λ k. test k part) (ap (λ o. option_map_or (named geometry image i) o 0) (has_no_way form t past)) ∙ out part
 ]
 
--- each of the blocks below the block that the first d entries of a path lead to is one that is stored, if none of them is past the last
+-- if the block numbers of all logical blocks below the block reached by the first `d` entries of a path pass a test, everything below that block
+-- passes it
 pub passes_stored : (test : ℕ → ℕ → Bool) (geometry : Geometry) (image : List ℕ) (i : ℕ) (form : BlockMap) (b d n from to : ℕ) (way : BlockPath)
     → form ≡ form_at geometry image i → Some (end_of way) ≡ last_place form b → n + d ≡ way.depth → n < 3
     → from + (constants geometry.edition).pointers ^ n ≤ b + blocks_left (constants geometry.edition).pointers n (end_of way)
@@ -242,7 +244,7 @@ passes_stored test geometry image i form b d n from to way is end whole few star
     ∙ sym (stored_below geometry image i form b d n t way is end whole few (omega arith) (omega arith) (omega arith)))
     ∙ passed t part (omega arith) (omega arith)
 
--- unset marks mean nothing
+-- unset marks state nothing
 pub clear_passes : (test : ℕ → ℕ → Bool) (geometry : Geometry) (image : List ℕ) (marks : List Bool)
     → ((k : ℕ) → slice_index_or marks k false ≡ false) → MarksPassed test geometry image marks
 clear_passes test geometry image marks clear = λ m n marked.

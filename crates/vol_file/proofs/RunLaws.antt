@@ -1,4 +1,4 @@
--- Runs of logical blocks whose numbers are stored one after another.
+-- Runs of logical blocks whose block numbers are stored next to each other.
 use Rattle.std.proofs.Common.{◌≡◌, ℕ, suc, ◌+◌, ◌-◌, ◌/◌, ◌%◌, ◌<◌, ◌≤◌, ◌∙◌, sym, ap, subst, List, [], ◌∷◌, length, slice_index, arith, inl, inr, Some}
 use Rattle.std.specs.Option.{option_map_or}
 use Rattle.std.proofs.lemmas.Bool.{cases_lt}
@@ -14,18 +14,19 @@ use Rattle.vol_layout.proofs.LastPlaces.{last_large, last_huge, last_single, las
 use Rattle.vol_file.specs.Holes.{direct_count}
 use Rattle.vol_file.proofs.Subtrees.{some_is, head_of, tail_of, pointers_at, length_to, named_under}
 
--- a last place whose last index is greater by t
+-- a position in the block map with `t` added to its last index
 abbrev moved : ℕ → List ℕ → List ℕ
 moved t p = (head_of p + t) ∷ tail_of p
 
--- the last place of logical block b + t of a large file, if that of b is in the same indirect block
+-- the position in the block map of logical block `b + t` of a large file, if it is in the same indirect block as block `b`
 next_large : (b t : ℕ) → b < 1792 → b % 256 + t < 256 → last_place Large (b + t) ≡ Some ((b % 256 + t) ∷ ((b / 256) ∷ []))
 next_large b t low within =
     let entry : (b + t) % 256 ≡ b % 256 + t = omega arith in
     let above : (b + t) / 256 ≡ b / 256 = omega arith in
     last_large (b + t) (omega arith) ∙ (ap (λ x. Some (x ∷ (((b + t) / 256) ∷ []))) entry ∙ ap (λ x. Some ((b % 256 + t) ∷ (x ∷ []))) above)
 
--- the same below the doubly indirect block
+-- the position in the block map of logical block `b + t` of a large file, if it is in the same indirect block as block `b`, below the doubly indirect
+-- block
 next_huge : (b t : ℕ) → 1792 ≤ b → b < 32768 → b % 256 + t < 256 → last_place Large (b + t) ≡ Some ((b % 256 + t) ∷ ((b / 256 - 7) ∷ (7 ∷ [])))
 next_huge b t low high within =
     let entry : (b + t) % 256 ≡ b % 256 + t = omega arith in
@@ -33,13 +34,14 @@ next_huge b t low high within =
     last_huge (b + t) (omega arith) (omega arith)
     ∙ (ap (λ x. Some (x ∷ (((b + t) / 256 - 7) ∷ (7 ∷ [])))) entry ∙ ap (λ x. Some ((b % 256 + t) ∷ ((x - 7) ∷ (7 ∷ [])))) above)
 
--- the same in the seventh edition, below the indirect block
+-- the position in the block map of logical block `b + t` below the indirect block of the seventh edition
 next_single : (b t : ℕ) → 10 ≤ b → b < 138 → b - 10 + t < 128 → last_place Deep (b + t) ≡ Some ((b - 10 + t) ∷ (10 ∷ []))
 next_single b t low high within =
     let entry : b + t - 10 ≡ b - 10 + t = omega arith in
     last_single (b + t) (omega arith) (omega arith) ∙ ap (λ x. Some (x ∷ (10 ∷ []))) entry
 
--- the same below the doubly indirect block
+-- the position in the block map of logical block `b + t`, if it is in the same indirect block as block `b`, below the doubly indirect block of the
+-- seventh edition
 next_double : (b t : ℕ) → 138 ≤ b → b < 16522 → (b - 138) % 128 + t < 128
     → last_place Deep (b + t) ≡ Some (((b - 138) % 128 + t) ∷ (((b - 138) / 128) ∷ (11 ∷ [])))
 next_double b t low high within =
@@ -48,7 +50,8 @@ next_double b t low high within =
     last_double (b + t) (omega arith) (omega arith)
     ∙ (ap (λ x. Some (x ∷ (((b + t - 138) / 128) ∷ (11 ∷ [])))) entry ∙ ap (λ x. Some (((b - 138) % 128 + t) ∷ (x ∷ (11 ∷ [])))) above)
 
--- the same below the triply indirect block
+-- the position in the block map of logical block `b + t`, if it is in the same indirect block as block `b`, below the triply indirect block of the
+-- seventh edition
 next_triple : (b t : ℕ) → 16522 ≤ b → b < 2113674 → (b - 16522) % 128 + t < 128
     → last_place Deep (b + t) ≡ Some (((b - 16522) % 128 + t) ∷ (((b - 16522) / 128 % 128) ∷ (((b - 16522) / 16384) ∷ (12 ∷ []))))
 next_triple b t low high within =
@@ -60,12 +63,13 @@ next_triple b t low high within =
     ∙ (ap (λ x. Some (((b - 16522) % 128 + t) ∷ ((x % 128) ∷ (((b + t - 16522) / 16384) ∷ (12 ∷ []))))) above
     ∙ ap (λ x. Some (((b - 16522) % 128 + t) ∷ (((b - 16522) / 128 % 128) ∷ (x ∷ (12 ∷ []))))) top))
 
--- the last place of a logical block after the direct ones is a pointer, and the pointers after it are those of the next logical blocks
+-- logical block `b` is at position `p` in the block map, an entry of an indirect block, and the entries after it are the positions of the next
+-- logical blocks
 pub record IsFollowed (form : BlockMap) (b : ℕ) (p : List ℕ) : Type 0 where
   pub deep : 2 ≤ length p
   pub next : (t : ℕ) → head_of p + t < pointer_count form → last_place form (b + t) ≡ Some (moved t p)
 
--- the same for an equal place
+-- `IsFollowed` holds for a position in the block map if it holds for an equal position
 followed_as : (form : BlockMap) (b : ℕ) (p q : List ℕ) → last_place form b ≡ Some p → last_place form b ≡ Some q → IsFollowed form b q → IsFollowed form b p
 followed_as form b p q e is followed = subst (IsFollowed form b) (some_is q p (sym is ∙ e)) followed
 
@@ -95,7 +99,7 @@ deep_way form b way behind e =
     let long : length (end_of way) ≡ suc way.depth = length_to way.address way.entries way.depth in
     omega arith
 
--- the number of logical block b + t is stored t pointers after that of b
+-- the number of logical block `b + t` is stored `t` entries after the number of block `b`
 pub stored_behind : (geometry : Geometry) (image : List ℕ) (i : ℕ) (form : BlockMap) (b above t : ℕ) (way : BlockPath) → form ≡ form_at geometry image i
     → direct_count form ≤ b → Some (end_of way) ≡ last_place form b → above + 1 ≡ way.depth
     → slice_index way.entries above + t < (constants geometry.edition).pointers

@@ -1,4 +1,4 @@
--- The rules after a change of one file that names no more than before.
+-- Rules 3 to 7 after a change of one file that only clears positions in the block map.
 use Rattle.std.proofs.Common.{◌≡◌, ◌≢◌, ℕ, ◌≤◌, ◌∙◌, sym, ap, subst, List, inl, inr}
 use Rattle.std.proofs.lemmas.Bool.{cases_eq}
 use Rattle.vol_layout.specs.Edition.{constants}
@@ -16,7 +16,7 @@ use Rattle.vol_file.proofs.Alone.{fits_len, elsewhere_inode, elsewhere_before, e
 use Rattle.vol_file.proofs.StoredNames.{kinds_kept, links_same, links_kept_byte}
 use Rattle.vol_file.specs.Changes.{StaysElsewhere}
 
--- the change of file i: it keeps its kind, its size is within the limits, and each of its places keeps its name, or names nothing
+-- file `i` changed: its kind is the same, its size is within the limits, and each position in its block map is unchanged or cleared
 pub record Lessens (geometry : Geometry) (old new : List ℕ) (i : ℕ) : Type 0 where
   pub alone : StaysElsewhere geometry old new i
   pub kind : kind_at geometry new i ≡ kind_at geometry old i
@@ -25,7 +25,7 @@ pub record Lessens (geometry : Geometry) (old new : List ℕ) (i : ℕ) : Type 0
   pub names : (p : List ℕ) → IsPlaceOf geometry new i p → named geometry new i p ≢ 0
       → IsPlaceOf geometry old i p × (named geometry new i p ≡ named geometry old i p)
 
--- each kind is as before
+-- the change does not change the kind of any i-node
 kind_after : (geometry : Geometry) (old new : List ℕ) (i j : ℕ) → Fits geometry old → IsFile geometry old i → Lessens geometry old new i
     → 1 ≤ j → j ≤ geometry.last_inode → kind_at geometry new j ≡ kind_at geometry old j
 kind_after geometry old new i j fits file less first last =
@@ -34,7 +34,7 @@ kind_after geometry old new i j fits file less first last =
       | inr other ↦ ap (kind_of geometry.edition) (mode_kept geometry old new j (elsewhere_inode geometry old new i j fits less.alone file.first first last other))
     ]
 
--- a file was one before
+-- a file of the new image was a file before the change
 file_before : (geometry : Geometry) (old new : List ℕ) (i j : ℕ) → Fits geometry old → IsFile geometry old i → Lessens geometry old new i
     → IsFile geometry new j → IsFile geometry old j
 file_before geometry old new i j fits file less is = record {
@@ -43,7 +43,7 @@ file_before geometry old new i j fits file less is = record {
   kind = ap has_places (sym (kind_after geometry old new i j fits file less is.first is.last)) ∙ is.kind;
 }
 
--- a place that names something named it before
+-- a position in the block map that points to a block pointed to the same block before the change
 pub named_before : (geometry : Geometry) (old new : List ℕ) (i j : ℕ) (p : List ℕ) → Fits geometry old → IsFile geometry old i
     → Lessens geometry old new i → IsPlaceOf geometry new j p → named geometry new j p ≢ 0
     → IsPlaceOf geometry old j p × (named geometry new j p ≡ named geometry old j p)
@@ -57,13 +57,13 @@ named_before geometry old new i j p fits file less place some =
           (before, elsewhere_named geometry old new i j p fits less.alone file.first other before)
     ]
 
--- the kinds keep their rules
+-- rule 3 still holds after the change
 kinds_after : (geometry : Geometry) (old new : List ℕ) (i : ℕ) → Fits geometry old → IsFile geometry old i → Lessens geometry old new i
     → HasKinds geometry old → HasKinds geometry new
 kinds_after geometry old new i fits file less has =
     kinds_kept geometry old new fits (λ j first last. kind_after geometry old new i j fits file less first last) has
 
--- the sizes and link counts keep their rules
+-- rule 4 still holds after the change
 sizes_after : (geometry : Geometry) (old new : List ℕ) (i : ℕ) → Fits geometry old → IsFile geometry old i → Lessens geometry old new i
     → HasSizes geometry old → HasSizes geometry new
 sizes_after geometry old new i fits file less has = record {
@@ -93,7 +93,7 @@ sizes_after geometry old new i fits file less has = record {
       subst (λ n. n ≤ (constants geometry.edition).link_limit) (sym same) (has.links j first last before);
 }
 
--- the rules hold if file i lessens, and the free blocks are a stack of which no place names one
+-- rules 3 to 7 still hold after the change if the free list is a stack and no position in the block map points to one of its blocks
 pub sound_after : (geometry : Geometry) (old new blocks after : List ℕ) (i : ℕ) → Rules3To7With geometry old blocks → IsFile geometry old i
     → Lessens geometry old new i → IsFree geometry new after
     → ((j : ℕ) (p : List ℕ) → IsPlaceOf geometry new j p → IsIn (named geometry new j p) after → ⊥) → Rules3To7With geometry new after

@@ -1,4 +1,4 @@
--- The body of a file after bytes were put in it.
+-- The body of a file after bytes were written to it.
 use Rattle.std.proofs.Common.{◌≡◌, ℕ, ◌+◌, ◌-◌, ◌<◌, ◌≤◌, ◌∙◌, sym, ap, List, ◌++◌, length, get_or, take, drop, max, refl, arith, inl, inr}
 use Rattle.std.specs.Prelude.{replicate}
 use Rattle.std.proofs.lemmas.Bool.{cases_lt}
@@ -6,7 +6,7 @@ use Rattle.std.proofs.lemmas.List.{length-append, length-take, length-drop, leng
 use Rattle.std.proofs.lemmas.Grind.{same_number_lists}
 use Rattle.vol_file.specs.Changes.{spliced}
 
--- the number of bytes after others are put at an offset
+-- the length of `spliced` is the larger of the old length and the end of the text
 pub length-spliced : (bytes : List ℕ) (offset : ℕ) (text : List ℕ) → length (spliced bytes offset text) ≡ max (length bytes) (offset + length text)
 length-spliced bytes offset text =
     let whole = length-append (take offset bytes ++ replicate (offset - length bytes) 0) (text ++ drop (offset + length text) bytes) in
@@ -17,7 +17,7 @@ length-spliced bytes offset text =
     let last = length-drop (offset + length text) bytes in
     omega (arith, whole, left, right, first, zeros, last)
 
--- a list that has these bytes is the one with others put at an offset
+-- a list with the length and the bytes of `spliced` is `spliced`
 pub spliced_is : (xs bytes : List ℕ) (offset : ℕ) (text : List ℕ) → length xs ≡ max (length bytes) (offset + length text)
     → ((n : ℕ) → n < offset → n < length bytes → get_or xs n 0 ≡ get_or bytes n 0)
     → ((n : ℕ) → length bytes ≤ n → n < offset → get_or xs n 0 ≡ 0)

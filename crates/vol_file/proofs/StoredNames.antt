@@ -1,4 +1,4 @@
--- Names and soundness after a number was stored at a place of a file.
+-- The block numbers in a file's block map, and rules 3 to 7, after a number was stored at a position.
 use Rattle.std.proofs.Common.{◌≡◌, ◌≢◌, ℕ, ◌+◌, ◌<◌, ◌≤◌, ◌∙◌, sym, ap, subst, List, [], ◌∷◌, get_or, refl, arith, inl, inr, true}
 use Rattle.std.proofs.lemmas.Bool.{cases_eq}
 use Rattle.std.proofs.lemmas.Bool.Decides.{nat_tests}
@@ -22,17 +22,17 @@ use Rattle.vol_file.proofs.Stores.{Stores}
 use Rattle.vol_file.proofs.Alone.{fits_len, elsewhere_inode, elsewhere_before, elsewhere_named}
 use Rattle.vol_file.proofs.Fronts.{same_or, front_or}
 
--- the root isn't i-number 0
+-- the root's i-number is not 0
 pub root_first : (edition : Edition) → 1 ≤ (constants edition).root
 root_first V6 = omega arith
 root_first V7 = omega arith
 
--- the root's i-number is one of the volume's
+-- the root's i-number is an i-number of the volume
 pub root_within : (geometry : Geometry) (image : List ℕ) → Fits geometry image
     → (1 ≤ (constants geometry.edition).root) × ((constants geometry.edition).root ≤ geometry.last_inode)
 root_within geometry image fits = let one = root_first geometry.edition in (one, omega (arith, fits.root))
 
--- the kinds keep their rule if they stay
+-- rule 3 still holds if the kinds are unchanged
 pub kinds_kept : (geometry : Geometry) (old new : List ℕ) → Fits geometry old
     → ((j : ℕ) → 1 ≤ j → j ≤ geometry.last_inode → kind_at geometry new j ≡ kind_at geometry old j)
     → HasKinds geometry old → HasKinds geometry new
@@ -45,11 +45,11 @@ kinds_kept geometry old new fits same kinds =
       bad_blocks = λ v7. elim (kinds.bad_blocks v7) [ inl free ↦ inl (one ∙ free) | inr regular ↦ inr (one ∙ regular) ];
     }
 
--- the second byte of a word that begins at 2
+-- `at + 2 + 1` is `at + 3`
 the_third : (at : ℕ) → at + 2 + 1 ≡ at + 3
 the_third at = omega arith
 
--- the links in an i-node
+-- the link count of an i-node is unchanged if its bytes 2 and 3 are
 pub links_same : (edition : Edition) (old new : List ℕ) (at : ℕ)
     → ((r : ℕ) → 2 ≤ r → r < 4 → get_or new (at + r) 0 ≡ get_or old (at + r) 0)
     → (inode_at edition new at).links ≡ (inode_at edition old at).links
@@ -60,12 +60,12 @@ links_same V7 old new at same =
     ap (λ x. get_or new x 0) (the_third at) ∙ (same 3 (omega arith) (omega arith) ∙ ap (λ x. get_or old x 0) (sym (the_third at))) in
     (inode_v7 new at).0 ∙ (omega (arith, two, three) ∙ sym (inode_v7 old at).0)
 
--- the bytes of the links are kept
+-- a change of a file must keep the bytes of the link count
 pub links_kept_byte : (edition : Edition) (r : ℕ) → 2 ≤ r → r < 4 → is_kept_byte edition r ≡ true
 links_kept_byte V6 r h l = grind (arith, nat_tests)
 links_kept_byte V7 r h l = grind (arith, nat_tests)
 
--- the link counts stay
+-- the link counts are unchanged
 pub links_kept : (geometry : Geometry) (old new : List ℕ) (i j : ℕ) → Fits geometry old → StaysElsewhere geometry old new i → 1 ≤ i
     → 1 ≤ j → j ≤ geometry.last_inode → (inode_of geometry.edition new j).links ≡ (inode_of geometry.edition old j).links
 links_kept geometry old new i j fits stays one first last =
@@ -75,7 +75,7 @@ links_kept geometry old new i j fits stays one first last =
       | inr other ↦ ap (λ node. node.links) (inode_of_kept geometry old new j (elsewhere_inode geometry old new i j fits stays one first last other))
     ]
 
--- the modes stay if file i's does
+-- all modes are unchanged if file `i`'s mode is
 pub modes_kept : (geometry : Geometry) (old new : List ℕ) (i j : ℕ) → Fits geometry old → StaysElsewhere geometry old new i → 1 ≤ i
     → mode_of geometry new i ≡ mode_of geometry old i
     → 1 ≤ j → j ≤ geometry.last_inode → mode_of geometry new j ≡ mode_of geometry old j
@@ -85,7 +85,7 @@ modes_kept geometry old new i j fits stays one mode first last =
       | inr other ↦ mode_kept geometry old new j (elsewhere_inode geometry old new i j fits stays one first last other)
     ]
 
--- the sizes stay if file i's does
+-- all sizes are unchanged if file `i`'s size is
 pub sizes_stay : (geometry : Geometry) (old new : List ℕ) (i j : ℕ) → Fits geometry old → StaysElsewhere geometry old new i → 1 ≤ i
     → size_of geometry new i ≡ size_of geometry old i
     → 1 ≤ j → j ≤ geometry.last_inode → size_of geometry new j ≡ size_of geometry old j
@@ -95,7 +95,7 @@ sizes_stay geometry old new i j fits stays one size first last =
       | inr other ↦ size_kept geometry old new j (elsewhere_inode geometry old new i j fits stays one first last other)
     ]
 
--- a file is one if its mode stays
+-- a file with an unchanged mode is still a regular file or directory
 pub file_same : (geometry : Geometry) (old new : List ℕ) (i : ℕ) → mode_of geometry new i ≡ mode_of geometry old i
     → IsFile geometry old i → IsFile geometry new i
 file_same geometry old new i mode file = record {
@@ -104,7 +104,7 @@ file_same geometry old new i mode file = record {
   kind = subst (λ m. has_places (kind_of geometry.edition m) ≡ true) (sym mode) file.kind;
 }
 
--- a place of a file is one if its mode stays
+-- a file with an unchanged mode has the same positions in its block map
 pub place_same : (geometry : Geometry) (old new : List ℕ) (i : ℕ) (p : List ℕ) → mode_of geometry new i ≡ mode_of geometry old i
     → IsPlaceOf geometry old i p → IsPlaceOf geometry new i p
 place_same geometry old new i p mode place = record {
@@ -112,7 +112,7 @@ place_same geometry old new i p mode place = record {
   place = subst (λ form. IsPlace form p) (sym (form_same geometry old new i mode)) place.place;
 }
 
--- the sizes keep their rule if they and the modes stay
+-- rule 4 still holds if the sizes and the modes are unchanged
 pub sizes_kept : (geometry : Geometry) (old new : List ℕ) (i : ℕ) → Fits geometry old → StaysElsewhere geometry old new i → 1 ≤ i
     → mode_of geometry new i ≡ mode_of geometry old i → size_of geometry new i ≡ size_of geometry old i
     → HasSizes geometry old → HasSizes geometry new
@@ -131,7 +131,7 @@ sizes_kept geometry old new i fits stays one mode size sizes = record {
       (sizes.links j first last (λ free. used (ap (kind_of geometry.edition) same ∙ free)));
 }
 
--- below a place that names something with no entries nothing is named
+-- if the block to which position `q` in the block map points has only zero entries, no position below `q` points to a block
 below_none : (geometry : Geometry) (image : List ℕ) (i v : ℕ) (q : List ℕ) → Fits geometry image → named geometry image i q ≡ v
     → ((x : ℕ) → x < (constants geometry.edition).pointers → pointer_in geometry image v x ≡ 0)
     → (p : List ℕ) (x : ℕ) → IsPlaceOf geometry image i (x ∷ p) → IsFront q p → named geometry image i (x ∷ p) ≡ 0
@@ -145,7 +145,8 @@ below_none geometry image i v q fits is none (h ∷ p) x place (inr front) =
     below_none geometry image i v q fits is none p h (record { file = place.file; place = place.place.2 }) front in
     named_stops geometry image i x h p (ap (in_zone geometry) zero ∙ zero_out geometry image fits)
 
--- if nothing was named below the place, and the number stored there leads to no entries, the other places of the file keep their names
+-- if no position in the block map below `q` pointed to a block, and the number stored at `q` is the number of a block with only zero entries, the
+-- other positions are unchanged
 pub stores_only : (geometry : Geometry) (old new blocks : List ℕ) (i v : ℕ) (q : List ℕ) → Fits geometry old → Stores geometry old new i q v blocks
     → ((x : ℕ) → x < (constants geometry.edition).pointers → pointer_in geometry new v x ≡ 0)
     → ((x : ℕ) (p : List ℕ) → IsPlaceOf geometry old i (x ∷ p) → IsFront q p → named geometry old i (x ∷ p) ≡ 0)
@@ -159,18 +160,18 @@ stores_only geometry old new blocks i v q fits stores none lower (x ∷ p) place
       | inr apart ↦ stores.others (x ∷ p) place (λ front. elim front [ inl e ↦ differ (sym e) | inr deeper ↦ apart deeper ])
     ]
 
--- a number may be stored at a place: it is 0, or that of a data block which is neither named by a place nor free
+-- number `v` may be stored at a position in the block map: it is 0, or the number of a data block that is not free and to which no position points
 pub data MayStand (geometry : Geometry) (image blocks : List ℕ) (v : ℕ) : Type 0 where
   none : v ≡ 0 → MayStand geometry image blocks v
   fresh : in_zone geometry v ≡ true → ((j : ℕ) (p : List ℕ) → IsPlaceOf geometry image j p → named geometry image j p ≢ v)
       → (IsIn v blocks → ⊥) → MayStand geometry image blocks v
 
--- the name of a place after one number was stored: that number at its place, else the name before
+-- the block number at a position in the block map after number `v` was stored at position `q` of file `i`: it is `v` at `q`, and unchanged elsewhere
 data NamedAfter (geometry : Geometry) (old new : List ℕ) (i : ℕ) (q : List ℕ) (v j : ℕ) (p : List ℕ) : Type 0 where
   there : j ≡ i → p ≡ q → named geometry new j p ≡ v → NamedAfter geometry old new i q v j p
   elsewhere : IsPlaceOf geometry old j p → named geometry new j p ≡ named geometry old j p → NamedAfter geometry old new i q v j p
 
--- each place of the new image is either
+-- one of the cases of `NamedAfter` holds for each position in any block map of the new image
 named_after : (geometry : Geometry) (old new blocks : List ℕ) (i v : ℕ) (q : List ℕ) → Fits geometry old → 1 ≤ i → Stores geometry old new i q v blocks
     → ((p : List ℕ) → IsPlaceOf geometry old i p → p ≢ q → named geometry new i p ≡ named geometry old i p)
     → (j : ℕ) (p : List ℕ) → IsPlaceOf geometry new j p → NamedAfter geometry old new i q v j p
@@ -189,7 +190,7 @@ named_after geometry old new blocks i v q fits one stores only j p place =
           NamedAfter.elsewhere before (elsewhere_named geometry old new i j p fits stores.alone one other before)
     ]
 
--- each number named is a data block's
+-- each block number in a block map of the new image is the number of a data block
 after_zoned : (geometry : Geometry) (old new blocks : List ℕ) (i v : ℕ) (q : List ℕ) (j : ℕ) (p : List ℕ) → Rules3To7With geometry old blocks
     → MayStand geometry old blocks v → NamedAfter geometry old new i q v j p → named geometry new j p ≢ 0
     → in_zone geometry (named geometry new j p) ≡ true
@@ -198,13 +199,13 @@ after_zoned geometry old new blocks i v q j p sound (MayStand.fresh zone _ _) (N
 after_zoned geometry old new blocks i v q j p sound may (NamedAfter.elsewhere place is) some =
     ap (in_zone geometry) is ∙ sound.zoned j p place (λ zero. some (is ∙ zero))
 
--- no place names the number that is stored there, unless that is 0
+-- no position in the block map of the old image holds the stored number unless it is 0
 after_fresh : (geometry : Geometry) (old blocks : List ℕ) (v j : ℕ) (p : List ℕ) → MayStand geometry old blocks v → IsPlaceOf geometry old j p
     → v ≢ 0 → named geometry old j p ≢ v
 after_fresh geometry old blocks v j p (MayStand.none z) place some = absurd (some z)
 after_fresh geometry old blocks v j p (MayStand.fresh _ unnamed _) place some = unnamed j p place
 
--- no block is named twice
+-- no two positions in the block map of the new image point to the same block
 after_apart : (geometry : Geometry) (old new blocks : List ℕ) (i v : ℕ) (q : List ℕ) (j k : ℕ) (p r : List ℕ) → Rules3To7With geometry old blocks
     → MayStand geometry old blocks v → NamedAfter geometry old new i q v j p → NamedAfter geometry old new i q v k r
     → named geometry new j p ≢ 0 → named geometry new j p ≡ named geometry new k r → (j ≡ k) × (p ≡ r)
@@ -217,7 +218,7 @@ after_apart geometry old new blocks i v q j k p r sound may (NamedAfter.elsewher
 after_apart geometry old new blocks i v q j k p r sound may (NamedAfter.elsewhere place is) (NamedAfter.elsewhere place' is') some same =
     sound.apart j k p r place place' (λ zero. some (is ∙ zero)) (sym is ∙ (same ∙ is'))
 
--- no block that is named is free
+-- no block number in a block map of the new image is a free block
 after_outside : (geometry : Geometry) (old new blocks : List ℕ) (i v : ℕ) (q : List ℕ) (j : ℕ) (p : List ℕ) → Rules3To7With geometry old blocks
     → MayStand geometry old blocks v → NamedAfter geometry old new i q v j p → IsIn (named geometry new j p) blocks → ⊥
 after_outside geometry old new blocks i v q j p sound (MayStand.none z) (NamedAfter.there e f is) within =
@@ -227,7 +228,7 @@ after_outside geometry old new blocks i v q j p sound (MayStand.fresh _ _ apart)
 after_outside geometry old new blocks i v q j p sound may (NamedAfter.elsewhere place is) within =
     sound.outside j p place (subst (λ k. IsIn k blocks) is within)
 
--- the rules hold after one number was stored at a place with nothing named below it
+-- rules 3 to 7 still hold after a number was stored at a position in the block map below which no position points to a block
 pub stores_sound : (geometry : Geometry) (old new blocks : List ℕ) (i v : ℕ) (q : List ℕ) → Rules3To7With geometry old blocks → IsFile geometry old i
     → Stores geometry old new i q v blocks → MayStand geometry old blocks v
     → ((p : List ℕ) → IsPlaceOf geometry old i p → p ≢ q → named geometry new i p ≡ named geometry old i p)

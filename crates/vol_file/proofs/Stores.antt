@@ -1,4 +1,4 @@
--- The effect of one store: a number put at a place of a file.
+-- The effect of storing one number at a position in a file's block map.
 use Rattle.std.specs.Prelude.{◌≡◌, ◌≢◌, ℕ, ◌+◌, ◌*◌, ◌<◌, ◌≤◌, true, List, slice_index}
 use Rattle.vol_layout.specs.Geometry.{in_zone}
 use Rattle.vol_layout.specs.BlockMaps.{levels_below}
@@ -9,7 +9,7 @@ use Rattle.vol_file.specs.Rules.{size_of}
 use Rattle.vol_layout.specs.declared.geometry.Geometry.{Geometry}
 use Rattle.vol_file.specs.Changes.{StaysElsewhere}
 
--- number v was put at place q of file i, and these blocks are free: nothing else has changed
+-- number `v` was stored at position `q` in the block map of file `i`, the free blocks are `blocks`, and nothing else has changed
 pub record Stores (geometry : Geometry) (old new : List ℕ) (i : ℕ) (q : List ℕ) (v : ℕ) (blocks : List ℕ) : Type 0 where
   pub alone : StaysElsewhere geometry old new i
   pub mode : mode_of geometry new i ≡ mode_of geometry old i

@@ -1,4 +1,4 @@
--- The logical blocks that lie below one place of a file.
+-- The logical blocks below one position in the block map of a file.
 use Rattle.std.proofs.Common.{◌≡◌, ℕ, zero, suc, ◌+◌, ◌-◌, ◌*◌, ◌/◌, ◌%◌, ◌<◌, ◌≤◌, ◌∙◌, sym, ap, subst, List, [], ◌∷◌, length, drop, length-drop, ◌^◌, slice_index, refl, arith, inl, inr, true, false, if◌then◌else◌, Option, Some, None}
 use Rattle.std.specs.Option.{option_map_or}
 use Rattle.std.proofs.lemmas.Bool.{cases_lt}
@@ -19,7 +19,7 @@ use Rattle.vol_layout.proofs.PlaceLaws.{has_no_way, last_none, last_leaf, entry_
 use Rattle.vol_file.specs.Holes.{IsHole, blocks_left, direct_count}
 use Rattle.vol_layout.proofs.LastPlaces.{last_small, last_large, last_huge, last_direct, last_single, last_double, last_triple}
 
--- the first index of a list, and the others
+-- the first item of a list, or 0 if it is empty
 abbrev pub head_of : List ℕ → ℕ
 head_of [] = 0
 head_of (j ∷ p) = j
@@ -28,34 +28,35 @@ abbrev pub tail_of : List ℕ → List ℕ
 tail_of [] = []
 tail_of (j ∷ p) = p
 
--- a last place, if there is one, lies below an entry of the block that `above` names, n levels below it, among the entries `low..high`
+-- a position in the block map is at or below one of the entries `low..high` of the block at position `above`, where the entries are `n` levels above
+-- its end
 abbrev LiesAmong : ℕ → List ℕ → ℕ → ℕ → Option (List ℕ) → Type 0
 LiesAmong n above low high None = Unit {0}
 LiesAmong n above low high (Some q) = (x : ℕ) × (drop n q ≡ x ∷ above) × (low ≤ x) × (x < high)
 
--- place p without its last n indexes may be followed by k more in its block: an address by none
+-- position `p` in the block map without its last `n` indexes is followed by at least `k` more entries in its block; an address is followed by none
 pub record HasMore (pointers n : ℕ) (p : List ℕ) (k : ℕ) : Type 0 where
   pub within : head_of (drop n p) + k < pointers
   pub address : tail_of (drop n p) ≡ [] → k ≡ 0
 
--- the last place of block t lies below p without its last n indexes, or below one of the k that follow it
+-- the position in the block map of logical block `t` is below `p` without its last `n` indexes, or below one of the `k` entries that follow it
 abbrev IsAmong : BlockMap → ℕ → List ℕ → ℕ → ℕ → Type 0
 IsAmong form n p k t = LiesAmong n (tail_of (drop n p)) (head_of (drop n p)) (head_of (drop n p) + k + 1) (last_place form t)
 
--- equal values are equal under `Some`, and back
+-- if `Some p` is `Some q`, then `p` is `q`
 pub some_is : (p q : List ℕ) → Some p ≡ Some q → p ≡ q
 some_is p q e = cc
 
--- the position of a last place among others
+-- a position in the block map is at or below one of the entries `low..high` if its index on their level is in this range
 lies : (form : BlockMap) (n low high x t : ℕ) (above q : List ℕ) → last_place form t ≡ Some q → drop n q ≡ x ∷ above → low ≤ x → x < high
     → LiesAmong n above low high (last_place form t)
 lies form n low high x t above q is top from to = subst (LiesAmong n above low high) (sym is) (x, top, from, to)
 
--- past the last block nothing lies
+-- a logical block past the limit has no position in the block map
 lies_past : (form : BlockMap) (n low high t : ℕ) (above : List ℕ) → block_limit form ≤ t → LiesAmong n above low high (last_place form t)
 lies_past form n low high t above past = subst (LiesAmong n above low high) (sym (has_no_way form t past)) tt
 
--- of a large file, below the indirect blocks
+-- `IsAmong` holds for logical blocks of a large file below the first seven addresses
 among_large : (b t n k : ℕ) → b < 1792 → b ≤ t → n < 2 → HasMore 256 n ((b % 256) ∷ ((b / 256) ∷ [])) k
     → t < b + blocks_left 256 n ((b % 256) ∷ ((b / 256) ∷ [])) + k * 256 ^ n → IsAmong Large n ((b % 256) ∷ ((b / 256) ∷ [])) k t
 among_large b t zero k low from few more within =
@@ -68,7 +69,7 @@ among_large b t (suc zero) k low from few more within =
     lies Large 1 (b / 256) (b / 256 + k + 1) (t / 256) t [] ((t % 256) ∷ ((t / 256) ∷ [])) (last_large t (omega arith)) refl (omega arith) (omega arith)
 among_large b t (suc (suc n)) k low from few more within = absurd (omega arith)
 
--- of a large file, below the doubly indirect block
+-- `IsAmong` holds for logical blocks of a large file below the doubly indirect block
 among_huge : (b t n k : ℕ) → 1792 ≤ b → b < 32768 → b ≤ t → n < 3 → HasMore 256 n ((b % 256) ∷ ((b / 256 - 7) ∷ (7 ∷ []))) k
     → t < b + blocks_left 256 n ((b % 256) ∷ ((b / 256 - 7) ∷ (7 ∷ []))) + k * 256 ^ n → IsAmong Large n ((b % 256) ∷ ((b / 256 - 7) ∷ (7 ∷ []))) k t
 among_huge b t zero k low high from few more within =
@@ -89,7 +90,7 @@ among_huge b t (suc (suc zero)) k low high from few more within =
     ]
 among_huge b t (suc (suc (suc n))) k low high from few more within = absurd (omega arith)
 
--- of the seventh edition, below the indirect block
+-- `IsAmong` holds for logical blocks of the seventh edition below the indirect block
 among_single : (b t n k : ℕ) → 10 ≤ b → b < 138 → b ≤ t → n < 2 → HasMore 128 n ((b - 10) ∷ (10 ∷ [])) k
     → t < b + blocks_left 128 n ((b - 10) ∷ (10 ∷ [])) + k * 128 ^ n → IsAmong Deep n ((b - 10) ∷ (10 ∷ [])) k t
 among_single b t zero k low high from few more within =
@@ -99,7 +100,7 @@ among_single b t (suc zero) k low high from few more within =
     lies Deep 1 10 (10 + k + 1) 10 t [] ((t - 10) ∷ (10 ∷ [])) (last_single t (omega arith) (omega arith)) refl (omega arith) (omega arith)
 among_single b t (suc (suc n)) k low high from few more within = absurd (omega arith)
 
--- of the seventh edition, below the doubly indirect block
+-- `IsAmong` holds for logical blocks of the seventh edition below the doubly indirect block
 among_double : (b t n k : ℕ) → 138 ≤ b → b < 16522 → b ≤ t → n < 3 → HasMore 128 n (((b - 138) % 128) ∷ (((b - 138) / 128) ∷ (11 ∷ []))) k
     → t < b + blocks_left 128 n (((b - 138) % 128) ∷ (((b - 138) / 128) ∷ (11 ∷ []))) + k * 128 ^ n → IsAmong Deep n (((b - 138) % 128) ∷ (((b - 138) / 128) ∷ (11 ∷ []))) k t
 among_double b t zero k low high from few more within =
@@ -117,7 +118,7 @@ among_double b t (suc (suc zero)) k low high from few more within =
     lies Deep 2 11 (11 + k + 1) 11 t [] (((t - 138) % 128) ∷ (((t - 138) / 128) ∷ (11 ∷ []))) (last_double t (omega arith) under) refl (omega arith) (omega arith)
 among_double b t (suc (suc (suc n))) k low high from few more within = absurd (omega arith)
 
--- of the seventh edition, below the triply indirect block
+-- `IsAmong` holds for logical blocks of the seventh edition below the triply indirect block
 among_triple : (b t n k : ℕ) → 16522 ≤ b → b < 2113674 → b ≤ t → n < 4
     → HasMore 128 n (((b - 16522) % 128) ∷ (((b - 16522) / 128 % 128) ∷ (((b - 16522) / 16384) ∷ (12 ∷ [])))) k
     → t < b + blocks_left 128 n (((b - 16522) % 128) ∷ (((b - 16522) / 128 % 128) ∷ (((b - 16522) / 16384) ∷ (12 ∷ [])))) + k * 128 ^ n
@@ -146,12 +147,12 @@ among_triple b t (suc (suc (suc zero))) k low high from few more within =
     lies Deep 3 12 (12 + k + 1) 12 t [] (((t - 16522) % 128) ∷ (((t - 16522) / 128 % 128) ∷ (((t - 16522) / 16384) ∷ (12 ∷ [])))) (last_triple t (omega arith) under) refl (omega arith) (omega arith)
 among_triple b t (suc (suc (suc (suc n)))) k low high from few more within = absurd (omega arith)
 
--- an indirect block has at most 256 pointers
+-- an indirect block has at most 256 entries
 pub few_pointers : (edition : Edition) → (constants edition).pointers ≤ 256
 few_pointers V6 = omega arith
 few_pointers V7 = omega arith
 
--- the last place of each logical block that is left below a place, or below one of k that follow it
+-- the logical blocks left below an entry, and those below the `k` entries that follow it, have positions in the block map below these entries
 among : (form : BlockMap) (b t n k : ℕ) (p : List ℕ) → last_place form b ≡ Some p → 2 ≤ length p → n < length p → b ≤ t → HasMore (pointer_count form) n p k
     → t < b + blocks_left (pointer_count form) n p + k * pointer_count form ^ n → IsAmong form n p k t
 among Small b t n k p e deep few from more within =
@@ -196,7 +197,7 @@ among Deep b t n k p e deep few from more within =
     ]
 among Bare b t n k p e deep few from more within = let limit : b < 0 = (last_leaf Bare b p e).limit in absurd (omega arith)
 
--- places below a pointer that is 0 name nothing
+-- a position in the block map below a position that points to no block points to no block
 below_none : (geometry : Geometry) (image : List ℕ) (i n : ℕ) (p : List ℕ) → Fits geometry image → n < length p
     → named geometry image i (drop n p) ≡ 0 → named geometry image i p ≡ 0
 below_none geometry image i zero p fits few none = none
@@ -206,11 +207,11 @@ below_none geometry image i (suc n) (j ∷ (a ∷ p)) fits few none =
     named_stops geometry image i j a p
     (ap (in_zone geometry) (below_none geometry image i n (a ∷ p) fits (omega arith) none) ∙ zero_out geometry image fits)
 
--- a place is longer than the part taken off if some of it is left
+-- a position in the block map has more indexes than are removed if one is left
 long_enough : (n : ℕ) (q : List ℕ) (x : ℕ) (above : List ℕ) → drop n q ≡ x ∷ above → n < length q
 long_enough n q x above top = let left : length q - n ≡ suc (length above) = sym (length-drop n q) ∙ ap length top in omega arith
 
--- nothing is stored for a logical block below pointers that are 0
+-- no block number is stored for a logical block below entries that are 0
 stored_none : (geometry : Geometry) (image : List ℕ) (i n low high : ℕ) (above : List ℕ) (o : Option (List ℕ)) → Fits geometry image
     → LiesAmong n above low high o
     → ((x : ℕ) → low ≤ x → x < high → named geometry image i (x ∷ above) ≡ 0)
@@ -220,17 +221,17 @@ stored_none geometry image i n low high above (Some q) fits (x, top, from, to) n
     below_none geometry image i n q fits (long_enough n q x above top)
     (ap (named geometry image i) top ∙ none x from to)
 
--- the place that is left of a path's last place without the last n entries
+-- the position in the block map at the end of a path, without its last `n` indexes, is the position reached by the first `d` entries
 pub drop_to : (k : ℕ) (entries : List ℕ) (n d : ℕ) → drop n (place_to k entries (n + d)) ≡ place_to k entries d
 drop_to k entries zero d = let e : zero + d ≡ d = omega arith in ap (place_to k entries) e
 drop_to k entries (suc n) d = let e : suc n + d ≡ suc (n + d) = omega arith in rw e (drop_to k entries n d)
 
--- the length of a place
+-- a position in the block map reached by `d` entries has `d + 1` indexes
 pub length_to : (k : ℕ) (entries : List ℕ) (d : ℕ) → length (place_to k entries d) ≡ suc d
 length_to k entries zero = refl
 length_to k entries (suc d) = ap suc (length_to k entries d)
 
--- the pointers of an indirect block by the block map of a file that has a path
+-- if a logical block has a path, the `pointer_count` of a mode's block map is the edition's number of entries in an indirect block
 pointers_by : (edition : Edition) (mode b : ℕ) (p : List ℕ) → last_place (form_of edition mode) b ≡ Some p
     → pointer_count (form_of edition mode) ≡ (constants edition).pointers
 pointers_by edition mode b p =
@@ -240,15 +241,15 @@ pointers_by edition mode b p =
       | false ↦ λ e. let none : b < 0 = (last_leaf Bare b p e).limit in absurd (omega arith)
     ]
 
--- the pointers of an indirect block, by the block map of a file in which a logical block has a path
+-- if a logical block has a path, the `pointer_count` of the file's block map is the edition's number of entries in an indirect block
 pub pointers_at : (geometry : Geometry) (image : List ℕ) (i : ℕ) (form : BlockMap) (b : ℕ) (way : BlockPath) → form ≡ form_at geometry image i
     → Some (end_of way) ≡ last_place form b → pointer_count form ≡ (constants geometry.edition).pointers
 pointers_at geometry image i form b way is end =
     ap pointer_count is
     ∙ pointers_by geometry.edition (mode_of geometry image i) b (end_of way) (ap (λ f. last_place f b) (sym is) ∙ sym end)
 
--- nothing is stored for the logical blocks that are left below the place of a path's first `d` entries, nor for those below the
--- `k` pointers that follow it, if all of these are 0
+-- no block number is stored for the logical blocks left below the entry reached by the first `d` entries of a path, nor for those below the `k`
+-- entries that follow it, if all these entries are 0
 pub hole_below : (geometry : Geometry) (image : List ℕ) (i : ℕ) (form : BlockMap) (b d n k : ℕ) (way : BlockPath) → Fits geometry image
     → form ≡ form_at geometry image i → Some (end_of way) ≡ last_place form b → 1 ≤ way.depth → n + d ≡ way.depth
     → HasMore (constants geometry.edition).pointers n (end_of way) k
@@ -268,7 +269,7 @@ hole_below geometry image i form b d n k way fits is end deep whole more none = 
     stored_none geometry image i n (head_of (drop n p)) (head_of (drop n p) + k + 1) (tail_of (drop n p)) (last_place form t) fits lies
     (subst (λ q. (x : ℕ) → head_of q ≤ x → x < head_of q + k + 1 → named geometry image i (x ∷ tail_of q) ≡ 0) (sym front) none)
 
--- each entry on a path is one of an indirect block
+-- each entry on a path is an entry of an indirect block
 pub few_entries : (geometry : Geometry) (image : List ℕ) (i : ℕ) (form : BlockMap) (b : ℕ) (way : BlockPath) → form ≡ form_at geometry image i
     → Some (end_of way) ≡ last_place form b → (k : ℕ) → k < way.depth → slice_index way.entries k < (constants geometry.edition).pointers
 few_entries geometry image i form b way is end k h =
@@ -276,18 +277,18 @@ few_entries geometry image i form b way is end k h =
     let same = pointers_at geometry image i form b way is end in
     omega arith
 
--- the greatest number of logical blocks of a file
+-- a file has at most 2113674 logical blocks
 few_blocks : (form : BlockMap) → block_limit form ≤ 2113674
 few_blocks Small = omega arith
 few_blocks Large = omega arith
 few_blocks Deep = omega arith
 few_blocks Bare = omega arith
 
--- a logical block that has a path
+-- a logical block that has a path is below 2113674
 pub low_block : (form : BlockMap) (b : ℕ) (p : List ℕ) → last_place form b ≡ Some p → b < 2113674
 low_block form b p e = let limit = (last_leaf form b p e).limit in let few = few_blocks form in omega arith
 
--- the number stored for one of the first logical blocks is its address
+-- the block number stored for a direct block is the address with its index
 pub stored_direct : (geometry : Geometry) (image : List ℕ) (i : ℕ) (form : BlockMap) (b : ℕ) → b < direct_count form
     → stored geometry image i form b ≡ address_at geometry.edition image (inode_place geometry.edition i) b
 stored_direct geometry image i Small b low = ap (λ o. option_map_or (named geometry image i) o 0) (last_small b low)
@@ -295,20 +296,20 @@ stored_direct geometry image i Large b low = absurd (omega arith)
 stored_direct geometry image i Deep b low = ap (λ o. option_map_or (named geometry image i) o 0) (last_direct b low)
 stored_direct geometry image i Bare b low = absurd (omega arith)
 
--- past the blocks that have a path nothing is stored
+-- no block number is stored for logical blocks that have no path
 pub hole_past : (geometry : Geometry) (image : List ℕ) (i : ℕ) (form : BlockMap) (b end : ℕ) → last_place form b ≡ None → IsHole geometry image i form b end
 hole_past geometry image i form b end none = λ t from within.
     let past : block_limit form ≤ t = omega (arith, last_none form b none) in
     ap (λ o. option_map_or (named geometry image i) o 0) (has_no_way form t past)
 
--- the name of an entry of the block at the end of a front of a path
+-- the number at entry `x` of the block reached by the first `d` entries of a path
 pub named_under : (geometry : Geometry) (image : List ℕ) (i k : ℕ) (entries : List ℕ) (d x : ℕ)
     → named geometry image i (x ∷ place_to k entries d) ≡ pointer_in geometry image (named geometry image i (place_to k entries d)) x
 named_under geometry image i k entries zero x = refl
 named_under geometry image i k entries (suc d) x = refl
 
--- nothing is stored for the logical blocks that are left below an entry of a path, and below the entries that follow it, up to m of them,
--- if all of these are 0
+-- no block number is stored for the logical blocks left below an entry of a path and below the entries that follow it, up to `m` entries, if all
+-- these entries are 0
 pub hole_at_entries : (geometry : Geometry) (image : List ℕ) (i : ℕ) (form : BlockMap) (b d m : ℕ) (way : BlockPath) → Fits geometry image
     → form ≡ form_at geometry image i → Some (end_of way) ≡ last_place form b → d < way.depth → 1 ≤ m
     → slice_index way.entries d + m ≤ (constants geometry.edition).pointers

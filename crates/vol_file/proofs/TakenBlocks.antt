@@ -1,4 +1,4 @@
--- The effect of taking a block from the free list and putting it at a place of a file.
+-- The effect of taking a block from the free list and storing its number at a position in the block map of a file.
 use Rattle.std.proofs.Common.{◌≡◌, ◌≢◌, ℕ, ◌+◌, ◌*◌, ◌≤◌, ◌∙◌, sym, ap, subst, List, [], ◌∷◌, ◌++◌, refl, arith, inl, inr, true}
 use Rattle.pdp_words.specs.Words.{word}
 use Rattle.vol_layout.specs.Edition.{constants}
@@ -23,11 +23,11 @@ use Rattle.vol_file.proofs.Cells.{kept_within, names_zoned}
 use Rattle.vol_file.proofs.StoredNames.{kinds_kept, file_same}
 use Rattle.vol_file.specs.Changes.{StaysElsewhere}
 
--- no place names block b
+-- no position in the block map points to block `b`
 abbrev pub IsUnnamed : Geometry → List ℕ → ℕ → Type 0
 IsUnnamed geometry image b = (j : ℕ) (p : List ℕ) → IsPlaceOf geometry image j p → named geometry image j p ≢ b
 
--- another block stays if the head of the free list and a block are written
+-- if only the free list and block `b` are written, another block is unchanged
 pub stays_block : (geometry : Geometry) (old new : List ℕ) (b size m : ℕ) → StaysBut geometry old new b size → size ≤ 512 → 2 ≤ m → m ≢ b
     → IsCopy old new (512 * m) (512 * m) 512
 stays_block geometry old new b size m stays small two differ =
@@ -37,7 +37,7 @@ stays_block geometry old new b size m stays small two differ =
       | inr more ↦ record { bytes = λ r h. stays.between (512 * m + r) (omega arith) (omega arith) }
     ]
 
--- the i-nodes stay if the head of the free list and a data block are written
+-- if only the free list and a data block are written, the i-nodes are unchanged
 pub stays_inode : (geometry : Geometry) (old new : List ℕ) (b size j : ℕ) → Fits geometry old → StaysBut geometry old new b size
     → in_zone geometry b ≡ true → 1 ≤ j → j ≤ geometry.last_inode → KeepsInode geometry old new j
 stays_inode geometry old new b size j fits stays zone first last =
@@ -51,7 +51,7 @@ stays_inode geometry old new b size j fits stays zone first last =
 pub zone_two : (geometry : Geometry) (image : List ℕ) (k : ℕ) → Fits geometry image → in_zone geometry k ≡ true → 2 ≤ k
 zone_two geometry image k fits zone = let bounds = zone_bounds geometry k zone in omega (arith, bounds.0, fits.i_list)
 
--- the names stay if the head of the free list and a data block that no place names are written
+-- if only the free list and a data block to which no position points are written, the block numbers in block maps are unchanged
 pub stays_named : (geometry : Geometry) (old new : List ℕ) (b size j : ℕ) (p : List ℕ) → Fits geometry old → StaysBut geometry old new b size
     → size ≤ 512 → in_zone geometry b ≡ true → IsUnnamed geometry old b → IsPlaceOf geometry old j p → named geometry new j p ≡ named geometry old j p
 stays_named geometry old new b size j p fits stays small zone unnamed place =
@@ -61,15 +61,15 @@ stays_named geometry old new b size j p fits stays small zone unnamed place =
     stays_block geometry old new b size (named geometry old j (a ∷ q)) stays small
     (zone_two geometry old (named geometry old j (a ∷ q)) fits zone_q) (unnamed j (a ∷ q) (record { file = place.file; place = here.2 })))
 
--- a place was one before the head of the free list and a data block were written
+-- if only the free list and a data block are written, each position in a block map was there before
 pub stays_before : (geometry : Geometry) (old new : List ℕ) (b size j : ℕ) (p : List ℕ) → Fits geometry old → StaysBut geometry old new b size
     → in_zone geometry b ≡ true → IsPlaceOf geometry new j p → IsPlaceOf geometry old j p
 stays_before geometry old new b size j p fits stays zone place =
     let kept = stays_inode geometry old new b size j fits stays zone place.file.first place.file.last in
     place_kept geometry new old j p (copy_back old new (inode_place geometry.edition j) (constants geometry.edition).inode_bytes kept) place
 
--- if the head of the free list and a data block that no place names are written, all but the free list stays, with
--- regard to any file
+-- if only the free list and a data block to which no position in the block map points are written, only file `i` may have changed, for any `i`; the
+-- blocks of other files must be data blocks
 pub stays_around : (geometry : Geometry) (old new : List ℕ) (b size i : ℕ) → Fits geometry old
     → ((j : ℕ) (p : List ℕ) (k : ℕ) → j ≢ i → NamesBlock geometry old j p k → in_zone geometry k ≡ true) → 1 ≤ i → i ≤ geometry.last_inode
     → StaysBut geometry old new b size → size ≤ 512 → in_zone geometry b ≡ true → IsUnnamed geometry old b → StaysElsewhere geometry old new i
@@ -92,13 +92,14 @@ stays_around geometry old new b size i fits zoned first last stays small zone un
       behind = λ k h. stays.above k (omega (arith, bounds.1));
     }
 
--- the same if the rules hold
+-- if rules 3 to 7 hold, and only the free list and a data block to which no position in the block map points are written, only file `i` may have
+-- changed, for any `i`
 pub stays_elsewhere : (geometry : Geometry) (old new blocks : List ℕ) (b size i : ℕ) → Rules3To7With geometry old blocks → IsFile geometry old i
     → StaysBut geometry old new b size → size ≤ 512 → in_zone geometry b ≡ true → IsUnnamed geometry old b → StaysElsewhere geometry old new i
 stays_elsewhere geometry old new blocks b size i sound file =
     stays_around geometry old new b size i sound.fits (λ j p k other names. names_zoned geometry old blocks j p k sound names) file.first file.last
 
--- the rules hold with the other free blocks if the head of the free list and a data block that no place names are written
+-- rules 3 to 7 still hold, with the new free blocks, if only the free list and a data block to which no position in the block map points are written
 pub stays_sound : (geometry : Geometry) (old new blocks rest : List ℕ) (b size : ℕ) → Rules3To7With geometry old blocks
     → StaysBut geometry old new b size → size ≤ 512 → in_zone geometry b ≡ true → IsUnnamed geometry old b → IsFree geometry new rest
     → ((j : ℕ) (p : List ℕ) → IsPlaceOf geometry old j p → IsIn (named geometry old j p) rest → ⊥) → Rules3To7With geometry new rest
@@ -134,7 +135,7 @@ stays_sound geometry old new blocks rest b size sound stays small zone unnamed f
           outside j p (before j p place) (subst (λ k. IsIn k rest) (same j p (before j p place)) within);
     }
 
--- the first free block isn't named
+-- no position in the block map points to the first free block
 pub first_unnamed : (geometry : Geometry) (image : List ℕ) (b : ℕ) (rest : List ℕ) → Rules3To7With geometry image (b ∷ rest) → IsUnnamed geometry image b
 unfolding IsIn
 first_unnamed geometry image b rest sound j p place e = sound.outside j p place (inl e)
@@ -145,22 +146,22 @@ unfolding IsIn
 first_zoned geometry image b rest sound =
     stack_zoned geometry image (free_head geometry.edition) (word image (free_head geometry.edition)) (b ∷ rest) sound.free.stack b (inl refl)
 
--- the first free block isn't one of the others
+-- the first free block is not one of the other free blocks
 pub first_once : (geometry : Geometry) (image : List ℕ) (b : ℕ) (rest : List ℕ) → Rules3To7With geometry image (b ∷ rest) → IsIn b rest → ⊥
 unfolding Once
 first_once geometry image b rest sound = sound.free.once.0
 
--- a block among the others is free
+-- a block of the rest of the free list is in the free list
 pub rest_in : (b k : ℕ) (rest : List ℕ) → IsIn k rest → IsIn k (b ∷ rest)
 unfolding IsIn
 rest_in b k rest within = inr within
 
--- a block that is free after more were taken was free before
+-- a block that is still free after others were taken was free before
 pub rest_within : (k : ℕ) (taken rest blocks : List ℕ) → blocks ≡ taken ++ rest → IsIn k rest → IsIn k blocks
 rest_within k [] rest blocks e within = subst (IsIn k) (sym e) within
 rest_within k (b ∷ taken) rest blocks e within = subst (IsIn k) (sym e) (rest_in b k (taken ++ rest) (rest_within k taken rest (taken ++ rest) refl within))
 
--- the rules hold with the others once the first block was taken
+-- rules 3 to 7 still hold after the first free block was taken
 pub taken_sound : (geometry : Geometry) (old new : List ℕ) (b : ℕ) (rest : List ℕ) → Rules3To7With geometry old (b ∷ rest)
     → Popped geometry old new b rest → Rules3To7With geometry new rest
 taken_sound geometry old new b rest sound popped =

@@ -1,4 +1,4 @@
--- The places for which blocks are taken: which they are, and how many.
+-- The positions in the block map for which a write allocates blocks, and their number.
 use Rattle.std.proofs.Common.{◌≡◌, ℕ, ◌+◌, ◌∙◌, sym, ap, subst, List, [], ◌∷◌, ◌++◌, length, filter, reverse, refl, arith, true, false, true≢false, Bool, None, Some, inl, inr}
 use Rattle.std.specs.Prelude.{◌&&◌, ◌||◌, not, if◌then◌else◌}
 use Rattle.std.specs.Option.{option_map_or}
@@ -21,7 +21,7 @@ use Rattle.vol_file.proofs.ReachedPlaces.{unnamed_step}
 use Rattle.vol_file.proofs.Ranges.{among_reverse}
 use Rattle.vol_file.proofs.MissingLaws.{is_new, count_apart, fronts_new, count_new}
 
--- a place that passes a test and is in a list
+-- an item of a filtered list is in the list and passes the test
 among_filter : (f : List ℕ → Bool) (p : List ℕ) (qs : List (List ℕ)) → IsAmong p (filter f qs) → IsAmong p qs × (f p ≡ true)
 among_filter f p [] among = absurd among
 among_filter f p (q ∷ qs) among =
@@ -33,7 +33,7 @@ among_filter f p (q ∷ qs) among =
       | false ↦ λ e on. let rest = among_filter f p qs on in (inr rest.0, rest.1)
     ] refl among
 
--- a place that is in a list and passes a test
+-- an item of a list that passes the test is in the filtered list
 filter_among : (f : List ℕ → Bool) (p : List ℕ) (qs : List (List ℕ)) → IsAmong p qs → f p ≡ true → IsAmong p (filter f qs)
 filter_among f p [] among e = among
 filter_among f p (q ∷ qs) (inl here) e =
@@ -42,13 +42,13 @@ filter_among f p (q ∷ qs) (inr later) e =
     let rest = filter_among f p qs later e in
     elim (f q) as (λ t. IsAmong p (if t then q ∷ filter f qs else filter f qs)) [ true ↦ inr rest | false ↦ rest ]
 
--- a place in a list is found there
+-- a search finds a position in the block map that is in the list
 among_any : (p : List ℕ) (qs : List (List ℕ)) → IsAmong p qs → list_any (bytes_eq p) qs ≡ true
 among_any p [] among = absurd among
 among_any p (q ∷ qs) (inl here) = ap (λ t. t || list_any (bytes_eq p) qs) (bytes_same p q here)
 among_any p (q ∷ qs) (inr later) = ap (λ t. bytes_eq p q || t) (among_any p qs later) ∙ or_true (bytes_eq p q)
 
--- a place found in a list is in it
+-- a position in the block map that a search finds is in the list
 any_among : (p : List ℕ) (qs : List (List ℕ)) → list_any (bytes_eq p) qs ≡ true → IsAmong p qs
 any_among p [] e = absurd (true≢false (sym e))
 any_among p (q ∷ qs) e = elim (or_cases (bytes_eq p q) (list_any (bytes_eq p) qs) e) [
@@ -56,27 +56,27 @@ any_among p (q ∷ qs) e = elim (or_cases (bytes_eq p q) (list_any (bytes_eq p) 
   | inr later ↦ inr (any_among p qs later)
 ]
 
--- a place in a list is in the reversed list
+-- an item of a list is in the reversed list
 reverse_among : (p : List ℕ) (qs : List (List ℕ)) → IsAmong p qs → IsAmong p (reverse qs)
 reverse_among p qs among = among_reverse p (reverse qs) (subst (IsAmong p) (sym (reverse-reverse qs)) among)
 
--- a member of the first of two lists in a row
+-- an item of the first list is in the joined lists
 among_first : (p : List ℕ) (ps qs : List (List ℕ)) → IsAmong p ps → IsAmong p (ps ++ qs)
 among_first p [] qs among = absurd among
 among_first p (q ∷ ps) qs (inl here) = inl here
 among_first p (q ∷ ps) qs (inr later) = inr (among_first p ps qs later)
 
--- a member of the second of two lists in a row
+-- an item of the second list is in the joined lists
 among_second : (p : List ℕ) (ps qs : List (List ℕ)) → IsAmong p qs → IsAmong p (ps ++ qs)
 among_second p [] qs among = among
 among_second p (q ∷ ps) qs among = inr (among_second p ps qs among)
 
--- the answer whose opposite is yes
+-- if `not x` is true, `x` is false
 not_true : (x : Bool) → not x ≡ true → x ≡ false
 not_true true e = absurd (true≢false (sym e))
 not_true false e = refl
 
--- a missing place is on the paths and names nothing
+-- a missing position in the block map is on one of the paths and points to no block
 pub missing_unnamed : (form : BlockMap) (names : List ℕ → Bool) (blocks p : List ℕ) → IsAmong p (missing_places form names blocks)
     → (is_on_ways form blocks p ≡ true) × (names p ≡ false)
 unfolding missing_places
@@ -96,7 +96,7 @@ missing_unnamed form names (b ∷ blocks) p among =
           )
     ]
 
--- a place that is on the paths and names nothing is missing
+-- a position in the block map that is on one of the paths and points to no block is missing
 pub unnamed_missing : (form : BlockMap) (names : List ℕ → Bool) (blocks p : List ℕ) → (is_on_ways form blocks p ≡ true) × (names p ≡ false)
     → IsAmong p (missing_places form names blocks)
 unfolding missing_places
@@ -111,11 +111,11 @@ unnamed_missing form names (b ∷ blocks) p (on, none) =
           (unnamed_missing form more blocks p (some, ap (λ t. t || list_any (bytes_eq p) (way form b)) none ∙ away))
     ] refl on
 
--- a place alone counts as one if it names nothing
+-- a list of one position in the block map has one missing position if it points to no block, else none
 length_one : (names : List ℕ → Bool) (q : List ℕ) → length (unnamed_of names (q ∷ [])) ≡ (if names q then 0 else 1)
 length_one names q = elim (names q) as (λ t. length (if not t then q ∷ [] else []) ≡ (if t then 0 else 1)) [ true ↦ refl | false ↦ refl ]
 
--- the fronts of a place that name nothing are as many as the recursion says
+-- the number of positions in the block map on the path to `q` that point to no block is `missing_to`
 length_fronts : (names : List ℕ → Bool) (q : List ℕ) → length (unnamed_of names (fronts q)) ≡ missing_to names true q
 length_fronts names [] = refl
 length_fronts names (k ∷ []) = length_one names (k ∷ [])
@@ -125,7 +125,7 @@ length_fronts names (j ∷ (a ∷ p)) =
     ap length (unnamed_step names (j ∷ (a ∷ p)) (fronts (a ∷ p)))
     ∙ (length-append (unnamed_of names (fronts (a ∷ p))) (unnamed_of names ((j ∷ (a ∷ p)) ∷ [])) ∙ omega (arith, rest, one))
 
--- the places missing on one path are as many as are counted among all places
+-- the length of the list of positions in the block map missing on one path is their count among all positions
 length_way : (form : BlockMap) (names : List ℕ → Bool) (b : ℕ)
     → length (missing_on_way form names b) ≡ count_by (λ p. list_any (bytes_eq p) (way form b) && not (names p)) (places form)
 length_way form names b =
@@ -139,7 +139,7 @@ length_way form names b =
           (λ p. ap (λ t. t && not (names p)) (sym (fronts_new q p))))
     ] refl
 
--- the places on one of two paths that name nothing, split by the first path
+-- the positions in the block map on either of two paths that point to no block are those on the first, and the others on the second
 parted : (x y n : Bool) → ((x || y) && not n) ≡ ((x && not n) || (y && not (n || x)))
 parted true true true = refl
 parted true true false = refl
@@ -150,14 +150,14 @@ parted false true false = refl
 parted false false true = refl
 parted false false false = refl
 
--- the two parts are apart
+-- no position is in both of these parts
 parts_apart : (x y n : Bool) → (x && not n) ≡ true → (y && not (n || x)) ≡ false
 parts_apart true true true e = refl
 parts_apart true true false e = refl
 parts_apart true false n e = refl
 parts_apart false y n e = absurd (true≢false (sym e))
 
--- the places missing on some paths are as many as are counted among all places
+-- the length of the list of positions in the block map missing on some paths is their count among all positions
 length_missing : (form : BlockMap) (names : List ℕ → Bool) (blocks : List ℕ) → length (missing_places form names blocks) ≡ missing_count form names blocks
 unfolding missing_places missing_count
 length_missing form names [] = sym (count_none (λ p. false) (places form) (λ p. refl))
@@ -175,7 +175,7 @@ length_missing form names (b ∷ blocks) =
     ∙ count_apart (λ p. on p && not (names p)) (λ p. is_on_ways form blocks p && not (more p)) (places form)
     (λ p. parts_apart (on p) (is_on_ways form blocks p) (names p))))
 
--- blocks are taken for as many places as are needed
+-- the number of positions in the block map for which blocks are allocated is the number of blocks needed
 pub taken_need : (form : BlockMap) (names : List ℕ → Bool) (blocks : List ℕ) → length (places_taken form names blocks) ≡ need_of form names blocks
 unfolding need_of
 taken_need form names blocks =

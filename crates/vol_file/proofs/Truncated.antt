@@ -1,4 +1,4 @@
--- The end of a truncation: the size and the mode of a file whose places past the kept blocks no longer name anything.
+-- The end of a truncation: the size and the mode are written after the positions in the block map past the blocks kept by a truncation are cleared.
 use Rattle.std.proofs.Common.{◌≡◌, ℕ, ◌+◌, ◌*◌, ◌/◌, ◌%◌, ◌<◌, ◌≤◌, ◌⊎◌, ◌∙◌, sym, ap, subst, List, [], ◌∷◌, ◌++◌, length, take, map, filter, get_or, refl, arith, inl, inr, true, false, true≢false, None, Some, if◌then◌else◌}
 use Rattle.std.specs.Prelude.{◌==◌, not}
 use Rattle.std.proofs.lemmas.Bool.{cases_eq}
@@ -43,13 +43,13 @@ use Rattle.vol_file.proofs.PlaceLists.{front_first}
 use Rattle.vol_file.proofs.StoredNames.{place_same}
 use Rattle.vol_file.proofs.PutSizes.{Resized, resized, size_apart}
 
--- each address of a file's i-node is a place
+-- each address of a file's i-node is a position in its block map
 pub addresses_file : (geometry : Geometry) (image : List ℕ) (i : ℕ) → IsFile geometry image i
     → first_count (form_at geometry image i) ≡ address_count geometry.edition
 addresses_file geometry image i file =
     ap first_count (form_file geometry.edition (mode_of geometry image i) file.kind) ∙ addresses_in geometry.edition (mode_of geometry image i)
 
--- the kept bytes of an i-node don't include its size
+-- a write of the size does not change the bytes of the i-node that must be kept
 kept_size : (edition : Edition) (old new : List ℕ) (i r : ℕ) → SameOutside old new (size_place edition i) (size_place edition i + size_bytes edition)
     → is_kept_byte edition r ≡ true → get_or new (inode_place edition i + r) 0 ≡ get_or old (inode_place edition i + r) 0
 kept_size edition old new i r same kept =
@@ -58,12 +58,12 @@ kept_size edition old new i r same kept =
       | inr more ↦ same.above (inode_place edition i + r) more
     ]
 
--- the kept bytes of an i-node of the sixth edition don't include its mode
+-- in the sixth edition, a write of the mode does not change the bytes of the i-node that must be kept
 kept_mode : (old new : List ℕ) (i r : ℕ) → SameOutside old new (inode_place V6 i) (inode_place V6 i + 2)
     → is_kept_byte V6 r ≡ true → get_or new (inode_place V6 i + r) 0 ≡ get_or old (inode_place V6 i + r) 0
 kept_mode old new i r same kept = let high : 2 ≤ r = grind (arith, nat_tests) in same.above (inode_place V6 i + r) (omega arith)
 
--- a write to the head of an i-node keeps everything else
+-- a write of the mode and size, before the addresses, changes only file `i`
 head_elsewhere : (geometry : Geometry) (old new blocks : List ℕ) (i : ℕ) → Rules3To7With geometry old blocks → IsFile geometry old i
     → SameOutside old new (inode_place geometry.edition i) (inode_place geometry.edition i + address_offset geometry.edition)
     → ((r : ℕ) → is_kept_byte geometry.edition r ≡ true
@@ -88,7 +88,7 @@ head_elsewhere geometry old new blocks i sound file same kept =
       behind = λ k h. same.above k (omega (arith, within.2, room, zone));
     }
 
--- the effect of the last steps of a truncation to nothing on a file that names nothing: its size and mode are set
+-- the last steps of a truncation to size 0: the size and the mode are written
 pub record Ends (geometry : Geometry) (old low new : List ℕ) (i : ℕ) : Type 0 where
   pub same : SameOutside low new (inode_place geometry.edition i) (inode_place geometry.edition i + address_offset geometry.edition)
   pub kept : (r : ℕ) → is_kept_byte geometry.edition r ≡ true
@@ -97,7 +97,7 @@ pub record Ends (geometry : Geometry) (old low new : List ℕ) (i : ℕ) : Type 
   pub mode : mode_of geometry new i ≡ truncated_mode geometry.edition 0 (mode_of geometry old i)
   pub kind : kind_at geometry new i ≡ kind_at geometry old i
 
--- its places name nothing
+-- after a truncation to size 0, no position in the block map of the file points to a block
 ends_named : (geometry : Geometry) (old low new blocks : List ℕ) (i : ℕ) (p : List ℕ) → IsFile geometry old i
     → ClearsPast geometry old low i 0 blocks → Ends geometry old low new i
     → IsPlaceOf geometry new i p → named geometry new i p ≡ 0
@@ -113,7 +113,7 @@ ends_named geometry old low new blocks i p file clear end place =
     end.same (omega arith) ∙ none in
     front_zero geometry new i (base.0 ∷ []) p (fits_len geometry low new end.same.len clear.sound.fits) same base.2
 
--- the file lessens
+-- the last steps of a truncation to size 0 change file `i` only by clearing positions in the block map
 ends_lessens : (geometry : Geometry) (old low new blocks : List ℕ) (i : ℕ) → IsFile geometry old i
     → (clear : ClearsPast geometry old low i 0 blocks) → Ends geometry old low new i → IsFile geometry low i
     → Lessens geometry low new i
@@ -125,7 +125,7 @@ ends_lessens geometry old low new blocks i file clear end is = record {
   names = λ p place some. absurd (some (ends_named geometry old low new blocks i p file clear end place));
 }
 
--- the file is one after its places are cleared
+-- file `i` is still a file after its positions in the block map are cleared
 file_low : (geometry : Geometry) (old low : List ℕ) (i kept : ℕ) (blocks : List ℕ) → IsFile geometry old i → ClearsPast geometry old low i kept blocks
     → IsFile geometry low i
 file_low geometry old low i kept blocks file clear = record {
@@ -134,18 +134,18 @@ file_low geometry old low i kept blocks file clear = record {
   kind = ap (λ mode. has_places (kind_of geometry.edition mode)) clear.mode ∙ file.kind;
 }
 
--- an empty list
+-- a list of length 0 is empty
 nil_of : (xs : List ℕ) → length xs ≡ 0 → xs ≡ []
 nil_of [] e = refl
 nil_of (x ∷ xs) e = absurd (omega arith)
 
--- a file with no bytes
+-- a file of size 0 has an empty body
 body_empty : (geometry : Geometry) (image : List ℕ) (i : ℕ) → size_of geometry image i ≡ 0 → body geometry image i ≡ []
 body_empty geometry image i e =
     let size : body_size geometry image i ≡ 0 = omega (arith, e) in
     nil_of (body geometry image i) (length-body geometry image i ∙ size)
 
--- the truncation to nothing is whole
+-- clearing all positions in the block map and then writing the size and the mode truncates a file to size 0
 emptied : (geometry : Geometry) (old low new blocks : List ℕ) (i : ℕ) → Fits geometry old → IsFile geometry old i
     → ClearsPast geometry old low i 0 blocks → Ends geometry old low new i → Truncates geometry old new i 0 blocks
 emptied geometry old low new blocks i fits file clear end =
@@ -190,14 +190,14 @@ emptied geometry old low new blocks i fits file clear end =
           end.same.above (512 * k + r) (omega (arith, within.2, room, bounds.0)) ∙ clear.unused k r inside small;
     }
 
--- a truncation to nothing, by the size that is put
+-- clearing all positions in the block map and then writing the size and the mode truncates a file to size `left`, if that is 0
 pub emptied_to : (geometry : Geometry) (old low new blocks : List ℕ) (i left : ℕ) → left ≡ 0 → Fits geometry old → IsFile geometry old i
     → ClearsPast geometry old low i (whole_blocks left) blocks → Ends geometry old low new i → Truncates geometry old new i left blocks
 emptied_to geometry old low new blocks i left none fits file clear end =
     subst (λ n. Truncates geometry old new i n blocks) (sym none)
     (emptied geometry old low new blocks i fits file (subst (λ n. ClearsPast geometry old low i (whole_blocks n) blocks) none clear) end)
 
--- a kept place isn't past the kept blocks, and another is
+-- a position in the block map is either kept or past the blocks kept by a truncation
 kept_or : (form : BlockMap) (left : ℕ) (p : List ℕ) → IsPlace form p → whole_blocks left ≤ block_limit form
     → ((is_kept form left p ≡ true) × (is_past form (whole_blocks left) p ≡ false)) ⊎ ((is_kept form left p ≡ false) × (is_past form (whole_blocks left) p ≡ true))
 kept_or form left p place few =
@@ -207,7 +207,7 @@ kept_or form left p place few =
       | false ↦ λ e. inl (kept_is form left p place few ∙ ap not e, refl)
     ] refl
 
--- the names of the places once those past the kept blocks are cleared
+-- after the positions in the block map past the blocks kept by a truncation are cleared, a kept position is unchanged, and any other holds 0
 cleared_names : (geometry : Geometry) (old low : List ℕ) (i left : ℕ) (blocks p : List ℕ) → whole_blocks left ≤ block_limit (form_at geometry old i)
     → ClearsPast geometry old low i (whole_blocks left) blocks → IsPlaceOf geometry old i p
     → named geometry low i p ≡ (if is_kept (form_at geometry old i) left p then named geometry old i p else 0)
@@ -217,7 +217,7 @@ cleared_names geometry old low i left blocks p few clear place =
       | inr (kept, on) ↦ clear.gone p place on ∙ sym (ap (λ t. if t then named geometry old i p else 0) kept)
     ]
 
--- the first blocks of a file keep their bytes
+-- clearing the positions in the block map past the blocks kept by a truncation does not change the bytes of the kept blocks
 cleared_bytes : (geometry : Geometry) (old low : List ℕ) (i left : ℕ) (blocks : List ℕ) (n : ℕ) → Fits geometry old → IsFile geometry old i
     → ClearsPast geometry old low i (whole_blocks left) blocks → n / 512 < whole_blocks left → body_byte geometry low i n ≡ body_byte geometry old i n
 cleared_bytes geometry old low i left blocks n fits file clear low_n =
@@ -247,7 +247,7 @@ cleared_bytes geometry old low i left blocks n fits file clear low_n =
       | Some q ↦ stored_same q
     ] refl ∙ sym (body_byte_is geometry old i n)))
 
--- the body is the first bytes of the one before
+-- if the size is set to `left`, and the bytes of the blocks kept by a truncation are unchanged, the body is the first `left` bytes of the old body
 body_front : (geometry : Geometry) (old new : List ℕ) (i left : ℕ) → size_of geometry new i ≡ left → left ≤ size_of geometry old i
     → size_of geometry old i ≤ (constants geometry.edition).greatest
     → ((n : ℕ) → n / 512 < whole_blocks left → body_byte geometry new i n ≡ body_byte geometry old i n)
@@ -265,7 +265,7 @@ body_front geometry old new i left size less great bytes =
     ∙ (bytes n (omega (arith, low))
     ∙ (sym (get_or-body geometry old i n (omega (arith, low, whole, less))) ∙ sym (get_or-take left (body geometry old i) n 0 low))))
 
--- the kept blocks of a file are no more than it can have
+-- a file can have all kept blocks: their number is within the block map's limit
 pub kept_few : (geometry : Geometry) (image : List ℕ) (i left : ℕ) (blocks : List ℕ) → Rules3To7With geometry image blocks → IsFile geometry image i
     → left ≤ size_of geometry image i → whole_blocks left ≤ block_limit (form_at geometry image i)
 kept_few geometry image i left blocks sound file less =
@@ -273,7 +273,7 @@ kept_few geometry image i left blocks sound file less =
     limit_of geometry.edition (mode_of geometry image i) (whole_blocks left) file.kind (omega (arith, great, less))
     (λ e. let small = sound.sizes.small i file e in omega (arith, small, less))
 
--- as many blocks are given back as were past the kept ones
+-- the number of blocks freed is the number of blocks past the kept ones
 pub given_count : (geometry : Geometry) (old low : List ℕ) (i left count : ℕ) → Rules3To7 geometry old → IsFile geometry old i
     → left ≤ size_of geometry old i → Gains geometry old low count
     → ((blocks : List ℕ) → Rules3To7With geometry old blocks → ClearsPast geometry old low i (whole_blocks left) blocks)
@@ -284,7 +284,8 @@ given_count geometry old low i left count has file less gains clear =
     has.blocks count gains has.sound.free (clear has.blocks has.sound).sound.free
     ∙ ap length (past_list geometry old i left few)
 
--- the truncation is whole if the mode stays
+-- clearing the positions in the block map past the blocks kept by a truncation and then writing the size truncates a file, if its mode need not
+-- change
 pub shortened : (geometry : Geometry) (old low new blocks : List ℕ) (i left : ℕ) → Rules3To7With geometry old blocks → IsFile geometry old i
     → left ≤ size_of geometry old i → mode_of geometry old i ≡ truncated_mode geometry.edition left (mode_of geometry old i)
     → ClearsPast geometry old low i (whole_blocks left) blocks
@@ -318,7 +319,7 @@ shortened geometry old low new blocks i left sound file less mode clear same put
       unused = λ k r inside small. end.unused k r (rest_within k given blocks (given ++ blocks) refl inside) small ∙ clear.unused k r inside small;
     }
 
--- the last steps in the sixth edition: the size is 0, and the mode has no large flag
+-- in the sixth edition, the last steps of a truncation to size 0 set the size to 0 and clear the large flag
 pub ends_v6 : (geometry : Geometry) (old low mid new : List ℕ) (i was bits : ℕ) → geometry.edition ≡ V6 → IsFile geometry old i
     → SameOutside low mid (size_place geometry.edition i) (size_place geometry.edition i + size_bytes geometry.edition)
     → size_at geometry.edition mid (inode_place geometry.edition i) ≡ 0
@@ -345,27 +346,27 @@ ends_v6 geometry old low mid new i was bits e file first size second put same_mo
       kind = ap (kind_of geometry.edition) put ∙ subst (λ x. kind_of x bits ≡ kind_of x (mode_of geometry old i)) (sym e) is_kind;
     }
 
--- all of a list pass a test that is always true
+-- filtering with a test that is always true keeps the whole list
 filter_all : (ps : List (List ℕ)) → filter (λ p. true) ps ≡ ps
 filter_all [] = refl
 filter_all (p ∷ ps) = ap (λ xs. p ∷ xs) (filter_all ps)
 
--- the mode of the seventh edition stays
+-- a truncation does not change the mode in the seventh edition
 pub mode_v7 : (edition : Edition) (left mode : ℕ) → edition ≡ V7 → mode ≡ truncated_mode edition left mode
 mode_v7 edition left mode e = subst (λ x. mode ≡ truncated_mode x left mode) (sym e) refl
 
--- if bytes are left the mode stays
+-- a truncation to a size other than 0 does not change the mode
 pub mode_left : (edition : Edition) (left mode : ℕ) → (left ≡ 0 → ⊥) → mode ≡ truncated_mode edition left mode
 mode_left V6 left mode some = let no : (left == 0) ≡ false = grind (arith, nat_tests) in sym (ap (λ t. if t then with_large mode false else mode) no)
 mode_left V7 left mode some = refl
 
--- at size 0 all blocks of the file are given back
+-- a truncation to size 0 frees all blocks of the file
 pub past_all : (geometry : Geometry) (image : List ℕ) (i : ℕ) → blocks_past geometry image i 0 ≡ blocks_of geometry image i
 unfolding blocks_past blocks_of
 past_all geometry image i =
     ap (λ ps. filter (λ k. not (k == 0)) (map (named geometry image i) ps)) (filter_all (places (form_at geometry image i)))
 
--- and no place names anything
+-- after a truncation to size 0, no position in the block map of the file points to a block
 pub names_none : (geometry : Geometry) (old new : List ℕ) (i : ℕ) (p blocks : List ℕ) → Truncates geometry old new i 0 blocks
     → IsPlaceOf geometry new i p → named geometry new i p ≡ 0
 names_none geometry old new i p blocks cuts place = cuts.names p place

@@ -1,4 +1,4 @@
--- A whole write: the places named, then the bytes.
+-- A complete write: allocating blocks, and then writing the bytes.
 use Rattle.std.proofs.Common.{◌≡◌, ◌≢◌, ℕ, zero, suc, ◌+◌, ◌-◌, ◌/◌, ◌<◌, ◌≤◌, ◌∙◌, sym, ap, subst, List, length, map, max, min, arith, true, false, eqb}
 use Rattle.std.specs.Prelude.{◌||◌, not}
 use Rattle.std.specs.List.{list_any, range_with_len}
@@ -25,7 +25,7 @@ use Rattle.vol_file.proofs.Lasts.{front_true, way_is, or_true}
 use Rattle.vol_file.proofs.Ranges.{is_on_at}
 use Rattle.vol_file.proofs.Splices.{spliced_is}
 
--- the blocks touched are a run
+-- the logical blocks touched by at least one byte are a range
 pub touched_run : (offset len : ℕ) → 1 ≤ len
     → touched offset len ≡ range_with_len (offset / 512) ((offset + len - 1) / 512 + 1 - offset / 512)
 touched_run offset zero some = absurd (omega arith)
@@ -34,7 +34,7 @@ touched_run offset (suc n) some =
     let many : (offset + n) / 512 - offset / 512 + 1 ≡ (offset + n) / 512 + 1 - offset / 512 = omega arith in
     ap (range_with_len (offset / 512)) (many ∙ ap (λ e. e / 512 + 1 - offset / 512) (sym last))
 
--- there is room for the run
+-- if enough blocks are free for a write, enough are free for its range of logical blocks
 pub run_room : (geometry : Geometry) (image : List ℕ) (i offset len : ℕ) (blocks : List ℕ) → 1 ≤ len → Rules3To7With geometry image blocks
     → need geometry image i offset len ≤ length blocks → HasRoom geometry image i (offset / 512) ((offset + len - 1) / 512 + 1) blocks
 run_room geometry image i offset len blocks some sound room = record {
@@ -42,11 +42,11 @@ run_room geometry image i offset len blocks some sound room = record {
   room = subst (λ t. need_of (form_at geometry image i) (is_named geometry image i) t ≤ length blocks) (touched_run offset len some) room;
 }
 
--- a place that names something doesn't name 0
+-- a position in the block map that passes the test `is_named` doesn't hold 0
 named_some : (geometry : Geometry) (image : List ℕ) (i : ℕ) (p : List ℕ) → is_named geometry image i p ≡ true → named geometry image i p ≢ 0
 named_some geometry image i p e gone = let none : is_named geometry image i p ≡ false = unnamed_false geometry image i p gone in cc
 
--- a data block is stored for each block of the run
+-- after the blocks are allocated, each logical block of the range is stored in a data block
 pub fills_zone : (geometry : Geometry) (old new : List ℕ) (i from to b : ℕ) (blocks : List ℕ)
     → Fills geometry old new i (range_with_len from (to - from)) blocks → to ≤ block_limit (form_at geometry new i) → from ≤ b → b < to
     → in_zone geometry (stored geometry new i (form_at geometry new i) b) ≡ true
@@ -69,7 +69,7 @@ fills_zone geometry old new i from to b blocks fills limit low high =
     ap (in_zone geometry) (stored_is geometry new i form b p found.1)
     ∙ fills.sound.zoned i p (record { file = fills.file; place = leaf.place }) (named_some geometry new i p is)
 
--- the body after a write
+-- the body after the blocks are allocated and the bytes are written is `spliced`
 writes_body : (geometry : Geometry) (old mid new : List ℕ) (i offset : ℕ) (text rest blocks : List ℕ) → IsFile geometry old i → Rules3To7With geometry old blocks
     → offset + length text ≤ (constants geometry.edition).greatest
     → size_of geometry mid i ≡ size_of geometry old i → ((n : ℕ) → body_byte geometry mid i n ≡ body_byte geometry old i n)
@@ -96,7 +96,7 @@ writes_body geometry old mid new i offset text rest blocks file sound great size
     get_or-body geometry new i n (omega (arith, whole, inside))
     ∙ (puts.high n past ∙ (bytes n ∙ sym (get_or-body geometry old i n (omega (arith, old_size, inside))))))
 
--- the places named and the bytes put are a write
+-- allocating the blocks and then writing the bytes is a write
 pub writes : (geometry : Geometry) (old mid new : List ℕ) (i offset : ℕ) (text touches blocks : List ℕ) → IsFile geometry old i
     → Rules3To7With geometry old blocks → offset + length text ≤ (constants geometry.edition).greatest
     → touched offset (length text) ≡ touches → (fills : Fills geometry old mid i touches blocks)

@@ -1,4 +1,4 @@
--- Laws of numbers some of whose bytes are known.
+-- Laws of block numbers some of whose bytes are known.
 use Rattle.std.proofs.Common.{◌≡◌, ◌≢◌, ℕ, ◌+◌, ◌-◌, ◌*◌, ◌/◌, ◌<◌, ◌≤◌, ◌∙◌, ap, List, slice_index, arith, inl, inr}
 use Rattle.std.proofs.lemmas.Bool.{cases_eq}
 use Rattle.vol_layout.specs.Edition.{constants, number}
@@ -39,20 +39,20 @@ zero_byte V7 image at j k from within none =
       ]
     ]
 
--- the numbers before the one with the first byte that isn't 0 are 0
+-- the numbers before the first byte that isn't 0 are 0
 pub zeros_before : (edition : Edition) (image : List ℕ) (at from found k : ℕ)
     → ((n : ℕ) → at + (constants edition).number_bytes * from ≤ n → n < found → slice_index image n ≡ 0)
     → from ≤ k → k < (found - at) / (constants edition).number_bytes → number edition image at k ≡ 0
 zeros_before V6 image at from found k zeros low high = zero_number V6 image at k (λ n start end. zeros n (omega arith) (omega arith))
 zeros_before V7 image at from found k zeros low high = zero_number V7 image at k (λ n start end. zeros n (omega arith) (omega arith))
 
--- that number isn't 0
+-- the number that contains a byte that isn't 0 isn't 0
 pub some_at : (edition : Edition) (image : List ℕ) (at found : ℕ) → at ≤ found → slice_index image found ≢ 0
     → number edition image at ((found - at) / (constants edition).number_bytes) ≢ 0
 some_at V6 image at found order some none = some (zero_byte V6 image at ((found - at) / 2) found (omega arith) (omega arith) none)
 some_at V7 image at found order some none = some (zero_byte V7 image at ((found - at) / 4) found (omega arith) (omega arith) none)
 
--- it is one of the block's pointers if the byte is one of the block's
+-- if a byte is within a block, the number that contains it is one of the block's entries
 pub found_within : (edition : Edition) (at found : ℕ) → at ≤ found
     → (found - at) / (constants edition).number_bytes < (constants edition).pointers → found < at + 512
 found_within V6 at found order within = omega arith

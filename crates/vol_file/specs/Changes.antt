@@ -16,13 +16,13 @@ use Rattle.vol_layout.specs.declared.edition.Edition.{Edition}
 use Rattle.vol_layout.specs.declared.edition.Edition.TheVariants.{V6, V7}
 use Rattle.vol_layout.specs.declared.geometry.Geometry.{Geometry}
 
--- true if byte r of an i-node is not part of its size and addresses, nor, in the sixth edition, of its mode (ino.h)
+-- true if byte r of an i-node isn't part of its size or addresses nor, in the sixth edition, of its mode (ino.h)
 abbrev pub is_kept_byte : Edition → ℕ → Bool
 is_kept_byte V6 r = (nat_le 2 r && nat_lt r 5) || (nat_le 24 r && nat_lt r 32)
 is_kept_byte V7 r = nat_lt r 8 || (nat_le 51 r && nat_lt r 64)
 
--- the bytes that a change of file i keeps: block 0, block 1 outside the free list, the other i-nodes, the other bytes of
--- i's own, the blocks of all other files, and the bytes past the volume (a frame)
+-- the bytes that a change of file i leaves unchanged: block 0, block 1 outside the free list, the other i-nodes, i-node i except its mode, size and
+-- addresses, the blocks of all other files, and the bytes past the volume (a frame)
 pub record StaysElsewhere (geometry : Geometry) (old new : List ℕ) (i : ℕ) : Type 0 where
   pub len : length new ≡ length old
   pub before : (k : ℕ) → k < free_head geometry.edition → slice_index new k ≡ slice_index old k
@@ -36,34 +36,34 @@ pub record StaysElsewhere (geometry : Geometry) (old new : List ℕ) (i : ℕ) :
       → slice_index new (512 * k + r) ≡ slice_index old (512 * k + r)
   pub behind : (k : ℕ) → 512 * geometry.zone_end ≤ k → slice_index new k ≡ slice_index old k
 
--- a change of file i alone: the places of the other files name what they did, and their bodies stay (a frame)
+-- a change of file i affects no other file: the block maps and the bodies of the other files stay the same (a frame)
 pub record ChangesFileAlone (geometry : Geometry) (old new : List ℕ) (i : ℕ) : Type 0 where
   pub elsewhere : StaysElsewhere geometry old new i
   pub places : (j : ℕ) (p : List ℕ) → j ≢ i → IsPlaceOf geometry old j p → named geometry new j p ≡ named geometry old j p
   pub bodies : (j : ℕ) → j ≢ i → IsFile geometry old j → body geometry new j ≡ body geometry old j
 
--- these blocks keep all their bytes (a frame)
+-- all bytes of these blocks are unchanged (a frame)
 abbrev pub KeepsBlocks : List ℕ → List ℕ → List ℕ → Type 0
 KeepsBlocks old new blocks = (k r : ℕ) → IsIn k blocks → r < 512 → slice_index new (512 * k + r) ≡ slice_index old (512 * k + r)
 
--- bytes with others put at an offset over them, and zeros between their end and the offset (Lions on
--- writei; the zeros are this project's)
+-- the bytes after `text` is written over them at an offset, with zeros between their end and the offset (Lions on writei; the zeros are this
+-- project's)
 abbrev pub spliced : List ℕ → ℕ → List ℕ → List ℕ
 spliced bytes offset text = (take offset bytes ++ replicate (offset - length bytes) 0) ++ (text ++ drop (offset + length text) bytes)
 
--- the mode of a file after these logical blocks are touched (Lions on bmap)
+-- the mode of a file after a write that touches these logical blocks (Lions on bmap)
 abbrev pub mode_after : Geometry → List ℕ → ℕ → List ℕ → ℕ
 mode_after geometry image i blocks =
     if grows_large (form_at geometry image i) blocks then with_large (mode_of geometry image i) true else mode_of geometry image i
 
--- a place of a file after these logical blocks are touched: `[k]` of a small file that becomes large is then entry k of the
--- block that `[0]` names (Lions on bmap)
+-- the position in the block map after a write that touches these logical blocks: if a small file becomes large, `[k]` becomes entry k of the block to
+-- which `[0]` points (Lions on bmap)
 abbrev pub place_after : BlockMap → List ℕ → List ℕ → List ℕ
 place_after form blocks p = if grows_large form blocks then p ++ (0 ∷ []) else p
 
--- a write of at least one byte at an offset of file i, where `blocks` were free: it takes the first of them, as many as it
--- needs, one for each place that lacked a block, in their order; the rest stay free and keep their bytes; a place that
--- named a block still names it, and the bytes stored past the size stay (Lions on writei and bmap)
+-- the effect of a write of at least one byte at an offset of file i, where `blocks` were free: it takes as many of them as it needs, from the front,
+-- one for each position in the block map that lacked a block, in order; the other free blocks stay free and unchanged; positions that pointed to a
+-- block still point to it, and the bytes stored past the size stay (Lions on writei and bmap)
 pub record Writes (geometry : Geometry) (old new : List ℕ) (i offset : ℕ) (text blocks : List ℕ) : Type 0 where
   pub taken : List ℕ
   pub rest : List ℕ
@@ -83,7 +83,7 @@ pub record Writes (geometry : Geometry) (old new : List ℕ) (i offset : ℕ) (t
   pub order : taken ≡ map (named geometry new i) (places_taken (form_at geometry old i) (is_named geometry old i) (touched offset (length text)))
   pub unused : KeepsBlocks old new rest
 
--- the blocks that a file names, in the order of its places (Lions on itrunc)
+-- the blocks of a file, in the order of the positions in the block map that point to them (Lions on itrunc)
 unfoldable pub blocks_of : Geometry → List ℕ → ℕ → List ℕ
 blocks_of geometry image i = filter (λ k. not (k == 0)) (map (named geometry image i) (places (form_at geometry image i)))
 
@@ -91,25 +91,26 @@ blocks_of geometry image i = filter (λ k. not (k == 0)) (map (named geometry im
 abbrev pub whole_blocks : ℕ → ℕ
 whole_blocks size = (size + 511) / 512
 
--- true if a place is on the path of one of the logical blocks that hold the first `size` bytes (this project)
+-- true if a position in the block map is on the path of one of the logical blocks that hold the first `size` bytes (this project)
 abbrev pub is_kept : BlockMap → ℕ → List ℕ → Bool
 is_kept form size p = is_on_ways form (range_with_len 0 (whole_blocks size)) p
 
--- the blocks that a file names by places past its first `size` bytes, in the order of the places (Lions on itrunc; the size is this project's)
+-- the blocks of a file that are not needed for its first `size` bytes, in the order of the positions in the block map that point to them (Lions on
+-- itrunc; the size is this project's)
 unfoldable pub blocks_past : Geometry → List ℕ → ℕ → ℕ → List ℕ
 blocks_past geometry image i size =
     filter (λ k. not (k == 0)) (map (named geometry image i)
     (filter (λ p. not (is_kept (form_at geometry image i) size p)) (places (form_at geometry image i))))
 
--- the mode of a file after it is truncated; if it is then empty, the sixth edition's large flag is cleared (Lions on itrunc)
+-- the mode of a file after it is truncated; in the sixth edition the large flag is cleared if the file becomes empty (Lions on itrunc)
 abbrev pub truncated_mode : Edition → ℕ → ℕ → ℕ
 truncated_mode V6 size mode = if size == 0 then with_large mode false else mode
 truncated_mode V7 size mode = mode
 
--- a truncation of file i to its first `left` bytes, where `blocks` were free: the places on the paths of the logical blocks
--- that hold these bytes name what they did, and all others nothing; the blocks of the others are put before the free ones
--- in the order of the places, since they are freed from the last place to the first, and the free blocks keep their bytes.
--- The bytes stored in kept blocks stay, even past the size (Lions on itrunc; the size is this project's)
+-- the effect of a truncation of file i to its first `left` bytes, where `blocks` were free: positions in the block map on the paths of the logical
+-- blocks that hold these bytes stay, and all other positions are cleared; the blocks to which those pointed are put before the free ones in the order
+-- of the positions, since they are freed from the last position to the first; the bytes of the kept blocks, even past the size, and of the free
+-- blocks are unchanged (Lions on itrunc; the size is this project's)
 pub record Truncates (geometry : Geometry) (old new : List ℕ) (i left : ℕ) (blocks : List ℕ) : Type 0 where
   pub sound : Rules3To7With geometry new (blocks_past geometry old i left ++ blocks)
   pub covered : IsCovered geometry old blocks → IsCovered geometry new (blocks_past geometry old i left ++ blocks)

@@ -19,14 +19,14 @@ size_of geometry image i = size_at geometry.edition image (inode_place geometry.
 abbrev pub kind_at : Geometry → List ℕ → ℕ → Kind
 kind_at geometry image i = kind_of geometry.edition (mode_of geometry image i)
 
--- rule 3: no mode is odd, the root is a directory, and i-number 1 of the seventh edition is free or a regular file
--- (manual section 5; the rules of soundness are this project's)
+-- rule 3: no mode is odd, the root is a directory, and i-number 1 of the seventh edition is free or a regular file (manual section 5; the rules of
+-- soundness are this project's)
 pub record HasKinds (geometry : Geometry) (image : List ℕ) : Type 0 where
   pub known : (i : ℕ) → 1 ≤ i → i ≤ geometry.last_inode → kind_at geometry image i ≢ kinds.Odd
   pub root : kind_at geometry image (constants geometry.edition).root ≡ kinds.Directory
   pub bad_blocks : geometry.edition ≡ V7 → (kind_at geometry image 1 ≡ kinds.Free) ⊎ (kind_at geometry image 1 ≡ kinds.Regular)
 
--- rule 4: no file is larger than the greatest size or, if it is small, than eight blocks, and no link count is above the
+-- rule 4: no file is larger than the greatest size, no small file of the sixth edition is larger than eight blocks, and no link count is above the
 -- limit (this project)
 pub record HasSizes (geometry : Geometry) (image : List ℕ) : Type 0 where
   pub greatest : (i : ℕ) → IsFile geometry image i → size_of geometry image i ≤ (constants geometry.edition).greatest
@@ -34,26 +34,26 @@ pub record HasSizes (geometry : Geometry) (image : List ℕ) : Type 0 where
   pub links : (i : ℕ) → 1 ≤ i → i ≤ geometry.last_inode → kind_at geometry image i ≢ kinds.Free
       → (inode_of geometry.edition image i).links ≤ (constants geometry.edition).link_limit
 
--- rule 5: each number that a place of a file stores is that of a data block (icheck)
+-- rule 5: each block number in the block map of a file is the number of a data block (icheck)
 abbrev pub IsZoned : Geometry → List ℕ → Type 0
 IsZoned geometry image = (i : ℕ) (p : List ℕ) → IsPlaceOf geometry image i p → named geometry image i p ≢ 0
     → in_zone geometry (named geometry image i p) ≡ true
 
--- rule 7, of files: no block is named by two places (icheck)
+-- rule 7 for files: no two positions in block maps point to the same block (icheck)
 abbrev pub IsApart : Geometry → List ℕ → Type 0
 IsApart geometry image = (i j : ℕ) (p q : List ℕ) → IsPlaceOf geometry image i p → IsPlaceOf geometry image j q
     → named geometry image i p ≢ 0 → named geometry image i p ≡ named geometry image j q → (i ≡ j) × (p ≡ q)
 
--- rule 7, of the free blocks: no block that a place names is free (icheck)
+-- rule 7 for free blocks: no block of a file is free (icheck)
 abbrev pub IsOutside : Geometry → List ℕ → List ℕ → Type 0
 IsOutside geometry image blocks = (i : ℕ) (p : List ℕ) → IsPlaceOf geometry image i p → IsIn (named geometry image i p) blocks → ⊥
 
--- rule 8: each data block is free, or named by a place (icheck)
+-- rule 8: each data block is free or belongs to a file (icheck)
 abbrev pub IsCovered : Geometry → List ℕ → List ℕ → Type 0
 IsCovered geometry image blocks = (k : ℕ) → in_zone geometry k ≡ true
     → IsIn k blocks ⊎ ((i : ℕ) × (p : List ℕ) × NamesBlock geometry image i p k)
 
--- the geometry fits, rules 3 to 7 hold, and these are the free blocks (this project)
+-- the geometry fits the image, rules 3 to 7 hold, and the free blocks are `blocks` (this project)
 pub record Rules3To7With (geometry : Geometry) (image blocks : List ℕ) : Type 0 where
   pub fits : Fits geometry image
   pub kinds : HasKinds geometry image
@@ -63,7 +63,7 @@ pub record Rules3To7With (geometry : Geometry) (image blocks : List ℕ) : Type 
   pub apart : IsApart geometry image
   pub outside : IsOutside geometry image blocks
 
--- the geometry fits, and rules 3 to 7 hold with some free blocks (this project)
+-- the geometry fits the image, and rules 3 to 7 hold (this project)
 pub record Rules3To7 (geometry : Geometry) (image : List ℕ) : Type 0 where
   pub blocks : List ℕ
   pub sound : Rules3To7With geometry image blocks

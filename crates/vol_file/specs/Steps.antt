@@ -1,4 +1,4 @@
--- The steps of a change of one file, from which the whole change is put together.
+-- The steps of a change of one file.
 use Rattle.std.specs.Prelude.{◌≡◌, ◌≢◌, ℕ, ◌+◌, ◌-◌, ◌<◌, ◌≤◌, ◌&&◌, ◌||◌, Bool, not, max, true, List, [], ◌∷◌, ◌++◌, length, map, filter, reverse, slice_index}
 use Rattle.std.specs.List.{count_by, list_any, range_with_len}
 use Rattle.std.specs.Str.{bytes_eq}
@@ -14,17 +14,17 @@ use Rattle.vol_file.specs.Changes.{StaysElsewhere, mode_after, place_after, Keep
 use Rattle.vol_layout.specs.declared.geometry.Geometry.{Geometry}
 use Rattle.vol_layout.specs.declared.block_map.BlockMap.TheVariants.{Large}
 
--- the number of wanted places of file i that name nothing (Lions on bmap)
+-- the number of positions in `wanted`, in the block map of file i, that point to no block (Lions on bmap)
 unfoldable pub lacking : Geometry → List ℕ → ℕ → (List ℕ → Bool) → ℕ
 lacking geometry image i wanted = count_by (λ p. wanted p && not (is_named geometry image i p)) (places (form_at geometry image i))
 
--- place p of file i names a block (manual section 5, file system)
+-- p is a position in the block map of file i that points to a block (manual section 5, file system)
 pub record HasName (geometry : Geometry) (image : List ℕ) (i : ℕ) (p : List ℕ) : Type 0 where
   pub place : IsPlaceOf geometry image i p
   pub some : named geometry image i p ≢ 0
 
--- the places of a set of file i's now name blocks: those that didn't are `gained`, and each names the next of the free
--- blocks, which was zeroed; the file's bytes are as before, and so are those of the other free blocks (Lions on bmap)
+-- all positions in the block map of file i in `set` now point to blocks: the positions `gained` pointed to no block before, and in order they got the
+-- first of the free blocks, which were cleared; the bytes of the file and of the other free blocks are unchanged (Lions on bmap)
 pub record Extends (geometry : Geometry) (old new : List ℕ) (i : ℕ) (wanted set : List ℕ → Bool) (gained : List (List ℕ))
     (blocks rest : List ℕ) : Type 0 where
   pub alone : StaysElsewhere geometry old new i
@@ -42,46 +42,46 @@ pub record Extends (geometry : Geometry) (old new : List ℕ) (i : ℕ) (wanted 
   pub order : taken ≡ map (named geometry new i) gained
   pub unused : KeepsBlocks old new rest
 
--- the places of a list that name nothing, the last one first (Lions on bmap)
+-- the positions in a list that point to no block, the last one first (Lions on bmap)
 abbrev pub unnamed_of : (List ℕ → Bool) → List (List ℕ) → List (List ℕ)
 unnamed_of names places = filter (λ p. not (names p)) (reverse places)
 
--- true if p is a front of place q: a place on the way to q, or q itself (Lions on bmap)
+-- true if position p in the block map is on the path to position q, or is q itself (Lions on bmap)
 abbrev pub has_front : List ℕ → List ℕ → Bool
 has_front q p = list_any (bytes_eq p) (fronts q)
 
--- place q of file i now names block k, and all its fronts name blocks (Lions on bmap)
+-- position q in the block map of file i now points to block k, and all positions on the path to q point to blocks (Lions on bmap)
 pub record Reaches (geometry : Geometry) (old new : List ℕ) (i : ℕ) (wanted : List ℕ → Bool) (q blocks : List ℕ) (k : ℕ) : Type 0 where
   pub rest : List ℕ
   pub extends : Extends geometry old new i wanted (has_front q) (unnamed_of (is_named geometry old i) (fronts q)) blocks rest
   pub is : named geometry new i q ≡ k
   pub some : k ≢ 0
 
--- the rules hold with these free blocks, which are enough for the wanted places of file i (this project)
+-- rules 3 to 7 hold, and the free blocks are enough for the positions in `wanted`, in the block map of file i (this project)
 pub record IsReadyToName (geometry : Geometry) (image : List ℕ) (i : ℕ) (wanted : List ℕ → Bool) (blocks : List ℕ) : Type 0 where
   pub file : IsFile geometry image i
   pub sound : Rules3To7With geometry image blocks
   pub room : lacking geometry image i wanted ≤ length blocks
 
--- the rules hold with these free blocks, which are enough for the wanted places of file i, and place q is one of them (this
+-- rules 3 to 7 hold, the free blocks are enough for the positions in `wanted`, in the block map of file i, and position q is one of these (this
 -- project)
 pub record IsWanted (geometry : Geometry) (image : List ℕ) (i : ℕ) (wanted : List ℕ → Bool) (q blocks : List ℕ) : Type 0 where
   pub ready : IsReadyToName geometry image i wanted blocks
   pub place : IsPlaceOf geometry image i q
   pub want : wanted q ≡ true
 
--- place q of file i may be given a block: enough blocks are free (this project)
+-- a block can be allocated for position q in the block map of file i: enough blocks are free (this project)
 pub record MayName (geometry : Geometry) (image : List ℕ) (i : ℕ) (q : List ℕ) : Type 0 where
   pub wanted : List ℕ → Bool
   pub blocks : List ℕ
   pub is : IsWanted geometry image i wanted q blocks
 
--- entry j of block m, which place a ∷ p of file i now names, is wanted (Lions on bmap)
+-- entry j of block m is in `wanted`, and position a ∷ p in the block map of file i now points to block m (Lions on bmap)
 pub record NamesNext (geometry : Geometry) (old image : List ℕ) (i : ℕ) (wanted : List ℕ → Bool) (j a : ℕ) (p blocks : List ℕ) (m : ℕ) : Type 0 where
   pub want : IsWanted geometry old i wanted (j ∷ (a ∷ p)) blocks
   pub reached : Reaches geometry old image i wanted (a ∷ p) blocks m
 
--- entry j of block m may be given a block: a place of a file names m, and enough blocks are free (this project)
+-- a block can be allocated for entry j of indirect block m: block m belongs to a file, and enough blocks are free (this project)
 pub record MayNameEntry (geometry : Geometry) (image : List ℕ) (m j : ℕ) : Type 0 where
   pub old : List ℕ
   pub i : ℕ
@@ -91,45 +91,45 @@ pub record MayNameEntry (geometry : Geometry) (image : List ℕ) (m j : ℕ) : T
   pub blocks : List ℕ
   pub next : NamesNext geometry old image i wanted j a p blocks m
 
--- the rules hold with these free blocks, which are enough for the wanted places of file i, including those on the path of
+-- rules 3 to 7 hold, and the free blocks are enough for the positions in `wanted`, in the block map of file i, which include those on the path of
 -- logical block b (this project)
 pub record WantsWay (geometry : Geometry) (image : List ℕ) (i : ℕ) (wanted : List ℕ → Bool) (b : ℕ) (blocks : List ℕ) : Type 0 where
   pub ready : IsReadyToName geometry image i wanted blocks
   pub limit : b < block_limit (form_at geometry image i)
   pub want : (p : List ℕ) → list_any (bytes_eq p) (way (form_at geometry image i) b) ≡ true → wanted p ≡ true
 
--- the places on the path of logical block b may be given blocks: enough are free (this project)
+-- blocks can be allocated for the positions in the block map on the path of logical block b: enough are free (this project)
 pub record MayNameWay (geometry : Geometry) (image : List ℕ) (i b : ℕ) : Type 0 where
   pub wanted : List ℕ → Bool
   pub blocks : List ℕ
   pub is : WantsWay geometry image i wanted b blocks
 
--- the places on the path of logical block b now name blocks (Lions on bmap)
+-- the positions in the block map on the path of logical block b now point to blocks (Lions on bmap)
 pub record NamesWay (geometry : Geometry) (old new : List ℕ) (i : ℕ) (wanted : List ℕ → Bool) (b : ℕ) (blocks : List ℕ) : Type 0 where
   pub rest : List ℕ
   pub extends : Extends geometry old new i wanted (λ p. list_any (bytes_eq p) (way (form_at geometry old i) b))
       (missing_on_way (form_at geometry old i) (is_named geometry old i) b) blocks rest
 
--- the rules hold with these free blocks, which are enough for the wanted places of file i, including those on the paths of n
--- logical blocks from `from` on (this project)
+-- rules 3 to 7 hold, and the free blocks are enough for the positions in `wanted`, in the block map of file i, which include those on the paths of n
+-- logical blocks starting at `from` (this project)
 pub record WantsWays (geometry : Geometry) (image : List ℕ) (i : ℕ) (wanted : List ℕ → Bool) (from n : ℕ) (blocks : List ℕ) : Type 0 where
   pub ready : IsReadyToName geometry image i wanted blocks
   pub limit : from + n ≤ block_limit (form_at geometry image i)
   pub want : (p : List ℕ) → is_on_ways (form_at geometry image i) (range_with_len from n) p ≡ true → wanted p ≡ true
 
--- the places on the paths of n logical blocks may be given blocks: enough are free (this project)
+-- blocks can be allocated for the positions in the block map on the paths of n logical blocks: enough are free (this project)
 pub record MayNameWays (geometry : Geometry) (image : List ℕ) (i from n : ℕ) : Type 0 where
   pub wanted : List ℕ → Bool
   pub blocks : List ℕ
   pub is : WantsWays geometry image i wanted from n blocks
 
--- the places on the paths of n logical blocks now name blocks (Lions on bmap)
+-- the positions in the block map on the paths of n logical blocks now point to blocks (Lions on bmap)
 pub record NamesWays (geometry : Geometry) (old new : List ℕ) (i : ℕ) (wanted : List ℕ → Bool) (from n : ℕ) (blocks : List ℕ) : Type 0 where
   pub rest : List ℕ
   pub extends : Extends geometry old new i wanted (is_on_ways (form_at geometry old i) (range_with_len from n))
       (missing_places (form_at geometry old i) (is_named geometry old i) (range_with_len from n)) blocks rest
 
--- the bytes `lo..hi` of file i are now those of a function, and all others are as before (Lions on writei)
+-- the bytes `lo..hi` of file i now have the values of the function `content`, and all other bytes are unchanged (Lions on writei)
 pub record Rewrites (geometry : Geometry) (old new : List ℕ) (i lo hi : ℕ) (content : ℕ → ℕ) (blocks : List ℕ) : Type 0 where
   pub alone : StaysElsewhere geometry old new i
   pub sound : Rules3To7With geometry new blocks
@@ -142,15 +142,15 @@ pub record Rewrites (geometry : Geometry) (old new : List ℕ) (i lo hi : ℕ) (
   pub above : (n : ℕ) → hi ≤ n → body_byte geometry new i n ≡ body_byte geometry old i n
   pub unused : KeepsBlocks old new blocks
 
--- the bytes of a text at an offset (Lions on writei)
+-- the byte at position n of a file to which a text was written at an offset (Lions on writei)
 abbrev pub text_at : ℕ → List ℕ → ℕ → ℕ
 text_at offset text n = slice_index text (n - offset)
 
--- zeros (this project)
+-- the byte 0 at every position (this project)
 abbrev pub zeros_at : ℕ → ℕ
 zeros_at n = 0
 
--- the small file i was made large with the first of the free blocks, which now holds its eight old addresses (Lions on bmap)
+-- the small file i was made large: the first of the free blocks now holds its eight old addresses (Lions on bmap)
 pub record Enlarges (geometry : Geometry) (old new : List ℕ) (i : ℕ) (blocks : List ℕ) : Type 0 where
   pub first : ℕ
   pub rest : List ℕ
@@ -169,14 +169,15 @@ pub record Enlarges (geometry : Geometry) (old new : List ℕ) (i : ℕ) (blocks
   pub moved : (p : List ℕ) → IsPlaceOf geometry old i p → IsPlaceOf geometry new i (p ++ (0 ∷ []))
   pub unused : KeepsBlocks old new rest
 
--- file i may be made large: the rules hold, and a block is free (this project)
+-- file i can be made large: the rules hold, and a block is free (this project)
 pub record MayEnlarge (geometry : Geometry) (image : List ℕ) (i : ℕ) : Type 0 where
   pub file : IsFile geometry image i
   pub blocks : List ℕ
   pub sound : Rules3To7With geometry image blocks
   pub some : 1 ≤ length blocks
 
--- all places on the paths of these logical blocks now name blocks, and as many of the free blocks were taken as were needed (Lions on bmap)
+-- all positions in the block map on the paths of these logical blocks now point to blocks, and exactly the needed number of free blocks was taken
+-- (Lions on bmap)
 pub record Fills (geometry : Geometry) (old new : List ℕ) (i : ℕ) (touches blocks : List ℕ) : Type 0 where
   pub rest : List ℕ
   pub taken : List ℕ
@@ -199,19 +200,19 @@ pub record Fills (geometry : Geometry) (old new : List ℕ) (i : ℕ) (touches b
   pub order : taken ≡ map (named geometry new i) (places_taken (form_at geometry old i) (is_named geometry old i) touches)
   pub unused : KeepsBlocks old new rest
 
--- the rules hold with these free blocks, which are enough for the paths of the logical blocks `from..to` (this project)
+-- rules 3 to 7 hold, and the free blocks are enough for the paths of the logical blocks `from..to` (this project)
 pub record HasRoom (geometry : Geometry) (image : List ℕ) (i from to : ℕ) (blocks : List ℕ) : Type 0 where
   pub sound : Rules3To7With geometry image blocks
   pub room : need_of (form_at geometry image i) (is_named geometry image i) (range_with_len from (to - from)) ≤ length blocks
 
--- the places on the paths of the logical blocks `from..to` may be given blocks (this project)
+-- blocks can be allocated for the positions in the block map on the paths of the logical blocks `from..to` (this project)
 pub record MayFill (geometry : Geometry) (image : List ℕ) (i from to : ℕ) : Type 0 where
   pub file : IsFile geometry image i
   pub blocks : List ℕ
   pub has : HasRoom geometry image i from to blocks
 
--- a text was put at an offset of file i, which had the blocks for it already, with zeros between the old size and the
--- offset (Lions on writei)
+-- a text was written at an offset of file i, which already had the blocks for it, and the bytes between the old size and the offset were cleared
+-- (Lions on writei)
 pub record Puts (geometry : Geometry) (old new : List ℕ) (i offset : ℕ) (text blocks : List ℕ) : Type 0 where
   pub alone : StaysElsewhere geometry old new i
   pub sound : Rules3To7With geometry new blocks

@@ -10,7 +10,7 @@ pub record IsBlock (geometry : Geometry) (image : List ℕ) (i b : ℕ) (bytes :
   pub len : length bytes ≡ 512
   pub at : (r : ℕ) → r < 512 → slice_index bytes r ≡ body_byte geometry image i (512 * b + r)
 
--- a call with the bytes of logical block b of file i takes a visitor from p to q (this project)
+-- a call of a visitor with the bytes of logical block b of file i changes its state from p to q (this project)
 pub record Visits {F : Type 0} (visitor : Mut F (Bor (List ℕ) × Unit {0}) (Unit {0})) (geometry : Geometry) (image : List ℕ) (i : ℕ) (p : F) (b : ℕ) (q : F) : Type 0 where
   pub shown : Bor (List ℕ)
   pub block : IsBlock geometry image i b shown.now

@@ -9,9 +9,8 @@ use pdp_words::{BLOCK, Image};
 use vol_layout::i_list::{address, mode};
 use vol_layout::{BlockMap, BlockPath, Geometry, number};
 
-/// Returns the number of the block that holds logical block `b` of i-node `i`, from 1 to the last, as its last place stores
-/// it. Returns `None` if nothing is stored there, if `b` is past the blocks that a file can have, or if `i` isn't a regular
-/// file or directory. The number may be outside the data zone.
+/// Returns the block number stored for logical block `b` of i-node `i`, an i-number of the volume. Returns `None` if `b` is a hole or past the last
+/// block that a file can have, or if the i-node isn't a regular file or directory. The number may be outside the data zone.
 pub fn block_at(image: &Image, geometry: &Geometry, i: u16, b: u32) -> Option<u32>
     requires fits { Fits geometry.now image.now }
     requires first { 1 ≤ i }
@@ -25,7 +24,7 @@ pub fn block_at(image: &Image, geometry: &Geometry, i: u16, b: u32) -> Option<u3
     }
 }
 
-/// Returns pointer `j` of the indirect block `m`, or 0 if `m` isn't a data block.
+/// Returns block number `j` of the indirect block `m`, or 0 if `m` isn't a data block.
 #[tactic(auto, unfolding(vol_layout::specs::BlockPointers::pointer_in))]
 pub(crate) fn entry(image: &Image, geometry: &Geometry, m: u32, j: u32) -> u32
     requires fits { Fits geometry.now image.now }
@@ -39,8 +38,7 @@ pub(crate) fn entry(image: &Image, geometry: &Geometry, m: u32, j: u32) -> u32
     }
 }
 
-/// Returns the number at the last place of the path of logical block `b`, in a file with some block map, or 0 if there is
-/// no path or nothing is named.
+/// Returns the block number stored for logical block `b` of i-node `i`, whose block map is `form`, or 0 if the block has no path or is a hole.
 #[tactic(auto, using(crate::proofs::Indexes::way_address, crate::proofs::Indexes::way_entry))]
 pub(crate) fn number_at(image: &Image, geometry: &Geometry, i: u16, form: BlockMap, b: u32) -> u32
     requires fits { Fits geometry.now image.now }
@@ -53,7 +51,7 @@ pub(crate) fn number_at(image: &Image, geometry: &Geometry, i: u16, form: BlockM
     follow(image, geometry, i, &way, way.depth)
 }
 
-/// The number that the first `depth` entries of a block path lead to.
+/// Follows the first `depth` entries of a block path, and returns the block number found there.
 pub(crate) fn follow(
     image: &Image,
     geometry: &Geometry,

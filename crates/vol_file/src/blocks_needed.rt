@@ -1,4 +1,4 @@
-//! The number of blocks that a write takes.
+//! The number of blocks that a write allocates.
 ghost use Rattle.std.specs.Prelude.{◌≡◌, ◌+◌, ◌-◌, ◌^◌, ◌≤◌, ◌==◌, ◌||◌, true, if◌then◌else◌};
 ghost use Rattle.vol_layout.specs.Geometry.{Fits};
 ghost use Rattle.vol_layout.specs.BlockPointers.{form_at};
@@ -11,13 +11,12 @@ use pdp_words::{BLOCK, Image};
 use vol_layout::i_list::{address, mode};
 use vol_layout::{BlockMap, Geometry};
 
-/// The number of blocks up to which a file of the sixth edition is small.
+/// The greatest number of blocks of a small file in the sixth edition.
 const SMALL_BLOCKS: u32 = 8;
 
-/// Returns the number of free blocks that a write of `len` bytes at byte `offset` of i-node `i`, from 1 to the last, takes:
-/// the data blocks and indirect blocks that are missing. A small file of the sixth edition that becomes large takes one
-/// more, for its old addresses. Bytes past the blocks that a file can have take none, nor do bytes of an i-node that isn't
-/// a regular file or directory.
+/// Returns the number of free blocks that a write of `len` bytes at byte `offset` of i-node `i`, an i-number of the volume, allocates: the missing
+/// data blocks and indirect blocks, and one more if a small file of the sixth edition becomes large, for its old addresses. Bytes past the greatest
+/// number of blocks of a file need no block, nor do bytes of an i-node that isn't a regular file or directory.
 ///
 /// Costs one block-map lookup for each logical block.
 pub fn need(image: &Image, geometry: &Geometry, i: u16, offset: u32, len: u32) -> u32
@@ -37,7 +36,7 @@ pub fn need(image: &Image, geometry: &Geometry, i: u16, offset: u32, len: u32) -
     missing + u32::from(grows)
 }
 
-/// True if a file with some block map becomes large when `last` is the last block touched.
+/// True if a file with block map `form` becomes large when `last` is the last logical block touched.
 pub(crate) fn grows_large(form: BlockMap, last: u32) -> bool
     ensures { result ≡ grows_at form last }
 {
@@ -47,8 +46,8 @@ pub(crate) fn grows_large(form: BlockMap, last: u32) -> bool
     }
 }
 
-/// Returns the number of places on the paths of the logical blocks `first..end` that name nothing. The file
-/// becomes large first if it `grows`.
+/// Returns the number of positions in the block map on the paths of the logical blocks `first..end` that point to no block. If `grows`, they are
+/// counted after the file has become large.
 fn missing_in_range(
     image: &Image,
     geometry: &Geometry,
@@ -76,15 +75,15 @@ fn missing_in_range(
     missing
 }
 
-/// Returns the block map of a file, after it has become large if it `grows`.
+/// Returns the block map of a file, which becomes large if `grows`.
 fn grown_form(form: BlockMap, grows: bool) -> BlockMap
     ensures { result ≡ grown_form form grows }
 {
     if grows { BlockMap::Large } else { form }
 }
 
-/// Returns the number of places on the path of logical block `b` that name nothing: of the `whole` path, or only of the
-/// part that is not on the path of an earlier block.
+/// Returns the number of positions in the block map on the path of logical block `b` that point to no block: on the whole path if `whole`, else only
+/// on the part of it that no earlier logical block shares.
 fn missing_at(
     image: &Image,
     geometry: &Geometry,
@@ -110,7 +109,7 @@ fn missing_at(
     }
 }
 
-/// Returns the count of [`missing_at`] in a file that keeps its block map.
+/// Returns the result of [`missing_at`] for a file that doesn't become large.
 #[tactic(auto, using(crate::proofs::Indexes::way_address, crate::proofs::Indexes::way_entry, crate::proofs::Indexes::named_more, crate::proofs::MissingLaws::missing_to_more))]
 fn missing_on_way(
     image: &Image,
@@ -138,8 +137,8 @@ fn missing_on_way(
     missing
 }
 
-/// Returns the count of [`missing_at`] in a small file that becomes large: its address 0 then names a block with the eight
-/// old addresses.
+/// Returns the result of [`missing_at`] for a small file that becomes large. Its address 0 then points to an indirect block with the eight old
+/// addresses.
 fn missing_once_large(image: &Image, geometry: &Geometry, i: u16, whole: bool, b: u32) -> u32
     requires fits { Fits geometry.now image.now }
     requires first { 1 ≤ i }
@@ -160,15 +159,15 @@ fn missing_once_large(image: &Image, geometry: &Geometry, i: u16, whole: bool, b
     missing
 }
 
-/// Returns 1 if a place names nothing, else 0.
+/// Returns the number of blocks missing at a position in the block map: 0 if the position points to a block, else 1.
 fn absent(named: bool) -> u32
     ensures { result ≡ (if named then 0 else 1) }
 {
     u32::from(!named)
 }
 
-/// Returns 1 if entry `j` of an indirect block names nothing, plus the places missing `above` it, if these count: on a
-/// whole path, or if `j` is 0, so that no earlier block uses the same indirect block.
+/// Returns 1 if entry `j` of an indirect block points to no block, else 0. Adds `above`, the count for the levels above, if `whole` or if `j` is 0:
+/// then no earlier block shares the indirect block.
 fn absent_with(named: bool, whole: bool, j: u32, above: u32) -> u32
     requires { above ≤ 3 }
     ensures { result ≡ (if named then 0 else 1) + (if whole || j == 0 then above else 0) }

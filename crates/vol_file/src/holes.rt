@@ -1,4 +1,4 @@
-//! Iterating over the stored logical blocks of a file, past its holes.
+//! Iterating over the logical blocks of a file that are stored, skipping its holes.
 ghost use Rattle.std.specs.Prelude.{◌≡◌, ◌≢◌, ℕ, ◌-◌, ◌^◌, ◌<◌, ◌≤◌, slice_index};
 ghost use Rattle.vol_layout.specs.Edition.{constants};
 ghost use Rattle.vol_layout.specs.Geometry.{Fits};
@@ -13,11 +13,11 @@ use pdp_words::Image;
 use vol_layout::i_list::{address, mode};
 use vol_layout::{BlockMap, BlockPath, Geometry};
 
-/// Returns the first logical block of i-node `i`, from 1 to the last, in `from..end` for which the block map has a
-/// number, or `end` if there is none. The number may be outside the data zone.
+/// Returns the first logical block in `from..end` of i-node `i`, an i-number of the volume, for which the block map has a block number, or `end` if
+/// there is none. The number may be outside the data zone.
 ///
-/// Costs one block-map lookup, and [`next_pointer`] over the pointers that are 0. Everything below a zero pointer is
-/// passed at once, however many logical blocks that is.
+/// Costs one block-map lookup, and one [`next_pointer`] over the zero block numbers. A zero block number is skipped with all logical blocks below it
+/// at once.
 pub fn next_block(image: &Image, geometry: &Geometry, i: u16, from: u32, end: u32) -> u32
     requires fits { Fits geometry.now image.now }
     requires first { 1 ≤ i }
@@ -29,7 +29,7 @@ pub fn next_block(image: &Image, geometry: &Geometry, i: u16, from: u32, end: u3
     next_stored(image, geometry, i, form, from, end)
 }
 
-/// Does what [`next_block`] does, in a file with some block map.
+/// Like [`next_block`], for a file with block map `form`.
 pub(crate) fn next_stored(
     image: &Image,
     geometry: &Geometry,
@@ -56,8 +56,8 @@ pub(crate) fn next_stored(
     end
 }
 
-/// Returns the end of the hole that starts at logical block `b`, at least as far as zero addresses of direct blocks or zero
-/// pointers of one indirect block reach, or `b` itself if a number is stored for it.
+/// Returns the end of the hole that starts at logical block `b`, or `b` itself if a block number is stored for it. The hole may continue after the
+/// returned block: only the run of zero addresses of direct blocks, or of zero block numbers in one indirect block, is skipped.
 #[tactic(auto, using(crate::proofs::Indexes::way_address, crate::proofs::Indexes::way_entry))]
 fn hole_end(image: &Image, geometry: &Geometry, i: u16, form: BlockMap, b: u32) -> u32
     requires fits { Fits geometry.now image.now }
@@ -89,7 +89,7 @@ fn hole_end(image: &Image, geometry: &Geometry, i: u16, form: BlockMap, b: u32) 
     if block == 0 { b + 1 } else { b }
 }
 
-/// Returns the number of direct blocks: logical blocks that have an address of the i-node each.
+/// Returns the number of direct blocks: the logical blocks to which addresses of the i-node point.
 pub(crate) fn direct_count(form: BlockMap) -> u32
     ensures { result ≡ direct_count form }
 {
@@ -100,7 +100,7 @@ pub(crate) fn direct_count(form: BlockMap) -> u32
     }
 }
 
-/// Returns the first address of i-node `i` in `from..end` that isn't 0, or `end` if all are.
+/// Returns the index of the first address in `from..end` of i-node `i` that isn't 0, or `end` if all are 0.
 fn next_address(image: &Image, geometry: &Geometry, i: u16, from: u32, end: u32) -> u32
     requires fits { Fits geometry.now image.now }
     requires first { 1 ≤ i }
@@ -121,7 +121,7 @@ fn next_address(image: &Image, geometry: &Geometry, i: u16, from: u32, end: u32)
     end
 }
 
-/// Returns the number of logical blocks below a pointer that has `levels` levels of indirect blocks below it.
+/// Returns the number of logical blocks below a position in the block map with `levels` levels of indirect blocks below it.
 pub(crate) fn blocks_below(geometry: &Geometry, levels: usize) -> u32
     requires { levels ≤ 2 }
     ensures exact { result ≡ (constants geometry.now.edition).pointers ^ levels }
@@ -135,8 +135,8 @@ pub(crate) fn blocks_below(geometry: &Geometry, levels: usize) -> u32
     }
 }
 
-/// Returns the number of logical blocks, from the one with this path on, that are below the indirect block to which the
-/// first `d` entries of the path lead.
+/// Returns the number of logical blocks below the block reached by the first `d` entries of the path, counted from the logical block at the end of
+/// the path.
 pub(crate) fn left_below(geometry: &Geometry, way: &BlockPath, d: usize) -> u32
     requires depth { way.now.depth ≤ 3 }
     requires above { d ≤ way.now.depth }

@@ -1,5 +1,5 @@
-//! Laws about the definitions of places and of the blocks that a write needs. These functions do nothing: the
-//! contract, which is proved, is the point.
+//! Laws about the lists of positions in a block map, and about the number of blocks that a write needs. These functions do nothing: their purpose is
+//! the contract, which is proved.
 ghost use Rattle.vol_file.specs.Laws.{
   ListsPlaces,
   ListsPlacesOnce,
@@ -10,28 +10,27 @@ ghost use Rattle.vol_file.specs.Laws.{
   TouchesWhereBytesLie,
 };
 
-/// The list of a block map's places contains each of its places once, and nothing else.
+/// The list of positions in a block map contains each position once, and nothing else.
 pub fn places_are_listed_once()
     ensures all { ListsPlaces }
     ensures once { ListsPlacesOnce }
 {}
 
-/// Counting the blocks that a write needs among all places of the block map gives the same number as counting
-/// block by block, if the part of a path that the block before shares is counted once. A write of no bytes needs
-/// no blocks.
+/// The number of blocks that a write needs is the same counted over all positions in the block map and counted logical block by logical block, where
+/// a position shared with an earlier block is counted once. A write of no bytes needs no block.
 pub fn need_is_counted_by_blocks()
     ensures count { CountsBlockByBlock }
     ensures nothing { NeedsNothingForNothing }
 {}
 
-/// A write takes blocks for exactly the places on the paths of the touched blocks that name nothing, as many as
-/// it needs, even if a small file becomes large.
+/// A write allocates a block for each position in the block map on the paths of the touched logical blocks that points to no block, and for no other
+/// position. The number of these blocks is the number that the write needs, even if a small file becomes large.
 pub fn blocks_are_taken_for_what_is_missing()
     ensures missing { MissesWhatIsUnnamed }
     ensures needed { TakesWhatIsNeeded }
 {}
 
-/// The logical blocks that some bytes touch are those that contain one of the bytes.
+/// A logical block is touched by a range of bytes if and only if it contains one of them.
 pub fn blocks_are_touched_where_bytes_lie()
     ensures { TouchesWhereBytesLie }
 {}

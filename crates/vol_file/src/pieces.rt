@@ -1,4 +1,4 @@
-//! Writing the bytes of a file where its places name blocks.
+//! Writing to the blocks that a file already has.
 ghost use Rattle.std.specs.Prelude.{◌≡◌, ℕ, ◌+◌, ◌-◌, ◌*◌, ◌/◌, ◌%◌, ◌^◌, ◌<◌, ◌≤◌, true, List, length, slice_index};
 ghost use Rattle.vol_layout.specs.Geometry.{in_zone};
 ghost use Rattle.vol_layout.specs.BlockPointers.{form_at, IsFile, stored};
@@ -10,7 +10,7 @@ use crate::holes::next_stored;
 use pdp_words::{BLOCK, Image};
 use vol_layout::{BlockMap, Geometry};
 
-/// Writes `piece` to file `i` from byte `at` on, all in one logical block, which is stored.
+/// Writes `piece` at byte `at` of file `i`. All its bytes are in one logical block, which is stored.
 fn put_piece(
     image: &mut Image,
     geometry: &Geometry,
@@ -33,7 +33,7 @@ fn put_piece(
     image.put_bytes(BLOCK * block as usize + at % BLOCK, piece);
 }
 
-/// Clears `count` bytes of file `i` from byte `at` on, all in one logical block; a hole stays one.
+/// Clears `count` bytes at byte `at` of file `i`. All of them are in one logical block; a hole stays a hole.
 fn clear_piece(
     image: &mut Image,
     geometry: &Geometry,
@@ -57,7 +57,7 @@ fn clear_piece(
     }
 }
 
-/// Writes `text` to file `i` from byte `offset` on. The file must have the block of each byte.
+/// Writes `text` at byte `offset` of file `i`, which must already have a block for each of these bytes.
 pub(crate) fn put_text(
     image: &mut Image,
     geometry: &Geometry,
@@ -84,10 +84,10 @@ pub(crate) fn put_text(
     }
 }
 
-/// Clears the bytes `from..to` of file `i`; holes stay.
+/// Clears the bytes `from..to` of file `i`. Holes stay holes.
 ///
-/// Costs what [`next_block`](crate::next_block) does for each stored logical block among them: the time depends on the
-/// file's blocks, not on how far apart `from` and `to` are.
+/// Costs one [`next_block`](crate::next_block) for each stored logical block in the range: the time depends on the number of the file's blocks, not
+/// on the distance between `from` and `to`.
 pub(crate) fn clear_between(
     image: &mut Image,
     geometry: &Geometry,

@@ -1,4 +1,4 @@
-//! Iterating over the pointers of an indirect block, past those that are 0.
+//! Iterating over the block numbers in an indirect block, skipping zeros.
 ghost use Rattle.std.specs.Prelude.{◌≡◌, ◌≢◌, ℕ, ◌+◌, ◌<◌, ◌≤◌, true, length, slice_index};
 ghost use Rattle.vol_layout.specs.Edition.{constants};
 ghost use Rattle.vol_layout.specs.Geometry.{Fits};
@@ -7,16 +7,16 @@ ghost use Rattle.vol_layout.specs.BlockPointers.{pointer_in};
 use pdp_words::{BLOCK, Image};
 use vol_layout::Geometry;
 
-/// The number of bytes tested at once while all of them are 0.
+/// The number of bytes tested at once while all bytes are 0.
 const LARGE: usize = 64;
 
-/// The number of bytes tested at once after `LARGE` bytes were not all 0.
+/// The number of bytes tested at once after a piece of `LARGE` bytes that aren't all 0.
 const SMALL: usize = 16;
 
-/// Returns the first pointer of indirect block `m`, from pointer `from` on, that isn't 0, or the number of pointers in a
-/// block if there is none or `m` is outside the data zone.
+/// Returns the index of the first block number in indirect block `m`, at index `from` or later, that isn't 0. Returns the number of block numbers in
+/// a block if there is none, or if `m` is outside the data zone.
 ///
-/// Costs a read of the bytes that are passed, up to 64 of them at once.
+/// Costs a read of the skipped bytes, up to 64 of them at once.
 pub fn next_pointer(image: &Image, geometry: &Geometry, m: u32, from: u32) -> u32
     requires fits { Fits geometry.now image.now }
     requires within { from ≤ (constants geometry.now.edition).pointers }
@@ -35,7 +35,7 @@ pub fn next_pointer(image: &Image, geometry: &Geometry, m: u32, from: u32) -> u3
     ((found - start) / constants.number_bytes) as u32
 }
 
-/// Returns the position of the first byte in `from..end` that isn't 0, or `end` if all are.
+/// Returns the index of the first byte in `from..end` that isn't 0, or `end` if all are 0.
 fn next_byte(bytes: &[u8], from: usize, end: usize) -> usize
     requires order { from ≤ end }
     requires room { end ≤ length bytes.now }
@@ -53,7 +53,7 @@ fn next_byte(bytes: &[u8], from: usize, end: usize) -> usize
     end
 }
 
-/// Returns the position after the pieces of zeros that follow one another from byte `from` on and end by `end`.
+/// Skips pieces of `piece` zero bytes each, starting at byte `from` and not going past `end`, and returns the index of the first byte not skipped.
 fn past_clear(bytes: &[u8], from: usize, end: usize, piece: usize) -> usize
     requires some { 1 ≤ piece }
     requires order { from ≤ end }
@@ -69,8 +69,7 @@ fn past_clear(bytes: &[u8], from: usize, end: usize, piece: usize) -> usize
     at
 }
 
-/// True if the bytes of the piece from byte `at` on are all 0. Has no branch for each byte, so that one instruction
-/// can test several.
+/// True if the `piece` bytes at index `at` are all 0. Has no branch for each byte, so that one instruction can test several.
 fn is_clear(bytes: &[u8], at: usize, piece: usize) -> bool
     requires room { at + piece ≤ length bytes.now }
     ensures zeros { result ≡ true → (k : ℕ) → at ≤ k → k < at + piece → slice_index bytes.now k ≡ 0 }

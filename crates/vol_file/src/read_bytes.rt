@@ -8,11 +8,11 @@ use pdp_words::{BLOCK, Image};
 use vol_layout::Geometry;
 use vol_layout::i_list::size;
 
-/// Reads the bytes of i-node `i`, from 1 to the last, from byte `offset` on into `buffer`, as many as it has room for, and
-/// returns their number: 0 at the end and past it. The rest of `buffer` stays. Holes and numbers outside the data zone read
-/// as zeros, and so does an i-node that isn't a regular file or directory.
+/// Reads bytes of i-node `i`, an i-number of the volume, starting at byte `offset`, into `buffer`, until the buffer is full or the file ends, and
+/// returns the number of bytes read, which is 0 at the end and past it. The rest of `buffer` is unchanged. Holes and blocks outside the data zone are
+/// read as zeros, and so is an i-node that isn't a regular file or directory.
 ///
-/// Costs a copy of the bytes, and one block-map lookup for each indirect block; the other logical blocks cost one number each.
+/// Costs a copy of the bytes, a read of one block number for each logical block, and one block-map lookup for each indirect block.
 pub fn read(image: &Image, geometry: &Geometry, i: u16, offset: u32, buffer: &mut [u8]) -> usize
     requires fits { Fits geometry.now image.now }
     requires first { 1 ≤ i }
@@ -30,7 +30,7 @@ pub fn read(image: &Image, geometry: &Geometry, i: u16, offset: u32, buffer: &mu
     count
 }
 
-/// Returns the length of i-node `i`'s body: its size, but at most the greatest.
+/// Returns the length of i-node `i`'s body: its size, but at most the greatest size of the edition.
 fn body_length(image: &Image, geometry: &Geometry, i: u16) -> u32
     requires fits { Fits geometry.now image.now }
     requires first { 1 ≤ i }
@@ -40,7 +40,7 @@ fn body_length(image: &Image, geometry: &Geometry, i: u16) -> u32
     size(image, geometry, i).min(geometry.edition.constants().greatest)
 }
 
-/// Fills `buffer` with the bytes of i-node `i` from byte `offset` on.
+/// Fills `buffer` with the bytes of i-node `i` that start at byte `offset`.
 fn read_whole(image: &Image, geometry: &Geometry, i: u16, offset: u32, buffer: &mut [u8])
     requires fits { Fits geometry.now image.now }
     requires first { 1 ≤ i }
@@ -67,7 +67,7 @@ fn read_whole(image: &Image, geometry: &Geometry, i: u16, offset: u32, buffer: &
     }
 }
 
-/// Fills `piece` with bytes of block `k` from its byte `start` on, or with zeros if `k` isn't a data block.
+/// Fills `piece` with the bytes of block `k` that start at its byte `start`, or with zeros if `k` isn't a data block.
 #[tactic(auto, unfolding(vol_layout::specs::Body::zone_byte))]
 fn read_piece(image: &Image, geometry: &Geometry, k: u32, start: usize, piece: &mut [u8])
     requires fits { Fits geometry.now image.now }

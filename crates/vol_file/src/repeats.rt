@@ -1,4 +1,4 @@
-//! Skipping what is below an indirect block that was visited before, however often places name that block.
+//! Skipping the blocks below an indirect block that was visited before. In a damaged image many block maps can point to the same indirect block.
 ghost use Rattle.std.specs.Prelude.{◌≡◌, ℕ, ◌+◌, ◌-◌, ◌*◌, ◌^◌, ◌<◌, ◌≤◌, true, false, Bool, List, length, slice_index, slice_index_or, IfOk};
 ghost use Rattle.vol_layout.specs.Edition.{constants};
 ghost use Rattle.vol_layout.specs.BlockMaps.{end_of};
@@ -15,10 +15,10 @@ use std::alloc::{AllocError, Global};
 use vol_layout::i_list::{address, mode};
 use vol_layout::{BlockMap, BlockPath, Geometry};
 
-/// The number of marks of each block: for what is 0, 1 and 2 levels below it.
+/// The number of marks of each block: one each for the data blocks 0, 1 and 2 levels below it.
 pub const MARKS: usize = 3;
 
-/// Returns marks none of which is set: [`MARKS`] for each block of a volume.
+/// Returns unset marks, [`MARKS`] for each block of the volume.
 pub fn no_marks(alloc: Global, geometry: &Geometry) -> Result<Vec<bool>, AllocError>
     ensures len { IfOk result (λ marks. length marks.items ≡ 3 * geometry.now.zone_end) }
     ensures clear { IfOk result (λ marks. (k : ℕ) → slice_index_or marks.items k false ≡ false) }
@@ -26,8 +26,8 @@ pub fn no_marks(alloc: Global, geometry: &Geometry) -> Result<Vec<bool>, AllocEr
     vec![in alloc; false; MARKS * geometry.zone_end as usize]
 }
 
-/// Returns the end of the logical blocks of i-node `i`, from 1 to the last, from block `b` on that are below a marked block
-/// and can be skipped, or `b` itself if it isn't below one.
+/// Returns the end of the logical blocks of i-node `i`, an i-number of the volume, that start at block `b`, are below a marked block, and can be
+/// skipped. Returns `b` itself if it isn't below a marked block.
 ///
 /// Costs one block-map lookup, or nothing if there are no marks.
 #[tactic(auto, using(crate::proofs::Indexes::way_address, crate::proofs::Indexes::way_entry))]
@@ -55,8 +55,8 @@ pub fn passed_end(image: &Image, geometry: &Geometry, i: u16, b: u32, marks: &[b
     if is_marked(marks, block, 0) { b + 1 } else { b }
 }
 
-/// Marks each block on the path of logical block `b` of i-node `i`, from 1 to the last, if all logical blocks below it are
-/// in `from..to`. There are [`MARKS`] marks for each block; a block without marks in `marks` isn't marked.
+/// Marks each block on the path of logical block `b` of i-node `i`, an i-number of the volume, if all logical blocks below it are in `from..to`.
+/// There are [`MARKS`] marks for each block; a block for which `marks` has no marks is skipped.
 ///
 /// Costs one block-map lookup, or nothing if there are no marks.
 #[tactic(auto, using(crate::proofs::Indexes::way_address, crate::proofs::Indexes::way_entry))]
@@ -94,8 +94,8 @@ pub fn mark_passed(
     }
 }
 
-/// True if at most two levels are below the block to which the first `d` entries of the path of logical block `b` lead, and
-/// all logical blocks below it are in `from..to`.
+/// True if the block reached by the first `d` entries of the path to logical block `b` has at most two levels below it, and all logical blocks below
+/// it are in `from..to`.
 fn is_between(geometry: &Geometry, way: &BlockPath, d: usize, b: u32, from: u32, to: u32) -> bool
     requires depth { way.now.depth ≤ 3 }
     requires above { d ≤ way.now.depth }
@@ -115,7 +115,7 @@ fn is_between(geometry: &Geometry, way: &BlockPath, d: usize, b: u32, from: u32,
     end <= to && from <= end && blocks_below(geometry, levels) <= end - from
 }
 
-/// True if block `m` is marked for what is `levels` levels below it.
+/// True if the mark of block `m` for the data blocks `levels` levels below it is set.
 fn is_marked(marks: &[bool], m: u32, levels: usize) -> bool
     requires deep { levels ≤ 3 }
     ensures few { result ≡ true → levels < 3 }
@@ -125,7 +125,7 @@ fn is_marked(marks: &[bool], m: u32, levels: usize) -> bool
     levels < MARKS && at < marks.len() && marks[at]
 }
 
-/// Marks block `m` for what is `levels` levels below it.
+/// Sets the mark of block `m` for the data blocks `levels` levels below it.
 fn mark(marks: &mut [bool], m: u32, levels: usize)
     requires few { levels < 3 }
     ensures { (test : ℕ → ℕ → Bool) (geometry : Geometry) (image : List ℕ) → MarksPassed test geometry image marks.old

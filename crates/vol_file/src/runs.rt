@@ -1,4 +1,4 @@
-//! The numbers of a file's logical blocks, looked up one after the other.
+//! Looking up the block numbers of a file's logical blocks in sequence.
 ghost use Rattle.std.specs.Prelude.{◌≡◌, ◌≤◌};
 ghost use Rattle.vol_layout.specs.Geometry.{Fits};
 ghost use Rattle.vol_layout.specs.BlockPointers.{form_at, stored, block_named};
@@ -11,32 +11,32 @@ use pdp_words::Image;
 use vol_layout::i_list::{address, mode};
 use vol_layout::{BlockMap, Geometry};
 
-/// Where the numbers of a run of logical blocks are stored.
+/// The array in which the block numbers of a run of logical blocks are stored.
 #[derive(Clone, Copy)]
 pub(crate) enum PointerRun {
-    /// Nowhere: a file can't have these blocks.
+    /// No array: a file can't have these blocks.
     Nowhere,
-    /// In the i-node, as its addresses.
+    /// The addresses of the i-node.
     Inode,
-    /// In the indirect block with this number, as its pointers.
+    /// The block numbers in the indirect block with this number.
     Indirect(u32),
 }
 
-/// Logical blocks of a file whose numbers are stored one after the other.
+/// A run of logical blocks of a file whose block numbers are stored next to each other.
 #[derive(Clone, Copy)]
 pub(crate) struct Run {
     /// The first logical block.
     first: u32,
-    /// The last one; below the first if there is none.
+    /// The last logical block; below the first if the run is empty.
     last: u32,
-    /// Where the numbers are stored.
+    /// The array in which the numbers are stored.
     source: PointerRun,
-    /// The index there of the first block's number.
+    /// The index in that array of the first block's number.
     entry: u32,
 }
 
-/// Looks up the numbers of a file's logical blocks. A block-map lookup is made only if the number isn't stored in the
-/// same indirect block as the one before, or in the i-node.
+/// Looks up the block numbers of a file's logical blocks. The block map is walked only if the number isn't in the array in which the previous one was
+/// found: the i-node, or an indirect block.
 #[derive(Clone, Copy)]
 pub struct BlockNumbers {
     inode: u16,
@@ -45,7 +45,7 @@ pub struct BlockNumbers {
 }
 
 impl BlockNumbers {
-    /// Makes a lookup for i-node `i`, from 1 to the last. Reads nothing but its mode.
+    /// Creates a lookup for i-node `i`, an i-number of the volume. Reads only its mode.
     pub fn of(image: &Image, geometry: &Geometry, i: u16) -> BlockNumbers
         requires fits { Fits geometry.now image.now }
         requires first { 1 ≤ i }
@@ -65,10 +65,10 @@ impl BlockNumbers {
         }
     }
 
-    /// Returns the block that holds logical block `b`, as [`block_at`](crate::block_at) does. Image and geometry are those of the
-    /// calls before.
+    /// Returns the block number stored for logical block `b`, as [`block_at`](crate::block_at) does. The image and geometry must be those of the
+    /// earlier calls.
     ///
-    /// Costs one number, and a block-map lookup if the block isn't in the run of the one before.
+    /// Costs a read of one block number, and a block-map lookup if `b` isn't in the same run as the previous block.
     pub fn block_at(&mut self, image: &Image, geometry: &Geometry, b: u32) -> Option<u32>
         requires fits { Fits geometry.now image.now }
         requires own { LooksUp geometry.now image.now self.old.inode self.old }
@@ -81,10 +81,10 @@ impl BlockNumbers {
         }
     }
 
-    /// Returns the first logical block from `from` up to `end` for which the block map has a number, as
-    /// [`next_block`](crate::next_block) does. The image and geometry must be those of the earlier calls.
+    /// Returns the first logical block in `from..end` for which the block map has a block number, as [`next_block`](crate::next_block) does. The
+    /// image and geometry must be those of the earlier calls.
     ///
-    /// Costs what [`BlockNumbers::block_at`] does if the result is `from`; otherwise also what `next_block` does.
+    /// Costs as much as [`BlockNumbers::block_at`], and if the result isn't `from`, also as much as [`next_block`](crate::next_block).
     pub fn next_block(&mut self, image: &Image, geometry: &Geometry, from: u32, end: u32) -> u32
         requires fits { Fits geometry.now image.now }
         requires own { LooksUp geometry.now image.now self.old.inode self.old }
@@ -99,7 +99,7 @@ impl BlockNumbers {
         }
     }
 
-    /// Returns the number that is stored for logical block `b`; 0 if there is none, or if a file can't have the block.
+    /// Returns the block number stored for logical block `b`, or 0 if there is none, or if a file can't have the block.
     pub(crate) fn number_at(&mut self, image: &Image, geometry: &Geometry, b: u32) -> u32
         requires fits { Fits geometry.now image.now }
         requires own { LooksUp geometry.now image.now self.old.inode self.old }
@@ -110,7 +110,7 @@ impl BlockNumbers {
         self.run.number(image, geometry, self.inode, b)
     }
 
-    /// Returns a run with logical block `b`: the last one if it is in it, else the one that begins with it.
+    /// Returns a run that contains logical block `b`: the previous run if it contains the block, else a new run that begins with it.
     fn run_with(&self, image: &Image, geometry: &Geometry, b: u32) -> Run
         requires fits { Fits geometry.now image.now }
         requires own { LooksUp geometry.now image.now self.now.inode self.now }
@@ -127,7 +127,7 @@ impl BlockNumbers {
 }
 
 impl Run {
-    /// Returns the number of logical block `b` of i-node `i`, which is in this run of it.
+    /// Returns the block number of logical block `b` of i-node `i`. The block is in this run.
     #[tactic(auto, using(crate::proofs::Indexes::entry_room))]
     fn number(&self, image: &Image, geometry: &Geometry, i: u16, b: u32) -> u32
         requires fits { Fits geometry.now image.now }
@@ -149,8 +149,8 @@ impl Run {
     }
 }
 
-/// Returns the run of the numbers of i-node `i` from that of logical block `b` to the end of its indirect block, or of the addresses
-/// of data blocks.
+/// Returns the run of block numbers of i-node `i` that begins with logical block `b` and ends with its indirect block or with the last address of a
+/// direct block.
 ///
 /// Costs one block-map lookup.
 fn run_from(image: &Image, geometry: &Geometry, i: u16, form: BlockMap, b: u32) -> Run

@@ -1,4 +1,4 @@
-//! Taking blocks for a write: each place on the path of a logical block that names no block gets one.
+//! Allocating blocks for a write: each position in the block map on the path of a logical block that points to no block gets one.
 ghost use Rattle.std.specs.Prelude.{◌≡◌, ℕ, ◌-◌, ◌*◌, ◌≤◌, Bool, List, [], ◌∷◌};
 ghost use Rattle.vol_layout.specs.BlockPointers.{form_at};
 ghost use Rattle.vol_file.specs.Steps.{
@@ -20,7 +20,7 @@ use vol_free::take;
 use vol_layout::i_list::address;
 use vol_layout::{BlockMap, Geometry, number, put_address, put_number};
 
-/// Returns the block that address `k` of i-node `i` names. If it names none, it gets the first free block.
+/// Returns the block to which address `k` of i-node `i` points. If it points to none, first allocates a block for it.
 fn name_address(image: &mut Image, geometry: &Geometry, i: u16, k: usize) -> u32
     requires may { MayName geometry.now image.old i (k ∷ []) }
     ensures { (wanted : List ℕ → Bool) (blocks : List ℕ) → IsWanted geometry.now image.old i wanted (k ∷ []) blocks
@@ -39,7 +39,7 @@ fn name_address(image: &mut Image, geometry: &Geometry, i: u16, k: usize) -> u32
     }
 }
 
-/// Returns the block that entry `j` of indirect block `m` names. If it names none, it gets the first free block.
+/// Returns the block to which entry `j` of indirect block `m` points. If it points to none, first allocates a block for it.
 fn name_entry(image: &mut Image, geometry: &Geometry, m: u32, j: u32) -> u32
     requires may { MayNameEntry geometry.now image.old m j }
     ensures { (old : List ℕ) (i : ℕ) (wanted : List ℕ → Bool) (a : ℕ) (p blocks : List ℕ)
@@ -60,7 +60,7 @@ fn name_entry(image: &mut Image, geometry: &Geometry, m: u32, j: u32) -> u32
     }
 }
 
-/// Gives each place on the path of logical block `b` of file `i` that names no block a free one, from the i-node down.
+/// Allocates a block for each position in the block map on the path of logical block `b` of file `i` that points to no block, from the i-node down.
 fn name_way(image: &mut Image, geometry: &Geometry, i: u16, form: BlockMap, b: u32)
     requires form { form ≡ form_at geometry.now image.old i }
     requires may { MayNameWay geometry.now image.old i b }
@@ -74,7 +74,7 @@ fn name_way(image: &mut Image, geometry: &Geometry, i: u16, form: BlockMap, b: u
     }
 }
 
-/// Does what [`name_way`] does for the logical blocks `from..to` of file `i`.
+/// Like [`name_way`], for each of the logical blocks `from..to` of file `i`.
 pub(crate) fn name_ways(
     image: &mut Image,
     geometry: &Geometry,

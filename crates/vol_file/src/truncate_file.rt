@@ -1,4 +1,4 @@
-//! Truncating a file: the blocks past its new size return to the free list.
+//! Truncating a file: the blocks past its new size are returned to the free list.
 ghost use Rattle.std.specs.Prelude.{◌≡◌, ℕ, ◌*◌, ◌≤◌, List, [], ◌∷◌, length};
 ghost use Rattle.vol_layout.specs.Geometry.{Fits};
 ghost use Rattle.vol_layout.specs.BlockPointers.{form_at, IsFile, named};
@@ -14,13 +14,13 @@ use vol_layout::{
     BlockMap, Edition, Geometry, number, put_address, put_mode, put_number, put_size,
 };
 
-/// Truncates file `i` to its first `size` bytes, at most its size, and returns the number of blocks freed. The blocks on
-/// the paths of the logical blocks that hold these bytes are kept. All others are put on the free list, from the last place
-/// to the first, so that the next block to be taken is the one that the first of their places named. In the sixth edition
-/// the large flag is cleared if `size` is 0; the rest of the mode stays. Takes no memory.
+/// Truncates file `i` to its first `size` bytes, at most its current size, and returns the number of blocks freed. Keeps the blocks on the paths of
+/// the logical blocks that hold these bytes. All others are freed from the last position in the block map to the first, so the next block to be taken
+/// is the freed block whose position comes first. In the sixth edition the large flag is cleared if `size` is 0; the rest of the mode stays.
+/// Takes no memory.
 ///
-/// Costs one read for each entry of the file's indirect blocks after the kept ones, including those on the path of the last
-/// kept block, and two writes for each block freed.
+/// Costs one read for each entry of the file's indirect blocks after the kept ones, including those on the path of the last kept block, and two
+/// writes for each block freed.
 pub fn truncate(image: &mut Image, geometry: &Geometry, i: u16, size: u32) -> u32
     requires file { IsFile geometry.now image.old i }
     requires within { size ≤ size_of geometry.now image.old i }
@@ -45,8 +45,8 @@ pub fn truncate(image: &mut Image, geometry: &Geometry, i: u16, size: u32) -> u3
     given
 }
 
-/// Frees what the addresses of file `i` lead to past its first `kept` logical blocks, the last address first, clears the
-/// addresses that lead to nothing else, and returns the number of blocks freed.
+/// Frees the blocks below the addresses of file `i` past its first `kept` logical blocks, the last address first. Clears the addresses with no kept
+/// block below them, and returns the number of blocks freed.
 fn clear_addresses(image: &mut Image, geometry: &Geometry, i: u16, form: BlockMap, kept: u32) -> u32
     requires file { IsFile geometry.now image.old i }
     requires sound { Rules3To7 geometry.now image.old }
@@ -85,9 +85,8 @@ fn first_at(form: BlockMap, k: usize) -> u32
     }
 }
 
-/// Frees what the entries of block `m` lead to past the first `kept` logical blocks below `m`, the last entry first, clears
-/// the entries that lead to nothing else, and returns the number of blocks freed. A place with `level` levels below it
-/// names block `m`; if `level` is 0, nothing is done.
+/// Frees the blocks below the entries of block `m` past the first `kept` logical blocks below `m`, the last entry first. Clears the entries with no
+/// kept block below them, and returns the number of blocks freed. Block `m` has `level` levels below it; if `level` is 0, does nothing.
 fn clear_below(image: &mut Image, geometry: &Geometry, m: u32, level: u8, kept: u32) -> u32
     requires { IsNamedAtLevel geometry.now image.old m level }
     ensures cleared { ClearsBelow geometry.now image.old image.new m level kept }
@@ -115,7 +114,7 @@ fn clear_below(image: &mut Image, geometry: &Geometry, m: u32, level: u8, kept: 
     given
 }
 
-/// Clears entry `j` of block `m`, and frees block `b`, which it named.
+/// Clears entry `j` of block `m`, and frees block `b`, to which the entry pointed.
 fn drop_entry(image: &mut Image, geometry: &Geometry, m: u32, j: u32, b: u32)
     requires { HasPointer geometry.now image.old m j b }
     ensures dropped { (i a : ℕ) (p blocks : List ℕ) → named geometry.now image.old i (a ∷ p) ≡ m
@@ -126,7 +125,7 @@ fn drop_entry(image: &mut Image, geometry: &Geometry, m: u32, j: u32, b: u32)
     give(image, geometry, b);
 }
 
-/// Clears address `k` of file `i`, and frees block `b`, which it named.
+/// Clears address `k` of file `i`, and frees block `b`, to which the address pointed.
 fn drop_address(image: &mut Image, geometry: &Geometry, i: u16, k: usize, b: u32)
     requires { HasAddress geometry.now image.old i k b }
     ensures dropped { (blocks : List ℕ) → Drops geometry.now image.old image.new i (k ∷ []) b blocks }

@@ -9,11 +9,12 @@ use crate::runs::BlockNumbers;
 use pdp_words::{BLOCK, Image};
 use vol_layout::Geometry;
 
-/// Calls `visit` with the 512 bytes of each of `count` logical blocks of i-node `i`, from 1 to the last, in order from
-/// block `first` on. Holes, numbers outside the data zone and blocks past those that a file can have read as zeros, and so
-/// does an i-node that isn't a regular file or directory. Bytes stored past the size are visited too.
+/// Calls `visit` in order with the 512 bytes of each of `count` logical blocks of i-node `i`, an i-number of the volume, starting with logical block
+/// `first`. Holes, blocks outside the data zone and blocks that a file can't have are passed as zeros, and so are all blocks of an i-node that isn't
+/// a regular file or directory. Bytes stored past the size are passed too.
 ///
-/// Takes no memory, and copies nothing. Costs one block-map lookup for each indirect block; the other blocks cost one number each.
+/// Takes no memory, and copies nothing. Costs a read of one block number for each logical block, and one block-map lookup for each indirect
+/// block.
 pub fn read_range<F: FnMut(&[u8])>(
     image: &Image,
     geometry: &Geometry,

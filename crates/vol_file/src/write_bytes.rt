@@ -1,4 +1,4 @@
-//! Writing the bytes of a file, which grows if it must.
+//! Writing the bytes of a file, which grows as needed.
 ghost use Rattle.std.specs.Prelude.{◌≡◌, ℕ, ◌+◌, ◌-◌, ◌*◌, ◌/◌, ◌<◌, ◌≤◌, true, List, length};
 ghost use Rattle.std.specs.List.{range_with_len};
 ghost use Rattle.vol_layout.specs.Edition.{constants};
@@ -20,8 +20,8 @@ use vol_layout::{
     BlockMap, Geometry, clear_addresses, copy_addresses, put_address, put_mode, put_size,
 };
 
-/// Makes the small file `i` large: its eight addresses move to the first free block, and address 0 then names that
-/// block. Does nothing if no block is free.
+/// Makes the small file `i` large: moves its eight addresses to the first free block, to which address 0 then points. Does nothing if no block is
+/// free.
 fn make_large(image: &mut Image, geometry: &Geometry, i: u16)
     requires form { form_at geometry.now image.old i ≡ BlockMap.Small }
     requires may { MayEnlarge geometry.now image.old i }
@@ -40,8 +40,8 @@ fn make_large(image: &mut Image, geometry: &Geometry, i: u16)
     }
 }
 
-/// Gives each place on the paths of the logical blocks `from..to` of file `i` a block if it names none. A small file first
-/// becomes large if one of them is its ninth or later.
+/// Allocates a block for each position in the block map on the paths of the logical blocks `from..to` of file `i` that points to no block. A small
+/// file first becomes large if one of the logical blocks is its ninth or a later one.
 fn name_blocks(image: &mut Image, geometry: &Geometry, i: u16, from: u32, to: u32)
     requires order { from < to }
     requires greatest { 512 * to < (constants geometry.now.edition).greatest + 512 }
@@ -59,8 +59,8 @@ fn name_blocks(image: &mut Image, geometry: &Geometry, i: u16, from: u32, to: u3
     }
 }
 
-/// Writes `text` to file `i` from byte `offset` on: first zeros between the size and the offset, then the text, then the
-/// size. The file must have the block of each byte.
+/// Writes `text` at byte `offset` of file `i`: first clears the bytes between the size and the offset, then writes the text, then the size. The file
+/// must already have a block for each byte of `text`.
 fn put_in_blocks(image: &mut Image, geometry: &Geometry, i: u16, offset: u32, text: &[u8])
     requires file { IsFile geometry.now image.old i }
     requires sound { Rules3To7 geometry.now image.old }
@@ -78,13 +78,13 @@ fn put_in_blocks(image: &mut Image, geometry: &Geometry, i: u16, offset: u32, te
     put_size(image, geometry, i, before.max(offset + text.len() as u32));
 }
 
-/// Writes `text` to file `i` from byte `offset` on, up to the edition's greatest size. Bytes between the old size and
-/// `offset` become zeros. Takes blocks from the front of the free list for the places that name none: in the sixth edition
-/// first the block that makes a small file large, then for each logical block in turn those that are missing on its path,
-/// from the i-node down. The size grows if it must; a write of no bytes changes nothing.
+/// Writes `text` at byte `offset` of file `i`, which must not become larger than the edition's greatest size. Bytes between the old size and `offset`
+/// become zeros. Missing blocks are taken from the front of the free list: in the sixth edition first the block that makes a small file large, then
+/// for each logical block in turn the missing blocks on its path, from the i-node down. The size grows if needed; a write of no bytes changes
+/// nothing.
 ///
-/// Costs a copy of `text`, two block-map lookups for each logical block that it touches, and one for each stored block
-/// between the old size and `offset`.
+/// Costs a copy of `text`, two block-map lookups for each logical block that it touches, and one for each stored block between the old size and
+/// `offset`.
 pub fn write(image: &mut Image, geometry: &Geometry, i: u16, offset: u32, text: &[u8])
     requires file { IsFile geometry.now image.old i }
     requires sound { Rules3To7 geometry.now image.old }

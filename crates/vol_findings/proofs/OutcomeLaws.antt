@@ -27,30 +27,30 @@ use Rattle.vol_findings.specs.declared.outcome.RuleOutcome.{RuleOutcome}
 use Rattle.vol_findings.specs.declared.outcome.RuleOutcome.TheVariants.{Holds, Broken, NotAsked}
 use Rattle.vol_findings.specs.declared.outcome.RuleOutcomes.{RuleOutcomes}
 
--- the result of a search is the outcome of the rule, if it is checked
+-- the result of a search for the first violation gives the right outcome if there is no reason not to check the rule
 said : (rule : Type 0) (first : Finding → Type 0) (reason : Type 0) (found : Option Finding) → (reason → ⊥) → Finds rule first found
     → Says rule first reason (outcome_of found)
 said rule first reason None asked finds = (finds, asked)
 said rule first reason (Some finding) asked finds = (finds.0, finds.1, asked)
 
--- the same, when it is passed on
+-- an outcome equal to the result of a search is right if there is no reason not to check the rule
 pub said_as : (rule : Type 0) (first : Finding → Type 0) (reason : Type 0) (found : Option Finding) (outcome : RuleOutcome) → (reason → ⊥)
     → Finds rule first found → outcome ≡ outcome_of found → Says rule first reason outcome
 said_as rule first reason found outcome asked finds is = subst (Says rule first reason) (sym is) (said rule first reason found asked finds)
 
--- replacing a reason by an equivalent one
+-- the reason of an outcome may be replaced by an equivalent one
 said_for : (rule : Type 0) (first : Finding → Type 0) (reason other : Type 0) (outcome : RuleOutcome) → (reason → other) → (other → reason)
     → Says rule first reason outcome → Says rule first other outcome
 said_for rule first reason other Holds from back says = (says.0, λ there. says.1 (back there))
 said_for rule first reason other (Broken finding) from back says = (says.0, says.1, λ there. says.2 (back there))
 said_for rule first reason other NotAsked from back says = from says
 
--- one of two reasons for another
+-- if `one` implies `other`, then `one` or `second` implies `other` or `second`
 first_for : (one other second : Type 0) → (one → other) → one ⊎ second → other ⊎ second
 first_for one other second from (inl there) = inl (from there)
 first_for one other second from (inr there) = inr there
 
--- a choice by two tests is one of three
+-- if reading the geometry fails with Short, the image doesn't satisfy rule 1
 chosen_short : (w b : Bool) (g : Geometry) → (if w then (if b then Ok g else Err Bounds) else Err Short) ≡ Err Short → w ≡ true → ⊥
 chosen_short true true g e whole = cc
 chosen_short true false g e whole = cc
@@ -85,7 +85,7 @@ unread whole bounded = record {
   links = NotAsked;
 }
 
--- if the image is too short
+-- the outcomes of an image that is too short
 pub tells_short : (edition : Edition) (image : List ℕ) → geometry_read edition image ≡ Err Short → Tells edition image (unread (Broken TooShort) NotAsked)
 unfolding geometry_read Rule
 tells_short edition image e =
@@ -105,7 +105,7 @@ tells_short edition image e =
       links = λ has. fails has.0;
     }
 
--- if its sizes are not those of a volume
+-- the outcomes of an image whose sizes aren't within their limits
 pub tells_bounds : (edition : Edition) (image : List ℕ) → geometry_read edition image ≡ Err Bounds → Tells edition image (unread Holds (Broken BadSizes))
 unfolding geometry_read Rule
 tells_bounds edition image e =
@@ -125,7 +125,7 @@ tells_bounds edition image e =
       links = λ has. chosen.1 has.1;
     }
 
--- the outcomes for its volume, if it has a geometry
+-- the outcomes of an image with a geometry are those of its volume
 tells_own : (edition : Edition) (image : List ℕ) (found : RuleOutcomes) → is_whole edition image ≡ true → is_bounded edition image ≡ true
     → TellsVolume (geometry_of edition image) image found → Tells edition image found
 unfolding Rule
@@ -164,7 +164,7 @@ tells_volume edition image g found e volume =
     let chosen = chosen_ok (is_whole edition image) (is_bounded edition image) (geometry_of edition image) g e in
     tells_own edition image found chosen.0 chosen.1 (subst (λ x. TellsVolume x image found) (sym chosen.2) volume)
 
--- the same for the result of a check, if memory doesn't run out
+-- the outcomes for the volume of an image with a geometry are those of the image, if memory doesn't run out
 pub if_tells : (edition : Edition) (image : List ℕ) (g : Geometry) (result : Result RuleOutcomes AllocError) → geometry_read edition image ≡ Ok g
     → IfOk result (TellsVolume g image) → IfOk result (Tells edition image)
 if_tells edition image g (Ok found) e tells = tells_volume edition image g found e tells

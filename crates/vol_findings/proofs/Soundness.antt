@@ -1,4 +1,4 @@
--- The first line that doesn't say that its rule holds is that of the least rule that fails.
+-- The first line whose outcome isn't that its rule holds is the line of the least rule that fails.
 use Rattle.std.proofs.Common.{◌≡◌, ◌⊎◌, ℕ, ◌+◌, ◌&&◌, Bool, true, false, inl, inr, if◌then◌else◌, IsTrue, ◌↔◌, List, [], ◌∷◌, Option, None, Some, refl, ap, sym, subst}
 use Rattle.std.proofs.lemmas.Bool.{cases_order}
 use Rattle.vol_layout.specs.Geometry.{geometry_of}
@@ -25,7 +25,8 @@ use Rattle.vol_findings.specs.declared.outcome.RuleOutcome.TheVariants.{Holds, B
 use Rattle.vol_findings.specs.declared.outcome.RuleOutcomes.{RuleOutcomes}
 use Rattle.vol_findings.specs.declared.report.RuleLine.{RuleLine}
 
--- the first that fails of a rule that is checked and some others, by the outcome of the rule and the first of the others that fails
+-- the first rule of a list that fails is its first rule, if this rule's outcome isn't that it holds; otherwise it is the first of the others that
+-- fails
 first_said : (rule : Type 0) (first : Finding → Type 0) (reason : Type 0) (outcome : RuleOutcome) (n : ℕ) (facts : List (Type 0)) (answer : Option ℕ)
     → Says rule first reason outcome → (reason → ⊥) → (rule → IsFirstBroken (n + 1) facts answer)
     → IsFirstBroken n (rule ∷ facts) (if is_held outcome then answer else Some n)
@@ -33,18 +34,18 @@ first_said rule first reason Holds n facts answer says asked more = inr (says.0,
 first_said rule first reason (Broken finding) n facts answer says asked more = inl (refl, says.1)
 first_said rule first reason NotAsked n facts answer says asked more = absurd (asked says)
 
--- the reason why rule 7 isn't checked
+-- the reason not to check rule 7
 abbrev TwiceUnasked : Edition → List ℕ → Type 0
 TwiceUnasked edition image =
     (HasGeometry edition image × Keeps edition image 5 → ⊥) ⊎ (IsApart (geometry_of edition image) image × (Keeps edition image 6 → ⊥))
 
--- it is checked if rules 5 and 6 hold
+-- rule 7 is checked if rules 5 and 6 hold
 twice_asked : (edition : Edition) (image : List ℕ) → HasGeometry edition image → Keeps edition image 5 → Keeps edition image 6
     → TwiceUnasked edition image → ⊥
 twice_asked edition image read zoned listed (inl fails) = fails (read, zoned)
 twice_asked edition image read zoned listed (inr fails) = fails.1 listed
 
--- two tests that hold, and the converse
+-- if a conjunction is true, both parts are
 both_true : (a b : Bool) → (a && b) ≡ true → (a ≡ true) × (b ≡ true)
 both_true true b e = (refl, e)
 both_true false b e = absurd (cc)
@@ -57,7 +58,7 @@ none_held : (a : Bool) (answer : Option ℕ) (n : ℕ) → a ≡ true → answer
 none_held true answer n is none = none
 none_held false answer n is none = absurd (cc)
 
--- if all are said to hold, no line is the first that doesn't, and conversely
+-- if each outcome is that its rule holds, no line is the first with another outcome
 none_unheld : (lines : List RuleLine) → are_held lines ≡ true → first_unheld lines ≡ None
 none_unheld [] all = refl
 none_unheld (line ∷ lines) all =
@@ -69,7 +70,7 @@ all_held [] none = refl
 all_held (line ∷ lines) none = both_held (is_held line.outcome) (are_held lines) (first_unheld lines) (rule_number line.rule) none (all_held lines)
 
 module _ (edition : Edition) (image : List ℕ) where
-  -- an image has one judgement
+  -- an image has only one judgement
   one_judgement : (a b : Option ℕ) → IsJudged true edition image a → IsJudged true edition image b → a ≡ b
   one_judgement None None here there = refl
   one_judgement None (Some m) here there = absurd (there.broken (here m))
@@ -84,7 +85,7 @@ module _ (edition : Edition) (image : List ℕ) where
   judged_same : (a b : Option ℕ) → a ≡ b → IsJudged true edition image b → IsJudged true edition image a
   judged_same a b same judgement = subst (IsJudged true edition image) (sym same) judgement
 
-  -- it is None if and only if the image is sound
+  -- if the judgement is None, the image is sound
   sound_judged : (answer : Option ℕ) → answer ≡ None → IsJudged true edition image answer → IsSound edition image
   sound_judged None none judgement = judgement
   sound_judged (Some n) none judgement = absurd (cc)
@@ -94,7 +95,7 @@ module _ (edition : Edition) (image : List ℕ) where
   none_judged (Some n) judgement sound = absurd (judgement.broken (sound n))
 
 module _ (edition : Edition) (image : List ℕ) (found : RuleOutcomes) (tells : Tells edition image found) where
-  -- the first that isn't said to hold is the least that fails
+  -- the first rule whose outcome isn't that it holds is the least rule that fails
   first_judged : IsJudged true edition image (first_unheld (lines_of found))
   unfolding Rule
   first_judged =
@@ -132,14 +133,14 @@ module _ (edition : Edition) (image : List ℕ) (found : RuleOutcomes) (tells : 
             refl)))))))))))),
       ))
 
-  -- so its number is the one that a judge returns
+  -- an answer is the judgement if and only if it is the number of the first line without this outcome
   pub judged_first : (answer : Option ℕ) → IsJudged true edition image answer ↔ (answer ≡ first_unheld (lines_of found))
   judged_first answer = (
     λ judgement. one_judgement edition image answer (first_unheld (lines_of found)) judgement first_judged,
     λ same. judged_same edition image answer (first_unheld (lines_of found)) same first_judged,
   )
 
-  -- and all are said to hold if and only if the image is sound
+  -- all outcomes are that their rules hold if and only if the image is sound
   pub sound_held : IsTrue (are_held (lines_of found)) ↔ IsSound edition image
   sound_held = (
     λ all. sound_judged edition image (first_unheld (lines_of found)) (none_unheld (lines_of found) all) first_judged,

@@ -24,7 +24,8 @@ use Rattle.vol_findings.specs.declared.outcome.RuleOutcome.{RuleOutcome}
 use Rattle.vol_findings.specs.declared.outcome.RuleOutcome.TheVariants.{Holds, Broken, NotAsked}
 use Rattle.vol_findings.specs.declared.outcome.RuleOutcomes.{RuleOutcomes}
 
--- the outcome of a rule: that it isn't checked, if and only if there is a reason; else that it holds, or its first violation (this project)
+-- an outcome is right: the rule isn't checked if and only if there is a reason not to; otherwise it holds, or the outcome has its first violation
+-- (this project)
 abbrev pub Says : Type 0 → (Finding → Type 0) → Type 0 → RuleOutcome → Type 0
 Says rule first reason Holds = rule × (reason → ⊥)
 Says rule first reason (Broken finding) = first finding × (rule → ⊥) × (reason → ⊥)
@@ -35,7 +36,7 @@ abbrev pub outcome_of : Option Finding → RuleOutcome
 outcome_of None = Holds
 outcome_of (Some finding) = Broken finding
 
--- the reason not to check rule 7: rule 5 fails, or rule 6 does and no two places name one block (this project)
+-- the reason not to check rule 7: rule 5 fails, or rule 6 fails and no two block-map positions point to one block (this project)
 abbrev pub IsTwiceUnasked : Geometry → List ℕ → Type 0
 IsTwiceUnasked geometry image = (IsZoned geometry image → ⊥) ⊎ (IsApart geometry image × (HasStack geometry image → ⊥))
 
@@ -46,7 +47,8 @@ pub record TellsBlocks (geometry : Geometry) (image : List ℕ) (found : BlockOu
   pub apart : Says (IsUsedOnce geometry image) (IsFirstTwice geometry image) (IsTwiceUnasked geometry image) found.apart
   pub covered : Says (IsNoneLost geometry image) (IsFirstUncovered geometry image) (HasStack geometry image → ⊥) found.covered
 
--- the outcomes of the rules of a volume whose geometry is known: 7 isn't checked for the reason above, nor 8 if 6 fails, nor 10 if 9 does (this project)
+-- the outcomes of the rules of a volume whose geometry is known: rule 7 isn't checked for the reason above, rule 8 if 6 fails, and rule 10 if 9 fails
+-- (this project)
 pub record TellsVolume (geometry : Geometry) (image : List ℕ) (found : RuleOutcomes) : Type 0 where
   pub whole : found.whole ≡ Holds
   pub bounded : found.bounded ≡ Holds
@@ -61,7 +63,7 @@ pub record TellsVolume (geometry : Geometry) (image : List ℕ) (found : RuleOut
   pub tree : Says (IsTree geometry image) (IsFirstTree geometry image) ⊥ found.tree
   pub links : Says (HasLinks geometry image) (IsFirstLink geometry image) ⊥ found.links
 
--- rule n of an image (this project)
+-- an image keeps rule `n` (this project)
 abbrev pub Keeps : Edition → List ℕ → ℕ → Type 0
 Keeps edition image n = Rule true edition image n
 
@@ -69,7 +71,8 @@ Keeps edition image n = Rule true edition image n
 abbrev pub HasGeometry : Edition → List ℕ → Type 0
 HasGeometry edition image = Keeps edition image 1 × Keeps edition image 2
 
--- the outcomes of the twelve rules of an image: a rule isn't checked if and only if one that it needs fails; 7 needs 6 only if no two places name one block (this project)
+-- the outcomes of the twelve rules of an image: a rule isn't checked if and only if a rule that it needs fails; rule 7 needs rule 6 only if no two
+-- block-map positions point to one block (this project)
 pub record Tells (edition : Edition) (image : List ℕ) (found : RuleOutcomes) : Type 0 where
   pub whole : Says (Keeps edition image 1) (λ finding. finding ≡ TooShort) ⊥ found.whole
   pub bounded : Says (Keeps edition image 2) (λ finding. finding ≡ BadSizes) (Keeps edition image 1 → ⊥) found.bounded

@@ -45,12 +45,12 @@ rule_sentence rules.Dots = codes "each directory has . for itself and .. for its
 rule_sentence rules.Tree = codes "each directory is entered once and reached from the root"
 rule_sentence rules.Links = codes "each link count is the number of entries"
 
--- the line of a rule: its number, what it requires, and its outcome (this project)
+-- the line of a rule: its number, its requirement, and its outcome (this project)
 abbrev pub line_text : RuleLine → List ℕ
 line_text line =
     decimal (rule_number line.rule) ++ (codes " " ++ (rule_sentence line.rule ++ (codes ": " ++ (outcome_text line.outcome ++ codes "\n"))))
 
--- the lines of some rules (this project)
+-- the lines of these rules (this project)
 unfoldable pub lines_text : List RuleLine → List ℕ
 lines_text lines = flat_map line_text lines
 
@@ -75,17 +75,17 @@ lines_of found =
     ∷ line rules.Links found.links
     ∷ []
 
--- true if a rule is said to hold (this project)
+-- true if the outcome is that the rule holds (this project)
 abbrev pub is_held : RuleOutcome → Bool
 is_held Holds = true
 is_held (Broken finding) = false
 is_held NotAsked = false
 
--- true if all of some rules are said to hold (this project)
+-- true if the outcome in each line is that its rule holds (this project)
 abbrev pub are_held : List RuleLine → Bool
 are_held lines = list_all (λ (line : RuleLine). is_held line.outcome) lines
 
--- the number of the first of some lines that doesn't say that its rule holds, or None if each says so (this project)
+-- the number of the first line whose outcome isn't that its rule holds, or None if there is no such line (this project)
 abbrev pub first_unheld : List RuleLine → Option ℕ
 first_unheld [] = None
 first_unheld (line ∷ lines) = if is_held line.outcome then first_unheld lines else Some (rule_number line.rule)
@@ -107,11 +107,12 @@ note_text edition image =
     then codes "note: rules 1 and 2 hold for edition " ++ (decimal (edition_number (other_edition edition)) ++ codes "\n")
     else []
 
--- the text of a report, by its outcomes (this project)
+-- the text of a report, from the outcomes (this project)
 abbrev pub report_text : Edition → List ℕ → RuleOutcomes → List ℕ
 report_text edition image found = lines_text (lines_of found) ++ note_text edition image
 
--- a text is the report on an image: its first line that doesn't say 'holds' has the number that `judge` returns, and the truth value says if all twelve rules hold (this project)
+-- a text is the report on an image: its first line whose outcome isn't 'holds' has the number that `judge` returns, and `sound` is true if and only
+-- if all twelve rules hold (this project)
 pub record IsReport (edition : Edition) (image text : List ℕ) (sound : Bool) : Type 0 where
   pub found : RuleOutcomes
   pub tells : Tells edition image found

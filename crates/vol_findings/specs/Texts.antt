@@ -75,7 +75,7 @@ spot_text (spots.Slot d s) = codes ": directory " ++ (decimal d ++ (codes ", slo
 spot_text (spots.Links i entries links) =
     codes ": i-node " ++ (decimal i ++ (codes ", entries " ++ (decimal entries ++ (codes ", links " ++ decimal links))))
 
--- the text of an outcome: that the rule holds, its violation and the position of that, or that it isn't checked (this project)
+-- the text of an outcome: that the rule holds; its violation, with the position; or that the rule isn't checked (this project)
 abbrev pub outcome_text : RuleOutcome → List ℕ
 outcome_text Holds = codes "holds"
 outcome_text (Broken finding) = words_of finding ++ spot_text (spot_of finding)

@@ -23,7 +23,7 @@ use vol_layout::Geometry;
 /// The outcomes of the rules about blocks.
 #[derive(Clone, Copy)]
 pub(crate) struct BlockOutcomes {
-    /// Rule 5: each number that is named is that of a data block.
+    /// Rule 5: block maps point only to data blocks.
     pub zoned: RuleOutcome,
     /// Rule 6: the free list is a stack.
     pub listed: RuleOutcome,
@@ -47,8 +47,8 @@ pub(crate) fn check_blocks(
     Ok(check_marks(image, geometry, &mut named, &mut free))
 }
 
-/// Checks the rules about blocks, with a mark in `named` for each block that files name and one in `free` for each free block.
-/// The values of `named` don't matter at first, and no mark of `free` is set.
+/// Checks the rules about blocks, with a mark in `named` for each block of a file and one in `free` for each free block. The values of `named` don't
+/// matter at first, and no mark of `free` is set.
 fn check_marks(
     image: &Image,
     geometry: &Geometry,
@@ -75,7 +75,7 @@ fn check_marks(
     }
 }
 
-/// Checks rule 7 for files alone, given the outcome of rule 5. If rule 7 holds, the blocks that files name are marked.
+/// Checks rule 7 for files, without the free list, given the outcome of rule 5. If rule 7 holds, the blocks of files are marked.
 fn check_files(
     image: &Image,
     geometry: &Geometry,
@@ -94,7 +94,7 @@ fn check_files(
     }
 }
 
-/// Returns the outcome of rule 7, from that for files alone and the free list. Two places that name one block break it even if
+/// Returns the outcome of rule 7, from its outcome for files and from the free list. Two block-map positions that point to one block break it even if
 /// the free list is broken.
 fn check_apart(files: RuleOutcome, list: Result<FreeStack, Finding>) -> RuleOutcome
     ensures { (geometry : Geometry) (image : List ℕ)
@@ -112,8 +112,7 @@ fn check_apart(files: RuleOutcome, list: Result<FreeStack, Finding>) -> RuleOutc
     }
 }
 
-/// Returns the outcome of rule 8, from the free list and the marks of its blocks. There is a mark in `named` for each block,
-/// with any value at first.
+/// Returns the outcome of rule 8, from the free list and the marks of its blocks. There is a mark in `named` for each block, with any value at first.
 fn check_covered(
     image: &Image,
     geometry: &Geometry,

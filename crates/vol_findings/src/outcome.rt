@@ -24,7 +24,7 @@ pub enum RuleOutcome {
     Holds,
     /// The rule doesn't hold; this is its first violation.
     Broken(Finding),
-    /// The rule isn't checked, since one that it needs doesn't hold.
+    /// The rule isn't checked, because a rule that it needs doesn't hold.
     NotAsked,
 }
 
@@ -33,17 +33,17 @@ pub enum RuleOutcome {
 pub struct RuleOutcomes {
     /// Rule 1: the image has all blocks of the volume.
     pub whole: RuleOutcome,
-    /// Rule 2: the sizes are within their limits. Needs rule 1, and all others need both.
+    /// Rule 2: the sizes are within their limits. Needs rule 1; all other rules need both.
     pub bounded: RuleOutcome,
     /// Rule 3: the kinds of i-nodes.
     pub kinds: RuleOutcome,
     /// Rule 4: the sizes and link counts of i-nodes.
     pub sizes: RuleOutcome,
-    /// Rule 5: each number that is named is that of a data block.
+    /// Rule 5: block maps point only to data blocks.
     pub zoned: RuleOutcome,
     /// Rule 6: the free list is a stack.
     pub listed: RuleOutcome,
-    /// Rule 7: no block is used twice. Needs rule 5, and, if no two places of files name one block, rule 6.
+    /// Rule 7: no block is used twice. Needs rule 5, and also rule 6 unless two block-map positions of files point to one block.
     pub apart: RuleOutcome,
     /// Rule 8: no block is lost. Needs rule 6.
     pub covered: RuleOutcome,
@@ -57,12 +57,12 @@ pub struct RuleOutcomes {
     pub links: RuleOutcome,
 }
 
-/// Returns the outcome of each of the twelve rules: that the image keeps it, its first violation, or that a rule which it needs
-/// is broken. The image may be any bytes.
+/// Returns the outcome of each of the twelve rules: the rule holds, it is broken (with its first violation), or it isn't checked because a rule that
+/// it needs is broken. The image may have any bytes.
 ///
-/// The time grows with the image's blocks, with the entries of its directories, counted as often as these name their blocks,
-/// and with sorting the names of each directory. The memory is a few bytes for each block and i-number, and the names of one
-/// directory at a time. Fails only if memory runs out.
+/// The time grows with the image's blocks, with the entries of its directories (counted once for each block-map position that points to their block),
+/// and with sorting the names of each directory. The memory is a few bytes for each block and i-number, and the names of one directory at a time.
+/// Fails only if memory runs out.
 pub fn check_rules(
     alloc: Global,
     edition: Edition,
@@ -165,7 +165,7 @@ fn check_volume(
     })
 }
 
-/// Returns the i-numbers that directories name `..` if rule 9 holds, else nothing.
+/// Returns the i-number in the `..` entry of each directory, if rule 9 holds.
 fn ups_of(
     alloc: Global,
     image: &Image,
@@ -189,8 +189,7 @@ fn ups_of(
     }
 }
 
-/// Returns the outcome of rule 10, given that of rule 9, the `..` of each directory, and the directory that holds an entry for
-/// each.
+/// Returns the outcome of rule 10, from the outcome of rule 9, the `..` of each directory, and the directory that holds an entry for each.
 fn check_dots(
     image: &Image,
     geometry: &Geometry,

@@ -15,14 +15,14 @@ use vol_layout::{Edition, Geometry};
 pub struct RuleLine {
     /// The rule.
     pub rule: Rule,
-    /// Its outcome.
+    /// The outcome of the rule.
     pub outcome: RuleOutcome,
 }
 
 /// A report on an image.
 #[derive(Drop)]
 pub struct RuleReport {
-    /// Its lines.
+    /// The lines of the report.
     pub text: String,
     /// True if all twelve rules hold.
     pub is_sound: bool,
@@ -39,11 +39,10 @@ impl fmt::Display for RuleLine {
     }
 }
 
-/// Makes the report on an image, which may be any bytes: a line for each of the twelve rules, with its first violation; and, if
-/// rule 1 or 2 fails, a note if both hold for the other edition. The first line that doesn't say `holds` has the number that
-/// [`judge`](vol_judge::judge) returns.
+/// Makes the report on an image, which may have any bytes: a line for each of the twelve rules, with its first violation; and, if rule 1 or 2 fails,
+/// a note if both hold for the other edition. The first line whose outcome isn't `holds` has the number that [`judge`](vol_judge::judge) returns.
 ///
-/// Costs and takes memory for what [`check_rules`] does, and for the text.
+/// Takes as much time and memory as [`check_rules`], plus the text.
 pub fn make_report(alloc: Global, edition: Edition, image: &Image) -> Result<RuleReport, AllocError>
     ensures { IfOk result (λ report. IsReport edition image.now (string_bytes report.text) report.is_sound) }
 {
@@ -85,7 +84,7 @@ fn line_of(rule: Rule, outcome: RuleOutcome) -> RuleLine
     RuleLine { rule, outcome }
 }
 
-/// True if all of some rules hold.
+/// True if all these rules hold.
 pub fn are_held(lines: &[RuleLine]) -> bool
     ensures { result ≡ are_held lines.now }
 {
@@ -94,7 +93,7 @@ pub fn are_held(lines: &[RuleLine]) -> bool
         .all(|line| matches!(line.outcome, RuleOutcome::Holds))
 }
 
-/// Appends some lines.
+/// Appends these lines.
 fn push_lines(text: &mut String, lines: &[RuleLine]) -> Result<(), AllocError>
     ensures { OnOk result (string_bytes text.new ≡ string_bytes text.old ++ lines_text lines.now) }
 {

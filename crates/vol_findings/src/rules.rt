@@ -13,7 +13,7 @@ pub enum Rule {
     Kinds,
     /// The sizes and link counts of i-nodes.
     Sizes,
-    /// Each number that is named is that of a data block.
+    /// Block maps point only to data blocks.
     Zoned,
     /// The free list is a stack.
     Listed,
@@ -32,7 +32,7 @@ pub enum Rule {
 }
 
 impl Rule {
-    /// Returns its number, from 1 to 12.
+    /// Returns the rule's number, from 1 to 12.
     pub fn number(self) -> u8
         ensures { result ≡ rule_number self }
     {
@@ -52,7 +52,7 @@ impl Rule {
         }
     }
 
-    /// Returns what it requires, in plain words.
+    /// Returns the rule's requirement, in plain words.
     pub fn sentence(self) -> &'static str
         ensures { result.now ≡ rule_sentence self }
     {

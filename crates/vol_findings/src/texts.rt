@@ -9,11 +9,11 @@ use vol_judge::Finding;
 /// The position of a finding.
 #[derive(Clone, Copy, Drop)]
 pub enum Spot {
-    /// The image as a whole.
+    /// The whole image.
     Image,
     /// An i-node.
     Inode(u16),
-    /// A number that an i-node names.
+    /// A number in the block map of an i-node.
     Number(u16, u32),
     /// A count or number of the free list.
     Count(u32),

@@ -1,4 +1,4 @@
--- Writes that leave the free stack as it is.
+-- Writes that do not change the stack of free blocks.
 use Rattle.std.proofs.Common.{true, ◌≡◌, ℕ, ◌+◌, ◌*◌, ◌≤◌, ◌⊎◌, inl, inr, List, [], arith}
 use Rattle.std.proofs.lemmas.Bool.{cases_lt}
 use Rattle.std.proofs.Math.Nat.{eq-or-lt_of_le}
@@ -21,7 +21,7 @@ pub free_from : {geometry : Geometry} {image blocks : List ℕ} → IsFree geome
     → geometry.zone_start ≤ b
 free_from {geometry = geometry} free b i = zone_from geometry b (free_zone free b i)
 
--- the free blocks stay if the head in the super-block stays, and the first bytes of each free block
+-- the free blocks are the same if the super-block's count and array and the first 202 bytes of each free block are unchanged
 pub IsFree-kept : {geometry : Geometry} {old new blocks : List ℕ} → IsCopy old new (free_head geometry.edition) (free_head geometry.edition) 202
     → ((b : ℕ) → IsIn b blocks → IsCopy old new (512 * b) (512 * b) 202) → IsFree geometry old blocks → IsFree geometry new blocks
 IsFree-kept {geometry = geometry} {old = old} {new = new} {blocks = blocks} head kept free =
@@ -34,7 +34,7 @@ IsFree-kept {geometry = geometry} {old = old} {new = new} {blocks = blocks} head
       once = free.once;
     }
 
--- a write after the head in the super-block and outside each free block keeps the free blocks
+-- a write that begins after the super-block's count and array, and overlaps no free block, does not change the free blocks
 pub IsFree-behind : {geometry : Geometry} {old new blocks : List ℕ} {from to : ℕ} → SameOutside old new from to
     → free_head geometry.edition + 202 ≤ from → ((b : ℕ) → IsIn b blocks → (512 * b + 512 ≤ from) ⊎ (to ≤ 512 * b))
     → IsFree geometry old blocks → IsFree geometry new blocks
@@ -42,20 +42,20 @@ IsFree-behind {geometry = geometry} s h apart free =
     IsFree-kept (copied_below s (free_head geometry.edition) 202 (omega arith))
     (λ b i. elim (apart b i) [ inl below ↦ copied_below s (512 * b) 202 (omega arith) | inr above ↦ copied_above s (512 * b) 202 above ]) free
 
--- a write from byte 720 on, past the free list of each edition, and outside each free block keeps the free blocks
+-- a write that begins at byte 720 or later, after the free list of either edition, and overlaps no free block, does not change the free blocks
 pub IsFree-outside : {geometry : Geometry} {old new blocks : List ℕ} {from to : ℕ} → SameOutside old new from to
     → 720 ≤ from → ((b : ℕ) → IsIn b blocks → (512 * b + 512 ≤ from) ⊎ (to ≤ 512 * b)) → IsFree geometry old blocks
     → IsFree geometry new blocks
 IsFree-outside {geometry = geometry} s h apart free =
     let end : free_head geometry.edition + 202 ≤ 720 = head_end geometry.edition in IsFree-behind s (omega arith) apart free
 
--- a write between the free list of the super-block and the data zone keeps the free blocks
+-- a write between the super-block's free list and the data zone does not change the free blocks
 pub IsFree-before_zone : {geometry : Geometry} {old new blocks : List ℕ} {from to : ℕ} → SameOutside old new from to
     → 720 ≤ from → to ≤ 512 * geometry.zone_start → IsFree geometry old blocks → IsFree geometry new blocks
 IsFree-before_zone s h t free =
     IsFree-outside s h (λ b i. inr (omega (arith, free_from free b i))) free
 
--- if the super-block has no number, no block is free
+-- if the super-block's count is 0, no block is free
 pub IsFree-none : (geometry : Geometry) (image : List ℕ) → word image (free_head geometry.edition) ≡ 0 → IsFree geometry image []
 unfolding IsStack Once
 IsFree-none geometry image none = record { count = omega arith; stack = inl none; once = tt }
@@ -69,14 +69,14 @@ apart_blocks b c differ =
           elim (eq-or-lt_of_le more) [ inl same ↦ absurd (differ same) | inr less ↦ inl (omega arith) ]
     ]
 
--- a write within a block that isn't free keeps the free blocks
+-- a write within a block that isn't free does not change the free blocks
 pub IsFree-within : {geometry : Geometry} {old new blocks : List ℕ} {from to : ℕ} → SameOutside old new from to → (b : ℕ)
     → 2 ≤ b → 512 * b ≤ from → to ≤ 512 * b + 512 → (IsIn b blocks → ⊥) → IsFree geometry old blocks → IsFree geometry new blocks
 IsFree-within {blocks = blocks} {from = from} {to = to} s b two low high fresh free =
     IsFree-outside s (omega arith)
     (λ c i. elim (apart_blocks c b (λ same. fresh (rw (← same) i))) [ inl below ↦ inl (omega arith) | inr above ↦ inr (omega arith) ]) free
 
--- a write outside the head in the super-block, and outside block b, keeps the first bytes of the other blocks
+-- if only the super-block's count and array and block `b` have changed, the first 202 bytes of the other blocks are unchanged
 pub kept_apart : {geometry : Geometry} {old new : List ℕ} {b size : ℕ} → StaysBut geometry old new b size → size ≤ 512 → (c : ℕ)
     → 2 ≤ c → (b ≡ c → ⊥) → IsCopy old new (512 * c) (512 * c) 202
 kept_apart {geometry = geometry} {b = b} s small c two differ =

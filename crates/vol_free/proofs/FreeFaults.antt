@@ -17,7 +17,7 @@ use Rattle.vol_free.specs.declared.free_walk.FreeFault.{FreeFault}
 use Rattle.vol_free.specs.FreeWalk.{Walked, walk_rest, free_walk}
 use Rattle.vol_free.proofs.WalkLaws.{walk_none, walk_many, walk_end, walk_out, walk_again, walk_chain, walk_on}
 
--- a number that is among others is found there
+-- a number in a list is found by a search
 pub in_any : (b : ℕ) (met : List ℕ) → IsIn b met → list_any (λ k. k == b) met ≡ true
 unfolding IsIn
 in_any b [] among = absurd among
@@ -27,7 +27,7 @@ in_any b (c ∷ met) (inr later) = elim (cases_Bool (c == b)) [
   | inr other ↦ ap (λ t. t || list_any (λ k. k == b) met) other ∙ in_any b met later
 ]
 
--- and one that is found there is among them
+-- a number found by a search is in the list
 pub any_in : (b : ℕ) (met : List ℕ) → list_any (λ k. k == b) met ≡ true → IsIn b met
 unfolding IsIn
 any_in b [] found = absurd (cc)
@@ -36,7 +36,7 @@ any_in b (c ∷ met) found = elim (cases_eq c b) [
   | inr other ↦ inr (any_in b met (sym (ap (λ t. t || list_any (λ k. k == b) met) (ne_eqb c b other)) ∙ found))
 ]
 
--- a number that is among others is among them in the other order, and before others
+-- a number in one of two lists is in the reverse of the first followed by the second
 in_turned : (b : ℕ) (xs ys : List ℕ) → IsIn b xs ⊎ IsIn b ys → IsIn b (reverse_aux xs ys)
 unfolding IsIn
 in_turned b [] ys (inl i) = absurd i
@@ -45,19 +45,19 @@ in_turned b (x ∷ xs) ys (inl (inl same)) = in_turned b xs (x ∷ ys) (inr (inl
 in_turned b (x ∷ xs) ys (inl (inr i)) = in_turned b xs (x ∷ ys) (inl i)
 in_turned b (x ∷ xs) ys (inr i) = in_turned b xs (x ∷ ys) (inr (inr i))
 
--- a number that is among others is among them in the other order
+-- a number in a list is in the reversed list
 pub in_reverse : (b : ℕ) (xs : List ℕ) → IsIn b xs → IsIn b (reverse xs)
 in_reverse b xs i = in_turned b xs [] (inl i)
 
--- a walk with a fault isn't one without
+-- a walk cannot both end with a fault and without one
 no_fault : {walk : Walked} {fault : FreeFault × ℕ} {met : List ℕ} → walk.fault ≡ Some fault → walk ≡ record { met = met; fault = None } → ⊥
 no_fault {fault = fault} some none = none-some fault (sym (ap (λ (k : Walked). k.fault) none) ∙ some)
 
--- a walk without a fault isn't one with a fault
+-- a walk cannot both end without a fault and with one
 a_fault : {walk : Walked} {fault : FreeFault × ℕ} {met : List ℕ} → walk.fault ≡ None → walk ≡ record { met = met; fault = Some fault } → ⊥
 a_fault {fault = fault} none some = none-some fault (sym none ∙ ap (λ (k : Walked). k.fault) some)
 
--- the cases of the next number at the array's bottom: 0 or not
+-- the cases of a step: the array is empty, number 0 is reached and is 0, or there is a next block
 data Next (count b : ℕ) : Type 0 where
   is_none : count ≡ 0 → Next count b
   is_end : count ≢ 0 → count ≡ 1 → b ≡ 0 → Next count b
@@ -76,13 +76,13 @@ next count b = elim (cases_eq count 0) [
 ]
 
 module _ (g : Geometry) (image : List ℕ) where
-  -- from a head at which a walk of this many steps ends in a fault, there is no stack of blocks that weren't met
+  -- if a walk of at most `fuel` steps ends with a fault, the rest of the list is not a stack of blocks that the walk has not visited
   abbrev Refutes : ℕ → Type 0
   Refutes fuel = (head count : ℕ) (met : List ℕ) (fault : FreeFault × ℕ) → (walk_rest g image fuel head count met).fault ≡ Some fault
       → count ≤ (constants g.edition).free_slots → (blocks : List ℕ) → IsStack g image head count blocks → Once blocks
       → ((k : ℕ) → IsIn k met → IsIn k blocks → ⊥) → ⊥
 
-  -- the number at the top of a stack that isn't empty
+  -- the case of a step that reaches a next block
   refutes_more : (fuel : ℕ) → Refutes fuel → (head count : ℕ) (met : List ℕ) (fault : FreeFault × ℕ) → (walk_rest g image (suc fuel) head count met).fault ≡ Some fault
       → count ≤ (constants g.edition).free_slots → (blocks : List ℕ) → IsStack g image head count blocks → Once blocks
       → ((k : ℕ) → IsIn k met → IsIn k blocks → ⊥)
@@ -110,7 +110,7 @@ module _ (g : Geometry) (image : List ℕ) where
         ]
       ]
 
-  -- if a walk ends in a fault, there is no stack
+  -- if a walk ends with a fault, the rest of the list is not a stack
   refutes : (fuel : ℕ) → Refutes fuel
   unfolding walk_rest
   refutes zero head count met fault e few blocks s once apart = none-some fault e
@@ -122,7 +122,7 @@ module _ (g : Geometry) (image : List ℕ) where
         | is_more some more ↦ refutes_more fuel (refutes fuel) head count met fault e few blocks s once apart some more
       ]
 
-  -- a stack of blocks that weren't met, which a walk met after those
+  -- the rest of the list is a stack of blocks not visited before, and the walk visits exactly these blocks
   record Stacked (walk : Walked) (head count : ℕ) (met : List ℕ) : Type 0 where
     blocks : List ℕ
     walked : walk.met ≡ reverse blocks ++ met
@@ -131,20 +131,20 @@ module _ (g : Geometry) (image : List ℕ) where
     once : Once blocks
     apart : (k : ℕ) → IsIn k met → IsIn k blocks → ⊥
 
-  -- if a walk of enough steps from a head ends without a fault, there is one
+  -- if a walk with enough steps left ends without a fault, the rest of the list is a stack that the walk visits
   abbrev Stacks : ℕ → Type 0
   Stacks fuel = (head count : ℕ) (met : List ℕ) → Once met → ((b : ℕ) → IsIn b met → in_zone g b ≡ true)
       → g.zone_end - g.zone_start < fuel + length met → (walk_rest g image fuel head count met).fault ≡ None
       → Stacked (walk_rest g image fuel head count met) head count met
 
-  -- an empty stack
+  -- the case of an empty stack
   empty : (walk : Walked) (head count : ℕ) (met : List ℕ) → walk ≡ record { met = met; fault = None } → count ≤ (constants g.edition).free_slots
       → IsStack g image head count [] → Stacked walk head count met
   unfolding Once IsIn
   empty walk head count met is few s =
       record { blocks = []; walked = ap (λ (k : Walked). k.met) is; few = few; stack = s; once = tt; apart = λ k i j. j }
 
-  -- a block on a stack
+  -- the case of a block followed by the rest of the stack
   onto : (walk later : Walked) (head count b : ℕ) (met rest : List ℕ) → walk ≡ later → later.met ≡ reverse rest ++ b ∷ met
       → count ≤ (constants g.edition).free_slots → IsStack g image head count (b ∷ rest) → list_any (λ k. k == b) met ≡ false → Once rest
       → ((k : ℕ) → IsIn k (b ∷ met) → IsIn k rest → ⊥) → Stacked walk head count met
@@ -194,7 +194,7 @@ module _ (g : Geometry) (image : List ℕ) where
         ]
       ]
 
-  -- if a walk of enough steps ends without a fault, there is a stack
+  -- if a walk with enough steps left ends without a fault, the rest of the list is a stack
   stacks : (fuel : ℕ) → Stacks fuel
   unfolding IsStack
   stacks zero head count met once zoned room e =
@@ -214,14 +214,14 @@ module _ (g : Geometry) (image : List ℕ) where
         ]
       ]
 
-  -- if the walk ends in a fault, the volume has no stack
+  -- if the walk over the free list ends with a fault, the volume has no stack of free blocks
   pub fault_breaks : {fault : FreeFault × ℕ} → (free_walk g image).fault ≡ Some fault → HasStack g image → ⊥
   unfolding IsIn
   fault_breaks {fault = fault} e has =
       refutes (g.zone_end - g.zone_start + 1) (free_head g.edition) (word image (free_head g.edition)) [] fault e
       has.free.count has.blocks has.free.stack has.free.once (λ k i j. i)
 
-  -- if it ends without one, the blocks that it met are the free ones
+  -- if the walk over the free list ends without a fault, the blocks that it visited are the free blocks
   pub no_fault_free : (blocks : List ℕ) → (free_walk g image).fault ≡ None → reverse blocks ≡ (free_walk g image).met → IsFree g image blocks
   unfolding Once IsIn
   no_fault_free blocks e met =
@@ -231,14 +231,14 @@ module _ (g : Geometry) (image : List ℕ) where
       let same : stack.blocks ≡ blocks = sym (reverse-reverse stack.blocks) ∙ (ap reverse (sym turned) ∙ reverse-reverse blocks) in
       subst (IsFree g image) same (record { count = stack.few; stack = stack.stack; once = stack.once })
 
-  -- and so the volume has a stack
+  -- if the walk over the free list ends without a fault, the volume has a stack of free blocks
   pub no_fault_holds : (free_walk g image).fault ≡ None → HasStack g image
   no_fault_holds e = record {
     blocks = reverse (free_walk g image).met;
     free = no_fault_free (reverse (free_walk g image).met) e (reverse-reverse (free_walk g image).met);
   }
 
-  -- if the volume has a stack, the walk ends without a fault
+  -- if the volume has a stack of free blocks, the walk over the free list ends without a fault
   pub stack_no_fault : HasStack g image → (free_walk g image).fault ≡ None
   stack_no_fault has =
       elim (free_walk g image).fault as (λ o. (free_walk g image).fault ≡ o → (free_walk g image).fault ≡ None) [

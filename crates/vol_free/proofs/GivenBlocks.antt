@@ -1,4 +1,4 @@
--- The stack of the free list after a block is given to it.
+-- The stack of the free list after a block is added to it.
 use Rattle.std.proofs.Common.{◌≡◌, ℕ, ◌+◌, ◌*◌, ◌<◌, ◌≤◌, inl, inr, true, List, [], ◌∷◌, slice_index, refl, ◌∙◌, arith}
 use Rattle.std.proofs.lemmas.Bool.Decides.{nat_tests}
 use Rattle.pdp_words.specs.Words.{word, SameOutside}
@@ -13,31 +13,31 @@ use Rattle.vol_free.proofs.Copies.{IsCopy, word_copied, number_copied, copied_tw
 use Rattle.vol_free.proofs.Stacks.{IsStack-moved, IsFree_unique, array_copied, stack_none, stack_above, stack_chained, stack_zero, zone_from, head_end}
 use Rattle.vol_free.proofs.Frames.{free_from, kept_apart}
 
--- the free blocks keep their first bytes if one that isn't free is written
+-- a write of a block that isn't free does not change the first bytes of the free blocks
 pub others_kept : {geometry : Geometry} {old new : List ℕ} {b size : ℕ} {blocks : List ℕ} → IsFree geometry old blocks → 2 ≤ geometry.zone_start
     → StaysBut geometry old new b size → size ≤ 512 → (IsIn b blocks → ⊥) → (c : ℕ) → IsIn c blocks → IsCopy old new (512 * c) (512 * c) 202
 others_kept free low s small fresh c i =
     let from = free_from free c i in
     kept_apart s small c (omega arith) (λ same. fresh (rw same i))
 
--- adding a new number keeps the numbers different
+-- adding a number that is not in a list of different numbers gives a list of different numbers
 pub more_once : (b : ℕ) (blocks : List ℕ) → (IsIn b blocks → ⊥) → Once blocks → Once (b ∷ blocks)
 unfolding Once
 more_once b blocks fresh once = (fresh, once)
 
--- there are at least two numbers in an array
+-- the array has room for at least two numbers
 pub slots_above : (edition : Edition) → 2 ≤ (constants edition).free_slots
 slots_above V6 = omega arith
 slots_above V7 = omega arith
 
--- block b was put as number `count` of the head, whose count is one more then, and whose earlier numbers stayed
+-- block `b` was stored as number `count` of the super-block's array, the count was set to `count + 1`, and the earlier numbers are unchanged
 pub record IsPushed (geometry : Geometry) (old new : List ℕ) (count b : ℕ) : Type 0 where
   pub more : word new (free_head geometry.edition) ≡ count + 1
   pub put : number geometry.edition new (free_head geometry.edition + 2) count ≡ b
   pub kept : (j : ℕ) → j < count → number geometry.edition new (free_head geometry.edition + 2) j
       ≡ number geometry.edition old (free_head geometry.edition + 2) j
 
--- giving puts the block above the numbers of an array that isn't full
+-- if the array is neither empty nor full, storing block `b` above its numbers adds it to the front of the free list
 pub pushed_above : (geometry : Geometry) (old new : List ℕ) (b n : ℕ) (blocks : List ℕ) → 2 ≤ geometry.zone_start → in_zone geometry b ≡ true
     → (IsIn b blocks → ⊥) → IsFree geometry old blocks → StaysBut geometry old new b 202
     → word old (free_head geometry.edition) ≡ n → (n ≡ 0 → ⊥) → n < (constants geometry.edition).free_slots
@@ -52,7 +52,7 @@ pushed_above geometry old new b n blocks low zone fresh free stays is some room 
       once = more_once b blocks fresh free.once;
     }
 
--- giving to a list whose head has no number begins with number 0, which is 0
+-- if the array is empty, setting number 0 to 0 and storing block `b` as number 1 adds it to the front of the free list
 pub pushed_first : (geometry : Geometry) (old mid new : List ℕ) (b : ℕ) (blocks : List ℕ) → 2 ≤ geometry.zone_start → in_zone geometry b ≡ true
     → IsFree geometry old blocks → word old (free_head geometry.edition) ≡ 0
     → number geometry.edition mid (free_head geometry.edition + 2) 0 ≡ 0
@@ -69,7 +69,7 @@ pushed_first geometry old mid new b (c ∷ rest) low zone free none zero pushed 
     let empty : c ∷ rest ≡ [] = stack_none geometry old (free_head geometry.edition) (word old (free_head geometry.edition)) (c ∷ rest)
     (omega arith) free.stack (inl none) in absurd (cc)
 
--- giving to a full array moves the head into the block, which is number 0 then
+-- if the array is full, copying the count and array to block `b` and storing `b` as number 0 adds it to the front of the free list
 pub pushed_chained : (geometry : Geometry) (old mid new : List ℕ) (b : ℕ) (blocks : List ℕ) → 2 ≤ geometry.zone_start → in_zone geometry b ≡ true
     → (IsIn b blocks → ⊥) → IsFree geometry old blocks → StaysBut geometry old new b 202
     → IsCopy old mid (free_head geometry.edition) (512 * b) 202
@@ -93,14 +93,14 @@ pushed_chained geometry old mid new b blocks low zone fresh free stays copy outs
       once = more_once b blocks fresh free.once;
     }
 
--- a write within the head keeps everything outside it, except the head and block b
+-- a write within the super-block's count and array changes nothing except these and block `b`
 pub head_stays : {geometry : Geometry} {old new : List ℕ} {b size : ℕ} → 2 ≤ b
     → SameOutside old new (free_head geometry.edition) (free_head geometry.edition + 202) → StaysBut geometry old new b size
 head_stays {geometry = geometry} two s =
     let end : free_head geometry.edition + 202 ≤ 720 = head_end geometry.edition in
     record { len = s.len; below = s.below; between = λ k h less. s.above k h; above = λ k h. s.above k (omega arith) }
 
--- a copy of the head into block b, and a write within the head, change nothing else
+-- a copy of the count and array to block `b`, and a write within the super-block's count and array, change nothing else
 pub chained_stays : {geometry : Geometry} {old mid new : List ℕ} {b : ℕ} → 2 ≤ b → SameOutside old mid (512 * b) (512 * b + 202)
     → SameOutside mid new (free_head geometry.edition) (free_head geometry.edition + 202) → StaysBut geometry old new b 202
 chained_stays {geometry = geometry} two s t =
@@ -112,23 +112,23 @@ chained_stays {geometry = geometry} two s t =
       above = λ k h. t.above k (omega arith) ∙ s.above k h;
     }
 
--- a full array has one number once a block is given
+-- after a block is added to a full array, the count is 1
 pub given_full : (edition : Edition) → count_given edition (constants edition).free_slots ≡ 1
 given_full V6 = refl
 given_full V7 = refl
 
--- an array that is neither empty nor full has one more number
+-- after a block is added to an array that is neither empty nor full, the count is one more
 pub given_above : (edition : Edition) (n : ℕ) → (n ≡ 0 → ⊥) → (n ≡ (constants edition).free_slots → ⊥) → count_given edition n ≡ n + 1
 given_above edition n some room = grind (arith, nat_tests)
 
--- the count and array after a block is given, with n numbers before and m after
+-- the count and array after a block is added, where the count was `n` and is now `m`
 pub head_given : (edition : Edition) (old new : List ℕ) (n m : ℕ) → word old (free_head edition) ≡ n → count_given edition n ≡ m
     → word new (free_head edition) ≡ m
     → ((k : ℕ) → free_head edition + 2 + (constants edition).number_bytes * m ≤ k → k < free_head edition + 202 → slice_index new k ≡ slice_index old k)
     → HeadGiven edition old new
 head_given edition old new n m was is now same = record { count = rw (was, is) now; past = rw (was, is) same }
 
--- nothing is among the free blocks of an empty list
+-- if the empty list is the list of free blocks, no block is free
 pub none_free : {geometry : Geometry} {image blocks : List ℕ} → 1 ≤ geometry.zone_start → IsFree geometry image [] → IsFree geometry image blocks
     → (b : ℕ) → IsIn b blocks → ⊥
 unfolding IsIn
@@ -136,7 +136,7 @@ none_free {blocks = blocks} low none free b i =
     let same : blocks ≡ [] = IsFree_unique low free none in
     let there = rw same at i in absurd there
 
--- if no free block is before b, none does once b is given
+-- if no free block was below `b` before `b` was added, none is afterwards
 pub given_from : {geometry : Geometry} {old new : List ℕ} (b : ℕ) → 1 ≤ geometry.zone_start → HasStack geometry old
     → ((blocks : List ℕ) → IsFree geometry old blocks → IsFree geometry new (b ∷ blocks))
     → ((blocks : List ℕ) → IsFree geometry old blocks → (c : ℕ) → IsIn c blocks → b ≤ c)

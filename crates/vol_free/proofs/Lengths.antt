@@ -10,12 +10,12 @@ use Rattle.pdp_words.specs.Words.{word}
 use Rattle.vol_free.specs.Stack.{IsIn, Once, IsFree}
 use Rattle.vol_free.proofs.Stacks.{stack_zoned, zone_from, zone_below}
 
--- the numbers, each less `start`
+-- the numbers of a list, each minus `start`
 abbrev shifted : ℕ → List ℕ → List ℕ
 shifted start [] = []
 shifted start (b ∷ rest) = (b - start) ∷ shifted start rest
 
--- a number that isn't among some others differs from each of them even after `start` is subtracted
+-- a number that isn't in a list differs from all numbers of the list after `start` is subtracted
 shifted_apart : (start b : ℕ) (rest : List ℕ) → start ≤ b → (IsIn b rest → ⊥) → ((c : ℕ) → IsIn c rest → start ≤ c)
     → AllByRecursion (λ y. eqb (b - start) y ≡ false) (shifted start rest)
 unfolding IsIn
@@ -38,7 +38,7 @@ shifted_length : (start : ℕ) (xs : List ℕ) → length (shifted start xs) ≡
 shifted_length start [] = refl
 shifted_length start (b ∷ rest) = omega (arith, shifted_length start rest)
 
--- numbers from `start` up to `end` are below `end - start` once `start` is subtracted
+-- numbers in `start..end` are below `end - start` after `start` is subtracted
 shifted_below : (start end : ℕ) (xs : List ℕ) → ((b : ℕ) → IsIn b xs → start ≤ b) → ((b : ℕ) → IsIn b xs → b < end)
     → (q : ℕ) → list_any (eqb q) (shifted start xs) ≡ true → q < end - start
 unfolding IsIn
@@ -50,7 +50,7 @@ shifted_below start end (b ∷ rest) low high q found =
     shifted_below start end rest (λ c i. low c (inr i)) (λ c i. high c (inr i)) q in
     grind (arith, nat_tests)
 
--- of the numbers from `start` up to `end` there are at most `end - start`, each once
+-- a list of different numbers in `start..end` has at most `end - start` of them
 pub once_within : (start end : ℕ) (xs : List ℕ) → Once xs → ((b : ℕ) → IsIn b xs → start ≤ b) → ((b : ℕ) → IsIn b xs → b < end)
     → length xs ≤ end - start
 once_within start end xs once low high =

@@ -10,7 +10,7 @@ use Rattle.vol_free.specs.Rebuild.{unused_from, KeepsUsed}
 use Rattle.vol_free.proofs.Stacks.{head_end}
 use Rattle.vol_free.proofs.Frames.{apart_blocks}
 
--- a block without a mark is the first
+-- an unmarked block `b` is the first of the unused blocks at or after `b`
 pub unused_given : (geometry : Geometry) (used : List Bool) (b c : ℕ) → b + 1 ≡ c → c ≤ geometry.zone_end → get_or used b false ≡ false
     → unused_from geometry used b ≡ b ∷ unused_from geometry used c
 unfolding unused_from
@@ -18,7 +18,7 @@ unused_given geometry used b c next within clear =
     let count : geometry.zone_end - b ≡ suc (geometry.zone_end - c) = omega arith in
     rw (count, clear, next) refl
 
--- a block with a mark isn't among them
+-- a marked block `b` is not one of the unused blocks at or after `b`
 pub unused_kept : (geometry : Geometry) (used : List Bool) (b c : ℕ) → b + 1 ≡ c → c ≤ geometry.zone_end → get_or used b false ≡ true
     → unused_from geometry used b ≡ unused_from geometry used c
 unfolding unused_from
@@ -26,13 +26,13 @@ unused_kept geometry used b c next within set =
     let count : geometry.zone_end - b ≡ suc (geometry.zone_end - c) = omega arith in
     rw (count, set, next) refl
 
--- no block follows the last
+-- no block after the data zone is unused
 pub unused_end : (geometry : Geometry) (used : List Bool) (b : ℕ) → b ≡ geometry.zone_end → unused_from geometry used b ≡ []
 unfolding unused_from
 unused_end geometry used b end =
     let none : geometry.zone_end - b ≡ 0 = omega arith in rw none refl
 
--- the numbers that a filter keeps pass the test, and are among the numbers
+-- a number that the filter keeps is in the range and unmarked
 kept_in : (used : List Bool) (a n b : ℕ) → IsIn b (filter (λ k. not (get_or used k false)) (range_with_len a n))
     → (a ≤ b) × (b < a + n) × (get_or used b false ≡ false)
 unfolding IsIn
@@ -46,14 +46,14 @@ kept_in used a (suc n) b i = elim (cases_Bool (get_or used a false)) [
   ]
 ]
 
--- each of them is a block from b on, below the end, without a mark
+-- each unused block at or after `b` is an unmarked block between `b` and the end of the data zone
 pub unused_in : (geometry : Geometry) (used : List Bool) (b c : ℕ) → b ≤ geometry.zone_end → IsIn c (unused_from geometry used b)
     → (b ≤ c) × (c < geometry.zone_end) × (get_or used c false ≡ false)
 unfolding unused_from
 unused_in geometry used b c within i =
     let all = kept_in used b (geometry.zone_end - b) c i in (all.0, omega (arith, all.1), all.2)
 
--- a number that passes the test is kept
+-- the filter keeps each unmarked number of the range
 kept_from : (used : List Bool) (a n b : ℕ) → a ≤ b → b < a + n → get_or used b false ≡ false
     → IsIn b (filter (λ k. not (get_or used k false)) (range_with_len a n))
 unfolding IsIn
@@ -65,13 +65,13 @@ kept_from used a (suc n) b low high clear = elim (cases_eq b a) [
       elim (cases_Bool (get_or used a false)) [ inl set ↦ rw set later | inr free ↦ rw free (inr later) ]
 ]
 
--- each block from b on, below the end, without a mark is one of them
+-- each unmarked block between `b` and the end of the data zone is one of the unused blocks at or after `b`
 pub in_unused : (geometry : Geometry) (used : List Bool) (b c : ℕ) → b ≤ c → c < geometry.zone_end → get_or used c false ≡ false
     → IsIn c (unused_from geometry used b)
 unfolding unused_from
 in_unused geometry used b c low high clear = kept_from used b (geometry.zone_end - b) c low (omega arith) clear
 
--- writing the count of the super-block keeps everything that must be kept
+-- a write of the super-block's count changes nothing except the free list and unmarked data blocks
 pub keeps_start : {geometry : Geometry} {used : List Bool} {old new : List ℕ} → 2 ≤ geometry.zone_start → geometry.zone_start ≤ geometry.zone_end
     → SameOutside old new (free_head geometry.edition) (free_head geometry.edition + 2) → KeepsUsed geometry used old new
 keeps_start {geometry = geometry} two order s =
@@ -84,7 +84,7 @@ keeps_start {geometry = geometry} two order s =
       above = λ k from. s.above k (omega arith);
     }
 
--- and so does giving a data block without a mark
+-- adding an unmarked data block to the free list changes nothing except the free list and unmarked data blocks
 pub keeps_given : {geometry : Geometry} {used : List Bool} {old mid new : List ℕ} (b : ℕ) → 2 ≤ geometry.zone_start → geometry.zone_start ≤ b
     → b < geometry.zone_end → get_or used b false ≡ false → KeepsUsed geometry used old mid → StaysBut geometry mid new b 202
     → KeepsUsed geometry used old new

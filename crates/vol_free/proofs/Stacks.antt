@@ -1,4 +1,4 @@
--- Laws of the free stack, over plain variables.
+-- Laws of the stack of free blocks.
 use Rattle.std.proofs.Common.{◌≡◌, ℕ, ◌+◌, ◌-◌, ◌*◌, ◌<◌, ◌≤◌, ◌⊎◌, inl, inr, true, List, [], ◌∷◌, length, refl, sym, ◌∙◌, arith}
 use Rattle.std.proofs.lemmas.Bool.Decides.{nat_tests}
 use Rattle.pdp_words.specs.Words.{word}
@@ -11,15 +11,15 @@ use Rattle.vol_layout.specs.declared.geometry.Geometry.{Geometry}
 use Rattle.vol_free.specs.Stack.{IsIn, IsStack, IsFree}
 use Rattle.vol_free.proofs.Copies.{IsCopy, word_copied, number_copied, copied_part}
 
--- a data block is within the data zone
+-- a data block is not before the start of the data zone
 pub zone_from : (geometry : Geometry) (b : ℕ) → in_zone geometry b ≡ true → geometry.zone_start ≤ b
 zone_from geometry b z = grind (arith, nat_tests)
 
--- a data block is before the data zone's end
+-- a data block is before the end of the data zone
 pub zone_below : (geometry : Geometry) (b : ℕ) → in_zone geometry b ≡ true → b < geometry.zone_end
 zone_below geometry b z = grind (arith, nat_tests)
 
--- the head of the free list ends before the i-number cache
+-- the count and array of the super-block end before byte 720
 pub head_end : (edition : Edition) → free_head edition + 202 ≤ 720
 head_end V6 = omega arith
 head_end V7 = omega arith
@@ -28,20 +28,20 @@ head_end V7 = omega arith
 pub zone_behind : {geometry : Geometry} {image : List ℕ} → Fits geometry image → 2 ≤ geometry.zone_start
 zone_behind fits = omega (arith, fits.i_list)
 
--- block numbers have 24 bits at most
+-- block numbers have at most 24 bits
 limit_by : (edition : Edition) (end : ℕ) → end ≤ (constants edition).number_limit → end ≤ 16777216
 limit_by V6 end h = omega arith
 limit_by V7 end h = omega arith
 
--- a volume has 2^24 blocks at most
+-- a volume has at most 2^24 blocks
 pub limit_below : {geometry : Geometry} {image : List ℕ} → Fits geometry image → geometry.zone_end ≤ 16777216
 limit_below {geometry = geometry} fits = limit_by geometry.edition geometry.zone_end fits.limit
 
--- the array is copied with the count before it
+-- if a count and its array are copied, the array is copied
 pub array_copied : {old new : List ℕ} {from to : ℕ} → IsCopy old new from to 202 → IsCopy old new (from + 2) (to + 2) 200
 array_copied {from = from} {to = to} c = copied_part c (to + 2) (from + 2) 2 200 (omega arith) (omega arith) (omega arith)
 
--- the stack moves with its numbers, if its blocks keep their first bytes
+-- the stack at byte `from` is also at byte `to` if its numbers are there and the first 202 bytes of its blocks are unchanged
 pub IsStack-moved : (geometry : Geometry) (old new : List ℕ) (from to n : ℕ) (blocks : List ℕ)
     → ((j : ℕ) → j < n → number geometry.edition new (to + 2) j ≡ number geometry.edition old (from + 2) j)
     → ((b : ℕ) → IsIn b blocks → IsCopy old new (512 * b) (512 * b) 202)
@@ -77,7 +77,7 @@ stack_zoned geometry image at n (c ∷ rest) (e, z, inl (two, s)) b (inr i) = st
 stack_zoned geometry image at n (c ∷ rest) (e, z, inr (one, few, s)) b (inr i) =
     stack_zoned geometry image (512 * c) (word image (512 * c)) rest s b i
 
--- if no number is left, or the next one is 0, the stack is empty
+-- if no number is left, or the next number is 0, the stack is empty
 pub stack_none : (geometry : Geometry) (image : List ℕ) (at n : ℕ) (blocks : List ℕ) → 1 ≤ geometry.zone_start
     → IsStack geometry image at n blocks → (n ≡ 0) ⊎ (number geometry.edition image (at + 2) (n - 1) ≡ 0) → blocks ≡ []
 unfolding IsStack
@@ -87,20 +87,20 @@ stack_none geometry image at n (b ∷ rest) low (e, z, inr (one, few, s)) (inl h
 stack_none geometry image at n (b ∷ rest) low (e, z, t) (inr h) =
     let from : geometry.zone_start ≤ b = zone_from geometry b z in absurd (omega arith)
 
--- an empty stack has no first block
+-- a stack with a first block has a next number, which isn't 0
 pub stack_not_none : (geometry : Geometry) (image : List ℕ) (at n : ℕ) (b : ℕ) (rest : List ℕ) → 1 ≤ geometry.zone_start
     → IsStack geometry image at n (b ∷ rest) → (n ≡ 0) ⊎ (number geometry.edition image (at + 2) (n - 1) ≡ 0) → ⊥
 stack_not_none geometry image at n b rest low s h =
     let none : b ∷ rest ≡ [] = stack_none geometry image at n (b ∷ rest) low s h in cc
 
--- an empty stack has no number left, or its one number is 0
+-- if the stack is empty, no number is left, or the next number is 0
 pub stack_end : (geometry : Geometry) (image : List ℕ) (at n : ℕ) → IsStack geometry image at n []
     → (n ≡ 0) ⊎ (number geometry.edition image (at + 2) (n - 1) ≡ 0)
 unfolding IsStack
 stack_end geometry image at n (inl e) = inl e
 stack_end geometry image at n (inr (e, z)) = let one : n - 1 ≡ 0 = omega arith in inr (rw one z)
 
--- there is one stack at a head
+-- there is only one stack of blocks at a count and array
 pub stack_unique : (geometry : Geometry) (image : List ℕ) (at n : ℕ) (xs ys : List ℕ) → 1 ≤ geometry.zone_start
     → IsStack geometry image at n xs → IsStack geometry image at n ys → xs ≡ ys
 unfolding IsStack
@@ -118,13 +118,13 @@ stack_unique geometry image at n (b ∷ xs) (c ∷ ys) low (e, z, inr (one, few,
     let there = rw (sym same) at t in
     let rest : xs ≡ ys = stack_unique geometry image (512 * b) (word image (512 * b)) xs ys low s there in cc
 
--- the volume has one stack of free blocks
+-- a volume has only one list of free blocks
 pub IsFree_unique : {geometry : Geometry} {image : List ℕ} {xs ys : List ℕ} → 1 ≤ geometry.zone_start → IsFree geometry image xs
     → IsFree geometry image ys → xs ≡ ys
 IsFree_unique {geometry = geometry} {image = image} {xs = xs} {ys = ys} low s t =
     stack_unique geometry image (free_head geometry.edition) (word image (free_head geometry.edition)) xs ys low s.stack t.stack
 
--- a number above the stack at `n` makes the stack at n + 1
+-- storing block `b` as number `n`, above a stack with `n` numbers, puts it in front of the stack
 pub stack_above : (geometry : Geometry) (image : List ℕ) (at n m : ℕ) (b : ℕ) (blocks : List ℕ) → m ≡ n + 1 → 1 ≤ n
     → number geometry.edition image (at + 2) n ≡ b → in_zone geometry b ≡ true → IsStack geometry image at n blocks
     → IsStack geometry image at m (b ∷ blocks)
@@ -132,7 +132,7 @@ unfolding IsStack
 stack_above geometry image at n m b blocks e h f z s =
     let less : m - 1 ≡ n = omega arith in rw less (f, z, inl (omega arith, s))
 
--- a block that begins with a stack makes the stack with that block at number 0
+-- storing block `b` as the only number puts it in front of the stack with which block `b` begins
 pub stack_chained : (geometry : Geometry) (image : List ℕ) (at m : ℕ) (b : ℕ) (blocks : List ℕ) → m ≡ 1
     → number geometry.edition image (at + 2) 0 ≡ b → in_zone geometry b ≡ true
     → word image (512 * b) ≤ (constants geometry.edition).free_slots
@@ -141,13 +141,13 @@ unfolding IsStack
 stack_chained geometry image at m b blocks e f z few s =
     let less : m - 1 ≡ 0 = omega arith in rw less (f, z, inr (e, few, s))
 
--- one number, which is 0, makes the empty stack
+-- an array with one number, which is 0, is an empty stack
 pub stack_zero : (geometry : Geometry) (image : List ℕ) (at : ℕ) → number geometry.edition image (at + 2) 0 ≡ 0
     → IsStack geometry image at 1 []
 unfolding IsStack
 stack_zero geometry image at z = inr (refl, z)
 
--- the stack after number 0 of a head: the block that this is, and the stack with which the block begins
+-- number 0 is a data block, and the stack continues with the count and array at its start
 pub record IsChained (geometry : Geometry) (image : List ℕ) (at n : ℕ) (blocks : List ℕ) : Type 0 where
   pub block : ℕ
   pub rest : List ℕ
@@ -157,7 +157,7 @@ pub record IsChained (geometry : Geometry) (image : List ℕ) (at n : ℕ) (bloc
   pub stack : IsStack geometry image (512 * block) (word image (512 * block)) rest
   pub sum : length blocks ≡ n + length rest
 
--- a stack whose number 0 isn't 0 is chained
+-- a stack whose number 0 isn't 0 continues in the block with that number
 pub stack_next : (geometry : Geometry) (image : List ℕ) (at n : ℕ) (blocks : List ℕ) → 1 ≤ n
     → (number geometry.edition image (at + 2) 0 ≡ 0 → ⊥) → IsStack geometry image at n blocks → IsChained geometry image at n blocks
 unfolding IsStack
@@ -170,7 +170,7 @@ stack_next geometry image at n (b ∷ blocks) some more (e, z, inr (one, few, s)
     let less : n - 1 ≡ 0 = omega arith in
     record { block = b; rest = blocks; is = rw less at e; zone = z; few = few; stack = s; sum = omega arith }
 
--- a stack whose number 0 is 0 ends there
+-- a stack whose number 0 is 0 has one block fewer than numbers
 pub stack_last : (geometry : Geometry) (image : List ℕ) (at n : ℕ) (blocks : List ℕ) → 1 ≤ n → 1 ≤ geometry.zone_start
     → number geometry.edition image (at + 2) 0 ≡ 0 → IsStack geometry image at n blocks → length blocks + 1 ≡ n
 unfolding IsStack

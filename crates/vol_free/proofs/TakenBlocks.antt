@@ -11,7 +11,7 @@ use Rattle.vol_free.proofs.Copies.{IsCopy, word_copied, number_copied, copied_tw
 use Rattle.vol_free.proofs.Stacks.{IsStack-moved, array_copied, stack_not_none, head_end, zone_behind}
 use Rattle.vol_free.proofs.Frames.{free_from, kept_apart}
 
--- if the super-block has no number left, or its next one is 0, there is nothing to take
+-- if the super-block's count is 0, or the next number is 0, taking a block returns None
 pub pops_none : (geometry : Geometry) (image : List ℕ) (blocks : List ℕ) → Fits geometry image → IsFree geometry image blocks
     → (word image (free_head geometry.edition) ≡ 0)
     ⊎ (number geometry.edition image (free_head geometry.edition + 2) (word image (free_head geometry.edition) - 1) ≡ 0)
@@ -21,7 +21,7 @@ pops_none geometry image (b ∷ rest) fits free none =
     let low : 2 ≤ geometry.zone_start = zone_behind fits in
     absurd (stack_not_none geometry image (free_head geometry.edition) (word image (free_head geometry.edition)) b rest (omega arith) free.stack none)
 
--- the next number of a head, which isn't 0, is that of a data block
+-- the next number of a stack is a data block if it isn't 0
 pub stack_first : (geometry : Geometry) (image : List ℕ) (at n b : ℕ) (blocks : List ℕ) → IsStack geometry image at n blocks → (n ≡ 0 → ⊥)
     → number geometry.edition image (at + 2) (n - 1) ≡ b → (b ≡ 0 → ⊥) → in_zone geometry b ≡ true
 unfolding IsStack
@@ -31,20 +31,20 @@ stack_first geometry image at n b [] (inr (e, z)) some is more =
     let zero = rw less at is in absurd (more (sym zero ∙ z))
 stack_first geometry image at n b (c ∷ rest) (e, z, s) some is more = rw (sym is ∙ e) z
 
--- the block that is taken lies within the data zone
+-- the block that is taken from a volume's stack is a data block
 pub taken_zone : {geometry : Geometry} {image : List ℕ} (b : ℕ) → HasStack geometry image → (word image (free_head geometry.edition) ≡ 0 → ⊥)
     → number geometry.edition image (free_head geometry.edition + 2) (word image (free_head geometry.edition) - 1) ≡ b → (b ≡ 0 → ⊥)
     → in_zone geometry b ≡ true
 taken_zone {geometry = geometry} {image = image} b has some is more =
     stack_first geometry image (free_head geometry.edition) (word image (free_head geometry.edition)) b has.blocks has.free.stack some is more
 
--- the two writes of taking block b: within the head of the super-block, and the block's bytes, which are zero then
+-- the two writes of taking block `b`: the first is within the super-block's count and array, and the second clears block `b`
 pub record IsTaken (geometry : Geometry) (old mid new : List ℕ) (b : ℕ) : Type 0 where
   pub head : SameOutside old mid (free_head geometry.edition) (free_head geometry.edition + 202)
   pub block : SameOutside mid new (512 * b) (512 * b + 512)
   pub zero : (k : ℕ) → 512 * b ≤ k → k < 512 * b + 512 → slice_index new k ≡ 0
 
--- the bytes that taking keeps
+-- taking block `b` changes nothing except the super-block's count and array and block `b`
 pub taken_stays : {geometry : Geometry} {old mid new : List ℕ} {b : ℕ} → IsTaken geometry old mid new b → 2 ≤ b → StaysBut geometry old new b 512
 taken_stays {geometry = geometry} taken two =
     let end : free_head geometry.edition + 202 ≤ 720 = head_end geometry.edition in
@@ -55,12 +55,12 @@ taken_stays {geometry = geometry} taken two =
       above = λ k h. taken.block.above k h ∙ taken.head.above k (omega arith);
     }
 
--- the first of the free blocks is after the super-block
+-- the first free block is not before the data zone
 pub first_from : {geometry : Geometry} {image : List ℕ} {b : ℕ} {rest : List ℕ} → IsFree geometry image (b ∷ rest) → geometry.zone_start ≤ b
 unfolding IsIn
 first_from {b = b} free = free_from free b (inl refl)
 
--- the other free blocks keep their first bytes if the first one is written
+-- a write of the first free block does not change the first bytes of the other free blocks
 pub rest_kept : {geometry : Geometry} {old new : List ℕ} {b size : ℕ} {rest : List ℕ} → IsFree geometry old (b ∷ rest) → 2 ≤ geometry.zone_start
     → StaysBut geometry old new b size → size ≤ 512 → (c : ℕ) → IsIn c rest → IsCopy old new (512 * c) (512 * c) 202
 unfolding IsIn Once
@@ -73,21 +73,21 @@ pub rest_once : (b : ℕ) (rest : List ℕ) → Once (b ∷ rest) → Once rest
 unfolding Once
 rest_once b rest once = once.1
 
--- the stack below its first block, which isn't number 0
+-- if the first block of a stack isn't number 0, the rest of the stack has the numbers below it
 pub stack_below : (geometry : Geometry) (image : List ℕ) (at n b : ℕ) (rest : List ℕ) → IsStack geometry image at n (b ∷ rest) → (n ≡ 1 → ⊥)
     → IsStack geometry image at (n - 1) rest
 unfolding IsStack
 stack_below geometry image at n b rest (e, z, inl (two, s)) more = s
 stack_below geometry image at n b rest (e, z, inr (one, few, s)) more = absurd (more one)
 
--- the stack below its first block, which is number 0
+-- if the first block of a stack is number 0, the block begins with the rest of the stack
 pub stack_inside : (geometry : Geometry) (image : List ℕ) (at n b : ℕ) (rest : List ℕ) → IsStack geometry image at n (b ∷ rest) → n ≡ 1
     → (word image (512 * b) ≤ (constants geometry.edition).free_slots) × IsStack geometry image (512 * b) (word image (512 * b)) rest
 unfolding IsStack
 stack_inside geometry image at n b rest (e, z, inl (two, s)) one = absurd (omega arith)
 stack_inside geometry image at n b rest (e, z, inr (_, few, s)) one = (few, s)
 
--- the blocks below the one taken are free, if the count was lowered
+-- if taking block `b` decreased the count, the other blocks are still free
 lowered_free : (geometry : Geometry) (old mid new : List ℕ) (b : ℕ) (rest : List ℕ) → 2 ≤ geometry.zone_start → IsTaken geometry old mid new b
     → IsFree geometry old (b ∷ rest) → (word old (free_head geometry.edition) ≡ 1 → ⊥)
     → word mid (free_head geometry.edition) ≡ word old (free_head geometry.edition) - 1
@@ -109,7 +109,7 @@ lowered_free geometry old mid new b rest low taken free more less s =
       once = rest_once b rest free.once;
     }
 
--- the blocks below the one taken are free, if the head was refilled from it
+-- if taking block `b` copied its count and array to the super-block, the other blocks are still free
 refilled_free : (geometry : Geometry) (old mid new : List ℕ) (b : ℕ) (rest : List ℕ) → 2 ≤ geometry.zone_start → IsTaken geometry old mid new b
     → IsFree geometry old (b ∷ rest) → word old (free_head geometry.edition) ≡ 1
     → IsCopy old mid (512 * b) (free_head geometry.edition) 202 → IsFree geometry new rest
@@ -130,7 +130,7 @@ refilled_free geometry old mid new b rest low taken free one copy =
       once = rest_once b rest free.once;
     }
 
--- the stack has a first block if a number is left and the next isn't 0
+-- a stack is not empty if a number is left and the next number isn't 0
 stack_some : (geometry : Geometry) (image : List ℕ) (at n b : ℕ) → IsStack geometry image at n [] → (n ≡ 0 → ⊥)
     → number geometry.edition image (at + 2) (n - 1) ≡ b → (b ≡ 0 → ⊥) → ⊥
 unfolding IsStack
@@ -139,13 +139,13 @@ stack_some geometry image at n b (inr (e, z)) some is more =
     let less : n - 1 ≡ 0 = omega arith in
     let zero = rw less at is in more (sym zero ∙ z)
 
--- the first block of the stack is the next number
+-- the first block of a stack is the next number
 stack_is : (geometry : Geometry) (image : List ℕ) (at n b c : ℕ) (rest : List ℕ) → IsStack geometry image at n (c ∷ rest)
     → number geometry.edition image (at + 2) (n - 1) ≡ b → b ≡ c
 unfolding IsStack
 stack_is geometry image at n b c rest (e, _, _) is = sym is ∙ e
 
--- taking lowers the count if a number is left after
+-- if at least two numbers are left, taking a block decreases the count
 pub pops_lowered : (geometry : Geometry) (old mid new : List ℕ) (b : ℕ) (blocks : List ℕ) → Fits geometry old → IsTaken geometry old mid new b
     → (word old (free_head geometry.edition) ≡ 0 → ⊥) → (word old (free_head geometry.edition) ≡ 1 → ⊥)
     → number geometry.edition old (free_head geometry.edition + 2) (word old (free_head geometry.edition) - 1) ≡ b → (b ≡ 0 → ⊥)
@@ -168,7 +168,7 @@ pops_lowered geometry old mid new b (c ∷ rest) fits taken some more is nonzero
       },
     )
 
--- taking refills the head from the block if no number is left after
+-- if one number is left, taking the block copies its count and array to the super-block
 pub pops_refilled : (geometry : Geometry) (old mid new : List ℕ) (b : ℕ) (blocks : List ℕ) → Fits geometry old → IsTaken geometry old mid new b
     → word old (free_head geometry.edition) ≡ 1
     → number geometry.edition old (free_head geometry.edition + 2) (word old (free_head geometry.edition) - 1) ≡ b → (b ≡ 0 → ⊥)
@@ -190,13 +190,13 @@ pops_refilled geometry old mid new b (c ∷ rest) fits taken one is nonzero copy
       },
     )
 
--- there is a stack after taking a block, too
+-- after a block is taken, the volume still has a stack of free blocks
 pub pops_left : (geometry : Geometry) (old new : List ℕ) (blocks : List ℕ) (result : Option ℕ) → IsFree geometry old blocks
     → Pops geometry old new blocks result → HasStack geometry new
 pops_left geometry old new [] result free (none, same) = rw same (record { blocks = []; free = free })
 pops_left geometry old new (b ∷ rest) result free (some, popped) = record { blocks = rest; free = popped.free }
 
--- the count and array after block b is taken, if the count was lowered
+-- the effect on the super-block's count and array of taking block `b`, if the count was decreased
 pub head_lowered : (geometry : Geometry) (old mid new : List ℕ) (b : ℕ) → 2 ≤ b → IsTaken geometry old mid new b
     → (word old (free_head geometry.edition) ≡ 1 → ⊥)
     → word mid (free_head geometry.edition) ≡ word old (free_head geometry.edition) - 1
@@ -209,7 +209,7 @@ head_lowered geometry old mid new b two taken more less s =
       refilled = λ one. absurd (more one);
     }
 
--- the count and array after block b is taken, if the head was refilled from it
+-- the effect on the super-block's count and array of taking block `b`, if they were copied from the block
 pub head_refilled : (geometry : Geometry) (old mid new : List ℕ) (b : ℕ) → 2 ≤ b → IsTaken geometry old mid new b
     → word old (free_head geometry.edition) ≡ 1 → IsCopy old mid (512 * b) (free_head geometry.edition) 202 → HeadTaken geometry.edition old new b
 head_refilled geometry old mid new b two taken one copy =

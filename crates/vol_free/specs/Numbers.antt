@@ -1,4 +1,4 @@
--- Free i-numbers, and the cache of some of them in the super-block.
+-- Free i-numbers, and the super-block's cache of some of them.
 use Rattle.std.specs.Prelude.{◌≡◌, ℕ, ◌+◌, ◌*◌, ◌<◌, ◌≤◌, if◌then◌else◌, nat_lt, List, length, slice_index}
 use Rattle.pdp_words.specs.Words.{word}
 use Rattle.vol_layout.specs.Edition.{constants}
@@ -7,17 +7,17 @@ use Rattle.vol_layout.specs.Super.{cache_head}
 use Rattle.vol_layout.specs.declared.edition.Edition.{Edition}
 use Rattle.vol_layout.specs.declared.geometry.Geometry.{Geometry}
 
--- the i-number is free for a new node: it is above the root's, the volume has it, and its i-node's mode is 0 (manual section 5, file system)
+-- i-number i is free for a new i-node: it is above the root's, it is on the volume, and the mode of its i-node is 0 (manual section 5, file system)
 pub record IsFreeNumber (geometry : Geometry) (image : List ℕ) (i : ℕ) : Type 0 where
   pub above : (constants geometry.edition).root < i
   pub within : i ≤ geometry.last_inode
   pub mode : word image (inode_place geometry.edition i) ≡ 0
 
--- the number of i-numbers in the cache: ninode, or 0 if that is above 100 (filsys.h; a count above 100 is this project's reading)
+-- the number of i-numbers in the cache: ninode, or 0 if ninode is above 100 (filsys.h; the case above 100 is this project's)
 abbrev pub cache_len : Edition → List ℕ → ℕ
 cache_len edition image = if nat_lt 100 (word image (cache_head edition)) then 0 else word image (cache_head edition)
 
--- i-number i was put in slot n of the cache, whose count is then n + 1; all else stays (Lions on ifree)
+-- i-number i was stored in slot n of the cache, and the count set to n + 1; all else stays (Lions on ifree)
 pub record Cached (edition : Edition) (old new : List ℕ) (n i : ℕ) : Type 0 where
   pub count : word new (cache_head edition) ≡ n + 1
   pub number : word new (cache_head edition + 2 + 2 * n) ≡ i

@@ -4,7 +4,7 @@ use Rattle.std.specs.List.{filter, range_with_len}
 use Rattle.vol_layout.specs.Super.{free_head}
 use Rattle.vol_layout.specs.declared.geometry.Geometry.{Geometry}
 
--- the blocks from number b to the volume's last that have no mark, in ascending order (icheck)
+-- the blocks that have no mark, from block b to the last block of the volume, in ascending order (icheck)
 unfoldable pub unused_from : Geometry → List Bool → ℕ → List ℕ
 unused_from geometry used b = filter (λ k. not (slice_index_or used k false)) (range_with_len b (geometry.zone_end - b))
 
@@ -12,7 +12,7 @@ unused_from geometry used b = filter (λ k. not (slice_index_or used k false)) (
 abbrev pub unused : Geometry → List Bool → List ℕ
 unused geometry used = unused_from geometry used geometry.zone_start
 
--- the bytes outside the super-block's count and array stay, except in the data blocks that have no mark (a frame)
+-- nothing changes except the super-block's count and array and the data blocks that have no mark (a frame)
 pub record KeepsUsed (geometry : Geometry) (used : List Bool) (old new : List ℕ) : Type 0 where
   pub len : length new ≡ length old
   pub below : (k : ℕ) → k < free_head geometry.edition → slice_index new k ≡ slice_index old k

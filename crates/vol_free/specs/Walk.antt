@@ -10,16 +10,16 @@ use Rattle.vol_free.specs.Stack.{IsIn, Once}
 use Rattle.vol_free.specs.declared.free_walk.FreeFault.{FreeFault}
 use Rattle.vol_free.specs.declared.free_walk.FreeWalk.{FreeWalk}
 
--- the number of entries left after block b, the last of `left` entries (filsys.h, fblk.h)
+-- the number of entries left after block b, which was the top entry of `left` entries (filsys.h, fblk.h)
 abbrev pub next_count : List ℕ → ℕ → ℕ → ℕ
 next_count image left b = if left == 1 then word image (512 * b) else left - 1
 
--- the number of entries left after a walk that met these blocks, the last first (filsys.h, fblk.h)
+-- the number of entries left in the current array after a walk that visited these blocks, the last first (filsys.h, fblk.h)
 abbrev pub left_after : Geometry → List ℕ → List ℕ → ℕ
 left_after g image [] = word image (free_head g.edition)
 left_after g image (b ∷ met) = next_count image (left_after g image met) b
 
--- the walk met these blocks, the last first, and exactly they are marked (icheck)
+-- the walk visited these blocks, the last first, and exactly these blocks are marked (icheck)
 pub record HasMet (g : Geometry) (image : List ℕ) (marks : List Bool) (walk : FreeWalk) (met : List ℕ) : Type 0 where
   pub len : length marks ≡ g.zone_end
   pub room : walk.head + 202 ≤ length image
@@ -30,7 +30,7 @@ pub record HasMet (g : Geometry) (image : List ℕ) (marks : List Bool) (walk : 
   pub left : walk.count ≡ left_after g image met
   pub rest : walk_rest g image (g.zone_end - g.zone_start + 1 - walk.met) walk.head walk.count met ≡ free_walk g image
 
--- the result of one step of a walk: one more block, or the end of the walk (icheck)
+-- the result of one step of a walk: the next block, a fault, or the end of the list (icheck)
 abbrev pub StepFinds : Geometry → List ℕ → List Bool → List Bool → FreeWalk → FreeWalk → Option (Result ℕ (FreeFault × ℕ)) → Type 0
 StepFinds g image old new walk next (Some (Ok b)) = (met : List ℕ) → HasMet g image old walk met → HasMet g image new next (b ∷ met)
 StepFinds g image old new walk next (Some (Err fault)) = (new ≡ old) × (next ≡ walk)
@@ -38,6 +38,6 @@ StepFinds g image old new walk next (Some (Err fault)) = (new ≡ old) × (next 
 StepFinds g image old new walk next None = (new ≡ old) × (next ≡ walk)
     × ((met : List ℕ) → HasMet g image old walk met → free_walk g image ≡ record { met = met; fault = None })
 
--- each of the numbers is that of a data block (icheck)
+-- all numbers in the list are numbers of data blocks (icheck)
 abbrev pub AreZoned : Geometry → List ℕ → Type 0
 AreZoned g numbers = (k d : ℕ) → k < length numbers → in_zone g (slice_index_or numbers k d) ≡ true

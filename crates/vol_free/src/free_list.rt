@@ -1,5 +1,5 @@
-//! The free list: a stack of block numbers. The super-block has a count and an array. Number 0 of the array is the block
-//! that begins with the next count and array, or 0 if there is none.
+//! The free list: a stack of block numbers. The super-block has a count and an array of block numbers. Number 0 of the array is the chain block,
+//! which begins with the next count and array; 0 means that there is none.
 ghost use Rattle.std.specs.Prelude.{◌≡◌, ℕ, ◌+◌, ◌*◌, ◌<◌, ◌≤◌, true, List, ◌∷◌, length, slice_index, IfSome};
 ghost use Rattle.pdp_words.specs.Words.{SameOutside, word};
 ghost use Rattle.vol_layout.specs.Edition.{constants, number};
@@ -12,9 +12,8 @@ use pdp_words::{BLOCK, Image};
 use vol_layout::super_block::HEAD_BYTES;
 use vol_layout::{Geometry, Super, number};
 
-/// Takes the first block of the free list, clears it, and returns it. If no block is free, returns `None` and leaves the
-/// image as it was. The number taken stays in the array, past the count; if it was number 0, the count and array become
-/// those with which the block began. Takes no memory.
+/// Removes the first block from the free list, clears it, and returns it; returns `None` and changes nothing if no block is free. The number stays in
+/// the array, past the count. If it was number 0, the count and array at the start of the block are first copied to the super-block. Takes no memory.
 pub fn take(image: &mut Image, geometry: &Geometry) -> Option<u32>
     requires fits { Fits geometry.now image.old }
     requires stack { HasStack geometry.now image.old }
@@ -45,8 +44,8 @@ pub fn take(image: &mut Image, geometry: &Geometry) -> Option<u32>
     Some(taken)
 }
 
-/// Puts data block `b` at the front of the free list. If the super-block's array is full, block `b` then begins with its
-/// count and array; else the block isn't written. The numbers in the array past the count stay. Takes no memory.
+/// Adds data block `b` to the front of the free list. If the super-block's array is full, its count and array are copied to the start of block `b`;
+/// else the block isn't written. The numbers in the array past the count stay. Takes no memory.
 pub fn give(image: &mut Image, geometry: &Geometry, b: u32)
     requires fits { Fits geometry.now image.old }
     requires stack { HasStack geometry.now image.old }
@@ -102,9 +101,9 @@ pub fn free_count(image: &Image, geometry: &Geometry) -> u32
     total
 }
 
-/// Rebuilds the free list from the unused data blocks, in ascending order. `used` has a mark for each block of the volume;
-/// those of blocks before the data zone don't matter, nor does the old list. Like icheck `-s`, it starts with an empty list
-/// and adds these blocks from the highest down. Takes no memory.
+/// Rebuilds the free list from the unused data blocks, in ascending order. `used` has a mark for each block of the volume; marks of blocks before the
+/// data zone are ignored, and so is the old list. Like icheck `-s`, it starts with an empty list and adds the unused blocks from the highest down.
+/// Takes no memory.
 pub fn rebuild(image: &mut Image, geometry: &Geometry, used: &[bool])
     requires fits { Fits geometry.now image.old }
     requires marks { length used.now ≡ geometry.now.zone_end }
@@ -123,7 +122,7 @@ pub fn rebuild(image: &mut Image, geometry: &Geometry, used: &[bool])
     }
 }
 
-/// Writes `b` as number `count` of the array in the super-block, and adds one to its count.
+/// Stores `b` as number `count` of the super-block's array, and sets the count to `count + 1`.
 fn push(image: &mut Image, super_block: Super, count: u16, b: u32)
     requires room { 1024 ≤ length image.old }
     requires slots { count < (constants super_block.edition).free_slots }

@@ -1,4 +1,4 @@
-//! The walk over the free list of any image, sound or not, up to its first fault.
+//! The walk over the free list of any image, sound or not, up to the first fault.
 ghost use Rattle.std.specs.Prelude.{◌≡◌, ℕ, ◌+◌, ◌-◌, ◌*◌, ◌≤◌, List, [], Bool, false, length, reverse, slice_index_or, IfOk};
 ghost use Rattle.pdp_words.specs.Words.{word};
 ghost use Rattle.vol_layout.specs.Geometry.{Fits};
@@ -9,21 +9,21 @@ use pdp_words::{BLOCK, Image};
 use std::alloc::{AllocError, Global};
 use vol_layout::{Geometry, Super, number};
 
-/// The fault that ends a walk over the free list before its end.
+/// The fault that ends a walk over the free list.
 #[derive(Clone, Copy)]
 pub enum FreeFault {
     /// A count above the size of the array.
     TooMany,
-    /// A number that is not that of a data block.
+    /// A number outside the data zone.
     OutOfZone,
-    /// A block that the walk has already met.
+    /// A block that the walk has already visited.
     Repeat,
 }
 
 impl FreeFault {
     ghost use Rattle.vol_free.specs.FreeWalk.{fault_word};
 
-    /// Returns its words in a report.
+    /// Returns the words for this fault in a report.
     pub fn word(self) -> &'static str
         ensures { result.now ≡ fault_word self }
     {
@@ -35,31 +35,30 @@ impl FreeFault {
     }
 }
 
-/// The blocks that a walk over the free list met.
+/// The blocks visited by a walk over the free list.
 #[derive(Drop)]
 pub struct FreeBlocks {
-    /// The blocks in order: the next to be taken first.
+    /// The blocks in order, the next block to be taken first.
     pub met: Vec<u32>,
-    /// The fault that ended the walk, if any, with the count or number at fault.
+    /// The fault that ended the walk, if any, with the bad count or block number.
     pub fault: Option<(FreeFault, u32)>,
 }
 
-/// A walk over the free list: from the array in the super-block, from its top down, and then along the chain. The
-/// first fault ends it.
+/// A walk over the free list: from the top of the array in the super-block down, and then along the chain blocks, up to the first fault.
 #[derive(Clone, Copy)]
 pub struct FreeWalk {
-    /// The byte of the count before the walk's current array.
+    /// The byte at which the current count and array begin.
     head: usize,
-    /// The number of entries left in that array. If it is 1, the next block holds the next count and array.
+    /// The number of entries left in the current array. If it is 1, the next block begins with the next count and array.
     pub count: u16,
-    /// The number of blocks met.
+    /// The number of blocks visited.
     pub met: u32,
 }
 
 impl FreeWalk {
     ghost use Rattle.vol_free.specs.Walk.{HasMet, StepFinds};
 
-    /// Returns a walk that has met no block yet. No mark is set.
+    /// Returns a walk that starts at the super-block, with no block visited and no mark set.
     pub fn new(image: &Image, geometry: &Geometry) -> FreeWalk
         requires { Fits geometry.now image.now }
         ensures { (marks : List Bool) → length marks ≡ geometry.now.zone_end
@@ -75,8 +74,8 @@ impl FreeWalk {
         }
     }
 
-    /// Returns the next block and marks it, or the fault that ends the walk, with its count or number, or `None` at the end
-    /// of the list. There is a mark for each block of the volume. Takes no memory.
+    /// Returns the next block and marks it, or the fault that ends the walk with the bad count or block number, or `None` at the end of the list.
+    /// There is a mark for each block of the volume. Takes no memory.
     pub fn next(
         &mut self,
         image: &Image,
@@ -114,7 +113,7 @@ impl FreeWalk {
         Some(Ok(b))
     }
 
-    /// Moves past data block `b`, the last of the entries left.
+    /// Moves past data block `b`, the top entry of those left.
     fn pass(&mut self, image: &Image, b: u32)
         requires room { 512 * b + 2 ≤ length image.now }
         requires some { 1 ≤ self.old.count }
@@ -133,10 +132,9 @@ impl FreeWalk {
     }
 }
 
-/// Collects the blocks of the free list, up to its first fault.
+/// Collects the blocks of the free list, up to the first fault.
 ///
-/// Reads each block of the free list at most once. Takes a byte for each block of the volume, and four for each block that
-/// is met.
+/// Reads each block of the free list at most once. Takes one byte for each block of the volume, and four for each block visited.
 pub fn walk_free(
     alloc: Global,
     image: &Image,

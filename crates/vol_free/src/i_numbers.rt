@@ -1,5 +1,5 @@
-//! Free i-numbers, and the cache of up to 100 of them in the super-block. The cache only saves time: the mode of an i-node
-//! says if its i-number is free.
+//! Free i-numbers, and the super-block's cache of up to 100 of them. The cache only saves time: whether an i-number is free depends on the mode of
+//! its i-node.
 ghost use Rattle.std.specs.Prelude.{◌≡◌, ℕ, ◌+◌, ◌<◌, ◌≤◌, IsTrue, ◌↔◌, IfSome, None, length};
 ghost use Rattle.pdp_words.specs.Words.{SameOutside};
 ghost use Rattle.vol_layout.specs.Edition.{constants};
@@ -14,10 +14,9 @@ use vol_layout::{Edition, Geometry, Super};
 /// The number of i-numbers that the cache can hold.
 const CACHE_SLOTS: u16 = 100;
 
-/// Takes a free i-number above the root's: the last one in the cache, or, if the cache is empty, one from the i-list, which
-/// also fills the cache. Entries of the cache that aren't free are dropped on the way. Returns `None` if and only if no
-/// such i-number is free; the cache may have lost entries then. The i-number is free until its i-node is written. Takes no
-/// memory.
+/// Takes a free i-number above the root's: the last one in the cache or, if the cache has none, one from the i-list, which also refills the cache.
+/// Cache entries that are no longer free are dropped. Returns `None` if and only if no such i-number is free; cache entries may be dropped even then.
+/// The i-number counts as free until its i-node is written. Takes no memory.
 pub fn take_inode(image: &mut Image, geometry: &Geometry) -> Option<u16>
     requires { Fits geometry.now image.old }
     ensures free { IfSome result (λ i. IsFreeNumber geometry.now image.old i) }
@@ -31,8 +30,8 @@ pub fn take_inode(image: &mut Image, geometry: &Geometry) -> Option<u16>
     }
 }
 
-/// Returns the i-number that [`take_inode`] would take, and changes nothing: the last free one in the cache, or, if none of
-/// these is free, the last of the first hundred free ones in the i-list. Returns `None` if and only if none is free.
+/// Returns the i-number that [`take_inode`] would take, without changing the image: the last free one in the cache or, if none of these is free, the
+/// last of the first hundred free ones in the i-list. Returns `None` if and only if no i-number above the root's is free.
 pub fn next_inode(image: &Image, geometry: &Geometry) -> Option<u16>
     requires { Fits geometry.now image.now }
     ensures free { IfSome result (λ i. IsFreeNumber geometry.now image.now i) }
@@ -44,7 +43,7 @@ pub fn next_inode(image: &Image, geometry: &Geometry) -> Option<u16>
     }
 }
 
-/// Puts i-number `i` in the cache if it has room; else changes nothing. Takes no memory.
+/// Adds i-number `i` to the cache if it has room; else changes nothing. Takes no memory.
 pub fn give_inode(image: &mut Image, geometry: &Geometry, i: u16)
     requires { Fits geometry.now image.old }
     ensures cached { cache_len geometry.now.edition image.old < 100
@@ -61,7 +60,7 @@ pub fn give_inode(image: &mut Image, geometry: &Geometry, i: u16)
     }
 }
 
-/// Takes i-numbers from the cache, the last first, until one is free. Returns `None` if none of them is.
+/// Removes i-numbers from the end of the cache until one of them is free, and returns it, or `None` if none is free.
 fn take_cached(image: &mut Image, geometry: &Geometry) -> Option<u16>
     requires { Fits geometry.now image.old }
     ensures free { IfSome result (λ i. IsFreeNumber geometry.now image.old i) }
@@ -81,8 +80,8 @@ fn take_cached(image: &mut Image, geometry: &Geometry) -> Option<u16>
     None
 }
 
-/// Fills the cache with the first free i-numbers of the i-list, in ascending order, and takes the last of them. Returns
-/// `None` if none is free.
+/// Fills the cache with the first free i-numbers of the i-list, in ascending order, and takes the last of them. Returns `None` if no i-number is
+/// free.
 fn take_listed(image: &mut Image, geometry: &Geometry) -> Option<u16>
     requires { Fits geometry.now image.old }
     ensures free { IfSome result (λ i. IsFreeNumber geometry.now image.old i) }
@@ -110,7 +109,7 @@ fn take_listed(image: &mut Image, geometry: &Geometry) -> Option<u16>
     last_found
 }
 
-/// Returns the last free i-number of the cache, or `None` if none of them is free.
+/// Returns the last free i-number in the cache, or `None` if none of them is free.
 fn next_cached(image: &Image, geometry: &Geometry) -> Option<u16>
     requires { Fits geometry.now image.now }
     ensures { IfSome result (λ i. IsFreeNumber geometry.now image.now i) }
@@ -158,7 +157,7 @@ fn cache_len(image: &Image, edition: Edition) -> u16
     if count > CACHE_SLOTS { 0 } else { count }
 }
 
-/// True if i-number `i`, which may be any number, is above the root's, on the volume and free.
+/// True if `i`, which may be any number, is an i-number of the volume above the root's, and is free.
 pub fn is_free_inode(image: &Image, geometry: &Geometry, i: u16) -> bool
     requires { Fits geometry.now image.now }
     ensures { IsTrue result ↔ IsFreeNumber geometry.now image.now i }

@@ -1,4 +1,4 @@
--- The names that the calls of a plan add: all are the last ones of paths of members, and of directories on the way to them.
+-- The names that the calls of a plan add: each is the last name of a member's path, or of a directory on a member's path.
 use Rattle.std.proofs.Common.{◌≡◌, ◌∙◌, ◌⊎◌, sym, ap, subst, refl, ℕ, ◌&&◌, ◌==◌, Bool, true, false, cond, List, [], ◌∷◌, ◌++◌, length, Option, None, Some, Result, Ok, Err, inl, inr}
 use Rattle.std.specs.List.{flat_map}
 use Rattle.std.specs.Option.{option_map}
@@ -35,11 +35,11 @@ use Rattle.vol_import.proofs.MadePaths.{create_makes, mkdir_makes, node_found, n
 use Rattle.vol_import.proofs.MemberCalls.{IsRun}
 use Rattle.vol_import.proofs.TreeWalks.{named, passes_first}
 
--- a path is one of some paths
+-- a path is among `paths`
 abbrev IsAmong : List (List ℕ) → List ℕ → Type 0
 IsAmong paths path = Has (λ (p : List ℕ). p ≡ path) paths
 
--- the calls of a plan whose names are the last ones of some paths
+-- a call of a plan that adds at most a last name of `paths`
 data IsPlain (paths : List (List ℕ)) : Call → Type 0 where
   creates : (now perm : ℕ) (path : List ℕ) → IsAmong paths path → IsPlain paths (calls.Create user now path perm)
   makes : (now perm : ℕ) (path : List ℕ) → IsAmong paths path → IsPlain paths (calls.Mkdir user now path perm)
@@ -49,7 +49,7 @@ data IsPlain (paths : List (List ℕ)) : Call → Type 0 where
   gives : (now uid gid : ℕ) (path : List ℕ) → IsPlain paths (calls.Chown user now path uid gid)
   dates : (now atime mtime : ℕ) (path : List ℕ) → IsPlain paths (calls.Times user now path atime mtime)
 
--- a tree has the names of another one, and no others but the last ones of some paths
+-- the tree `new` has all names of `old`, and no others but last names of `paths`
 pub record NamesAfter (old new : Tree) (paths : List (List ℕ)) : Type 0 where
   pub rooted : root new ≡ root old
   pub kept : KeepsNames old.nodes new.nodes
@@ -76,7 +76,7 @@ after_then old mid new paths first second = record {
   ];
 }
 
--- a name is entered
+-- entering the last name of a path adds only that name
 after_entered : (old new : Tree) (path : List ℕ) (paths : List (List ℕ)) → IsAmong paths path → EntersAt old new path → NamesAfter old new paths
 after_entered old new path paths among at =
     let kept : KeepsNames old.nodes new.nodes = λ x. (at.enters.kept x).0 in
@@ -94,7 +94,7 @@ after_entered old new path paths among at =
       ];
     }
 
--- a node is changed and keeps its names
+-- changing a node that keeps its names adds no names
 after_changed : (old new : Tree) (paths : List (List ℕ)) (i : ℕ) (change : Node → Node) → ChangesAt old new i change
     → HasNamesOf (old.nodes i) (option_map change (old.nodes i)) → HasNoOthers (old.nodes i) (option_map change (old.nodes i)) → NamesAfter old new paths
 after_changed old new paths i change changes has none =
@@ -106,7 +106,7 @@ after_changed old new paths i change changes has none =
           (ap (λ (ns : ℕ → Option Node). found (ns x) word) (sym changes.nodes) ∙ is) plain);
     }
 
--- so is the node at the end of a walk, if there is one and its content stays
+-- changing a node other than its content, at the end of a walk, adds no names
 after_walked : (state : State) (now : ℕ) (paths : List (List ℕ)) (walked : Result ℕ Refusal) (change : Node → Node)
     → ((node : Node) → (change node).content ≡ node.content)
     → NamesAfter state.tree (at_time now (on_node state walked (λ j. change_node j change state))).tree paths
@@ -123,7 +123,7 @@ after_walked state now paths (Ok i) change same =
       λ word j is plain. ap (λ (c : Content). found_in (named (map_of c)) word) (sym (same node)) ∙ is,
     )
 
--- a write changes no directory
+-- the path of an accepted Write leads to a node that isn't a directory
 write_walks : (state : State) (now c : ℕ) (path content : List ℕ) → verdict state (calls.Write user now path 0 (c ∷ content)) ≡ None
     → (i : ℕ) × (walk state.tree user path ≡ Ok i) × (is_directory (node_at state.tree i) ≡ false)
 unfolding verdict
@@ -133,7 +133,7 @@ write_walks state now c path content accepted =
     let led = node_found (walk state.tree user path) tests first.others_pass in
     (led.0, led.1, (not_first (is_directory (node_at state.tree led.0)) refusals.IsDirectory _ led.2).0)
 
--- each call
+-- an accepted call of a plan adds at most a last name of `paths`
 call_after : (paths : List (List ℕ)) (state : State) (call : Call) (done : Done) → IsPlain paths call
     → MayFollow state (record { call = call; done = done }) → NamesAfter state.tree (step state call done).tree paths
 unfolding changed_by
@@ -161,7 +161,7 @@ call_after paths state call done (gives now uid gid path) follows =
 call_after paths state call done (dates now atime mtime path) follows =
     after_walked state now paths (walk state.tree user path) (with_times now atime mtime) (λ node. refl)
 
--- and all of them
+-- accepted calls of a plan add at most last names of `paths`
 run_after : (paths : List (List ℕ)) (run : List Call) (old new : State) → Each (IsPlain paths) run → IsRun old run new
     → NamesAfter old.tree new.tree paths
 run_after paths [] old new plain run = subst (λ (s : State). NamesAfter old.tree s.tree paths) (sym run) (after_same old.tree paths)
@@ -169,7 +169,7 @@ run_after paths (call ∷ rest) old new plain run =
     after_then old.tree (step old call run.0).tree new.tree paths (call_after paths old call run.0 plain.0 run.1)
     (run_after paths rest (step old call run.0) new plain.1 run.3)
 
--- a directory on the way to a member
+-- the calls that make the directories on a member's path add only names of these directories
 way_plain : (paths : List (List ℕ)) (tree : Tree) (base : List ℕ) (now : ℕ) (path : List ℕ) (steps : List (List ℕ)) (drafted : Drafted)
     → ((p : List ℕ) → IsAmong (way_paths base path steps) p → IsAmong paths p) → Each (IsPlain paths) drafted.1
     → Each (IsPlain paths) (with_way tree base now path steps drafted).1
@@ -184,7 +184,7 @@ way_plain paths tree base now path (step ∷ steps) drafted within plain =
     by true = (makes now 0o755 (base ++ (path ++ 47 ∷ step)) (within (base ++ (path ++ 47 ∷ step)) (inl refl)), tt)
     by false = tt
 
--- the calls that make a member
+-- the calls that make a member add only the last name of its path
 made_plain : (paths : List (List ℕ)) (tree : Tree) (base : List ℕ) (now : ℕ) (member : Member) (made : MadeAs) (owner : Cred) (drafted : Drafted)
     → IsAmong paths (below base member.path) → Each (IsPlain paths) drafted.1
     → Each (IsPlain paths) (with_made made tree base now member owner drafted).1
@@ -219,7 +219,7 @@ made_plain paths tree base now member made owner drafted among plain = by made
         (directory (is_there tree base (joined (steps_of member.path))) (is_known drafted.0 (joined (steps_of member.path))))
     by Link = each_append (IsPlain paths) drafted.1 _ plain (links (moment_of member.header now) (below base member.link) (below base member.path) among, tt)
 
--- a member, if it can be made
+-- a member that can be made adds only names on its path
 onto_plain : (paths : List (List ℕ)) (tree : Tree) (base : List ℕ) (now : ℕ) (member : Member) (made : Result (MadeAs × Cred) MemberFault)
     (drafted next : Drafted) → ((p : List ℕ) → IsAmong (made_paths base member) p → IsAmong paths p) → Each (IsPlain paths) drafted.1
     → onto tree base now drafted member made ≡ Ok next → Each (IsPlain paths) next.1
@@ -242,7 +242,7 @@ onto_plain paths tree base now member (Ok made) drafted next within plain is =
         (within (below base member.path) (has_behind (λ (q : List ℕ). q ≡ below base member.path) (way_paths base [] (way_of (steps_of member.path)))
         (below base member.path ∷ []) (inl refl))) plain)
 
--- all members
+-- making all members adds only names on their paths
 onto_all_plain : (paths : List (List ℕ)) (tree : Tree) (base : List ℕ) (now : ℕ) (all : List Member) (drafted : Drafted) (run : List Call)
     → ((p : List ℕ) → IsAmong (flat_map (made_paths base) all) p → IsAmong paths p) → Each (IsPlain paths) drafted.1
     → plan_onto tree base now drafted all ≡ Ok run → Each (IsPlain paths) run
@@ -261,7 +261,7 @@ onto_all_plain paths tree base now (member ∷ rest) drafted run within plain is
         others next (onto_plain paths tree base now member (check tree.geometry.edition member) drafted next
         (λ p among. within p (has_front (λ (q : List ℕ). q ≡ p) (made_paths base member) (flat_map (made_paths base) rest) among)) plain e) done
 
--- the calls that end an import
+-- the calls that end an import add no names
 closed_plain : (paths : List (List ℕ)) (now : ℕ) (base : List ℕ) (permissions : Option ℕ) (run : List Call) → Each (IsPlain paths) run
     → Each (IsPlain paths) (closed now base permissions run)
 closed_plain paths now base permissions [] plain = tt
@@ -288,7 +288,7 @@ times_plain paths tree base now (member ∷ rest) =
     by (Ok Link) = tt
     by (Err fault) = tt
 
--- so the names that a plan adds are those of its paths
+-- the calls of a plan add only names on the paths of its members
 pub plan_after : (old new : State) (base : List ℕ) (now : ℕ) (all : List Member) (run : List Call) → plan old.tree base now all ≡ Ok run
     → IsRun old run new → NamesAfter old.tree new.tree (flat_map (made_paths base) all)
 plan_after old new base now all run is made =

@@ -1,4 +1,4 @@
--- The times of directories after an import: each that a member makes has that of its last member.
+-- The times of directories after an import: a directory that members make has the time of the last of them.
 use Rattle.std.proofs.Common.{◌≡◌, ◌∙◌, sym, ap, subst, refl, ℕ, ◌||◌, Bool, true, false, cond, List, [], ◌∷◌, ◌++◌, Option, Some, Result, Ok, Err, inl, inr}
 use Rattle.std.specs.List.{list_any}
 use Rattle.std.specs.Option.{option_map}
@@ -27,7 +27,7 @@ use Rattle.vol_import.proofs.MadeNames.{grown_path, owner_told}
 use Rattle.vol_import.proofs.MadePaths.{stat_answered}
 use Rattle.vol_import.proofs.MemberCalls.{IsRun, run_parts}
 
--- if a Stat of a path finds no directory, its steps lead to none
+-- if a Stat of a path finds no directory, neither does one of the path of its steps
 pub none_below : (tree : Tree) (base path : List ℕ) → DotsLead tree → list_any is_long (names_of path) ≡ false
     → says_directory (answer tree (queries.Stat user (below base path))) ≡ false → is_there tree base (joined (steps_of path)) ≡ false
 none_below tree base path dots short none = by (is_there tree base (joined (steps_of path))) refl
@@ -42,7 +42,7 @@ none_below tree base path dots short none = by (is_there tree base (joined (step
         ap says_directory (stat_answered tree (below base path) here.0 plain here.1) ∙ ap is_directory_kind (directory_kind here.0.content here.2) in
         absurd (true≢false (sym told ∙ none))
 
--- members stay as they were made, if no owner is given
+-- members that were made are unchanged by calls that give no owner
 pub are_kept : (start : Tree) (base : List ℕ) (now : ℕ) (all : List Member) (known next : List (List ℕ)) (old new : Tree)
     → Follows start base none_given known next old new → AreMadeAs start base now all known old → AreMadeAs start base now all next new
 are_kept start base now [] known next old new follows are = tt
@@ -52,11 +52,11 @@ are_kept start base now (member ∷ rest) known next old new follows are =
       are_kept start base now rest known next old new follows are.1,
     )
 
--- the time of the last change of node i
+-- the time of the last change of node `i`
 abbrev pub time_at : Tree → ℕ → Option ℕ
 time_at tree i = option_map (λ (node : Node). node.modified) (tree.nodes i)
 
--- a directory that a member makes has the time of the member, if no later one is for it
+-- a directory that a member makes has the member's time, if no later member is for it
 abbrev pub HasTime : Tree → List ℕ → ℕ → Member → Bool → Tree → Type 0
 HasTime start base now member again tree =
     made_as member.header.flag member.path ≡ Ok Directory → says_directory (answer start (queries.Stat user (below base member.path))) ≡ false
@@ -68,7 +68,7 @@ HaveTimes start base now [] tree = Unit {0}
 HaveTimes start base now (member ∷ rest) tree =
     HasTime start base now member (is_among rest (joined (steps_of member.path))) tree × HaveTimes start base now rest tree
 
--- the effect of calls that give times to directories: the others that are new keep theirs
+-- the effect of calls that give times to directories: other new directories keep their times
 pub record GiveTimes (start : Tree) (base : List ℕ) (given : List ℕ → Bool) (known : List (List ℕ)) (old new : Tree) : Type 0 where
   pub follows : Follows start base none_given known known old new
   pub spares : (path : List ℕ) → is_known known path ≡ true → is_there start base path ≡ false → given path ≡ false → (i : ℕ)
@@ -79,13 +79,13 @@ give_none : (start : Tree) (base : List ℕ) (given : List ℕ → Bool) (known 
 give_none start base given known tree stands =
     record { follows = follows_same start base none_given known tree stands; spares = λ path is none other i walked. refl }
 
--- a new directory that a member makes
+-- the directory of a member is one that didn't exist and that members make
 abbrev IsNew : Tree → List ℕ → Member → List (List ℕ) → Type 0
 IsNew start base member known =
     made_as member.header.flag member.path ≡ Ok Directory → says_directory (answer start (queries.Stat user (below base member.path))) ≡ false
     → (is_known known (joined (steps_of member.path)) ≡ true) × (is_there start base (joined (steps_of member.path)) ≡ false)
 
--- the call for a member, if there is one
+-- the call that gives a member's directory its time, if there is one, does so and spares all others
 member_timed : (start : Tree) (base : List ℕ) (now : ℕ) (member : Member) (made : Result (MadeAs × Cred) MemberFault) (again : Bool)
     (known : List (List ℕ)) (from to : State) → DotsLead start → Stands start base known from.tree
     → IsMadeAs start base now member again made known from.tree
@@ -149,7 +149,7 @@ member_timed start base now member made again known from to dots stands = by mad
     by (Ok (Directory, owner)) is run = one owner is (says_directory (answer start (queries.Stat user (below base member.path)))) refl
         (subst (λ m. IsRun from (time_calls start base now member m) to) is.0.kind run)
 
--- the calls for all members
+-- the calls for all members give the directories their times
 pub times_given : (start : Tree) (base : List ℕ) (now : ℕ) (all : List Member) (known : List (List ℕ)) (from to : State) → DotsLead start
     → Stands start base known from.tree → AreMadeAs start base now all known from.tree → IsRun from (times start base now all) to
     → GiveTimes start base (is_among all) known from.tree to.tree × HaveTimes start base now all to.tree

@@ -1,4 +1,4 @@
--- Walks over names with `.` among them, and the path of the steps without.
+-- Walks over names with `.` among them, and the path of the steps, which is without them.
 use Rattle.std.proofs.Common.{◌≡◌, ◌∙◌, sym, ap, subst, refl, ℕ, zero, suc, min, ◌≤◌, ◌==◌, ◌||◌, Bool, true, false, cond, not, nat_lt, List, [], ◌∷◌, ◌++◌, length, map, take, Option, Some, Result, Ok, Err, arith, append_assoc}
 use Rattle.std.specs.Prelude.{filter}
 use Rattle.std.specs.List.{list_any, onto_first as split_onto}
@@ -37,7 +37,7 @@ use Rattle.vol_import.proofs.TreeWalks.{searched_slots}
 abbrev pub DotsLead : Tree → Type 0
 DotsLead t = (x : ℕ) (names : Names) → search t user x ≡ Ok names → get names dot ≡ Some x
 
--- in the tree of a sound image
+-- in the tree of a sound image, the `.` of each directory leads to itself
 dots_found : (geometry : Geometry) (image : List ℕ) → HasEntries geometry image → HasDots geometry image → DotsLead (tree geometry image)
 dots_found geometry image entries dots x names is =
     let here = searched_slots geometry image x names is in
@@ -59,11 +59,11 @@ dots_ready geometry image ready =
     dots_found geometry image (ready_entries geometry image ready)
     (subst (λ g. HasDots g image) (sym ready.sizes) (sound_dots geometry.edition image ready.sound))
 
--- a number that is searched
+-- user 0 may search this i-number
 abbrev Opens : Tree → ℕ → Type 0
 Opens t x = (names : Names) × (search t user x ≡ Ok names)
 
--- if a walk leads to a directory that is searched, it begins at one
+-- if a walk leads to a directory that may be searched, it begins at one
 opens_first : (t : Tree) (names : List (List ℕ)) (x i : ℕ) → Opens t i → walk_from t user x names ≡ Ok i → Opens t x
 opens_first t [] x i opens is = let same : i ≡ x = cc in subst (Opens t) same opens
 opens_first t (name ∷ names) x i opens is = by (search t user x) refl is
@@ -81,19 +81,19 @@ is_dot name still = same_bytes name dot (by (bytes_eq name dot) still)
     by true e = refl
     by false e = absurd (cc)
 
--- a step by `.` leads to the same directory
+-- the name `.` leads to the same directory
 dot_step : (t : Tree) → DotsLead t → (x : ℕ) (name : List ℕ) → is_step name ≡ false → Opens t x → find_in t user x name ≡ Ok x
 dot_step t dots x name still opens =
     ap (λ (r : Result Names Refusal). and_then r (λ others. ok_or (get others name) refusals.NoEntry)) opens.1
     ∙ ap (λ (o : Option ℕ). ok_or o refusals.NoEntry) (ap (get opens.0) (is_dot name still) ∙ dots x opens.0 opens.1)
 
--- the walk that follows a step may be another one
+-- a walk over two parts still leads to `i` if the second part is replaced by one that leads there too
 then_other : (walked : Result ℕ Refusal) (f g : ℕ → Result ℕ Refusal) (i : ℕ) → ((y : ℕ) → f y ≡ Ok i → g y ≡ Ok i) → and_then walked f ≡ Ok i
     → and_then walked g ≡ Ok i
 then_other (Ok y) f g i on is = on y is
 then_other (Err refusal) f g i on is = absurd (cc)
 
--- a directory to which steps lead is reached with `.` among them too
+-- if steps lead to a directory, the names with `.` among them lead there too
 pub steps_walk : (t : Tree) → DotsLead t → (names : List (List ℕ)) (x i : ℕ) → Opens t i → walk_from t user x (filter is_step names) ≡ Ok i
     → walk_from t user x names ≡ Ok i
 steps_walk t dots [] x i opens is = is
@@ -106,7 +106,7 @@ steps_walk t dots (name ∷ names) x i opens is = by (λ y is. steps_walk t dots
         ap (λ (r : Result ℕ Refusal). and_then r (λ y. walk_from t user y names))
         (dot_step t dots x name e (opens_first t (filter is_step names) x i opens is)) ∙ on x is
 
--- a directory to which names lead is reached without `.` too
+-- if names lead to a node, their steps without `.` lead there too
 pub walk_steps : (t : Tree) → DotsLead t → (names : List (List ℕ)) (x i : ℕ) → walk_from t user x names ≡ Ok i
     → walk_from t user x (filter is_step names) ≡ Ok i
 walk_steps t dots [] x i is = is
@@ -125,7 +125,7 @@ walk_steps t dots (name ∷ names) x i is = by (λ y is. walk_steps t dots names
     by on true e = then_other (find_in t user x name) (λ y. walk_from t user y names) (λ y. walk_from t user y (filter is_step names)) i on is
     by on false e = on x (by_search (search t user x) refl e is)
 
--- names that are their own only components
+-- each name is its own only component
 abbrev pub AreSteps : List (List ℕ) → Type 0
 AreSteps [] = Unit {0}
 AreSteps (step ∷ steps) = (components step ≡ step ∷ []) × AreSteps steps
@@ -154,7 +154,7 @@ plain_front (suc n) (c ∷ name) h =
     let parts = or_parts (c == 47) (list_any (λ c. c == 47) name) h in
     ap (λ b. b || list_any (λ c. c == 47) (take n name)) parts.0 ∙ plain_front n name parts.1
 
--- the components of a path are such names
+-- the steps among the pieces of a path satisfy `AreSteps`
 steps_kept : (ps : List (List ℕ)) → ArePlain ps → AreSteps (filter is_step (map (take 14) (filter (λ piece. not (is_nil piece)) ps)))
 unfolding components
 steps_kept [] plain = tt
@@ -176,7 +176,7 @@ pub are_steps : (path : List ℕ) → AreSteps (steps_of path)
 unfolding components
 are_steps path = steps_kept (pieces path) (plain_pieces path)
 
--- the path of steps below another one
+-- the components of a path followed by the path of steps are the path's components followed by the steps
 pub joined_components : (steps : List (List ℕ)) (base : List ℕ) → AreSteps steps → components (base ++ joined steps) ≡ components base ++ steps
 joined_components [] base are = ap components (append-nil base) ∙ sym (append-nil (components base))
 joined_components (step ∷ steps) base are =
@@ -185,7 +185,7 @@ joined_components (step ∷ steps) base are =
     ∙ (ap (λ cs. cs ++ steps) (components-join base step ∙ ap (λ cs. components base ++ cs) are.0)
     ∙ append_assoc (components base) (step ∷ []) steps))
 
--- a walk of steps below a path
+-- a walk of steps below a path is a walk of the path followed by a walk of the steps
 steps_onward : (t : Tree) (base path : List ℕ)
     → walk t user (base ++ joined (steps_of path)) ≡ and_then (walk t user base) (λ y. walk_from t user y (steps_of path))
 unfolding walk
@@ -193,7 +193,7 @@ steps_onward t base path =
     ap (walk_from t user (root t)) (joined_components (steps_of path) base (are_steps path))
     ∙ walk_from-append t user (root t) (components base) (steps_of path)
 
--- the steps of a path lead to a directory if and only if the path does
+-- if the steps of a path lead to a directory, so does the path
 pub with_dots : (t : Tree) (base path : List ℕ) (i : ℕ) → DotsLead t → Opens t i → walk t user (base ++ joined (steps_of path)) ≡ Ok i
     → walk t user (below base path) ≡ Ok i
 with_dots t base path i dots opens is =
@@ -219,7 +219,7 @@ split_pieces (c ∷ path) =
     by false [] = refl
     by false (p ∷ ps) = refl
 
--- a zero byte of a path is in one of its pieces
+-- a path has a zero byte if and only if one of its pieces has one
 zeros_split : (path : List ℕ) → list_any has_zero (pieces path) ≡ has_zero path
 zeros_split [] = refl
 zeros_split (c ∷ path) =
@@ -240,7 +240,7 @@ zeros_split (c ∷ path) =
         or_grouped true b d = refl
         or_grouped false b d = refl
 
--- and so in one of the steps, if no piece is cut
+-- a piece has a zero byte if and only if a step has one, if no piece is too long
 zeros_stepped : (ps : List (List ℕ)) → list_any is_long ps ≡ false
     → list_any has_zero (filter is_step (map (take 14) (filter (λ piece. not (is_nil piece)) ps))) ≡ list_any has_zero ps
 zeros_stepped [] e = refl
@@ -263,7 +263,7 @@ zeros_joined : (steps : List (List ℕ)) → has_zero (joined steps) ≡ list_an
 zeros_joined [] = refl
 zeros_joined (step ∷ steps) = list_any-append (λ c. c == 0) (47 ∷ step) (joined steps) ∙ ap (λ b. has_zero step || b) (zeros_joined steps)
 
--- so below a path the steps have a zero byte if and only if the path has
+-- below a path, the steps have a zero byte if and only if the path has one
 pub zeros_below : (base path : List ℕ) → list_any is_long (parts_of path) ≡ false → has_zero (base ++ joined (steps_of path)) ≡ has_zero (below base path)
 unfolding components
 zeros_below base path short =

@@ -29,13 +29,13 @@ use Rattle.vol_import.proofs.MadeNames.{Grows, KeepsOwner, Stays, grows_same, gr
 use Rattle.vol_import.proofs.MadePaths.{mkdir_gains}
 use Rattle.vol_import.proofs.MemberCalls.{IsRun, run_parts}
 
--- only Equal is equal
+-- an order passes `is_eq` only if it is `Equal`
 equal_order : (order : Ordering) → is_eq order ≡ true → order ≡ Equal
 equal_order Less e = absurd (cc)
 equal_order Equal e = refl
 equal_order Greater e = absurd (cc)
 
--- a path that is known after one is added was known, or is that one
+-- a path that is known after one is added was known before, or is the added one
 known_with : (known : List (List ℕ)) (path p : List ℕ) → is_known (with_path known path) p ≡ true → (is_known known p ≡ true) ⊎ (p ≡ path)
 known_with [] path p is = here (slice_cmp nat_cmp p path) refl is
   where
@@ -64,7 +64,7 @@ known_with (first ∷ known) path p is = by (slice_cmp nat_cmp path first) (know
     by Equal rest is = inl is
     by Greater rest is = after (slice_cmp nat_cmp p first) rest is
 
--- known paths stay known when one is added
+-- known paths are still known after one is added
 pub with_known : (known : List (List ℕ)) (path p : List ℕ) → is_known known p ≡ true → is_known (with_path known path) p ≡ true
 with_known [] path p is = absurd (cc)
 with_known (first ∷ known) path p is = by (slice_cmp nat_cmp path first) (with_known known path p)
@@ -105,12 +105,12 @@ with_itself known path = go known
         by Equal e rest = ap (λ o. is_eq o || is_known known path) e
         by Greater e rest = ap (λ b. is_eq (slice_cmp nat_cmp path first) || b) rest ∙ last (is_eq (slice_cmp nat_cmp path first))
 
--- a path below another one leads to a directory; if the first tree had none there, its node is new
+-- a path below `base` leads to a directory; if the first tree had no directory there, the node is new
 pub record Leads (start : Tree) (base : List ℕ) (tree : Tree) (path : List ℕ) : Type 0 where
   pub led : LeadsToDirectory tree (base ++ path)
   pub fresh : is_there start base path ≡ false → start.nodes led.1.number ≡ None
 
--- a tree between the calls: it has grown from the first one, each known path leads to a directory, and a new one shares it with no other path
+-- a tree between two calls: it has grown from the first tree, each known path leads to a directory, and a new directory has only one known path
 pub record Stands (start : Tree) (base : List ℕ) (known : List (List ℕ)) (tree : Tree) : Type 0 where
   pub dots : DotsLead tree
   pub grown : Grows start tree
@@ -118,17 +118,17 @@ pub record Stands (start : Tree) (base : List ℕ) (known : List (List ℕ)) (tr
   pub apart : (p q : List ℕ) → is_known known p ≡ true → is_known known q ≡ true → is_there start base p ≡ false → (i : ℕ)
       → walk tree user (base ++ p) ≡ Ok i → walk tree user (base ++ q) ≡ Ok i → p ≡ q
 
--- a walk leads to one number
+-- a walk leads to at most one i-number
 pub one_number : (walked : Result ℕ Refusal) (i j : ℕ) → walked ≡ Ok i → walked ≡ Ok j → i ≡ j
 one_number walked i j first second = let both : Ok i ≡ Ok j = sym first ∙ second in cc
 
--- in a grown tree, a path that led to a directory leads to no other node
+-- a walk in the grown tree leads to the directory that the path led to before
 pub walked_back : (old new : Tree) (path : List ℕ) (i : ℕ) → Grows old new → (led : LeadsToDirectory old path) → walk new user path ≡ Ok i
     → walk old user path ≡ Ok i
 walked_back old new path i grows led is =
     led.1.walked ∙ ap Ok (one_number (walk new user path) led.1.number i (grown_path old new path led.1.number grows led.1.walked) is)
 
--- such a tree after it has grown
+-- a tree that satisfies `Stands` still does after it has grown
 pub stands_grown : (start : Tree) (base : List ℕ) (known : List (List ℕ)) (old new : Tree) → Stands start base known old → Grows old new → DotsLead new
     → Stands start base known new
 stands_grown start base known old new stands grows dots = record {
@@ -142,7 +142,7 @@ stands_grown start base known old new stands grows dots = record {
       (walked_back old new (base ++ q) i grows (stands.lead q two).led second);
 }
 
--- adding a path that leads to a directory of its own
+-- adding a path that leads to a directory of its own preserves `Stands`
 stands_with : (start : Tree) (base : List ℕ) (known : List (List ℕ)) (path : List ℕ) (tree : Tree) → Stands start base known tree
     → Leads start base tree path
     → ((q : List ℕ) → is_known known q ≡ true → (is_there start base path ≡ false) ⊎ (is_there start base q ≡ false) → (i : ℕ)
@@ -167,7 +167,7 @@ stands_with start base known path tree stands leads other = record {
         is ∙ other q two (inl (subst (λ r. is_there start base r ≡ false) is none)) i (subst (λ r. walk tree user (base ++ r) ≡ Ok i) is first) second
     by p q none i first second (inr is) (inr same) = is ∙ sym same
 
--- adding a known path
+-- adding a known path preserves `Stands`
 pub stands_known : (start : Tree) (base : List ℕ) (known : List (List ℕ)) (path : List ℕ) (tree : Tree) → Stands start base known tree
     → is_known known path ≡ true → Stands start base (with_path known path) tree
 stands_known start base known path tree stands is = stands_with start base known path tree stands (stands.lead path is) by
@@ -177,7 +177,7 @@ stands_known start base known path tree stands is = stands_with start base known
     by q two (inl new) i first second = stands.apart path q is two new i first second
     by q two (inr new) i first second = sym (stands.apart q path two is new i second first)
 
--- a path at which a Stat finds a directory
+-- a path at which a Stat finds a directory leads to it, and has no zero byte
 pub there_leads : (tree : Tree) (path : List ℕ) → says_directory (answer tree (queries.Stat user path)) ≡ true
     → LeadsToDirectory tree path × (has_zero path ≡ false)
 unfolding query_refusal reply_of
@@ -201,7 +201,7 @@ there_leads tree path is = by (is_bad_id tree.geometry.edition 0 0) (has_zero pa
     by false false (Err refusal) z w e = absurd (cc)
     by false false (Ok i) z w e = (at i (tree.nodes i) w refl e, z)
 
--- adding the path of a directory of the first tree
+-- adding the path of a directory of the first tree preserves `Stands`
 pub stands_there : (start : Tree) (base : List ℕ) (known : List (List ℕ)) (path : List ℕ) (tree : Tree) → Stands start base known tree
     → is_there start base path ≡ true → Stands start base (with_path known path) tree
 stands_there start base known path tree stands there =
@@ -223,7 +223,7 @@ stands_there start base known path tree stands there =
         let both : None ≡ Some led.0 = sym (leads.fresh new) ∙ (ap start.nodes same ∙ led.1.stands) in
         absurd (cc)
 
--- if a grown tree has no node i, the old one had none
+-- if a grown tree has no node `i`, the old tree had none
 free_before : (old new : Tree) (i : ℕ) → Grows old new → new.nodes i ≡ None → old.nodes i ≡ None
 free_before old new i grows free = by (old.nodes i) (grows.kept i).1
   where
@@ -231,7 +231,7 @@ free_before old new i grows free = by (old.nodes i) (grows.kept i).1
     by None stays = refl
     by (Some x) stays = let both : None ≡ Some (stays x refl).0 = sym free ∙ (stays x refl).1 in absurd (cc)
 
--- adding a path whose directory is made
+-- adding a path whose directory was just made preserves `Stands`
 pub stands_made : (start : Tree) (base : List ℕ) (known : List (List ℕ)) (path : List ℕ) (old new : Tree) → Stands start base known old
     → Grows old new → DotsLead new → (led : LeadsToDirectory new (base ++ path)) → old.nodes led.1.number ≡ None
     → Stands start base (with_path known path) new
@@ -249,18 +249,18 @@ stands_made start base known path old new stands grows dots led free =
         let both : None ≡ Some was.0 = sym free ∙ (ap old.nodes (sym same) ∙ was.1.stands) in
         absurd (cc)
 
--- no path gets an owner
+-- no path is given an owner
 abbrev pub none_given : List ℕ → Bool
 none_given path = false
 
--- nodes keep their owners, except new directories at known paths that may get one
+-- nodes keep their owners, except new directories at known paths that may be given one
 abbrev pub Spares : Tree → List ℕ → List (List ℕ) → (List ℕ → Bool) → Tree → Tree → Type 0
 Spares start base known given old new =
     (x : ℕ) → KeepsOwner (old.nodes x) (new.nodes x)
     ⊎ ((path : List ℕ) × (is_known known path ≡ true) × (is_there start base path ≡ false) × (given path ≡ true)
     × (walk new user (base ++ path) ≡ Ok x))
 
--- the effect of calls on such a tree
+-- the effect of calls on a tree between two calls of a plan
 pub record Follows (start : Tree) (base : List ℕ) (given : List ℕ → Bool) (known next : List (List ℕ)) (old new : Tree) : Type 0 where
   pub knows : (path : List ℕ) → is_known known path ≡ true → is_known next path ≡ true
   pub grows : Grows old new
@@ -300,13 +300,13 @@ follows_then start base one two known mid last old between new first second = re
     by x (inr gave) more =
         inr (gave.0, second.knows gave.0 gave.1, gave.2, left (one gave.0) (two gave.0) gave.3, grown_path between new (base ++ gave.0) x second.grows gave.4)
 
--- no calls
+-- no calls have no effect
 pub follows_same : (start : Tree) (base : List ℕ) (given : List ℕ → Bool) (known : List (List ℕ)) (tree : Tree) → Stands start base known tree
     → Follows start base given known known tree tree
 follows_same start base given known tree stands =
     record { knows = λ path is. is; grows = grows_same tree; stands = stands; spares = λ x. inl (owner_same (tree.nodes x)) }
 
--- a change of a directory that keeps its owner
+-- changing a directory without changing its owner has only permitted effects
 pub follows_kept : (start : Tree) (base path : List ℕ) (known : List (List ℕ)) (old new : Tree) (led : LeadsToDirectory old path)
     → Stands start base known old → DotsLead new → Gives old new led.1.number (owner_told led.0) → Follows start base none_given known known old new
 follows_kept start base path known old new led stands dots gives = record {
@@ -322,7 +322,7 @@ follows_kept start base path known old new led stands dots gives = record {
   ]);
 }
 
--- more paths may get an owner
+-- the effect is still permitted if more paths may be given an owner
 pub follows_less : (start : Tree) (base : List ℕ) (one two : List ℕ → Bool) (known next : List (List ℕ)) (old new : Tree)
     → ((path : List ℕ) → one path ≡ true → two path ≡ true) → Follows start base one known next old new → Follows start base two known next old new
 follows_less start base one two known next old new less follows = record {
@@ -358,7 +358,7 @@ adds_then start base one two old mid new First Third Second first second kept = 
       );
 }
 
--- a weaker fact, and more paths
+-- a weaker fact holds too, and more paths may be given an owner
 pub adds_less : (start : Tree) (base : List ℕ) (one two : List ℕ → Bool) (old new : Drafted) (First Second : List (List ℕ) → Tree → Type 0)
     → Adds start base one old new First → ((path : List ℕ) → one path ≡ true → two path ≡ true)
     → ((tree : Tree) → First new.0 tree → Second new.0 tree) → Adds start base two old new Second
@@ -370,7 +370,7 @@ adds_less start base one two old new First Second adds more less = record {
       (follows_less start base one two old.0 new.0 from.tree to.tree more left.0, less to.tree left.1);
 }
 
--- no added calls, if the fact holds already
+-- a fact that holds already needs no calls
 pub adds_none : (start : Tree) (base : List ℕ) (old : Drafted) (known : List (List ℕ)) (Left : List (List ℕ) → Tree → Type 0)
     → ((path : List ℕ) → is_known old.0 path ≡ true → is_known known path ≡ true)
     → ((tree : Tree) → Stands start base old.0 tree → Stands start base known tree × Left known tree)
@@ -391,7 +391,7 @@ adds_none start base old known Left knows holds = record {
 abbrev pub Nothing : List (List ℕ) → Tree → Type 0
 Nothing known tree = Unit {0}
 
--- a directory on the way to a member
+-- making a directory on the path of a member, if it is missing, gives no owner
 way_directory : (start : Tree) (base : List ℕ) (now : ℕ) (path : List ℕ) (drafted : Drafted)
     → Adds start base none_given drafted (with_way_directory start base now path drafted) Nothing
 way_directory start base now path drafted = by (is_known drafted.0 path) (is_there start base path) refl refl

@@ -32,12 +32,13 @@ use Rattle.vol_import.proofs.TreeWalks.{named, searched}
 use Rattle.vol_file.proofs.PlaceLists.{bytes_same}
 use Rattle.vol_import.proofs.DraftRuns.{Adds, Follows, Nothing, adds_less, adds_none, adds_then, follows_same, none_given, stands_grown, stands_known, stands_made, stands_there, there_leads, way, with_itself, with_known}
 
--- the facts about a member's file
+-- the facts about the file that a member makes
 abbrev pub facts_of : ℕ → Member → Cred → Content × ℕ × ℕ × ℕ × ℕ × ℕ
 facts_of now member owner =
     (Body member.content, permissions_of member.header % 4096, owner.uid, owner.gid, length member.content, moment_of member.header now)
 
--- a member's directory is made: its path leads there, and its steps are known; if it is new and gets no owner again, it has the member's
+-- a member's directory is made: its path leads to it, and the path of its steps is known; if it is new and isn't given an owner again, it has the
+-- member's permissions and owner
 pub record IsMadeDirectory (start : Tree) (base : List ℕ) (member : Member) (owner : Cred) (again : Bool) (known : List (List ℕ)) (tree : Tree) : Type 0 where
   pub led : LeadsToDirectory tree (below base member.path)
   pub walked : walk tree user (base ++ joined (steps_of member.path)) ≡ Ok led.1.number
@@ -46,7 +47,7 @@ pub record IsMadeDirectory (start : Tree) (base : List ℕ) (member : Member) (o
   pub given : is_there start base (joined (steps_of member.path)) ≡ false → again ≡ false
       → owner_told led.0 ≡ (permissions_of member.header % 4096, owner.uid, owner.gid)
 
--- a member is made
+-- a member is made as a node of this kind
 abbrev pub IsMade : Tree → List ℕ → ℕ → Member → Bool → MadeAs × Cred → List (List ℕ) → Tree → Type 0
 IsMade start base now member again (File, owner) known tree =
     (node : Node) × LeadsTo tree (below base member.path) node × (node_told node ≡ facts_of now member owner) × (list_any has_zero (below base member.path ∷ []) ≡ false)
@@ -54,7 +55,7 @@ IsMade start base now member again (Link, owner) known tree =
     LeadBoth tree (below base member.link) (below base member.path) × (list_any has_zero (below base member.link ∷ below base member.path ∷ []) ≡ false)
 IsMade start base now member again (Directory, owner) known tree = IsMadeDirectory start base member owner again known tree
 
--- a directory stays as it was made, if it gets no owner again
+-- a directory made by a member is unchanged if it isn't given an owner again
 directory_kept : (start : Tree) (base : List ℕ) (member : Member) (owner : Cred) (given : List ℕ → Bool) (again later : Bool) (known next : List (List ℕ))
     (old new : Tree) → Follows start base given known next old new
     → (later ≡ false → (again ≡ false) × (given (joined (steps_of member.path)) ≡ false))
@@ -82,7 +83,7 @@ directory_kept start base member owner given again later known next old new foll
       ];
     }
 
--- each member stays as it was made
+-- a member that was made is unchanged by later calls
 made_kept : (start : Tree) (base : List ℕ) (now : ℕ) (member : Member) (made : MadeAs × Cred) (given : List ℕ → Bool) (again later : Bool)
     (known next : List (List ℕ)) (old new : Tree) → Follows start base given known next old new
     → (later ≡ false → (again ≡ false) × (given (joined (steps_of member.path)) ≡ false))
@@ -101,7 +102,7 @@ made_kept start base now member (Link, owner) given again later known next old n
 made_kept start base now member (Directory, owner) given again later known next old new follows parts is =
     directory_kept start base member owner given again later known next old new follows parts is
 
--- a directory is searched
+-- user 0 may search the directory that a path leads to
 pub opens : (tree : Tree) (path : List ℕ) (led : LeadsToDirectory tree path) → (names : Names) × (search tree user led.1.number ≡ Ok names)
 opens tree path led =
     let found = by led.0.content led.2 in
@@ -112,7 +113,7 @@ opens tree path led =
     by (Body bytes) e = absurd (cc)
     by (Device type addresses) e = absurd (cc)
 
--- the steps of a path lead to a directory if and only if the path does
+-- if the steps of a path lead to a directory, so does the path
 abbrev pub dotted : (tree : Tree) (base path : List ℕ) → DotsLead tree → LeadsToDirectory tree (base ++ joined (steps_of path)) → LeadsToDirectory tree (below base path)
 dotted tree base path dots led =
     let i = led.1.number in (
@@ -137,7 +138,7 @@ pub record IsChecked (member : Member) (made : MadeAs × Cred) : Type 0 where
   pub uid : made.1.uid ≡ member.header.uid
   pub gid : made.1.gid ≡ member.header.gid
 
--- if the whole is Ok, its first part is
+-- if `and_then` is Ok, its first part is Ok
 then_ok : {X Y : Type 0} (first : Result X MemberFault) (next : X → Result Y MemberFault) (y : Y) → and_then first next ≡ Ok y
     → (x : X) × (first ≡ Ok x) × (next x ≡ Ok y)
 then_ok (Ok x) next y is = (x, refl, is)
@@ -174,7 +175,7 @@ checked edition member made is =
     not_long false true dots none e = absurd (cc)
     not_long false false dots none e = refl
 
--- a member that is a directory is for its own steps
+-- a member that makes a directory is for the path of its own steps
 pub for_itself : (member : Member) → made_as member.header.flag member.path ≡ Ok Directory → is_for (joined (steps_of member.path)) member ≡ true
 for_itself member kind =
     ap (λ (r : Result MadeAs MemberFault). is_made_at r member.path (joined (steps_of member.path))) kind
@@ -280,7 +281,7 @@ directory_member start base now member owner drafted checks =
               );
         }
 
--- a member
+-- the calls of a checked member make it
 made_member : (start : Tree) (base : List ℕ) (now : ℕ) (member : Member) (made : MadeAs) (owner : Cred) (drafted : Drafted) → IsChecked member (made, owner)
     → Adds start base (λ path. is_for path member) drafted (with_made made start base now member owner drafted)
     (IsMade start base now member false (made, owner))
@@ -325,12 +326,12 @@ made_member start base now member Link owner drafted checks =
           );
     }
 
--- a member that is checked is made
+-- a member was checked, and is made with the result of its check
 abbrev pub IsMadeAs : Tree → List ℕ → ℕ → Member → Bool → Result (MadeAs × Cred) MemberFault → List (List ℕ) → Tree → Type 0
 IsMadeAs start base now member again (Ok made) known tree = IsChecked member made × IsMade start base now member again made known tree
 IsMadeAs start base now member again (Err fault) known tree = ⊥
 
--- each of some members is made
+-- each of these members is made
 abbrev pub AreMadeAs : Tree → List ℕ → ℕ → List Member → List (List ℕ) → Tree → Type 0
 AreMadeAs start base now [] known tree = Unit {0}
 AreMadeAs start base now (member ∷ rest) known tree =
@@ -345,7 +346,7 @@ made_as_kept start base now member (Ok made) given again later known next old ne
     (is.0, made_kept start base now member made given again later known next old new follows parts is.1)
 made_as_kept start base now member (Err fault) given again later known next old new follows parts is = absurd is
 
--- a draft with one more member
+-- a draft with one more member makes this member
 member_added : (start : Tree) (base : List ℕ) (now : ℕ) (drafted next : Drafted) (member : Member) (made : Result (MadeAs × Cred) MemberFault)
     → check start.geometry.edition member ≡ made → onto start base now drafted member made ≡ Ok next
     → Adds start base (λ path. is_for path member) drafted next (IsMadeAs start base now member false made)
@@ -370,7 +371,7 @@ member_added start base now drafted next member (Ok made) is added =
         (adds_then start base none_given (λ path. is_for path member) drafted mid last Nothing Nothing (IsMade start base now member false made) ways
         (made_member start base now member made.0 made.1 mid checks) (λ from to follows left. tt)) (λ path is. is) (λ tree left. (checks, left.1)))
 
--- the draft of all members
+-- the draft of all members makes each of them
 pub plan_added : (start : Tree) (base : List ℕ) (now : ℕ) (all : List Member) (drafted : Drafted) (calls : List Call)
     → plan_onto start base now drafted all ≡ Ok calls
     → (known : List (List ℕ)) × Adds start base (is_among all) drafted (known, calls) (AreMadeAs start base now all)

@@ -1,4 +1,4 @@
--- The tree after calls of an import: it has grown, or one node of it has changed.
+-- The tree after calls of an import: it has grown, or one of its nodes has changed.
 use Rattle.std.proofs.Common.{◌≡◌, ◌≢◌, ◌∙◌, sym, ap, subst, refl, ℕ, ◌+◌, max, true, false, List, [], ◌∷◌, length, Option, None, Some, Result, Ok, inl, inr}
 use Rattle.std.specs.List.{list_any}
 use Rattle.std.specs.Option.{option_map}
@@ -24,17 +24,17 @@ use Rattle.vol_import.proofs.MadeNames.{LeadsTo, HasNamesOf, Keeps, HasNoOthers,
 use Rattle.vol_import.proofs.MadePaths.{node_found, not_first}
 use Rattle.vol_import.proofs.TreeWalks.{passes_paths, parent_found, reaches, searched}
 
--- node i of a tree is changed
+-- node `i` of a tree is changed
 pub record ChangesAt (old new : Tree) (i : ℕ) (change : Node → Node) : Type 0 where
   pub rooted : root new ≡ root old
   pub nodes : new.nodes ≡ set_at old.nodes i (option_map change (old.nodes i))
 
--- bytes in place of none
+-- a file with these bytes instead of its own
 abbrev pub filled : ℕ → List ℕ → Node → Node
 filled now bytes node =
     record (modified now node) { content = Body (spliced (body_of node.content) 0 bytes); size = max node.size (0 + length bytes) }
 
--- a Write of some bytes to the front of a file
+-- a Write at the start of an empty file changes its node
 pub write_changes : (state : State) (now : ℕ) (path bytes : List ℕ) (byte : ℕ) (done : Done) (i : ℕ) → walk state.tree user path ≡ Ok i
     → ChangesAt state.tree (step state (Write user now path 0 (byte ∷ bytes)) done).tree i (filled now (byte ∷ bytes))
 unfolding changed_by
@@ -42,7 +42,7 @@ write_changes state now path bytes byte done i walked =
     subst (λ (r : Result ℕ Refusal). ChangesAt state.tree (at_time now (on_node state r (after_write state now 0 (byte ∷ bytes)))).tree i (filled now (byte ∷ bytes)))
     (sym walked) (record { rooted = refl; nodes = refl })
 
--- a change of the node at the end of a walk
+-- changing the node at the end of a walk changes this node
 walk_changes : (state : State) (now : ℕ) (walked : Result ℕ Refusal) (change : Node → Node) (i : ℕ) → walked ≡ Ok i
     → ChangesAt state.tree (at_time now (on_node state walked (λ j. change_node j change state))).tree i change
 walk_changes state now walked change i is =
@@ -64,19 +64,19 @@ pub times_changes : (state : State) (now : ℕ) (path : List ℕ) (accessed modi
 unfolding changed_by
 times_changes state now path accessed modified done i = walk_changes state now (walk state.tree user path) (with_times now accessed modified) i
 
--- the node itself
+-- the changed node is the old one with the change
 pub node_changed : (old new : Tree) (i : ℕ) (change : Node → Node) (node : Node) → ChangesAt old new i change → old.nodes i ≡ Some node
     → new.nodes i ≡ Some (change node)
 node_changed old new i change node changes stands =
     ap (λ (ns : ℕ → Option Node). ns i) changes.nodes
     ∙ (set_here old.nodes i (option_map change (old.nodes i)) ∙ ap (option_map change) stands)
 
--- the other nodes stay
+-- the other nodes are unchanged
 pub node_beside : (old new : Tree) (i : ℕ) (change : Node → Node) → ChangesAt old new i change → (x : ℕ) → x ≢ i → new.nodes x ≡ old.nodes x
 node_beside old new i change changes x other =
     ap (λ (ns : ℕ → Option Node). ns x) changes.nodes ∙ set_beside old.nodes i (option_map change (old.nodes i)) x other
 
--- a path leads to the node that is changed
+-- a path to the changed node leads to it after the change
 leads_changed : (old new : Tree) (path : List ℕ) (node : Node) (change : Node → Node) (leads : LeadsTo old path node)
     → ChangesAt old new leads.number change → HasNamesOf (Some node) (Some (change node)) → LeadsTo new path (change node)
 leads_changed old new path node change leads changes names =
@@ -96,7 +96,7 @@ leads_changed old new path node change leads changes names =
       stands = node_changed old new i change node changes leads.stands;
     }
 
--- a new node is changed
+-- a path to a new node leads to it after a change
 pub gains_changed : (old mid new : Tree) (path : List ℕ) (node : Node) (change : Node → Node) (gains : Gains old mid path node)
     → ChangesAt mid new gains.leads.number change → HasNamesOf (Some node) (Some (change node)) → Gains old new path (change node)
 unfolding leads_changed
@@ -130,7 +130,7 @@ grown_directory old new path grows led =
     let stays = (grows.kept i).1 led.0 led.1.stands in
     (stays.0, record { number = i; walked = grown_path old new path i grows led.1.walked; stands = stays.1 }, stays.2 ∙ led.2)
 
--- a directory is changed and keeps its content
+-- changing a directory without changing its content keeps all nodes and their names
 pub directory_changed : (old new : Tree) (path : List ℕ) (change : Node → Node) (led : LeadsToDirectory old path) → ChangesAt old new led.1.number change
     → HasNamesOf (Some led.0) (Some (change led.0)) → is_directory (change led.0) ≡ is_directory led.0 → Grows old new
 directory_changed old new path change led changes names kind =
@@ -147,7 +147,7 @@ directory_changed old new path change led changes names kind =
           (nodes_set old.nodes i (option_map change (old.nodes i)) (subst (λ n. Keeps n (option_map change n)) (sym led.1.stands) keeps) x);
     }
 
--- node i of a tree gets an owner, and the other nodes keep theirs
+-- node `i` of a tree is given an owner, and the other nodes keep theirs
 pub record Gives (old new : Tree) (i : ℕ) (owner : ℕ × ℕ × ℕ) : Type 0 where
   pub grows : Grows old new
   pub beside : (x : ℕ) → x ≢ i → KeepsOwner (old.nodes x) (new.nodes x)
@@ -155,7 +155,7 @@ pub record Gives (old new : Tree) (i : ℕ) (owner : ℕ × ℕ × ℕ) : Type 0
   pub stands : new.nodes i ≡ Some node
   pub owned : owner_told node ≡ owner
 
--- a directory gets an owner
+-- a change of a directory that sets its owner gives it this owner
 pub directory_given : (old new : Tree) (path : List ℕ) (change : Node → Node) (owner : ℕ × ℕ × ℕ) (led : LeadsToDirectory old path)
     → ChangesAt old new led.1.number change → HasNamesOf (Some led.0) (Some (change led.0)) → is_directory (change led.0) ≡ is_directory led.0
     → owner_told (change led.0) ≡ owner → Gives old new led.1.number owner
@@ -176,7 +176,7 @@ LeadBoth tree source target = (i : ℕ) × (walk tree user source ≡ Ok i) × (
 pub grown_both : (old new : Tree) (source target : List ℕ) → Grows old new → LeadBoth old source target → LeadBoth new source target
 grown_both old new source target grows led = (led.0, grown_path old new source led.0 grows led.1, grown_path old new target led.0 grows led.2)
 
--- an accepted Link
+-- an accepted Link keeps all nodes and their names, and both paths lead to one node
 pub link_grows : (state : State) (now : ℕ) (source target : List ℕ) (done : Done) → verdict state (Link user now source target) ≡ None
     → Grows state.tree (step state (Link user now source target) done).tree × LeadBoth (step state (Link user now source target) done).tree source target
     × (list_any has_zero (source ∷ target ∷ []) ≡ false)

@@ -1,4 +1,4 @@
--- The faults of an import, and its result if there is none.
+-- The faults of an import, and its result if there is no fault.
 use Rattle.std.proofs.Common.{◌≡◌, ◌≢◌, ◌⊎◌, ℕ, List, Ok, Err, IfOk, IfErr, inl, inr, sym, ap, ◌∙◌, subst}
 use Rattle.std.specs.Prelude.{Result, ◌+◌, nat_le, if◌then◌else◌, length, true, false}
 use Rattle.ustar.specs.Read.{path_of}
@@ -68,7 +68,7 @@ planned_plans : (tree : Tree) (archive base : List ℕ) (now : ℕ) (read : Resu
 planned_plans tree archive base now (Ok all) fault e = told_plans (plan tree base now all) fault e
 planned_plans tree archive base now (Err why) fault e = let same : unread archive why ≡ fault = cc in subst IsPlans same (unread_plans archive why)
 
--- a fault of the calls that were to be made is a reason
+-- a fault of the planned calls is a reason not to import
 pub planned_reason : (edition : Edition) (image : List ℕ) (wanted : Result (List Call) ImportFault) (fault : ImportFault) → IsSound edition image
     → ((told : ImportFault) → wanted ≡ Err told → IsPlans told) → Tells wanted fault → IsReason edition image wanted fault
 unfolding IsReason
@@ -87,7 +87,7 @@ no_calls options edition image archive base now old fault sound is tells =
     (planned_plans (reads_as edition image).tree archive base now (chosen_members options (read_members archive)))
     (subst (λ (v : Mounted). Tells (calls_with options (reads_as v.edition v.image).tree archive base now) fault) is tells)
 
--- a fault of mounting is reported
+-- a fault of mounting is a reason not to import
 unmounted_reason : (edition : Edition) (image : List ℕ) (wanted : Result (List Call) ImportFault) (why : MountFault) → IsFaultOf edition image why
     → IsReason edition image wanted (unmounted why)
 unfolding IsReason
@@ -99,7 +99,7 @@ pub no_volume : (edition : Edition) (image : List ℕ) (wanted : Result (List Ca
 unfolding IsUnmounted
 no_volume edition image wanted fault is = subst (IsReason edition image wanted) (sym is.1) (unmounted_reason edition image wanted is.0 is.2)
 
--- a refused call is reported
+-- a refused call is a reason not to import
 pub stop_reason : (edition : Edition) (image : List ℕ) (calls : List Call) (new : Mounted) (fault : ImportFault) → IsSound edition image
     → IsStop (mounted edition image) calls new fault → IsReason edition image (Ok calls) fault
 unfolding IsStop IsReason
@@ -118,7 +118,7 @@ not_made options edition image archive base now old new calls fault sound is wan
     subst (λ (w : Result (List Call) ImportFault). IsReason edition image w fault) (sym here)
     (stop_reason edition image calls new fault sound (subst (λ (v : Mounted). IsStop v calls new fault) is stop))
 
--- all calls are made
+-- if all calls are made, the bytes are the result of the import
 pub all_made : (options : ImportOptions) (edition : Edition) (image archive base bytes : List ℕ) (now : ℕ) (old new : Mounted) (calls : List Call)
     → IsSound edition image → old ≡ mounted edition image → calls_with options (reads_as old.edition old.image).tree archive base now ≡ Ok calls
     → AreMade old calls new → IsConsistent new → bytes ≡ new.image
@@ -130,14 +130,14 @@ all_made options edition image archive base bytes now old new calls sound is wan
     subst (λ (w : Result (List Call) ImportFault). Imports edition image w bytes) (sym here)
     (imported edition image bytes calls new sound (subst (λ (v : Mounted). AreMade v calls new) is made) consistent left)
 
--- a fault of the plan is reported
+-- a fault of the plan is reported as an import fault
 pub plan_told : (wanted : Result (List Call) PlanFault) (why : PlanFault) (fault : ImportFault) → (why ≢ plans.NoMemory → wanted ≡ Err why)
     → fault ≡ unplanned why → Tells (told wanted) fault
 plan_told wanted why fault tells is = λ other.
     let e : wanted ≡ Err why = tells (λ (same : why ≡ plans.NoMemory). other (is ∙ ap unplanned same)) in
     ap told e ∙ ap Err (sym is)
 
--- a fault of the archive is reported
+-- a fault of the archive is reported as an import fault
 pub archive_told : (options : ImportOptions) (tree : Tree) (archive base : List ℕ) (now : ℕ) (why : ArchiveFault) (fault : ImportFault)
     → (why ≢ archives.NoMemory → read_members archive ≡ Err why) → ((fault ≡ faults.NoMemory) × TakesMemory why) ⊎ (fault ≡ unread archive why)
     → Tells (calls_with options tree archive base now) fault
@@ -147,7 +147,7 @@ archive_told options tree archive base now why fault tells (inr is) = λ other.
     let e : read_members archive ≡ Err why = tells (λ (same : why ≡ archives.NoMemory). other (is ∙ ap (unread archive) same)) in
     ap (λ (read : Result (List Member) ArchiveFault). planned tree archive base now (chosen_members options read)) e ∙ ap Err (sym is)
 
--- the result for the members of an archive is the one for the archive
+-- the calls planned for the members of an archive are the calls planned for the archive
 pub found_ok : (result : Result Planned ImportFault) (options : ImportOptions) (tree : Tree) (archive base : List ℕ) (now : ℕ) (found : List Member)
     → read_members archive ≡ Ok found → IfOk result (λ planned. told (plan tree base now (chosen options found).0) ≡ Ok planned.calls.items)
     → IfOk result (λ planned. calls_with options tree archive base now ≡ Ok planned.calls.items)
@@ -156,14 +156,14 @@ found_ok result options tree archive base now found e ok =
     subst (λ (read : Result (List Member) ArchiveFault). IfOk result (λ calls. planned tree archive base now (chosen_members options read) ≡ Ok calls.calls.items))
     (sym e) ok
 
--- and so are the paths left out
+-- the paths left out of the members of an archive are the paths left out of the archive
 pub found_left : (result : Result Planned ImportFault) (options : ImportOptions) (archive : List ℕ) (found : List Member) → read_members archive ≡ Ok found
     → IfOk result (λ planned. planned.left_out.items ≡ (chosen options found).1)
     → IfOk result (λ planned. planned.left_out.items ≡ left_out options (read_members archive))
 found_left result options archive found e left =
     subst (λ (read : Result (List Member) ArchiveFault). IfOk result (λ planned. planned.left_out.items ≡ left_out options read)) (sym e) left
 
--- and so is a fault
+-- a fault for the members of an archive is a fault for the archive
 pub found_fault : (result : Result Planned ImportFault) (options : ImportOptions) (tree : Tree) (archive base : List ℕ) (now : ℕ) (found : List Member)
     → read_members archive ≡ Ok found → IfErr result (Tells (told (plan tree base now (chosen options found).0)))
     → IfErr result (Tells (calls_with options tree archive base now))
@@ -178,7 +178,7 @@ unfolding IsStop
 stop_told old new calls refusal call fault stopped (inl none) = subst (IsStop old calls new) (sym none) tt
 stop_told old new calls refusal call fault stopped (inr is) = subst (IsStop old calls new) (sym is) stopped
 
--- an image that isn't mounted has that reason
+-- the fault of an image that isn't mounted satisfies `IsUnmounted`
 pub is_unmounted : (edition : Edition) (image : List ℕ) (why : MountFault) (fault : ImportFault) → fault ≡ unmounted why → IsFaultOf edition image why
     → IsUnmounted edition image fault
 unfolding IsUnmounted

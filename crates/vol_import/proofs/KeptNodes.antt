@@ -1,4 +1,4 @@
--- The nodes that paths led to, in a tree that has grown.
+-- The nodes that paths led to before, in a tree that has grown.
 use Rattle.std.proofs.Common.{◌≡◌, ◌≢◌, ◌∙◌, sym, ap, subst, refl, ℕ, ◌%◌, Bool, true, false, cond, List, [], ◌∷◌, Option, None, Some, Result, Ok, Err, arith}
 use Rattle.std.specs.List.{list_any}
 use Rattle.std.specs.Option.{is_some, option_map, unwrap_or}
@@ -71,7 +71,7 @@ stat_told tree path told = by (is_bad_id tree.geometry.edition 0 0) (list_any ha
         let same : stat_of i (node_at tree i) ≡ told = cc in
         record { number = i; walked = w; plain = z; is = sym same }
 
--- kinds of contents
+-- a content with a directory's map has the kind of a directory
 pub directory_kind : (content : Content) → is_some (map_of content) ≡ true → kind_of_content content ≡ kinds.Directory
 directory_kind (Directory names) e = refl
 directory_kind (Body bytes) e = absurd (cc)
@@ -87,7 +87,7 @@ regular_body (Directory names) e = absurd (cc)
 regular_body (Body bytes) e = (bytes, refl)
 regular_body (Device type addresses) e = absurd (cc)
 
--- a node is kept
+-- a node that a path leads to is kept in a grown tree
 node_kept : (old new : Tree) (path : List ℕ) (node : Node) → Grows old new → KeepsOwners old new → list_any has_zero (path ∷ []) ≡ false
     → (leads : LeadsTo old path node) → KeepsNode old new path (stat_of leads.number node)
 node_kept old new path node grows owners plain leads =
@@ -120,7 +120,7 @@ node_kept old new path node grows owners plain leads =
           read_answered new path held.0 offset len next plain here content ∙ sym (read_answered old path held.0 offset len node plain leads held.1);
     }
 
--- if each walk leads to a node, all nodes are kept
+-- if each walk leads to a node, all nodes are kept in a grown tree
 nodes_kept : (old new : Tree) → Grows old new → KeepsOwners old new → ((path : List ℕ) (i : ℕ) → walk old user path ≡ Ok i → old.nodes i ≢ None)
     → KeepsNodes old new
 nodes_kept old new grows owners there path told is =
@@ -150,7 +150,7 @@ nodes_same tree path told is = record {
   read = λ regular offset len. refl;
 }
 
--- calls that a sound volume accepts keep the nodes of its tree, if they keep owners
+-- calls that a sound volume accepts keep the nodes of its tree if they keep all owners
 pub nodes_left : (edition : Edition) (image bytes : List ℕ) (calls : List Call) (volume : Mounted) → IsSound edition image
     → AreMade (mounted edition image) calls volume → IsRun (reads_as edition image) calls (reads_as edition bytes)
     → Grows (reads_as edition image).tree (reads_as edition bytes).tree → KeepsOwners (reads_as edition image).tree (reads_as edition bytes).tree

@@ -15,7 +15,7 @@ use Rattle.vol_volume.specs.declared.calls.Call.{Call}
 use Rattle.vol_volume.specs.declared.calls.Done.{Done}
 use Rattle.vol_volume.specs.declared.calls.Record.{Record}
 
--- the result of the calls left, in reverse, from here is the result of all calls from the start
+-- making the calls that are left, from here, has the same result as making all calls from the start
 pub record GoesOn (start : Mounted) (all : List Call) (now : Mounted) (left : List Call) : Type 0 where
   pub made : (new : Mounted) → AreMade now (reverse left) new → AreMade start all new
   pub stopped : (new : Mounted) (refusal : Refusal) (call : Call) → AreStopped now (reverse left) new refusal call → AreStopped start all new refusal call
@@ -28,11 +28,11 @@ on_start start all left is =
       stopped = λ new refusal call stopped. subst (λ calls. AreStopped start calls new refusal call) same stopped;
     }
 
--- the last of the calls that are left is the next one
+-- the last of the calls left, which are reversed, is the next one
 taken : (left rest : List Call) (call : Call) → left ≡ rest ++ call ∷ [] → call ∷ reverse rest ≡ reverse left
 taken left rest call is = sym (ap reverse is ∙ reverse-append rest (call ∷ []))
 
--- one more call is accepted
+-- after one more accepted call, the result is still that of all calls
 pub on_call : (start : Mounted) (all : List Call) (now next : Mounted) (left rest : List Call) (call : Call) (done : Done) → GoesOn start all now left
     → left ≡ rest ++ call ∷ [] → Accepts now next call done → GoesOn start all next rest
 unfolding AreMade AreStopped
@@ -42,19 +42,19 @@ on_call start all now next left rest call done on is accepts = record {
       on.stopped new refusal same (subst (λ calls. AreStopped now calls new refusal same) (taken left rest call is) (inr (next, done, accepts, stopped)));
 }
 
--- a call is refused
+-- a refused call is the result of all calls
 pub on_refused : (start : Mounted) (all : List Call) (now new : Mounted) (left rest : List Call) (call same : Call) (refusal : Refusal) → GoesOn start all now left
     → left ≡ rest ++ call ∷ [] → same ≡ call → Refuses (reads_as now.edition now.image) call refusal → new ≡ now → AreStopped start all new refusal same
 unfolding AreStopped
 on_refused start all now new left rest call same refusal on is back refuses kept =
     on.stopped new refusal same (subst (λ calls. AreStopped now calls new refusal same) (taken left rest call is) (inl (back, refuses, kept)))
 
--- if no call is left, all are made
+-- if no call is left, all calls are made
 pub on_end : (start : Mounted) (all : List Call) (now : Mounted) (left : List Call) → GoesOn start all now left → left ≡ [] → AreMade start all now
 unfolding AreMade
 on_end start all now left on none = on.made now (subst (λ (calls : List Call). AreMade now (reverse calls) now) (sym none) refl)
 
--- the parts of a volume that accepted calls keep, and the records that they append to its journal
+-- the parts of a volume that accepted calls don't change, and the records that they append to its journal
 pub record Keeps (old new : Mounted) (calls : List Call) : Type 0 where
   pub edition : new.edition ≡ old.edition
   pub base : new.base ≡ old.base
@@ -63,7 +63,7 @@ pub record Keeps (old new : Mounted) (calls : List Call) : Type 0 where
   pub asked : map (λ (entry : Record). entry.call) more ≡ calls
   pub around : StaysAround (geometry_of old.edition old.image) old.image new.image
 
--- no call keeps everything
+-- no calls change nothing
 keeps_all : (old : Mounted) → Keeps old old []
 keeps_all old = record {
   edition = refl;
@@ -74,7 +74,7 @@ keeps_all old = record {
   around = record { len = refl; before = λ k h. refl; flags = λ k from to. refl; rest = λ k from to. refl; behind = λ k from. refl };
 }
 
--- one call, and then others
+-- one accepted call and then others append their records
 keeps_then : (old mid new : Mounted) (call : Call) (calls : List Call) (done : Done) → Accepts old mid call done → Keeps mid new calls
     → Keeps old new (call ∷ calls)
 keeps_then old mid new call calls done accepts rest =
@@ -97,12 +97,12 @@ unfolding AreMade
 keeps old new [] made = subst (λ volume. Keeps old volume []) (sym made) (keeps_all old)
 keeps old new (call ∷ calls) made = keeps_then old made.0 new call calls made.1 made.2 (keeps made.0 new calls made.3)
 
--- the facts about an image to which a journal leads
+-- the facts about an image after the records of a journal
 abbrev Reads : Edition → List ℕ → List Record → List ℕ → Type 0
 Reads edition base journal image =
     IsLegal (reads_as edition base) journal × (reads_as edition image ≡ after (reads_as edition base) journal) × IsSound edition image
 
--- the same, for equal values
+-- the image of a consistent volume is the one after its journal, with the volume's parts given as variables
 reads_by : (volume : Mounted) (edition : Edition) (base : List ℕ) (journal : List Record) → IsConsistent volume → volume.edition ≡ edition
     → volume.base ≡ base → volume.journal ≡ journal → Reads edition base journal volume.image
 reads_by volume edition base journal consistent same_edition same_base same_journal =
@@ -111,7 +111,7 @@ reads_by volume edition base journal consistent same_edition same_base same_jour
     (subst (λ edition. Reads edition volume.base volume.journal volume.image) same_edition
     (consistent.legal, consistent.reads, consistent.image_sound)))
 
--- the bytes of a volume that accepted all calls
+-- the bytes of a volume that accepted all calls are the result of an import
 pub imported : (edition : Edition) (image bytes : List ℕ) (calls : List Call) (volume : Mounted) → IsSound edition image
     → AreMade (mounted edition image) calls volume → IsConsistent volume → bytes ≡ volume.image → ImportsCalls edition image calls bytes
 imported edition image bytes calls volume sound made consistent is =

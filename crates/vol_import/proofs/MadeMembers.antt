@@ -1,4 +1,4 @@
--- The result of the calls of a plan: the members of the archive.
+-- The calls of a plan make the members of the archive.
 use Rattle.std.proofs.Common.{◌≡◌, ◌∙◌, sym, ap, subst, refl, ℕ, ◌%◌, ◌||◌, Bool, true, false, cond, List, [], ◌∷◌, ◌++◌, Option, None, Some, Ok, Err, arith, ap₂, inl, inr}
 use Rattle.std.specs.Prelude.{Result, reverse}
 use Rattle.std.specs.List.{find, flat_map, list_any}
@@ -52,7 +52,7 @@ use Rattle.vol_import.proofs.DraftedMembers.{AreMadeAs, IsMade, IsMadeAs, IsChec
 use Rattle.vol_import.proofs.DirectoryTimes.{HasTime, HaveTimes, are_kept, none_below, time_at, times_given}
 use Rattle.vol_import.proofs.KeptNodes.{AreSmall, directory_kind, nodes_left, small_bits}
 
--- a member found in reverse order is in the list
+-- reversing a list of members doesn't change whether one is for the directory of the import
 any_reverse : (all : List Member) → list_any is_base (reverse all) ≡ list_any is_base all
 any_reverse [] = refl
 any_reverse (member ∷ rest) =
@@ -92,7 +92,7 @@ base_steps member is = by (made_as member.header.flag member.path) refl is
     by (Ok Link) m e = absurd (cc)
     by (Err fault) m e = absurd (cc)
 
--- no other member is for no steps
+-- only a member for the directory of the import is the directory with an empty path of steps
 base_for : (member : Member) → is_for [] member ≡ is_base member
 base_for member = by (made_as member.header.flag member.path)
   where
@@ -106,7 +106,7 @@ base_for member = by (made_as member.header.flag member.path)
     by (Ok Link) = refl
     by (Err fault) = refl
 
--- if none is found, none is among the members
+-- if no member is for the directory of the import, no member is the directory with an empty path of steps
 none_among : (all : List Member) → find is_base (reverse all) ≡ None → is_among all [] ≡ false
 none_among all none = bases all ∙ (sym (any_reverse all) ∙ found_none (reverse all) none)
   where
@@ -172,7 +172,7 @@ last_given start base now (member ∷ rest) known tree perm are is none =
     by None e others is = one (is_base member) refl e is
     by (Some other) e others is = others (ap told e ∙ is)
 
--- the directory of the import already has the permissions that the last call gives it
+-- the directory of the import already has the permissions that the closing call gives it
 closing_led : (start : Tree) (base : List ℕ) (now : ℕ) (all : List Member) (known : List (List ℕ)) (tree : Tree) (perm : ℕ) → AreSmall start
     → Follows start base (is_among all) [] known start tree → AreMadeAs start base now all known tree
     → base_permissions (answer start (queries.Stat user base)) (permissions_given all) ≡ Some perm
@@ -219,7 +219,7 @@ closing_led start base now all known tree perm small follows are = by (answer st
     by (Ok (replies.Names names)) e is = given (ap says_directory e) is
     by (Err refusal) e is = given (ap says_directory e) is
 
--- so that call keeps all owners
+-- the closing call keeps all owners
 closing_follows : (start : Tree) (base : List ℕ) (now : ℕ) (all : List Member) (known : List (List ℕ)) (mid to : State) → AreSmall start
     → Follows start base (is_among all) [] known start mid.tree → AreMadeAs start base now all known mid.tree
     → IsRun mid (closing_calls now base (base_permissions (answer start (queries.Stat user base)) (permissions_given all))) to
@@ -238,7 +238,7 @@ closing_follows start base now all known mid to small follows are =
         (follows_kept start base base known mid.tree next.tree led.0 follows.stands run.2
         (subst (λ p. Gives mid.tree next.tree led.0.1.number (p, led.0.0.uid, led.0.0.gid)) (sym led.1) (chmod_gives mid now perm base run.0 led.0)))
 
--- the tree after the calls of a plan
+-- the tree after the calls of a plan: it has grown, nodes keep their owners, and all members are made with their times
 record IsPlanned (start : Tree) (base : List ℕ) (now : ℕ) (all : List Member) (tree : Tree) : Type 0 where
   pub grows : Grows start tree
   pub owners : KeepsOwners start tree
@@ -246,7 +246,7 @@ record IsPlanned (start : Tree) (base : List ℕ) (now : ℕ) (all : List Member
   pub members : AreMadeAs start base now all known tree
   pub times : HaveTimes start base now all tree
 
--- so the calls of a plan make all members
+-- the calls of a plan make all members
 plan_made : (from to : State) (base : List ℕ) (now : ℕ) (all : List Member) (calls : List Call) → plan from.tree base now all ≡ Ok calls
     → AreSmall from.tree → DotsLead from.tree → IsRun from calls to → IsPlanned from.tree base now all to.tree
 plan_made from to base now all calls is small dots run = by (plan_onto from.tree base now ([], []) all) refl is
@@ -264,7 +264,7 @@ plan_made from to base now all calls is small dots run = by (plan_onto from.tree
     permissions : Option ℕ
     permissions = base_permissions (answer from.tree (queries.Stat user base)) (permissions_given all)
 
-    -- the calls before those that give times
+    -- in state `mid`, before the calls that give times, all members are made, and only permitted effects happened
     Ends : State → Type 0
     Ends mid = (given : List ℕ → Bool) × (known : List (List ℕ)) × Follows from.tree base given [] known from.tree mid.tree
         × AreMadeAs from.tree base now all known mid.tree
@@ -301,7 +301,7 @@ plan_made from to base now all calls is small dots run = by (plan_onto from.tree
           times = last.1;
         }
 
--- a query returns the facts about the node made for a member
+-- queries return the facts about the node made for a member
 member_had : (start tree : Tree) (base : List ℕ) (now : ℕ) (member : Member) (later : List Member) (known : List (List ℕ)) (made : MadeAs × Cred)
     → DotsLead start → IsChecked member made
     → IsMade start base now member (is_among later (joined (steps_of member.path))) made known tree
@@ -386,7 +386,7 @@ run_made old new (call ∷ calls) made =
       subst (λ (s : State). IsRun s calls (reads_as new.edition new.image)) next (run_made mid new calls made.3),
     )
 
--- an import leaves all members that were read
+-- an import makes all members that were read
 pub members_left : (edition : Edition) (image archive base bytes : List ℕ) (now : ℕ) (read : Result (List Member) ArchiveFault)
     → Imports edition image (planned (reads_as edition image).tree archive base now read) bytes
     → HasArchive (reads_as edition image).tree (reads_as edition bytes).tree base now read
@@ -427,14 +427,14 @@ members_left edition image archive base bytes now = by
     by (Ok all) imports = by_plan all (plan (reads_as edition image).tree base now all) refl imports
     by (Err fault) imports = absurd imports
 
--- an import with options leaves the members that they choose
+-- an import with options makes the members that they choose
 pub chosen_had : (options : ImportOptions) (edition : Edition) (image archive base bytes : List ℕ) (now : ℕ)
     → Imports edition image (calls_with options (reads_as edition image).tree archive base now) bytes
     → HasArchive (reads_as edition image).tree (reads_as edition bytes).tree base now (chosen_members options (members archive))
 unfolding calls_with
 chosen_had options edition image archive base bytes now = members_left edition image archive base bytes now (chosen_members options (members archive))
 
--- an import leaves all members of its archive
+-- an import makes all members of its archive
 pub archive_had : (edition : Edition) (image archive base bytes : List ℕ) (now : ℕ)
     → Imports edition image (calls_to_make (reads_as edition image).tree archive base now) bytes
     → HasArchive (reads_as edition image).tree (reads_as edition bytes).tree base now (members archive)

@@ -29,19 +29,19 @@ pub record LeadsTo (tree : Tree) (path : List ℕ) (node : Node) : Type 0 where
   pub walked : walk tree user path ≡ Ok number
   pub stands : tree.nodes number ≡ Some node
 
--- the node found by a name in the map of a search
+-- the i-number for a name in the map that a search returned
 abbrev pub found_in : Result Names Refusal → List ℕ → Result ℕ Refusal
 found_in names name = and_then names (λ (ns : Names). ok_or (get ns name) refusals.NoEntry)
 
--- the node that user 0 finds by a name in a node, if there is one
+-- the i-number that user 0 finds for a name in a node, if there is one
 abbrev pub found : Option Node → List ℕ → Result ℕ Refusal
 found node name = found_in (searched node) name
 
--- a node has all names of another one, for the same i-numbers
+-- the node `new` has all names of `old`, for the same i-numbers
 abbrev pub HasNamesOf : Option Node → Option Node → Type 0
 HasNamesOf old new = (name : List ℕ) (i : ℕ) → found old name ≡ Ok i → found new name ≡ Ok i
 
--- nodes keep their names
+-- all nodes keep their names
 abbrev pub KeepsNames : (ℕ → Option Node) → (ℕ → Option Node) → Type 0
 KeepsNames old new = (x : ℕ) → HasNamesOf (old x) (new x)
 
@@ -55,7 +55,7 @@ searched_names (Some node) names is = by node.content is
     by (Directory ns) is = cc
     by (Device type addresses) is = absurd (cc)
 
--- if nodes keep their names, a walk leads to where it led
+-- if all nodes keep their names, a walk leads to the same node as before
 pub walk_kept : (old new : Tree) → KeepsNames old.nodes new.nodes → (names : List (List ℕ)) (x i : ℕ) → walk_from old user x names ≡ Ok i
     → walk_from new user x names ≡ Ok i
 walk_kept old new keeps [] x i is = is
@@ -82,16 +82,16 @@ no_names (Some node) new plain name i is = by node.content plain is
     by (Directory names) plain is = cc
     by (Device type addresses) plain is = cc
 
--- the facts about a node, except its links and the times that reading it and changing its i-node set
+-- the facts about a node, except its links and the times set by reading it and by changing its i-node
 abbrev pub told : Node → Content × ℕ × ℕ × ℕ × ℕ × ℕ
 told node = (node.content, node.permissions, node.uid, node.gid, node.size, node.modified)
 
--- a node stays: a directory is still one, and other nodes keep their facts
+-- a node is kept: a directory is still one, and any other node keeps its facts
 abbrev pub Stays : Option Node → Option Node → Type 0
 Stays old new = (node : Node) → old ≡ Some node
     → (next : Node) × (new ≡ Some next) × (is_directory next ≡ is_directory node) × (is_directory node ≡ false → told next ≡ told node)
 
--- a node stays, with its names
+-- a node is kept with its names
 abbrev pub Keeps : Option Node → Option Node → Type 0
 Keeps old new = HasNamesOf old new × Stays old new
 
@@ -107,14 +107,14 @@ keeps_then old mid new first second = (
       (two.0, two.1, two.2 ∙ one.2, λ plain. two.3 (one.2 ∙ plain) ∙ one.3 plain),
 )
 
--- if there is no node, everything is kept
+-- if there was no node, there is nothing to keep
 pub keeps_none : (old new : Option Node) → old ≡ None → Keeps old new
 keeps_none old new none = (
   no_names old new (ap (λ n. is_directory (unwrap_or n no_node)) none),
   λ x is. let both : None ≡ Some x = sym none ∙ is in absurd (cc),
 )
 
--- replacing a node by one with the same property
+-- if a reflexive relation holds between a node and its replacement, it holds for all nodes
 pub set_keeps : (P : Option Node → Option Node → Type 0) → ((node : Option Node) → P node node) → (nodes : ℕ → Option Node) (i : ℕ) (node : Option Node)
     → P (nodes i) node → (x : ℕ) → P (nodes x) (set_at nodes i node x)
 set_keeps P same nodes i node has x = elim (cases_eq x i) [
@@ -127,11 +127,11 @@ set_keeps P same nodes i node has x = elim (cases_eq x i) [
 pub nodes_set : (nodes : ℕ → Option Node) (i : ℕ) (node : Option Node) → Keeps (nodes i) node → (x : ℕ) → Keeps (nodes x) (set_at nodes i node x)
 nodes_set = set_keeps Keeps keeps_same
 
--- or one that has its names
+-- replacing a node by one that has its names keeps all names
 pub names_set : (nodes : ℕ → Option Node) (i : ℕ) (node : Option Node) → HasNamesOf (nodes i) node → KeepsNames nodes (set_at nodes i node)
 names_set = set_keeps HasNamesOf (λ node name j is. is)
 
--- so if it alone changes, a path that led to it leads to it
+-- if only a node that isn't a directory changes, a path to it still leads to it
 pub leads_still : (old new : Tree) (path : List ℕ) (i : ℕ) (changed : Option Node) → root new ≡ root old → new.nodes ≡ set_at old.nodes i changed
     → is_directory (unwrap_or (old.nodes i) no_node) ≡ false → walk old user path ≡ Ok i → (walk new user path ≡ Ok i) × (new.nodes i ≡ changed)
 leads_still old new path i changed same nodes plain is = (
@@ -144,7 +144,7 @@ leads_still old new path i changed same nodes plain is = (
 abbrev pub owner_told : Node → ℕ × ℕ × ℕ
 owner_told node = (node.permissions, node.uid, node.gid)
 
--- a node keeps its permissions, its owner and its group
+-- a node keeps its permissions, owner and group
 abbrev pub KeepsOwner : Option Node → Option Node → Type 0
 KeepsOwner old new = (node : Node) → old ≡ Some node → (next : Node) × (new ≡ Some next) × (owner_told next ≡ owner_told node)
 
@@ -160,7 +160,7 @@ owner_then old mid new first second x is =
 pub owner_none : (old new : Option Node) → old ≡ None → KeepsOwner old new
 owner_none old new none x is = let both : None ≡ Some x = sym none ∙ is in absurd (cc)
 
--- a change that keeps the owner
+-- a change that keeps the owner of every node keeps the owner of this one
 pub owner_kept : (change : Node → Node) → ((x : Node) → owner_told (change x) ≡ owner_told x) → (node : Option Node)
     → KeepsOwner node (option_map change node)
 owner_kept change same None x is = (x, is, refl)
@@ -190,12 +190,12 @@ entered_owner : (now size i : ℕ) (name : List ℕ) (node : Option Node) → Ke
 entered_owner now size i name node =
     owner_kept (λ x. record (modified now x) { content = change_names (λ names. insert names name i) x.content; size = size }) (λ x. refl) node
 
--- the result of a map with one more name
+-- looking up a word in a map with one more name gives the new number for this name, and the old result for all others
 pub get_insert : (names : Names) (name word : List ℕ) (i : ℕ) → get (insert names name i) word ≡ cond (bytes_eq word name) (Some i) (get names word)
 get_insert names name word i =
     find-put (slice_cmp nat_cmp) nat_list_cmp_total word name i names ∙ ap (λ b. cond b (Some i) (get names word)) (is_eq-slice_cmp word name)
 
--- a name that a map doesn't have hides none of it
+-- inserting a name that a map doesn't have hides no other name
 insert_has : (names : Names) (name word : List ℕ) (i j : ℕ) → get names name ≡ None → ok_or (get names word) refusals.NoEntry ≡ Ok j
     → ok_or (get (insert names name i) word) refusals.NoEntry ≡ Ok j
 insert_has names name word i j fresh is =
@@ -247,7 +247,7 @@ entered_keeps now size i name node names held fresh = (entered_has now size i na
           λ plain. let both : true ≡ false = sym (searched_directory node names held) ∙ (ap is_directory same ∙ plain) in absurd (true≢false both),
         )
 
--- the name is found then
+-- a name that was entered is found
 pub entered_found : (now size i : ℕ) (name : List ℕ) (node : Option Node) (names : Names) → searched node ≡ Ok names
     → found (entered now size name i node) name ≡ Ok i
 entered_found now size i name None names held = cc
@@ -260,7 +260,7 @@ entered_found now size i name (Some node) names held = by node.content held
         (get_insert ns name name i ∙ ap (λ b. cond b (Some i) (get ns name)) (bytes_same name name refl))
     by (Device type addresses) held = cc
 
--- a node has no other names than another one, except `.` and `..`
+-- the node `new` has no names that `old` doesn't have, except `.` and `..`
 abbrev pub HasNoOthers : Option Node → Option Node → Type 0
 HasNoOthers old new = (word : List ℕ) (j : ℕ) → found new word ≡ Ok j → is_dots word ≡ false → found old word ≡ Ok j
 
@@ -271,7 +271,7 @@ pub linked_others : (now : ℕ) (node : Option Node) → HasNoOthers node (linke
 linked_others now None word j is plain = is
 linked_others now (Some node) word j is plain = is
 
--- a new name is the only other one
+-- entering a name adds only this name
 entered_others : (now size i : ℕ) (name : List ℕ) (node : Option Node) (word : List ℕ) (j : ℕ) → found (entered now size name i node) word ≡ Ok j
     → (found node word ≡ Ok j) ⊎ (word ≡ name)
 entered_others now size i name None word j is = inl is
@@ -289,7 +289,7 @@ entered_others now size i name (Some node) word j is = by node.content is
         split names (bytes_eq word name) refl (sym (ap (λ (o : Option ℕ). ok_or o refusals.NoEntry) (get_insert names name word i)) ∙ is)
     by (Device type addresses) is = absurd (cc)
 
--- an entry for i in directory d, of a name that d doesn't have
+-- an entry for `i` was made in directory `d`, under a name that `d` didn't have
 pub record EntersName (old new : ℕ → Option Node) (d : ℕ) (name : List ℕ) (i : ℕ) : Type 0 where
   pub kept : (x : ℕ) → Keeps (old x) (new x)
   pub owners : (x : ℕ) → KeepsOwner (old x) (new x)
@@ -313,7 +313,7 @@ name_entered nodes now size d i name names held fresh = record {
   ];
 }
 
--- other changes before and after that
+-- changes before and after an entry that add no names leave it the only new one
 pub enters_between : (old put mid new : ℕ → Option Node) (d : ℕ) (name : List ℕ) (i : ℕ) → ((x : ℕ) → HasNoOthers (old x) (put x)) → EntersName put mid d name i
     → ((x : ℕ) → HasNoOthers (mid x) (new x)) → (x : ℕ) (word : List ℕ) (j : ℕ) → found (new x) word ≡ Ok j → is_dots word ≡ false
     → (found (old x) word ≡ Ok j) ⊎ ((x ≡ d) × (word ≡ name))
@@ -322,14 +322,14 @@ enters_between old put mid new d name i first enters last x word j is plain = el
   | inr made ↦ inr made
 ]
 
--- node i is made, with a number that had none, and has a name in directory d
+-- node `i` was made where there was none, with a name in directory `d`
 pub record MakesName (old new : ℕ → Option Node) (d : ℕ) (name : List ℕ) (i : ℕ) (node : Node) : Type 0 where
   pub free : old i ≡ None
   pub apart : i ≢ d
   pub enters : EntersName old new d name i
   pub stands : new i ≡ Some node
 
--- a node in place of none, and then an entry for it
+-- making a node where there was none, and then its entry, makes a name
 pub name_made : (nodes : ℕ → Option Node) (now size d i : ℕ) (name : List ℕ) (node : Node) (names : Names) → nodes i ≡ None → searched (nodes d) ≡ Ok names
     → get names name ≡ None → HasNoOthers None (Some node)
     → MakesName nodes (set_at (set_at nodes i (Some node)) d (entered now size name i (set_at nodes i (Some node) d))) d name i node
@@ -353,7 +353,7 @@ name_made nodes now size d i name node names free held fresh bare =
       stands = set_beside put d (entered now size name i (put d)) i apart ∙ set_here nodes i (Some node);
     }
 
--- and then one more link to its directory
+-- one more link to the directory doesn't change that
 pub name_linked : (old mid : ℕ → Option Node) (now d i : ℕ) (name : List ℕ) (node : Node) → MakesName old mid d name i node
     → MakesName old (set_at mid d (linked now (mid d))) d name i node
 name_linked old mid now d i name node makes =
@@ -371,7 +371,7 @@ name_linked old mid now d i name node makes =
       stands = set_beside mid d (linked now (mid d)) i makes.apart ∙ makes.stands;
     }
 
--- a tree keeps the nodes of another one, with their names
+-- the tree `new` keeps the nodes of `old`, with their names
 pub record Grows (old new : Tree) : Type 0 where
   pub rooted : root new ≡ root old
   pub kept : (x : ℕ) → Keeps (old.nodes x) (new.nodes x)
@@ -389,11 +389,11 @@ grows_then old mid new first second = record {
 abbrev pub KeepsOwners : Tree → Tree → Type 0
 KeepsOwners old new = (x : ℕ) → KeepsOwner (old.nodes x) (new.nodes x)
 
--- a path still leads where it led
+-- a path still leads to the same node
 pub grown_path : (old new : Tree) (path : List ℕ) (i : ℕ) → Grows old new → walk old user path ≡ Ok i → walk new user path ≡ Ok i
 grown_path old new path i grows is = path_kept old new path i grows.rooted (λ x. (grows.kept x).0) is
 
--- a path leads to a new name
+-- a path that ends with a new name leads to its node
 pub path_made : (old new : Tree) (path : List ℕ) (d i : ℕ) (name : List ℕ) → root new ≡ root old → Reaches old path d name
     → EntersName old.nodes new.nodes d name i → walk new user path ≡ Ok i
 unfolding walk
@@ -405,7 +405,7 @@ path_made old new path d i name same reached enters =
     (walk_kept old new (λ x. (enters.kept x).0) reached.front (root old) d reached.walks)
     ∙ ap (λ (r : Result ℕ Refusal). and_then r (λ j. Ok j)) enters.named)))
 
--- a name is entered, with which a path ends
+-- the last name of a path was entered
 pub record EntersAt (old new : Tree) (path : List ℕ) : Type 0 where
   pub directory : ℕ
   pub name : List ℕ
@@ -414,11 +414,11 @@ pub record EntersAt (old new : Tree) (path : List ℕ) : Type 0 where
   pub reached : Reaches old path directory name
   pub enters : EntersName old.nodes new.nodes directory name number
 
--- and its node is made
+-- the last name of a path was entered, and its node was made
 abbrev pub MakesAt : Tree → Tree → List ℕ → Node → Type 0
 MakesAt old new path node = (at : EntersAt old new path) × MakesName old.nodes new.nodes at.directory at.name at.number node
 
--- a tree grows by a path to a node where there was none
+-- a tree has grown by a path to a new node
 pub record Gains (old new : Tree) (path : List ℕ) (node : Node) : Type 0 where
   pub leads : LeadsTo new path node
   pub free : old.nodes leads.number ≡ None

@@ -1,4 +1,4 @@
--- The node at the path of an accepted call: a new one, or a file with other bytes; and the answers about it.
+-- The node at the path of an accepted call, which is new or a file with new bytes; and the answers to queries about it.
 use Rattle.std.proofs.Common.{◌≡◌, ◌≢◌, ◌∙◌, sym, ap, subst, refl, ℕ, ◌+◌, max, Bool, true, false, cond, not, nat_lt, nat_le, ◌&&◌, List, [], ◌∷◌, ◌++◌, length, Option, None, Some, Result, Ok, Err, arith}
 use Rattle.std.specs.List.{list_any}
 use Rattle.std.specs.Option.{is_none, is_some, ok_or, option_map, unwrap_or}
@@ -35,7 +35,7 @@ use Rattle.vol_import.proofs.TreeWalks.{Reaches, passes_first, reaches, parent_f
 use Rattle.vol_import.specs.MadeMembers.{HasFile}
 use Rattle.vol_import.proofs.MadeNames.{LeadsTo, MakesAt, MakesName, Gains, HasNoOthers, entered, get_insert, searched_names, path_kept, leads_still, name_made, name_linked, gains_made}
 
--- a number that can be taken has no node
+-- a free i-number has no node
 free_none : (tree : Tree) (i : ℕ) → is_free_number tree i ≡ true → tree.nodes i ≡ None
 free_none t i free =
     let above = and_parts (nat_lt (root t) i) (nat_le i t.geometry.last_inode && is_none (t.nodes i)) free in
@@ -56,7 +56,7 @@ bare_directory edition now perm i d word j is plain =
     let both : Err refusals.NoEntry ≡ Ok j = sym (ap (λ (o : Option ℕ). ok_or o refusals.NoEntry) none) ∙ is in
     absurd (cc)
 
--- the entry that a call makes for a new node in the directory that its path leads to
+-- a call that makes a node makes its name in the directory that its path leads to
 makes_name : (state : State) (path : List ℕ) (now size d i : ℕ) (name : List ℕ) (node : Node) → Reaches state.tree path d name → TakesName state d name
     → is_free_number state.tree i ≡ true → HasNoOthers None (Some node)
     → MakesName state.tree.nodes (set_at (set_at state.tree.nodes i (Some node)) d (entered now size name i (set_at state.tree.nodes i (Some node) d))) d name i node
@@ -64,13 +64,13 @@ makes_name state path now size d i name node reached takes free bare =
     name_made state.tree.nodes now size d i name node reached.names (free_none state.tree i free) reached.searched
     (ap (λ names. get names name) (sym (searched_names (state.tree.nodes d) reached.names reached.searched)) ∙ takes.fresh) bare
 
--- so its path ends with a new name
+-- if a call makes a name, its path ends with it
 made_at : (old new : Tree) (path : List ℕ) (d i : ℕ) (name : List ℕ) (node : Node) → root new ≡ root old → Reaches old path d name
     → MakesName old.nodes new.nodes d name i node → MakesAt old new path node
 made_at old new path d i name node same reached makes =
     (record { directory = d; name = name; number = i; rooted = same; reached = reached; enters = makes.enters }, makes)
 
--- a path leads to a regular file of these bytes
+-- a path leads to a regular file with these bytes
 pub record Holds (tree : Tree) (path bytes : List ℕ) : Type 0 where
   pub node : Node
   pub leads : LeadsTo tree path node
@@ -110,7 +110,7 @@ create_holds state now perm path done accepted free = record {
   size = refl;
 }
 
--- an accepted Mkdir makes a directory there
+-- an accepted Mkdir makes a directory at its path
 pub mkdir_makes : (state : State) (now perm : ℕ) (path : List ℕ) (done : Done) → verdict state (Mkdir user now path perm) ≡ None
     → MayAnswer state (Mkdir user now path perm) done
     → (names : Names) × MakesAt state.tree (step state (Mkdir user now path perm) done).tree path
@@ -143,17 +143,17 @@ mkdir_gains state now perm path done accepted free =
     let made = mkdir_makes state now perm path done accepted free in
     (made.0, gains_made state.tree _ path _ made.1)
 
--- if no check of a node fails, there is one
+-- if no check of a node fails, there is a node
 pub node_found : (walked : Result ℕ Refusal) (others : ℕ → Option Refusal) → of_node walked others ≡ None → (i : ℕ) × (walked ≡ Ok i) × (others i ≡ None)
 node_found (Ok i) others e = (i, refl, e)
 node_found (Err refusal) others e = absurd (cc)
 
--- a test that was passed, and those after it
+-- if a list of tests has no refusal, its first test is false, and the others have none
 pub not_first : (test : Bool) (refusal : Refusal) (others : Option Refusal) → cond test (Some refusal) others ≡ None → (test ≡ false) × (others ≡ None)
 not_first true refusal others e = absurd (cc)
 not_first false refusal others e = (refl, e)
 
--- a node without bytes, if there is one
+-- a node without its bytes, if there is one
 abbrev emptied : ℕ → Option Node → Option Node
 emptied now node = option_map (λ (x : Node). record (modified now x) { content = Body []; size = 0 }) node
 
@@ -167,7 +167,7 @@ empty_holds tree now path i (Some node) led some = record {
   size = refl;
 }
 
--- an accepted Truncate to no bytes leaves an empty file at its path, if each walk of it in the new tree leads to a node
+-- an accepted Truncate to 0 bytes leaves an empty file at its path, if every walk of the path in the new tree leads to a node
 pub truncate_holds : (state : State) (now : ℕ) (path : List ℕ) (done : Done) → verdict state (Truncate user now path 0) ≡ None
     → ((i : ℕ) → walk (step state (Truncate user now path 0) done).tree user path ≡ Ok i → (step state (Truncate user now path 0) done).tree.nodes i ≢ None)
     → Holds (step state (Truncate user now path 0) done).tree path []
@@ -182,11 +182,11 @@ truncate_holds state now path done accepted there =
     (λ some. empty_holds new now path led.0 (state.tree.nodes led.0)
     (leads_still state.tree new path led.0 (emptied now (state.tree.nodes led.0)) refl refl plain led.1) (some led.0)) there
 
--- bytes that are put into no bytes are the result
+-- splicing bytes into no bytes at 0 gives these bytes
 pub spliced_all : (bytes : List ℕ) → spliced [] 0 bytes ≡ bytes
 spliced_all bytes = ap (λ rest. bytes ++ rest) (drop_all (0 + length bytes) [] (omega arith)) ∙ append-nil bytes
 
--- bytes that are written to the front of an empty file are its contents
+-- bytes written at the start of an empty file are its contents
 written_holds : (state : State) (now : ℕ) (path bytes : List ℕ) (held : Holds state.tree path [])
     → Holds (at_time now (after_write state now 0 bytes held.leads.number)).tree path bytes
 written_holds state now path [] held = record {
@@ -213,7 +213,7 @@ written_holds state now path (byte ∷ bytes) held =
       size = omega (arith, size);
     }
 
--- so an accepted Write leaves them in an empty file
+-- an accepted Write to an empty file leaves its bytes there
 pub write_holds : (state : State) (now : ℕ) (path bytes : List ℕ) (done : Done) → Holds state.tree path []
     → Holds (step state (Write user now path 0 bytes) done).tree path bytes
 unfolding changed_by
@@ -221,12 +221,12 @@ write_holds state now path bytes done held =
     subst (λ (r : Result ℕ Refusal). Holds (at_time now (on_node state r (after_write state now 0 bytes))).tree path bytes) (sym held.leads.walked)
     (written_holds state now path bytes held)
 
--- user 0 has numbers of both editions
+-- user 0 and group 0 are within the limits of both editions
 pub good_id : (edition : Edition) → is_bad_id edition 0 0 ≡ false
 good_id V6 = refl
 good_id V7 = refl
 
--- a query of which no check fails is answered
+-- a query whose checks all pass is answered
 answered : (bad zero : Bool) (walked : Result ℕ Refusal) (others : ℕ → Option Refusal) (reply : ℕ → Reply) (i : ℕ) → bad ≡ false → zero ≡ false
     → walked ≡ Ok i → others i ≡ None
     → refused_or (cond bad (Some refusals.BadId) (cond zero (Some refusals.Invalid) (of_node walked others))) (reply_at walked reply) ≡ Ok (reply i)
@@ -251,7 +251,7 @@ stat_answered tree path node plain leads =
     walk_answered tree path leads.number plain leads.walked
     ∙ ap (λ (n : Option Node). Ok (replies.Stat (stat_of leads.number (unwrap_or n no_node)))) leads.stands
 
--- the checks of a file that is read, by its node and its content
+-- the checks of a Read for a node
 abbrev read_tests : Node → Option Refusal
 read_tests node =
     first_of ((is_directory node, refusals.IsDirectory) ∷ (is_device node.content, refusals.NotRegular) ∷ (not (grants may_read user node), refusals.Access) ∷ [])
@@ -259,7 +259,7 @@ read_tests node =
 abbrev held_tests : Content → Option Refusal
 held_tests held = first_of ((is_some (map_of held), refusals.IsDirectory) ∷ (is_device held, refusals.NotRegular) ∷ (false, refusals.Access) ∷ [])
 
--- a Read gives the bytes of a file
+-- a Read returns the bytes of the file that a path leads to
 pub read_answered : (tree : Tree) (path bytes : List ℕ) (offset len : ℕ) (node : Node) → list_any has_zero (path ∷ []) ≡ false → LeadsTo tree path node
     → node.content ≡ Body bytes → answer tree (queries.Read user path offset len) ≡ Ok (replies.Bytes (read_bytes bytes offset len))
 unfolding query_refusal reply_of
@@ -271,7 +271,7 @@ read_answered tree path bytes offset len node plain leads content =
     ∙ (ap (λ (n : Option Node). Ok (replies.Bytes (read_bytes (body_of (unwrap_or n no_node).content) offset len))) leads.stands
     ∙ ap (λ (c : Content). Ok (replies.Bytes (read_bytes (body_of c) offset len))) content)
 
--- so it is one that holds them
+-- a path that leads to a regular file with these bytes satisfies `HasFile`
 abbrev pub holds_file : (tree : Tree) (path bytes : List ℕ) → list_any has_zero (path ∷ []) ≡ false → Holds tree path bytes → HasFile tree path bytes
 holds_file tree path bytes plain held = record {
   stat = stat_of held.leads.number held.node;

@@ -23,18 +23,18 @@ use Rattle.vol_import.proofs.MadeNames.{Gains, Stays, grown_path, grows_then, no
 use Rattle.vol_import.proofs.MadePaths.{create_gains, mkdir_gains, spliced_all}
 use Rattle.vol_import.proofs.TreeWalks.{passes_first}
 
--- a state leads to another one by accepted calls, and in each on the way `.` leads to its directory
+-- a state leads to another by accepted calls, and in each state on the way `.` leads to its own directory
 abbrev pub IsRun : State → List Call → State → Type 0
 IsRun old [] new = new ≡ old
 IsRun old (call ∷ calls) new =
     (done : Done) × MayFollow old (record { call = call; done = done }) × DotsLead (step old call done).tree × IsRun (step old call done) calls new
 
--- in the last too
+-- in the last state too, `.` leads to its own directory
 pub run_dots : (old new : State) (calls : List Call) → DotsLead old.tree → IsRun old calls new → DotsLead new.tree
 run_dots old new [] dots run = subst (λ (s : State). DotsLead s.tree) (sym run) dots
 run_dots old new (call ∷ calls) dots run = run_dots (step old call run.0) new calls run.2 run.3
 
--- calls in two parts
+-- a run of calls consists of a run of its first part and a run of its second part
 pub run_parts : (old new : State) (front rest : List Call) → IsRun old (front ++ rest) new
     → (mid : State) × IsRun old front mid × IsRun mid rest new
 run_parts old new [] rest run = (old, refl, run)
@@ -42,13 +42,13 @@ run_parts old new (call ∷ front) rest run =
     let parts = run_parts (step old call run.0) new front rest run.3 in
     (parts.0, (run.0, run.1, run.2, parts.1), parts.2)
 
--- a new node with these facts
+-- a tree has gained a new node with these facts
 pub record GainsNode (old new : Tree) (path : List ℕ) (facts : Content × ℕ × ℕ × ℕ × ℕ × ℕ) : Type 0 where
   pub node : Node
   pub gains : Gains old new path node
   pub facts_told : told node ≡ facts
 
--- bytes are written to a new file
+-- writing bytes to a new file gives it these bytes
 written : (old : Tree) (now : ℕ) (path bytes : List ℕ) (perm : ℕ) (mid new : State) → GainsNode old mid.tree path (Body [], perm, 0, 0, 0, now)
     → IsRun mid (write_calls now path bytes) new → GainsNode old new.tree path (Body bytes, perm, 0, 0, length bytes, now)
 written old now path [] perm mid new has run =
@@ -67,7 +67,7 @@ written old now path (byte ∷ bytes) perm mid new has run =
           ∙ (ap (λ bytes. (Body bytes, perm, 0, 0, max 0 (0 + length all), now)) (spliced_all all) ∙ ap (λ size. (Body all, perm, 0, 0, size, now)) most);
     })
 
--- a new node gets its owner
+-- giving a new node its owner sets its owner and group
 owned : (old : Tree) (now : ℕ) (path : List ℕ) (owner : Cred) (content : Content) (perm size : ℕ) (mid new : State)
     → GainsNode old mid.tree path (content, perm, 0, 0, size, now) → IsRun mid (owner_calls now path owner) new
     → GainsNode old new.tree path (content, perm, owner.uid, owner.gid, size, now)
@@ -88,7 +88,7 @@ owned old now path owner content perm size mid new has = by (owner.uid == 0 && o
           facts_told = ap (λ (f : Content × ℕ × ℕ × ℕ × ℕ × ℕ). (f.0, f.1, owner.uid, owner.gid, f.4, f.5)) has.facts_told;
         })
 
--- the calls of a regular file make it
+-- the calls for a regular file make it
 pub file_made : (old new : State) (now perm : ℕ) (path content : List ℕ) (owner : Cred) → IsRun old (file_calls now path perm owner content) new
     → GainsNode old.tree new.tree path (Body content, perm % 4096, owner.uid, owner.gid, length content, now) × (list_any has_zero (path ∷ []) ≡ false)
 unfolding verdict
@@ -102,7 +102,7 @@ file_made old new now perm path content owner run =
       (passes_first old.tree path _ run.1.accepted).no_zero,
     )
 
--- the calls of a directory make it
+-- the calls for a directory make it
 pub directory_made : (old new : State) (now perm : ℕ) (path : List ℕ) (owner : Cred) → IsRun old (directory_calls now path perm owner) new
     → (names : Names) × GainsNode old.tree new.tree path (Directory names, perm % 4096, owner.uid, owner.gid, 32, now)
     × (list_any has_zero (path ∷ []) ≡ false)
@@ -115,14 +115,14 @@ directory_made old new now perm path owner run =
       (passes_first old.tree path _ run.1.accepted).no_zero,
     )
 
--- a directory gets other permissions
+-- a Chmod gives a directory its permissions
 pub chmod_gives : (old : State) (now perm : ℕ) (path : List ℕ) (done : Done) (led : LeadsToDirectory old.tree path)
     → Gives old.tree (step old (calls.Chmod user now path perm) done).tree led.1.number (perm % 4096, led.0.uid, led.0.gid)
 chmod_gives old now perm path done led =
     directory_given old.tree _ path (with_permission_bits now perm) _ led (chmod_changes old now path perm done led.1.number led.1.walked)
     (λ name i is. is) refl refl
 
--- and another owner
+-- a Chmod and a Chown give a directory its permissions and its owner
 pub given_gives : (old new : State) (now perm : ℕ) (path : List ℕ) (owner : Cred) (led : LeadsToDirectory old.tree path)
     → IsRun old (given_calls now path perm owner) new
     → Gives old.tree new.tree led.1.number (perm % 4096, owner.uid, owner.gid) × (list_any has_zero (path ∷ []) ≡ false)

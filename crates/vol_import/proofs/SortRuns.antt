@@ -1,4 +1,4 @@
--- Sorting the members of an archive, one after another; without options all are chosen.
+-- Sorting the members of an archive, one after another; without options all members are chosen.
 use Rattle.std.proofs.Common.{◌≡◌, ℕ, Bool, false, List, [], ◌∷◌, ◌++◌, Option, Ok, Err, sym, ap, refl, subst, ◌∙◌}
 use Rattle.std.specs.Prelude.{Result, reverse}
 use Rattle.std.proofs.lemmas.List.{append_assoc, append-nil, reverse-append}
@@ -15,7 +15,7 @@ use Rattle.vol_import.specs.declared.faults.ArchiveFault.{ArchiveFault}
 use Rattle.vol_import.specs.declared.import_options.ImportOptions.{ImportOptions}
 use Rattle.vol_import.specs.declared.make.ImportFault.{ImportFault}
 
--- one more member is sorted
+-- after one more member, the result is still that of sorting all members
 pub on_member : (options : ImportOptions) (front next : Sorted) (left rest : List Member) (member : Member) (all : Sorted)
     → sort_onto options front (reverse left) ≡ all → left ≡ rest ++ member ∷ [] → next ≡ sorted_with options front member
     → sort_onto options next (reverse rest) ≡ all
@@ -24,13 +24,13 @@ on_member options front next left rest member all on is done =
     ap (λ (other : Sorted). sort_onto options other (reverse rest)) done
     ∙ sym (ap (sort_onto options front) (ap reverse is ∙ reverse-append rest (member ∷ []))) ∙ on
 
--- if no member is left, all are sorted
+-- if no member is left, the members so far are sorted
 pub on_end : (options : ImportOptions) (front : Sorted) (left : List Member) (all : Sorted)
     → sort_onto options front (reverse left) ≡ all → left ≡ [] → front ≡ all
 unfolding sort_onto
 on_end options front left all on none = sym (ap (λ (left : List Member). sort_onto options front (reverse left)) none) ∙ on
 
--- without options members are sorted into those to make
+-- without options all members are sorted into the members to make
 plainly : (known left : List (List ℕ)) (front all : List Member) → sort_onto plain (known, left, front) all ≡ (known, left, front ++ all)
 unfolding sort_onto
 plainly known left front [] = ap (λ (front : List Member). (known, left, front)) (sym (append-nil front))
@@ -43,19 +43,19 @@ pub all_chosen : (read : Result (List Member) ArchiveFault) → chosen_members p
 all_chosen (Ok all) = ap (λ (front : Sorted). Ok (parts_of front).0) (plainly [] [] [] all)
 all_chosen (Err fault) = refl
 
--- and the calls are those that make all
+-- without options the calls are those that make all members
 pub plain_calls : (tree : Tree) (archive base : List ℕ) (now : ℕ) → calls_with plain tree archive base now ≡ calls_to_make tree archive base now
 unfolding calls_with calls_to_make
 plain_calls tree archive base now = ap (planned tree archive base now) (all_chosen (members archive))
 
--- so an import without options makes those
+-- the result of an import without options is that of making all members
 pub plain_made : (edition : Edition) (image archive base bytes : List ℕ) (now : ℕ)
     → Imports edition image (calls_with plain (reads_as edition image).tree archive base now) bytes
     → Imports edition image (calls_to_make (reads_as edition image).tree archive base now) bytes
 plain_made edition image archive base bytes now =
     subst (λ (wanted : Result (List Call) ImportFault). Imports edition image wanted bytes) (plain_calls (reads_as edition image).tree archive base now)
 
--- and has the same faults
+-- a reason not to import without options is a reason not to make all members
 pub plain_reason : (edition : Edition) (image archive base : List ℕ) (now : ℕ) (fault : ImportFault)
     → IsReason edition image (calls_with plain (reads_as edition image).tree archive base now) fault
     → IsReason edition image (calls_to_make (reads_as edition image).tree archive base now) fault
@@ -69,7 +69,7 @@ unfolding sort_onto
 unskipped owner known left front [] = refl
 unskipped owner known left front (member ∷ rest) = unskipped owner known left (front ++ owned_by owner member ∷ []) rest
 
--- and none of an archive
+-- no path of an archive is left out if special files aren't
 pub none_left : (options : ImportOptions) (read : Result (List Member) ArchiveFault) → options.skip_special ≡ false → left_out options read ≡ []
 none_left options (Ok all) is =
     subst (λ (skip : Bool). (chosen (record { skip_special = skip; owner = options.owner }) all).1 ≡ []) (sym is) (unskipped options.owner [] [] [] all)

@@ -1,4 +1,4 @@
--- Walks in the tree of a sound image: the parent that they lead to, and the node at their end.
+-- Walks in the tree of a sound image: the parent directory, and the node at the end.
 use Rattle.std.proofs.Common.{◌≡◌, ◌≢◌, ◌∙◌, sym, ap, refl, ℕ, ◌≤◌, Bool, true, false, cond, List, [], ◌∷◌, ◌++◌, Option, None, Some, Ok, Err, arith}
 use Rattle.std.specs.Prelude.{Result}
 use Rattle.std.specs.List.{list_any}
@@ -22,15 +22,15 @@ use Rattle.vol_layout.specs.Ids.{is_bad_id}
 use Rattle.vol_volume.specs.Verdict.{then_others, of_parent}
 use Rattle.vol_volume.proofs.NodeReadings.{used_first, used_some}
 
--- the map that user 0 may search in a node, if there is one
+-- the map of a node in which user 0 may search, or a refusal
 abbrev pub searched : Option Node → Result Names Refusal
 searched node = option_map_or (search_node user) node (Err refusals.NotDirectory)
 
--- the map to search in a content, if it has one
+-- the map of a content, or a refusal if it has none
 abbrev pub named : Option Names → Result Names Refusal
 named held = option_map_or (λ (names : Names). Ok names) held (Err refusals.NotDirectory)
 
--- if no check of a call fails, its first checks are passed
+-- if all checks of a call pass, its first checks pass
 pub record PassesFirst (tree : Tree) (paths : List (List ℕ)) (others : Option Refusal) : Type 0 where
   pub good_id : is_bad_id tree.geometry.edition 0 0 ≡ false
   pub no_zero : list_any has_zero paths ≡ false
@@ -49,11 +49,11 @@ pub passes_first : (tree : Tree) (path : List ℕ) (others : Option Refusal) →
     → PassesFirst tree (path ∷ []) others
 passes_first tree path = passes_paths tree (path ∷ [])
 
--- the names before the last, with one more name before them
+-- the names before the last one and the last one, after one more name is put in front
 abbrev longer : List ℕ → Option (List (List ℕ) × List ℕ) → List (List ℕ) × List ℕ
 longer name parts = option_map_or (λ (some : List (List ℕ) × List ℕ). (name ∷ some.0, some.1)) parts ([], name)
 
--- names, cut before the last
+-- only an empty list of names has no last name
 pub split_none : (names : List (List ℕ)) → split_last names ≡ None → names ≡ []
 split_none [] e = refl
 split_none (name ∷ names) e = cc
@@ -77,7 +77,7 @@ split_is (name ∷ names) front last e = by (split_last names) (λ none. split_n
         let same : more ≡ whole = cc in
         ap (λ ns. name ∷ ns) (some parts refl) ∙ ap (λ (some : List (List ℕ) × List ℕ). some.0 ++ some.1 ∷ []) same
 
--- a path leads to directory d by all its names but the last
+-- all names of a path but the last lead to directory `d`
 pub record Reaches (tree : Tree) (path : List ℕ) (d : ℕ) (name : List ℕ) : Type 0 where
   pub front : List (List ℕ)
   pub parts : components path ≡ front ++ name ∷ []
@@ -85,18 +85,18 @@ pub record Reaches (tree : Tree) (path : List ℕ) (d : ℕ) (name : List ℕ) :
   pub names : Names
   pub searched : search tree user d ≡ Ok names
 
--- if no check of the parent fails, there is one
+-- if all checks of the parent pass, there is a parent
 pub parent_found : (parent : Option (Result (ℕ × List ℕ) Refusal)) (bare : Refusal) (tests : ℕ → List ℕ → List (Bool × Refusal)) → of_parent parent bare tests ≡ None
     → (d : ℕ) × (name : List ℕ) × (parent ≡ Some (Ok (d, name)))
 parent_found None bare tests e = cc
 parent_found (Some (Err refusal)) bare tests e = cc
 parent_found (Some (Ok found)) bare tests e = (found.0, found.1, refl)
 
--- the parent and the last name
+-- the i-number of the parent and the last name
 abbrev at_parent : List ℕ → ℕ → Result (ℕ × List ℕ) Refusal
 at_parent last i = Ok (i, last)
 
--- the directory to which a walk to the parent leads
+-- a walk to the parent directory leads to it by all names of the path but the last
 pub reaches : (t : Tree) (path : List ℕ) (d : ℕ) (name : List ℕ) → walk_parent t user path ≡ Some (Ok (d, name)) → Reaches t path d name
 unfolding walk_parent
 reaches t path d name e = by_parts (split_last (components path)) refl e
@@ -135,7 +135,7 @@ in_use_node : (geometry : Geometry) (image : List ℕ) (i : ℕ) → Rules3To7 g
 in_use_node geometry image i files used none =
     false≢true (sym (used_some geometry image i (used_first geometry image i used) files used) ∙ ap is_none none)
 
--- the map of a search is that of a directory
+-- a map that a search returns is the map of a directory
 pub searched_slots : (geometry : Geometry) (image : List ℕ) (x : ℕ) (others : Names) → search (tree geometry image) user x ≡ Ok others
     → IsDirectory geometry image x × (names_of (slots geometry image x) ≡ others)
 searched_slots geometry image x others is =
@@ -166,7 +166,7 @@ searched_slots geometry image x others is =
     by_kind low high kinds.Special e = other (λ d. let f : kinds.Special ≡ kinds.Directory = sym e ∙ d in cc) low high
     by_kind low high kinds.Odd e = other (λ d. let f : kinds.Odd ≡ kinds.Directory = sym e ∙ d in cc) low high
 
--- so every name of a tree leads to a node
+-- every name in the tree of an image that satisfies rules 3 to 7 leads to a node
 pub names_lead : (geometry : Geometry) (image : List ℕ) → Rules3To7 geometry image → HasEntries geometry image
     → (x : ℕ) (others : Names) (word : List ℕ) (y : ℕ) → search (tree geometry image) user x ≡ Ok others → get others word ≡ Some y
     → (tree geometry image).nodes y ≢ None
@@ -174,12 +174,12 @@ names_lead geometry image files entries x others word y is found =
     let here = searched_slots geometry image x others is in
     in_use_node geometry image y files (found_in_use geometry image x word y entries here.0 (ap (λ ns. get ns word) here.1 ∙ found))
 
--- and the root is one
+-- the root of an image that satisfies rules 3 to 7 is a node
 pub root_there : (geometry : Geometry) (image : List ℕ) → Rules3To7 geometry image → (tree geometry image).nodes (root (tree geometry image)) ≢ None
 unfolding tree
 root_there geometry image rules = in_use_node geometry image (constants geometry.edition).root rules (IsInUse-root geometry image rules)
 
--- so a walk from a node leads to one
+-- a walk that starts at a node leads to a node, if every name does
 walk_leads : (t : Tree) → ((x : ℕ) (others : Names) (word : List ℕ) (y : ℕ) → search t user x ≡ Ok others → get others word ≡ Some y → t.nodes y ≢ None)
     → (names : List (List ℕ)) (x i : ℕ) → t.nodes x ≢ None → walk_from t user x names ≡ Ok i → t.nodes i ≢ None
 walk_leads t leads [] x i some is = λ none. let same : x ≡ i = cc in some (ap t.nodes same ∙ none)
@@ -198,7 +198,7 @@ walk_leads t leads (name ∷ names) x i some is =
     by (Ok others) more searched is = by_found others (get others name) more searched refl is
     by (Err refusal) more searched is = absurd (cc)
 
--- and so does the walk of a path
+-- the walk of a path in an image that satisfies rules 3 to 7 leads to a node
 pub node_there : (geometry : Geometry) (image path : List ℕ) (i : ℕ) → Rules3To7 geometry image → HasEntries geometry image
     → walk (tree geometry image) user path ≡ Ok i → (tree geometry image).nodes i ≢ None
 unfolding walk

@@ -18,7 +18,8 @@ use Rattle.vol_import.specs.declared.member_check.MemberFault.{MemberFault}
 use Rattle.vol_import.specs.declared.faults.ArchiveFault.{ArchiveFault}
 use Rattle.vol_import.specs.declared.archive_members.Member.{Member}
 
--- a path leads to a regular file of these bytes: a Stat says that it is one, and a Read from any offset on returns them (stat, read)
+-- a path leads to a regular file with these bytes: a Stat says that it is a regular file, and a Read from any offset returns the bytes after the
+-- offset (stat, read)
 pub record HasFile (tree : Tree) (path bytes : List ℕ) : Type 0 where
   pub stat : Stat
   pub found : answer tree (queries.Stat user path) ≡ Ok (replies.Stat stat)
@@ -33,7 +34,8 @@ pub record IsGiven (stat : Stat) (now : ℕ) (member : Member) : Type 0 where
   pub gid : stat.gid ≡ member.header.gid
   pub modified : stat.modified ≡ moment_of member.header now
 
--- a path leads to a file as its member describes it: its bytes, permissions, owner and group, and the time of its last change (POSIX, ustar interchange format)
+-- a path leads to a file with the bytes, permissions, owner and group of its member, and the time of the member's last change (POSIX, ustar
+-- interchange format)
 pub record HasMemberFile (tree : Tree) (path : List ℕ) (now : ℕ) (member : Member) : Type 0 where
   pub file : HasFile tree path member.content
   pub given : IsGiven file.stat now member
@@ -55,7 +57,7 @@ pub record HasMemberDirectory (old tree : Tree) (path : List ℕ) (now : ℕ) (m
   pub directory : HasDirectory tree path
   pub given : is_directory (answer old (queries.Stat user path)) ≡ false → again ≡ false → IsGiven directory.stat now member
 
--- true if a member that is made so, at this path, is the directory with these steps (this project)
+-- true if a member with this result of `made_as`, at this path, is the directory with these steps (this project)
 abbrev pub is_made_at : Result MadeAs MemberFault → List ℕ → List ℕ → Bool
 is_made_at (Ok Directory) path steps = bytes_eq (joined (steps_of path)) steps
 is_made_at (Ok File) path steps = false
@@ -66,11 +68,12 @@ is_made_at (Err fault) path steps = false
 abbrev pub is_for : List ℕ → Member → Bool
 is_for steps member = is_made_at (made_as member.header.flag member.path) member.path steps
 
--- true if one of some members is the directory with these steps (this project)
+-- true if some member is the directory with these steps (this project)
 abbrev pub is_among : List Member → List ℕ → Bool
 is_among all steps = list_any (is_for steps) all
 
--- a tree made from another one has a member below a path, as the node that it is to be made as; it has none that can't be made (POSIX, ustar interchange format)
+-- a tree made from an older one has, below a path, the node of a member, of the kind in this result; the result isn't a fault (POSIX, ustar
+-- interchange format)
 abbrev pub HasMember : Tree → Tree → List ℕ → ℕ → Member → List Member → Result MadeAs MemberFault → Type 0
 HasMember old tree base now member later (Ok File) = HasMemberFile tree (below base member.path) now member
 HasMember old tree base now member later (Ok Link) = HasLink tree (below base member.link) (below base member.path)
@@ -78,7 +81,7 @@ HasMember old tree base now member later (Ok Directory) =
     HasMemberDirectory old tree (below base member.path) now member (is_among later (joined (steps_of member.path)))
 HasMember old tree base now member later (Err fault) = ⊥
 
--- a tree has each of some members (POSIX, ustar interchange format)
+-- a tree has each of these members (POSIX, ustar interchange format)
 unfoldable pub HasMembers : Tree → Tree → List ℕ → ℕ → List Member → Type 0
 HasMembers old tree base now [] = Unit {0}
 HasMembers old tree base now (member ∷ later) =
@@ -102,27 +105,29 @@ pub record KeepsNode (old tree : Tree) (path : List ℕ) (told : Stat) : Type 0 
 abbrev pub KeepsNodes : Tree → Tree → Type 0
 KeepsNodes old tree = (path : List ℕ) (told : Stat) → answer old (queries.Stat user path) ≡ Ok (replies.Stat told) → KeepsNode old tree path told
 
--- a path ends with a name, after others that lead to directory d (Lions on namei)
+-- a path ends with a name, and the names before it lead to directory `d` (Lions on namei)
 pub record EndsIn (tree : Tree) (d : ℕ) (name path : List ℕ) : Type 0 where
   pub front : List (List ℕ)
   pub parts : components path ≡ front ++ name ∷ []
   pub leads : walk_from tree user (root tree) front ≡ Ok d
 
--- each name in a directory of a tree is in one of another, for the same i-number, or is `.` or `..`, or one of some paths ends with it in this directory (Lions on namei)
+-- each name in a directory of the new tree is a name in the old tree, for the same i-number, or is `.` or `..`, or is the last name of one of the
+-- paths in this directory (Lions on namei)
 abbrev pub AddsNames : Tree → Tree → List (List ℕ) → Type 0
 AddsNames old new paths = (d : ℕ) (name : List ℕ) (i : ℕ) → find_in new user d name ≡ Ok i → is_dots name ≡ false
     → (find_in old user d name ≡ Ok i) ⊎ Any (EndsIn new d name) paths
 
--- the paths of the directories on a path, given by its steps from a path below another on (this project)
+-- the paths of the directories on a path, given by its steps below another path (this project)
 abbrev pub way_paths : List ℕ → List ℕ → List (List ℕ) → List (List ℕ)
 way_paths base path [] = []
 way_paths base path (step ∷ steps) = (base ++ (path ++ 47 ∷ step)) ∷ way_paths base (path ++ 47 ∷ step) steps
 
--- the paths that a member has made below another: those of the directories on the way to it, and its own (this project)
+-- the paths that a member has made below another path: the directories on its path, and the path itself (this project)
 abbrev pub made_paths : List ℕ → Member → List (List ℕ)
 made_paths base member = way_paths base [] (way_of (steps_of member.path)) ++ below base member.path ∷ []
 
--- a tree has all members of an archive, which can be read, keeps the nodes of another one, and has no names but those of that one and of the members' paths (POSIX, ustar interchange format)
+-- an archive can be read, and a tree has all its members, keeps the nodes of the old tree, and has no names but those of the old tree and of the
+-- members' paths (POSIX, ustar interchange format)
 unfoldable pub HasArchive : Tree → Tree → List ℕ → ℕ → Result (List Member) ArchiveFault → Type 0
 HasArchive old tree base now (Ok all) = HasMembers old tree base now all × KeepsNodes old tree × AddsNames old tree (flat_map (made_paths base) all)
 HasArchive old tree base now (Err fault) = ⊥

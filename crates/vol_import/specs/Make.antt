@@ -29,24 +29,25 @@ use Rattle.vol_import.specs.declared.import_plan.PlanFault.{PlanFault}
 use Rattle.vol_import.specs.declared.import_plan.PlanFault.TheVariants as plans
 use Rattle.vol_import.specs.declared.archive_members.Member.{Member}
 
--- a volume accepts calls, each in turn, and becomes another one (this project)
+-- a volume accepts all calls in order, and becomes another one (this project)
 unfoldable pub AreMade : Mounted → List Call → Mounted → Type 0
 AreMade old [] new = new ≡ old
 AreMade old (call ∷ calls) new = (between : Mounted) × (done : Done) × Accepts old between call done × AreMade between calls new
 
--- a volume accepts the first of some calls, each in turn, and then this one of them is refused, which changes nothing (this project)
+-- a volume accepts the first of the calls in order, and then refuses this one, which changes nothing (this project)
 unfoldable pub AreStopped : Mounted → List Call → Mounted → Refusal → Call → Type 0
 AreStopped old [] new refusal stopped = ⊥
 AreStopped old (call ∷ calls) new refusal stopped =
     ((stopped ≡ call) × Refuses (reads_as old.edition old.image) call refusal × (new ≡ old))
     ⊎ ((between : Mounted) × (done : Done) × Accepts old between call done × AreStopped between calls new refusal stopped)
 
--- the fault of a volume that isn't mounted, for this reason (this project)
+-- the import fault of a volume that isn't mounted for this reason (this project)
 abbrev pub unmounted : MountFault → ImportFault
 unmounted (mounts.Unsound rule) = faults.Unsound rule
 unmounted mounts.NoMemory = faults.NoMemory
 
--- the fault of a block at a position of an archive that isn't a header, for this reason; a member whose header has a field without a number is named (this project)
+-- the import fault of a block at a position of an archive that isn't a header for this reason; if a field of a member's header isn't a number, the
+-- fault names the member (this project)
 abbrev pub unheaded : List ℕ → ℕ → HeaderFault → ImportFault
 unheaded archive at headers.Magic = faults.Archive (archives.Header at headers.Magic)
 unheaded archive at headers.Checksum = faults.Archive (archives.Header at headers.Checksum)
@@ -54,7 +55,7 @@ unheaded archive at headers.Number =
     if nat_le (at + 512) (length archive) then faults.Member (path_of (block_at archive at)) members.Number
     else faults.Archive (archives.Header at headers.Number)
 
--- the fault of an archive that can't be read, for this reason (this project)
+-- the import fault of an archive that can't be read for this reason (this project)
 abbrev pub unread : List ℕ → ArchiveFault → ImportFault
 unread archive archives.NoMemory = faults.NoMemory
 unread archive (archives.Truncated at) = faults.Archive (archives.Truncated at)
@@ -63,16 +64,16 @@ unread archive (archives.Header at fault) = unheaded archive at fault
 unread archive (archives.Records at) = faults.Archive (archives.Records at)
 unread archive (archives.Unsupported at) = faults.Archive (archives.Unsupported at)
 
--- reporting a fault takes memory: that of a header with a field without a number, for the member's path (this project)
+-- reporting a fault takes memory: if a field of a header isn't a number, for the member's path (this project)
 abbrev pub TakesMemory : ArchiveFault → Type 0
 TakesMemory fault = (at : ℕ) × (fault ≡ archives.Header at headers.Number)
 
--- the fault of an archive for whose members there are no calls, for this reason (this project)
+-- the import fault of an archive whose members no calls can make for this reason (this project)
 abbrev pub unplanned : PlanFault → ImportFault
 unplanned (plans.Member path cause) = faults.Member path cause
 unplanned plans.NoMemory = faults.NoMemory
 
--- a plan, or its fault as an import reports it (this project)
+-- the calls of a plan, or its fault as an import fault (this project)
 abbrev pub told : Result (List Call) PlanFault → Result (List Call) ImportFault
 told (Ok calls) = Ok calls
 told (Err fault) = Err (unplanned fault)
@@ -86,7 +87,7 @@ planned tree archive base now (Err fault) = Err (unread archive fault)
 unfoldable pub calls_to_make : Tree → List ℕ → List ℕ → ℕ → Result (List Call) ImportFault
 calls_to_make tree archive base now = planned tree archive base now (read_members archive)
 
--- a fault is the one to report, or NoMemory (this project)
+-- a fault is this one, or NoMemory (this project)
 abbrev pub Tells : {X : Type 0} → Result X ImportFault → ImportFault → Type 0
 Tells wanted fault = fault ≢ faults.NoMemory → wanted ≡ Err fault
 
@@ -102,7 +103,8 @@ IsStop old calls new (faults.Unsound rule) = ⊥
 IsStop old calls new (faults.Archive fault) = ⊥
 IsStop old calls new (faults.Member path cause) = ⊥
 
--- the bytes are a sound image that reads as the tree that the calls, accepted in turn, make of a sound image's; only bytes that the calls change are changed (this project)
+-- the bytes are a sound image that reads as the tree of the old image, which is sound, after the calls, all accepted in order; only bytes that the
+-- calls change are changed (this project)
 pub record ImportsCalls (edition : Edition) (image : List ℕ) (calls : List Call) (bytes : List ℕ) : Type 0 where
   pub mounts : IsSound edition image
   pub journal : List Record
@@ -115,17 +117,18 @@ pub record ImportsCalls (edition : Edition) (image : List ℕ) (calls : List Cal
   pub made : AreMade (mounted edition image) calls volume
   pub left : volume.image ≡ bytes
 
--- the bytes are those that all calls to be made make of a sound image (this project)
+-- the bytes are the result of making all these calls on a sound image (this project)
 unfoldable pub Imports : Edition → List ℕ → Result (List Call) ImportFault → List ℕ → Type 0
 Imports edition image (Ok calls) bytes = ImportsCalls edition image calls bytes
 Imports edition image (Err fault) bytes = ⊥
 
--- one of the calls to be made on a sound image is refused, after those before it were accepted (this project)
+-- one of these calls on a sound image is refused, after the calls before it were accepted (this project)
 abbrev pub IsRefused : Edition → List ℕ → Result (List Call) ImportFault → Refusal → Call → Type 0
 IsRefused edition image (Ok calls) refusal call = (volume : Mounted) × AreStopped (mounted edition image) calls volume refusal call
 IsRefused edition image (Err fault) refusal call = ⊥
 
--- a reason not to import: the first rule that the image breaks; in a sound image the reason why there are no calls, or a refusal of one of them; or NoMemory (this project)
+-- a reason not to import: the first rule that the image breaks; for a sound image the reason why there are no calls, or a refusal of one of them; or
+-- NoMemory (this project)
 unfoldable pub IsReason : Edition → List ℕ → Result (List Call) ImportFault → ImportFault → Type 0
 IsReason edition image wanted (faults.Unsound rule) = IsLeastBroken true edition image rule
 IsReason edition image wanted (faults.Archive fault) = IsSound edition image × (wanted ≡ Err (faults.Archive fault))

@@ -36,7 +36,8 @@ is_special flags.Global = false
 is_special flags.VolumeLabel = false
 is_special (flags.Other c) = false
 
--- true if a member with this link path and type flag is a special file, or a link to one of some paths, those of the members left out before it (this project)
+-- true if a member with this link path and type flag is a special file, or a link to one of these paths, which are those of the members left out
+-- before it (this project)
 abbrev pub is_skipped : List (List ℕ) → List ℕ → TypeFlag → Bool
 is_skipped known link (flags.Member members.Link) = is_known known link
 is_skipped known link flag = is_special flag
@@ -45,31 +46,32 @@ is_skipped known link flag = is_special flag
 abbrev pub is_left_out : ImportOptions → List (List ℕ) → Member → Bool
 is_left_out options known member = options.skip_special && is_skipped known member.link member.header.flag
 
--- a member as that of an owner, if there is one (POSIX, ustar interchange format)
+-- a member with this owner, if there is one (POSIX, ustar interchange format)
 abbrev pub owned_by : Option Cred → Member → Member
 owned_by None member = member
 owned_by (Some owner) member = record member { header = record member.header { uid = owner.uid; gid = owner.gid } }
 
--- sorted members: the paths of those left out, in the order of their bytes and in that of the archive, and the other members (this project)
+-- sorted members: the paths of the members left out, both in the order of their bytes and in the order of the archive, and the other members (this
+-- project)
 abbrev pub Sorted : Type 0
 Sorted = List (List ℕ) × List (List ℕ) × List Member
 
--- sorted members with one more: its path if it is left out, else the member, given to its owner (this project)
+-- sorted members with one more: only its path if it is left out, else the member with its new owner (this project)
 abbrev pub sorted_with : ImportOptions → Sorted → Member → Sorted
 sorted_with options front member =
     if is_left_out options front.0 member then (with_path front.0 member.path, front.1 ++ member.path ∷ [], front.2)
     else (front.0, front.1, front.2 ++ owned_by options.owner member ∷ [])
 
--- sorted members with more, each in turn (this project)
+-- sorted members with more members added in order (this project)
 unfoldable pub sort_onto : ImportOptions → Sorted → List Member → Sorted
 sort_onto options front [] = front
 sort_onto options front (member ∷ rest) = sort_onto options (sorted_with options front member) rest
 
--- the members to make of sorted ones, and the paths of those left out (this project)
+-- the members to make, and the paths of the members left out (this project)
 abbrev pub parts_of : Sorted → List Member × List (List ℕ)
 parts_of front = (front.2, front.1)
 
--- the members of an archive that the options choose, and the paths of those left out, both in its order (this project)
+-- the members of an archive that the options choose, and the paths of the members left out, both in the archive's order (this project)
 abbrev pub chosen : ImportOptions → List Member → List Member × List (List ℕ)
 chosen options all = parts_of (sort_onto options ([], [], []) all)
 
@@ -78,7 +80,7 @@ abbrev pub chosen_members : ImportOptions → Result (List Member) ArchiveFault 
 chosen_members options (Ok all) = Ok (chosen options all).0
 chosen_members options (Err fault) = Err fault
 
--- the paths of the members of an archive that the options leave out, in its order; none if it can't be read (this project)
+-- the paths of the members of an archive that the options leave out, in the archive's order; none if it can't be read (this project)
 abbrev pub left_out : ImportOptions → Result (List Member) ArchiveFault → List (List ℕ)
 left_out options (Ok all) = (chosen options all).1
 left_out options (Err fault) = []
@@ -87,7 +89,7 @@ left_out options (Err fault) = []
 unfoldable pub calls_with : ImportOptions → Tree → List ℕ → List ℕ → ℕ → Result (List Call) ImportFault
 calls_with options tree archive base now = planned tree archive base now (chosen_members options (read_members archive))
 
--- the chosen members, and the paths of those left out, as contracts see them (this project)
+-- the chosen members, and the paths of the members left out, as contracts see them (this project)
 abbrev pub parted : Chosen → List Member × List (List ℕ)
 parted parts = (parts.members.items, parts.left_out.items)
 

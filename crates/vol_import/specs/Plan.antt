@@ -35,12 +35,12 @@ use Rattle.vol_import.specs.declared.import_plan.PlanFault.{PlanFault}
 use Rattle.vol_import.specs.declared.import_plan.PlanFault.TheVariants as plans
 use Rattle.vol_import.specs.declared.archive_members.Member.{Member}
 
--- the next step after an Ok; a fault ends it (this project)
+-- the result of the next step after an Ok, or the fault (this project)
 abbrev pub and_then : {X Y : Type 0} → Result X MemberFault → (X → Result Y MemberFault) → Result Y MemberFault
 and_then (Ok x) next = next x
 and_then (Err fault) next = Err fault
 
--- true if a path is longer than the 4,096 bytes that a member's may have (this project)
+-- true if a path is longer than the 4,096 bytes that a member's path may have (this project)
 abbrev pub is_long_path : List ℕ → Bool
 is_long_path path = nat_lt 4096 (length path)
 
@@ -56,7 +56,7 @@ is_long name = nat_lt 14 (length name)
 abbrev pub is_dot_dot : List ℕ → Bool
 is_dot_dot name = bytes_eq name (codes "..")
 
--- a path that can be made: it is at most 4,096 bytes long, no name in it is longer than 14 bytes, and none is `..` (this project)
+-- checks a path: it is at most 4,096 bytes long, no name in it is longer than 14 bytes, and none is `..` (this project)
 abbrev pub check_path : List ℕ → Result (Unit {0}) MemberFault
 check_path path =
     if is_long_path path then Err faults.LongPath
@@ -68,7 +68,8 @@ check_path path =
 abbrev pub ends_in_slash : List ℕ → Bool
 ends_in_slash path = nat_lt 0 (length path) && (slice_index path (length path - 1) == 47)
 
--- the node that a member is made as; a regular file whose path ends in a slash is a directory, as in archives before POSIX; no call makes a special file, and the editions have no symbolic links (POSIX, ustar interchange format)
+-- the kind of node that a member becomes; a regular file whose path ends in a slash is a directory, as in archives before POSIX; no call makes a
+-- special file, and the editions have no symbolic links (POSIX, ustar interchange format)
 abbrev pub made_as : TypeFlag → List ℕ → Result MadeAs MemberFault
 made_as (flags.Member members.File) path = Ok (if ends_in_slash path then Directory else File)
 made_as (flags.Member members.Directory) path = Ok Directory
@@ -84,7 +85,8 @@ made_as flags.Global path = Err faults.Kind
 made_as flags.VolumeLabel path = Err faults.Kind
 made_as (flags.Other c) path = Err faults.Kind
 
--- the path that a member links to, if it is a link, can be walked: it is at most 4,096 bytes long, no name in it is longer than 14 bytes, and none is `..` (this project)
+-- checks the link path of a member, if it is a link: it is at most 4,096 bytes long, no name in it is longer than 14 bytes, and none is `..` (this
+-- project)
 abbrev pub check_link : MadeAs → List ℕ → Result (Unit {0}) MemberFault
 check_link Link link =
     if is_long_path link then Err faults.LongLinkPath
@@ -94,12 +96,13 @@ check_link Link link =
 check_link File link = Ok tt
 check_link Directory link = Ok tt
 
--- the owner and the group of a member, if they are numbers of the edition (manual section 5, file system)
+-- the owner and the group of a member, if both are within the edition's limits (manual section 5, file system)
 abbrev pub owner_of : Edition → ReadHeader → Result Cred MemberFault
 owner_of edition header =
     if is_bad_id edition header.uid header.gid then Err faults.Owner else Ok (record { uid = header.uid; gid = header.gid })
 
--- the node that a member is made as in a volume of an edition, and its owner, or the first fault: of its kind, its path, the path that it links to, its owner (this project)
+-- the kind of node that a member becomes in a volume of an edition, and its owner, or the first fault in its kind, its path, its link path, and its
+-- owner (this project)
 unfoldable pub check : Edition → Member → Result (MadeAs × Cred) MemberFault
 check edition member =
     and_then (made_as member.header.flag member.path) (λ made.
@@ -115,7 +118,7 @@ below base path = base ++ 47 ∷ path
 abbrev pub permissions_of : ReadHeader → ℕ
 permissions_of header = header.permissions % 4096
 
--- the time of a member's calls: that of its last change if it fits 32 bits (this project)
+-- the time of a member's calls: the time of its last change if it fits 32 bits, else `now` (this project)
 abbrev pub moment_of : ReadHeader → ℕ → ℕ
 moment_of header now = if nat_lt header.modified 4294967296 then header.modified else now
 
@@ -142,7 +145,7 @@ is_directory_kind kinds.Special = false
 is_directory_kind kinds.Free = false
 is_directory_kind kinds.Odd = false
 
--- true if the answer for a path says that it is a directory (this project)
+-- true if the answer to a Stat of a path says that it is a directory (this project)
 abbrev pub is_directory : Result Reply Refusal → Bool
 is_directory (Ok (replies.Stat stat)) = is_directory_kind stat.kind
 is_directory (Ok (replies.Bytes bytes)) = false
@@ -169,16 +172,16 @@ is_there tree base path = is_directory (answer tree (queries.Stat user (base ++ 
 abbrev pub is_missing : Tree → List ℕ → List (List ℕ) → List ℕ → Bool
 is_missing tree base known path = not (is_known known path) && not (is_there tree base path)
 
--- the call that makes a directory on the way to a member, with permissions 0755 (this project)
+-- the call that makes a directory on the path of a member, with permissions 0755 (this project)
 abbrev pub way_call : ℕ → List ℕ → Call
 way_call now path = calls.Mkdir user now path 0o755
 
--- a draft with a directory on the way to a member, made if it is missing; it is then known (this project)
+-- a draft with a directory on the path of a member, which is made if it is missing and is then known (this project)
 abbrev pub with_way_directory : Tree → List ℕ → ℕ → List ℕ → Drafted → Drafted
 with_way_directory tree base now path drafted =
     (with_path drafted.0 path, drafted.1 ++ (if is_missing tree base drafted.0 path then way_call now (base ++ path) ∷ [] else []))
 
--- true if a name leads to another directory: `.` doesn't (manual section 5, directories)
+-- true if a name leads to another directory; `.` doesn't (manual section 5, directories)
 abbrev pub is_step : List ℕ → Bool
 is_step name = not (bytes_eq name (codes "."))
 
@@ -186,21 +189,21 @@ is_step name = not (bytes_eq name (codes "."))
 abbrev pub steps_of : List ℕ → List (List ℕ)
 steps_of path = filter is_step (components path)
 
--- the steps except the last: those that lead to the parent (this project)
+-- the steps except the last, which lead to the parent (this project)
 abbrev pub way_of : List (List ℕ) → List (List ℕ)
 way_of steps = take (length steps - 1) steps
 
--- a path of steps, each after a slash (Lions on namei)
+-- the path made of steps, each after a slash (Lions on namei)
 abbrev pub joined : List (List ℕ) → List ℕ
 joined steps = flat_map (λ step. 47 ∷ step) steps
 
--- a draft with the directories on a path, given by its steps from a path below another on, each in turn (this project)
+-- a draft with the directories on a path in order; the path is given by its steps below another path (this project)
 unfoldable pub with_way : Tree → List ℕ → ℕ → List ℕ → List (List ℕ) → Drafted → Drafted
 with_way tree base now path [] drafted = drafted
 with_way tree base now path (step ∷ steps) drafted =
     with_way tree base now (path ++ 47 ∷ step) steps (with_way_directory tree base now (path ++ 47 ∷ step) drafted)
 
--- a draft with calls added at its end (this project)
+-- a draft with more calls at its end (this project)
 abbrev pub with_calls : Drafted → List Call → Drafted
 with_calls drafted more = (drafted.0, drafted.1 ++ more)
 
@@ -208,11 +211,12 @@ with_calls drafted more = (drafted.0, drafted.1 ++ more)
 abbrev pub directory_calls : ℕ → List ℕ → ℕ → Cred → List Call
 directory_calls moment path perm owner = calls.Mkdir user moment path perm ∷ [] ++ owner_calls moment path owner
 
--- the calls that give a directory made by earlier calls other permissions and another owner (this project)
+-- the calls that give a directory made by earlier calls new permissions and a new owner (this project)
 abbrev pub given_calls : ℕ → List ℕ → ℕ → Cred → List Call
 given_calls moment path perm owner = calls.Chmod user moment path perm ∷ calls.Chown user moment path owner.uid owner.gid ∷ []
 
--- a draft with a member that is a directory, at a path below another: one that exists stays, one that earlier calls make is given its permissions and its owner, and else it is made; it is then known (this project)
+-- a draft with a member that is a directory, at a path below another: an existing directory is left as it is; a directory made by earlier calls is
+-- given the member's permissions and owner; otherwise it is made. It is then known (this project)
 abbrev pub with_directory : Tree → List ℕ → List ℕ → ℕ → List ℕ → ℕ → Cred → Drafted → Drafted
 with_directory tree base steps moment path perm owner drafted = (
   with_path drafted.0 steps,
@@ -222,7 +226,7 @@ with_directory tree base steps moment path perm owner drafted = (
       else directory_calls moment path perm owner),
 )
 
--- a draft with the calls that make a member as a node of some kind, for its owner, after the directories on the way to it (this project)
+-- a draft with the calls that make a member as a node of this kind, for its owner, after the directories on its path (this project)
 abbrev pub with_made : MadeAs → Tree → List ℕ → ℕ → Member → Cred → Drafted → Drafted
 with_made File tree base now member owner drafted =
     with_calls drafted (file_calls (moment_of member.header now) (below base member.path) (permissions_of member.header) owner member.content)
@@ -236,7 +240,8 @@ with_made Link tree base now member owner drafted =
 abbrev pub is_crowded : Tree → Drafted → Bool
 is_crowded tree drafted = nat_lt tree.geometry.last_inode (length drafted.0)
 
--- a draft with the directories on the way to a member, and then the calls that make it, for its owner; if these directories are more than the volume has i-nodes, the member can't be made, and the fault has its path in the volume, as that of a call does (this project)
+-- a draft with the directories on the path of a member, and then the calls that make it, for its owner; if these directories are more than the volume
+-- has i-nodes, the member can't be made, and the fault has its path in the volume, like the fault of a refused call (this project)
 abbrev pub with_member : Tree → List ℕ → ℕ → Member → MadeAs × Cred → Drafted → Result Drafted PlanFault
 with_member tree base now member made drafted =
     if is_crowded tree drafted then Err (plans.Member (below base member.path) faults.NoInode) else Ok (with_made made.0 tree base now member made.1 drafted)
@@ -247,12 +252,12 @@ onto tree base now drafted member (Ok made) =
     with_member tree base now member made (with_way tree base now [] (way_of (steps_of member.path)) drafted)
 onto tree base now drafted member (Err cause) = Err (plans.Member member.path cause)
 
--- the next step after an Ok; a fault ends it (this project)
+-- the result of the next step after an Ok, or the fault (this project)
 abbrev pub and_next : {X Y : Type 0} → Result X PlanFault → (X → Result Y PlanFault) → Result Y PlanFault
 and_next (Ok x) next = next x
 and_next (Err fault) next = Err fault
 
--- the calls of a draft, followed by those that make members, each in turn (this project)
+-- the calls of a draft, followed by the calls that make members, in order (this project)
 unfoldable pub plan_onto : Tree → List ℕ → ℕ → Drafted → List Member → Result (List Call) PlanFault
 plan_onto tree base now drafted [] = Ok drafted.1
 plan_onto tree base now drafted (member ∷ rest) =
@@ -269,32 +274,34 @@ is_directory_at (Err fault) path = false
 abbrev pub is_base : Member → Bool
 is_base member = is_directory_at (made_as member.header.flag member.path) member.path
 
--- the permissions that the last member for the directory of the import gives it, if one does (this project)
+-- the permissions of the last member for the directory of the import, if there is one (this project)
 abbrev pub permissions_given : List Member → Option ℕ
 permissions_given all = option_map (λ (member : Member). permissions_of member.header) (find is_base (reverse all))
 
--- the permissions of a node that is a directory; else those given (this project)
+-- the permissions of a node that is a directory, else the given ones (this project)
 abbrev pub permissions_told : Kind → ℕ → Option ℕ → Option ℕ
 permissions_told kind permissions given = if is_directory_kind kind then Some permissions else given
 
--- the permissions of the directory of the import, by the answer for it; if it doesn't exist, those given (this project)
+-- the permissions of the directory of the import, from the answer to a Stat of it; the given ones if it doesn't exist (this project)
 abbrev pub base_permissions : Result Reply Refusal → Option ℕ → Option ℕ
 base_permissions (Ok (replies.Stat stat)) given = permissions_told stat.kind stat.permissions given
 base_permissions (Ok (replies.Bytes bytes)) given = given
 base_permissions (Ok (replies.Names names)) given = given
 base_permissions (Err refusal) given = given
 
--- the call after those that make members: it gives the directory of the import the permissions that it has, and so sets the volume's time; none if it has none (this project)
+-- the call after the calls that make members: it gives the directory of the import the permissions that it already has, and so sets the volume's
+-- time; no call if there is no such directory (this project)
 abbrev pub closing_calls : ℕ → List ℕ → Option ℕ → List Call
 closing_calls now base (Some permissions) = calls.Chmod user now base permissions ∷ []
 closing_calls now base None = []
 
--- calls that make members, followed by that one if there are any (this project)
+-- the calls that make members, followed by the closing call if there are any (this project)
 abbrev pub closed : ℕ → List ℕ → Option ℕ → List Call → List Call
 closed now base permissions [] = []
 closed now base permissions (call ∷ more) = call ∷ more ++ closing_calls now base permissions
 
--- the call that gives a directory the time of the member that makes it; none for other members, nor if a directory was at the path before (this project)
+-- the call that gives a directory the time of the member that makes it; none for other members, nor for a directory that existed before (this
+-- project)
 abbrev pub time_calls : Tree → List ℕ → ℕ → Member → Result MadeAs MemberFault → List Call
 time_calls tree base now member (Ok Directory) =
     if is_directory (answer tree (queries.Stat user (below base member.path))) then []
@@ -303,17 +310,18 @@ time_calls tree base now member (Ok File) = []
 time_calls tree base now member (Ok Link) = []
 time_calls tree base now member (Err fault) = []
 
--- the calls that give directories the times of members, each in turn (this project)
+-- the calls that give directories the times of their members, in order (this project)
 abbrev pub times : Tree → List ℕ → ℕ → List Member → List Call
 times tree base now all = flat_map (λ (member : Member). time_calls tree base now member (made_as member.header.flag member.path)) all
 
--- the calls that make members, or why there are none, with those that end the import (this project)
+-- the calls that make members, followed by the calls that end the import; or the fault (this project)
 abbrev pub ended : Tree → List ℕ → ℕ → List Member → Result (List Call) PlanFault → Result (List Call) PlanFault
 ended tree base now all made =
     and_next made (λ more.
     Ok (closed now base (base_permissions (answer tree (queries.Stat user base)) (permissions_given all)) more ++ times tree base now all))
 
--- the calls that make the members of an archive below a path, each in turn after the missing directories on the way to it, and those that end the import; or the first member that can't be made, with the reason (this project)
+-- the calls that make the members of an archive below a path, in order and each after the missing directories on its path, followed by the calls that
+-- end the import; or the first member that can't be made, with the reason (this project)
 abbrev pub plan : Tree → List ℕ → ℕ → List Member → Result (List Call) PlanFault
 plan tree base now all = ended tree base now all (plan_onto tree base now ([], []) all)
 
@@ -321,7 +329,7 @@ plan tree base now all = ended tree base now all (plan_onto tree base now ([], [
 abbrev pub drafted : Draft → Drafted
 drafted draft = (draft.known.keys, draft.calls.items)
 
--- a fault is the one to report, or NoMemory (this project)
+-- a fault is this one, or NoMemory (this project)
 abbrev pub Tells : {X : Type 0} → Result X PlanFault → PlanFault → Type 0
 Tells wanted fault = fault ≢ plans.NoMemory → wanted ≡ Err fault
 

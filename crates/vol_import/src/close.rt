@@ -17,7 +17,7 @@ use vol_dir::Cred;
 use vol_layout::Kind;
 use vol_volume::{Bytes, Call, Query, Reply, Volume};
 
-/// Returns the permissions that the last member for the directory of the import gives it, or `None` if there is no such member.
+/// Returns the permissions of the last member for the directory of the import, or `None` if there is no such member.
 pub(crate) fn permissions_given(members: &[Member]) -> Option<u16>
     ensures { result ≡ permissions_given members.now }
 {
@@ -46,8 +46,8 @@ fn is_base(member: &Member) -> bool
     }
 }
 
-/// Appends to the calls that make members, if there are any, the one after them: if the directory of the import exists or these
-/// calls make it, it is given the permissions that it has, at time `now`.
+/// Appends one more call to the calls that make members, if there are any and the directory of the import exists or they make it. The call gives this
+/// directory the permissions that it already has, at time `now`.
 pub(crate) fn close(
     alloc: Global,
     volume: &Volume,
@@ -73,7 +73,7 @@ pub(crate) fn close(
     Ok(())
 }
 
-/// Returns the permissions of the directory at a path, or, if there is none, those that it is given.
+/// Returns the permissions of the directory at a path, or `given` if there is none.
 fn base_permissions(
     alloc: Global,
     volume: &Volume,
@@ -93,7 +93,7 @@ fn base_permissions(
     }
 }
 
-/// Returns the permissions of a node that is a directory, else `given`.
+/// Returns the permissions of a node that is a directory, or `given` for any other node.
 fn permissions_told(kind: Kind, permissions: u16, given: Option<u16>) -> Option<u16>
     ensures { result ≡ permissions_told kind permissions given }
 {
@@ -104,7 +104,8 @@ fn permissions_told(kind: Kind, permissions: u16, given: Option<u16>) -> Option<
     }
 }
 
-/// Returns the calls that give directories the times of the members that make them, each in turn. A directory that exists stays.
+/// Returns the calls that give new directories the times of the members that make them, in the order of the members. A directory that already exists
+/// is left as it is.
 pub(crate) fn directory_times(
     alloc: Global,
     volume: &Volume,
@@ -121,7 +122,7 @@ pub(crate) fn directory_times(
     Ok(calls)
 }
 
-/// Appends the call that gives a directory the time of its member, if the member is one and it doesn't exist.
+/// Appends the call that gives a directory the time of its member, if the member is a directory that doesn't exist yet.
 fn push_time(
     alloc: Global,
     volume: &Volume,

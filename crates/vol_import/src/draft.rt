@@ -1,4 +1,4 @@
-//! A plan in progress, and the directories on the way to its members.
+//! A plan in progress, and the missing directories on the paths of its members.
 ghost use Rattle.std.specs.Prelude.{◌≡◌, ◌<◌, ◌++◌, ◌∷◌, [], IfOk, IfSome, MatchOption, OnOk, length, map, not};
 ghost use Rattle.vol_volume.specs.Answer.{answer};
 ghost use Rattle.vol_volume.specs.Volume.{reads_as};
@@ -13,7 +13,7 @@ use vol_dir::{Cred, split_component};
 use vol_layout::Kind;
 use vol_volume::{Bytes, Call, Query, Reply, Volume};
 
-/// The permissions of a directory on the way to a member.
+/// The permissions of a directory made because it is on the path of a member.
 const PERMISSIONS: u16 = 0o755;
 
 /// A plan in progress.
@@ -62,7 +62,7 @@ impl Draft {
     }
 }
 
-/// Notes a path. Returns true if it wasn't known.
+/// Adds a path to the known ones. Returns true if it wasn't known.
 pub(crate) fn note_known(
     alloc: Global,
     path: &[u8],
@@ -74,7 +74,7 @@ pub(crate) fn note_known(
     Ok(known.insert(StepPath::from_vec(Vec::from_slice(alloc, path)?))?)
 }
 
-/// Notes the path of a directory below another. Returns true if it is missing: it wasn't known, and doesn't exist.
+/// Adds the path of a directory below another to the known ones. Returns true if the directory is missing: it wasn't known, and doesn't exist.
 ///
 /// Costs a walk if it wasn't known.
 pub(crate) fn note_directory(
@@ -93,7 +93,7 @@ pub(crate) fn note_directory(
     Ok(!is_there(alloc, volume, base, path)?)
 }
 
-/// Returns two paths, one after the other.
+/// Returns the concatenation of two paths.
 fn behind(alloc: Global, base: &[u8], path: &[u8]) -> Result<Bytes, AllocError>
     ensures { IfOk result (λ whole. whole ≡ base.now ++ path.now) }
 {
@@ -141,7 +141,7 @@ pub(crate) fn is_directory_kind(kind: Kind) -> bool
     }
 }
 
-/// Returns the steps of a path: its components except `.`, which doesn't lead anywhere else.
+/// Returns the steps of a path: its components except `.`, which leads nowhere else.
 pub(crate) fn steps_of<'a>(alloc: Global, path: &'a [u8]) -> Result<Vec<&'a [u8]>, AllocError>
     ensures { IfOk result (λ steps. map (λ step. step.now) steps.items ≡ steps_of path.now) }
 {
@@ -177,7 +177,7 @@ fn is_step(name: &[u8]) -> bool
     name != b".".as_slice()
 }
 
-/// Returns the path of steps, each after a slash.
+/// Returns the path made of steps, each after a slash.
 pub(crate) fn joined(alloc: Global, steps: &[&[u8]]) -> Result<Vec<u8>, AllocError>
     ensures { IfOk result (λ path. path.items ≡ joined (map (λ step. step.now) steps.now)) }
 {
@@ -197,7 +197,7 @@ fn push_step(path: &mut Vec<u8>, step: &[u8]) -> Result<(), AllocError>
     Ok(())
 }
 
-/// Appends the calls that make the missing directories on a path, given by its steps, each in turn.
+/// Appends the calls that make the missing directories on a path, in order; the path is given by its steps.
 pub(crate) fn push_way(
     alloc: Global,
     volume: &Volume,
@@ -216,7 +216,7 @@ pub(crate) fn push_way(
     Ok(())
 }
 
-/// Appends the call that makes a directory on the way to a member, if it is missing.
+/// Appends the call that makes a directory on the path of a member, if it is missing.
 fn push_way_directory(
     alloc: Global,
     volume: &Volume,

@@ -1,4 +1,4 @@
-//! The options of an import: the members that are left out, and the owner of those that are made.
+//! The options of an import: the members that are left out, and the owner of the members that are made.
 ghost use Rattle.std.specs.Prelude.{◌≡◌, [], IfOk, OnOk};
 ghost use Rattle.vol_import.specs.Options.{chosen, is_left_out, is_skipped, is_special, owned_by, parted, parts_of, sorted, sorted_with};
 ghost use Rattle.vol_import.specs.Plan.{is_known};
@@ -15,14 +15,14 @@ use vol_volume::Bytes;
 /// The options of an import.
 #[derive(Clone, Copy)]
 pub struct ImportOptions {
-    /// True if special files are left out: character and block files, FIFOs, and links to those that are left out. Otherwise
-    /// the first of them is a fault.
+    /// True if special files are left out: character and block files, FIFOs, and links to files that are left out. Otherwise the first special file
+    /// is a fault.
     pub skip_special: bool,
-    /// The owner of all members that are made; without one, each has its own.
+    /// The owner of all members that are made; if there is none, each member has its own.
     pub owner: Option<Cred>,
 }
 
-/// The members of an archive that are to be made, and the paths of those that are left out, both in its order.
+/// The members of an archive that are to be made, and the paths of the members that are left out, both in the archive's order.
 #[derive(Drop)]
 pub(crate) struct Chosen {
     /// The members.
@@ -31,10 +31,10 @@ pub(crate) struct Chosen {
     pub(crate) left_out: Vec<Bytes>,
 }
 
-/// The first members of an archive, sorted.
+/// The first members of an archive, sorted into the two groups.
 #[derive(Drop)]
 pub(crate) struct Sorting {
-    /// The paths of those that are left out, in the order of their bytes.
+    /// The paths of the members that are left out, in the order of their bytes.
     known: BTreeSet<StepPath>,
     /// These paths, in the order of the archive.
     left_out: Vec<Bytes>,
@@ -54,7 +54,7 @@ impl Sorting {
         }
     }
 
-    /// Adds a member after the others: its path if it is left out, else the member, given to its owner.
+    /// Adds a member after the others: only its path if it is left out, else the member with its new owner.
     fn push(
         &mut self,
         alloc: Global,
@@ -88,7 +88,7 @@ impl Sorting {
         }
     }
 
-    /// True if a member is a special file, or a link to the path of one that was left out before it.
+    /// True if a member is a special file, or a link to the path of a member that was left out before it.
     fn is_skipped(&self, alloc: Global, flag: TypeFlag, link: &[u8]) -> Result<bool, AllocError>
         ensures { IfOk result (λ skipped. skipped ≡ is_skipped self.now.known.keys link.now flag) }
     {
@@ -106,7 +106,7 @@ impl Sorting {
         Ok(self.known.contains(&path))
     }
 
-    /// Returns the members that aren't left out, and the paths of the others.
+    /// Returns the members that aren't left out, and the paths of the members that are.
     fn into_chosen(self) -> Chosen
         ensures { parted result ≡ parts_of (sorted self) }
     {
@@ -133,7 +133,7 @@ fn is_special(flag: TypeFlag) -> bool
     }
 }
 
-/// Returns a member as that of an owner, if there is one.
+/// Returns a member with this owner, if there is one.
 fn owned_by(owner: Option<Cred>, member: Member) -> Member
     ensures { result ≡ owned_by owner member }
 {
@@ -159,9 +159,9 @@ fn owned_by(owner: Option<Cred>, member: Member) -> Member
     }
 }
 
-/// Returns the members of an archive that the options choose, and the paths of those that are left out.
+/// Returns the members of an archive that the options choose, and the paths of the members that are left out.
 ///
-/// Moves the members. Takes memory for a list of them, and for the paths that are left out, twice.
+/// Moves the members. Takes memory for a list of them, and twice for the paths that are left out.
 pub(crate) fn choose(
     alloc: Global,
     options: ImportOptions,

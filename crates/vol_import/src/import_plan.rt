@@ -1,4 +1,4 @@
-//! The calls that make the members of an archive.
+//! Plans the calls that make the members of an archive.
 ghost use Rattle.std.specs.Prelude.{◌≡◌, [], IfOk, IfErr, OnOk, Ok};
 ghost use Rattle.vol_volume.specs.Volume.{reads_as};
 ghost use Rattle.vol_import.specs.Plan.{below, check, permissions_of, moment_of, owner_calls, write_calls, file_calls, directory_calls, given_calls, with_directory, way_of, steps_of, with_way, with_calls, with_made, drafted, onto, plan, Tells, no_memory};
@@ -12,13 +12,13 @@ use ustar::ReadHeader;
 use vol_dir::Cred;
 use vol_volume::{Bytes, Call, Volume};
 
-/// The bound below which times fit a volume.
+/// Times below this bound fit a volume.
 const TIMES: u64 = 4_294_967_296;
 
-/// The reason why there are no calls that make the members of an archive.
+/// The reason why no calls can make the members of an archive.
 #[derive(Drop)]
 pub enum PlanFault {
-    /// No calls make the member at this path of the archive; with [`MemberFault::NoInode`], at this path of the volume.
+    /// No calls can make the member at this path of the archive; for [`MemberFault::NoInode`], at this path of the volume.
     Member(Bytes, MemberFault),
     /// Memory ran out.
     NoMemory,
@@ -34,27 +34,25 @@ impl From<AllocError> for PlanFault {
     }
 }
 
-/// Returns the calls that make the members of an archive below the path `base` of a volume, as user 0, each member's in turn. A
-/// regular file is made, written if it has bytes, and given to its owner unless that is user 0 of group 0. A directory is made
-/// in the same way if it doesn't exist; one that earlier calls make is given its permissions and its owner. A link becomes
-/// another name. A call's time is that of its member's last change, or `now` if that doesn't fit 32 bits. Before a member, each
-/// missing directory on the way to it is made, at `now`, with permissions 0755, but not the one at `base`. The call after these,
-/// if there are any, gives the directory at `base` the permissions that it has, at `now`, which becomes the time of the volume;
-/// it is left out if there is no directory and no member makes it. The last calls, at `now` too, give each directory that a
-/// member makes the time of that member.
+/// Returns the calls that make the members of an archive below the path `base` of a volume, as user 0, member by member. A regular file is made,
+/// written if it has bytes, and given to its owner unless that is user 0 of group 0. A directory is made in the same way if it doesn't exist; a
+/// directory that earlier calls make is given its member's permissions and owner. A link becomes another name. A call's time is the time of its
+/// member's last change, or `now` if that doesn't fit 32 bits. Before a member, each missing directory on its path is made, at `now`, with
+/// permissions 0755, but not the directory at `base`. If there are any calls, one more call after them gives the directory at `base` the permissions
+/// that it already has, at `now`, which becomes the time of the volume; it is left out if there is no such directory and no member makes it. The last
+/// calls, at `now` too, give each directory that a member makes the time of that member.
 ///
-/// If no calls make a member, the fault has its path in the archive and the reason. The fault is NoInode, with the path in the
-/// volume, if the directories of the members so far, and those on the way to it, are more than the volume has i-nodes. Calls
-/// would be refused for that too, but usually at an earlier member.
+/// If no calls can make a member, the fault has its path in the archive and the reason. The fault is NoInode, with the path in the volume, if the
+/// directories of the members so far and the directories on its path are more than the volume has i-nodes. The calls would be refused for this reason
+/// too, but usually at an earlier member.
 ///
-/// The bytes of the members are moved into the calls. Takes memory for the calls, each with its whole path, of at most `base`
-/// and 4,097 bytes: up to three for a member, and one for each missing directory. Also takes memory for the paths of
-/// directories, of members and on the way to them: each is kept once, and there are at most as many as the volume has i-nodes,
-/// plus the names of one path.
+/// The bytes of the members are moved into the calls. Takes memory for the calls, each with its whole path, of at most `base` and 4,097 bytes: up to
+/// three for a member, and one for each missing directory. Also takes memory for the paths of the directories: each is kept once, and there are at
+/// most as many as the volume has i-nodes, plus the number of names in one path.
 ///
-/// Each member costs the square of the length of its path, since the path of each directory on it is copied and looked up, even
-/// if all are known: about 4 MB and 2,048 look-ups for a path of 4,096 bytes. A directory that isn't known also costs a walk,
-/// and each member that is a directory costs two.
+/// The cost of a member is the square of the length of its path, since the path of each directory on it is copied and looked up, even if all are
+/// known: about 4 MB and 2,048 look-ups for a path of 4,096 bytes. A directory that isn't known also costs a walk, and each member that is a
+/// directory costs two.
 pub fn plan(
     alloc: Global,
     volume: &Volume,
@@ -105,7 +103,7 @@ fn push_member(
     }
 }
 
-/// Appends the calls that make the missing directories on the way to a path.
+/// Appends the calls that make the missing directories on the path of a member.
 fn push_way_to(
     alloc: Global,
     volume: &Volume,
@@ -121,7 +119,7 @@ fn push_way_to(
     push_way(alloc, volume, base, now, way, draft)
 }
 
-/// Appends the calls that make a member as a node of some kind, for its owner.
+/// Appends the calls that make a member as a node of this kind, for its owner.
 fn push_made(
     alloc: Global,
     volume: &Volume,
@@ -171,7 +169,7 @@ pub(crate) fn permissions_of(header: &ReadHeader) -> u16
     (header.permissions % 4096) as u16
 }
 
-/// Returns the time of a member's calls: that of its last change if it fits 32 bits, else `now`.
+/// Returns the time of a member's calls: the time of its last change if it fits 32 bits, else `now`.
 pub(crate) fn moment_of(header: &ReadHeader, now: u32) -> u32
     ensures { result ≡ moment_of header.now now }
 {
@@ -243,8 +241,8 @@ fn push_file(
     push_owner(moment, path, owner, draft)
 }
 
-/// Appends the calls of a member that is a directory, at a path below another: none if it exists, those that give it its
-/// permissions and its owner if earlier calls make it, else those that make it.
+/// Appends the calls of a member that is a directory, at a path below another: none if the directory exists; the calls that give it its permissions
+/// and owner if earlier calls make it; else the calls that make it.
 fn push_directory(
     alloc: Global,
     volume: &Volume,
@@ -288,7 +286,7 @@ fn push_new_directory(
     push_owner(moment, path, owner, draft)
 }
 
-/// Appends the calls that give a directory other permissions and another owner.
+/// Appends the calls that give a directory new permissions and a new owner.
 fn push_given(
     alloc: Global,
     moment: u32,

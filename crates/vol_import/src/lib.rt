@@ -1,4 +1,4 @@
-//! Reading tar archives, and making their members by the calls of a volume.
+//! Reads tar archives, and makes their members with calls on a volume.
 #![tactic(auto)]
 
 pub mod archive_members;

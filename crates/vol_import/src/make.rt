@@ -23,11 +23,11 @@ use vol_volume::{Bytes, Call, MountFault, Volume};
 /// The reason why an archive isn't imported.
 #[derive(Drop)]
 pub enum ImportFault {
-    /// The image isn't sound: the first of the twelve rules that it breaks.
+    /// The image isn't sound; this is the first of the twelve rules that it breaks.
     Unsound(u8),
     /// The archive can't be read.
     Archive(ArchiveFault),
-    /// No calls make the member at this path of the archive; with [`MemberFault::NoInode`], at this path of the volume.
+    /// No calls can make the member at this path of the archive; for [`MemberFault::NoInode`], at this path of the volume.
     Member(Bytes, MemberFault),
     /// A call is refused, with its path in the volume.
     Refused(Refusal, Call),
@@ -57,8 +57,8 @@ pub struct Imported {
     pub left_out: Vec<Bytes>,
 }
 
-/// Makes all members of an archive below the path `base` of the volume in some bytes, each with its own owner, as
-/// [`import_with`] does without options, and returns the new bytes.
+/// Makes all members of an archive below the path `base` of the volume stored in `image`, each with its own owner, as [`import_with`] does without
+/// options, and returns the new bytes.
 pub fn import(
     alloc: Global,
     edition: Edition,
@@ -81,12 +81,12 @@ pub fn import(
     }
 }
 
-/// Makes the members of an archive that the options choose below the path `base` of the volume in some bytes, and returns the
-/// new bytes, and the paths of the other members. Makes all calls of [`plan`], in order and as user 0; or there is nothing to
-/// save, and the fault has the first reason: of the image, then of the archive, then of the members, then of the calls.
+/// Makes the members of an archive that the options choose below the path `base` of the volume stored in `image`, and returns the new bytes, and the
+/// paths of the other members. Makes all calls of [`plan`], in order and as user 0. If one step fails, nothing is returned but the first reason: of
+/// the image, then of the archive, then of the members, then of the calls.
 ///
-/// Takes memory to mount the image, for the paths of the members twice and for their bytes once, and what the calls take. Drops
-/// the archive once its members are read.
+/// Takes memory to mount the image, twice for the paths of the members, once for their bytes, and for the calls. Drops the archive after reading its
+/// members.
 pub fn import_with(
     alloc: Global,
     edition: Edition,
@@ -111,9 +111,9 @@ pub fn import_with(
     })
 }
 
-/// Mounts the volume in some bytes. Fails if it isn't sound or memory runs out.
+/// Mounts the volume stored in these bytes. Fails if it isn't sound or memory runs out.
 ///
-/// Takes memory and costs what [`Volume::mount`] does.
+/// Takes as much memory and time as [`Volume::mount`].
 #[tactic(auto, using(crate::proofs::ImportFaults::is_unmounted))]
 pub fn mount(alloc: Global, edition: Edition, image: Vec<u8>) -> Result<Volume, ImportFault>
     ensures mounted { IfOk result (λ volume. volume ≡ mounted edition image.items) }
@@ -123,8 +123,7 @@ pub fn mount(alloc: Global, edition: Edition, image: Vec<u8>) -> Result<Volume, 
     Volume::mount(alloc, edition, image).map_err(|(fault, _)| ImportFault::from(fault))
 }
 
-/// Returns the fault of an archive that can't be read. A member whose header has a field without a number is named by the path
-/// in it.
+/// Returns the fault of an archive that can't be read. If a field of a member's header isn't a number, the fault has the path in the header.
 fn unread(alloc: Global, archive: &[u8], fault: ArchiveFault) -> ImportFault
     ensures { ((result ≡ ImportFault.NoMemory) × TakesMemory fault) ⊎ (result ≡ unread archive.now fault) }
 {
@@ -151,7 +150,7 @@ fn has_block(archive: &[u8], at: usize) -> bool
     archive.len() >= 512 && archive.len() - 512 >= at
 }
 
-/// Returns the fault of members for which there are no calls.
+/// Returns the fault of an import whose members no calls can make.
 pub fn unplanned(fault: PlanFault) -> ImportFault
     ensures { result ≡ unplanned fault }
 {
@@ -170,8 +169,8 @@ struct Planned {
     left_out: Vec<Bytes>,
 }
 
-/// Returns the calls that make the members of an archive that the options choose below a path of a volume. Drops the archive
-/// once its members are read.
+/// Returns the calls that make the members of an archive that the options choose below a path of a volume. Drops the archive after reading its
+/// members.
 fn calls_with(
     alloc: Global,
     volume: &Volume,
@@ -193,7 +192,7 @@ fn calls_with(
     }
 }
 
-/// Returns the calls that make the chosen ones of some members below a path of a volume.
+/// Returns the calls that make the members that the options choose below a path of a volume.
 fn calls_for(
     alloc: Global,
     volume: &Volume,
@@ -212,7 +211,7 @@ fn calls_for(
     }
 }
 
-/// Returns the calls of [`plan`] for the chosen ones of some members.
+/// Returns the calls of [`plan`] for the members that the options choose.
 fn plan_chosen(
     alloc: Global,
     volume: &Volume,
@@ -251,8 +250,8 @@ fn stopped(refusal: Refusal, call: Call) -> ImportFault
     }
 }
 
-/// Makes calls on a volume, each in turn, up to the first that is refused. That call is handed back with its refusal, and the
-/// volume is as the calls before it left it.
+/// Makes calls on a volume in order, up to the first that is refused. That call is handed back with its refusal, and the volume keeps the changes of
+/// the calls before it.
 pub fn make_all(alloc: Global, volume: &mut Volume, calls: Vec<Call>) -> Result<(), (Refusal, Call)>
     ensures made { OnOk result (AreMade volume.old calls.items volume.new) }
     ensures refused { IfErr result (λ (refusal, call). AreStopped volume.old calls.items volume.new refusal call) }

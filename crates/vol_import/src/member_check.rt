@@ -12,7 +12,7 @@ use vol_layout::slot::NAME;
 /// The greatest number of bytes in the path of a member, and in the path that it links to.
 pub const MOST_PATH_BYTES: usize = 4096;
 
-/// The node that a member is made as.
+/// The kind of node that a member becomes.
 #[derive(Clone, Copy)]
 pub enum MadeAs {
     /// A regular file.
@@ -23,34 +23,34 @@ pub enum MadeAs {
     Link,
 }
 
-/// The reason why no calls make a member.
+/// The reason why no calls can make a member.
 #[derive(Clone, Copy)]
 pub enum MemberFault {
-    /// It is a special file, a symbolic link, or of an unknown kind.
+    /// The member is a special file, a symbolic link, or of an unknown kind.
     Kind,
-    /// Its path is longer than [`MOST_PATH_BYTES`].
+    /// The member's path is longer than [`MOST_PATH_BYTES`].
     LongPath,
-    /// A name in its path is longer than 14 bytes.
+    /// A name in the member's path is longer than 14 bytes.
     LongName,
-    /// Its path has a name `..`.
+    /// The member's path has a name `..`.
     DotDot,
-    /// It is a link to a path longer than [`MOST_PATH_BYTES`].
+    /// The member is a link to a path longer than [`MOST_PATH_BYTES`].
     LongLinkPath,
-    /// It is a link to a path with a name longer than 14 bytes.
+    /// The member is a link to a path with a name longer than 14 bytes.
     LongLink,
-    /// It is a link to a path with a name `..`.
+    /// The member is a link to a path with a name `..`.
     DotDotLink,
-    /// The number of its owner or of its group is above the edition's limit: 255 in the sixth, 32,767 in the seventh.
+    /// The number of the member's owner or group is above the edition's limit: 255 in the sixth, 32,767 in the seventh.
     Owner,
-    /// The directories of the members before it, and those on the way to it, are more than the volume has i-nodes. The fault
-    /// has the member's path in the volume, as that of a refused call does.
+    /// The directories of the members before it and the directories on its path are more than the volume has i-nodes. The fault has the member's path
+    /// in the volume, like the fault of a refused call.
     NoInode,
-    /// A field of its header has no number. The fault has the path in the header.
+    /// A field of the member's header isn't a number. The fault has the path in the header.
     Number,
 }
 
-/// Returns what a member is made as in a volume of an edition, and its owner, or the first fault: of its kind, its path, the
-/// path that it links to, its owner.
+/// Returns the kind of node that a member becomes in a volume of an edition, and its owner, or the first fault in its kind, its path, its link path,
+/// and its owner.
 #[tactic(auto, unfolding(crate::specs::Plan::check))]
 pub fn check(edition: Edition, member: &Member) -> Result<(MadeAs, Cred), MemberFault>
     ensures { result ≡ check edition member.now }
@@ -63,7 +63,7 @@ pub fn check(edition: Edition, member: &Member) -> Result<(MadeAs, Cred), Member
     Ok((made, owner))
 }
 
-/// Returns what a member is made as, by its type flag and its path.
+/// Returns the kind of node that a member becomes, from its type flag and its path.
 pub(crate) fn made_as(flag: TypeFlag, path: &[u8]) -> Result<MadeAs, MemberFault>
     ensures { result ≡ made_as flag path.now }
 {
@@ -125,7 +125,7 @@ fn has_dot_dot(path: &[u8]) -> bool
         .any(|name| name == b"..".as_slice())
 }
 
-/// Checks that the path that a member links to, if it is a link, can be walked.
+/// Checks that the link path of a member, if it is a link, can be walked.
 fn check_link(made: MadeAs, link: &[u8]) -> Result<(), MemberFault>
     ensures { result ≡ check_link made link.now }
 {
@@ -137,7 +137,7 @@ fn check_link(made: MadeAs, link: &[u8]) -> Result<(), MemberFault>
     }
 }
 
-/// Returns the owner and the group of a member, if they are numbers of the edition.
+/// Returns the owner and the group of a member, if both are within the edition's limits.
 fn owner_of(edition: Edition, header: &ReadHeader) -> Result<Cred, MemberFault>
     ensures { result ≡ owner_of edition header.now }
 {

@@ -8,8 +8,8 @@ ghost use Rattle.std.specs.Str.{bytes_eq};
 use std::cmp::Ordering;
 use std::marker::Model;
 
-/// The path of a directory below that of an import: its steps, each after a slash. Ordered by its bytes. Contracts see it as
-/// the list of these.
+/// The path of a directory below the directory of the import: its steps, each after a slash. Ordered by its bytes. Contracts see it as the list of
+/// these bytes.
 #[derive(Drop)]
 pub(crate) struct StepPath {
     bytes: Vec<u8>,
@@ -31,7 +31,7 @@ impl StepPath {
         StepPath { bytes }
     }
 
-    /// Returns all its bytes.
+    /// Returns the bytes of the path.
     pub(crate) fn as_slice(&self) -> &[u8]
         ensures { result.now ≡ self.now }
     {
@@ -44,7 +44,7 @@ impl PartialEq for StepPath {
 
     ghost laws = { partial_equiv_from_equiv nat_list_eq_equiv };
 
-    /// True if both have the same bytes.
+    /// True if both paths have the same bytes.
     fn eq(&self, other: &StepPath) -> bool {
         self.as_slice() == other.as_slice()
     }

@@ -1,4 +1,4 @@
--- The extents of an i-node, laid out block by block.
+-- The extents of an i-node, expanded block by block.
 use Rattle.std.proofs.Common.{◌≡◌, ◌≢◌, ◌⊎◌, inl, inr, ℕ, zero, suc, ◌+◌, ◌-◌, ◌*◌, ◌^◌, ◌==◌, ◌∙◌, sym, ap, List, [], ◌∷◌, ◌++◌, map, Bool, true, false, if◌then◌else◌, refl, arith, append_assoc, Option, None, Some}
 use Rattle.std.proofs.lemmas.Bool.{cases_eq, ne_eqb, eqb-true, and_parts}
 use Rattle.std.proofs.lemmas.List.{map-append}
@@ -21,14 +21,14 @@ use Rattle.vol_inspect.specs.Extents.{single, same_bool, joins, extended, gather
 use Rattle.vol_inspect.specs.Laws.{laid_out, seen, seen_at, ShowsPlaces}
 use Rattle.vol_inspect.proofs.Gatherings.{hold_zero, hold_leaf, hold_suc, entries_before}
 
--- one block is laid out as itself
+-- an extent of one block expands to itself
 one_laid : (g : Geometry) (level logical b : ℕ) → laid_out (single g level logical b) ≡ single g level logical b ∷ []
 one_laid g level logical b =
     let at : logical + 0 ≡ logical = omega arith in
     let here : b + 0 ≡ b = omega arith in
     (λ k. (record { level = level; logical = at k; block = here k; count = 1; inside = in_zone g b }) ∷ [])
 
--- extents of one block each
+-- each extent is a single block
 abbrev AreSingle : Geometry → List Extent → Type 0
 AreSingle g [] = Unit {0}
 AreSingle g (e ∷ es) = (e ≡ single g e.level e.logical e.block) × AreSingle g es
@@ -46,7 +46,7 @@ module _ (g : Geometry) where
   single_unless true xs each = tt
   single_unless false xs each = each
 
-  -- the blocks found from a number on, one by one
+  -- the blocks at and below a number are single blocks
   single_from : (image : List ℕ) (d logical b : ℕ) → AreSingle g (holdings_from g image d logical b)
   unfolding holdings_from
   single_from image zero logical b = single_unless (b == 0) (single g 0 logical b ∷ []) (refl, tt)
@@ -56,13 +56,13 @@ module _ (g : Geometry) where
       single_unless (b == 0) (single g (suc d) logical b ∷ flat_map entry (range_with_len 0 n))
       (refl, single_flat entry (range_with_len 0 n) (λ j. single_from image d (logical + j * n ^ d) (pointer_in g image b j)))
 
--- two truth values that are the same
+-- truth values that `same_bool` finds the same are equal
 same_true : (a b : Bool) → same_bool a b ≡ true → a ≡ b
 same_true true b same = sym same
 same_true false true same = absurd (cc)
 same_true false false same = refl
 
--- a block that is joined follows those of the extent
+-- a block that joins an extent comes after the extent's blocks
 joined_laid : (g : Geometry) (e next : Extent) → joins e next ≡ true → next ≡ single g next.level next.logical next.block
     → laid_out (extended e) ≡ laid_out e ++ next ∷ []
 joined_laid g e next join one =
@@ -80,12 +80,12 @@ joined_laid g e next join one =
     ap (map place) (range_more 0 e.count (e.count + 1) e.count refl (omega arith))
     ∙ (map-append place (range_with_len 0 e.count) (e.count ∷ []) ∙ ap (λ x. laid_out e ++ x ∷ []) (last ∙ sym one))
 
--- the blocks before the next
+-- the blocks of the last extent, if there is one
 abbrev last_laid : Option Extent → List Extent
 last_laid None = []
 last_laid (Some e) = laid_out e
 
--- joining keeps the blocks and their order
+-- joining blocks to extents keeps the blocks and their order
 gathered_laid : (g : Geometry) (last : Option Extent) (es : List Extent) → AreSingle g es → flat_map laid_out (gathered last es) ≡ last_laid last ++ es
 gathered_laid g None [] each = refl
 gathered_laid g (Some e) [] each = refl
@@ -103,7 +103,7 @@ gathered_laid g (Some e) (next ∷ es) each =
           ∙ ap (λ xs. xs ++ es) (ap laid_out each.0 ∙ (one_laid g next.level next.logical next.block ∙ ap (λ x. x ∷ []) (sym each.0))))
     ] refl
 
--- lists that are equal one after another, and lists of lists
+-- concatenations are equal if all lists are equal
 flat_same : (f h : ℕ → List Extent) (js : List ℕ) → ((j : ℕ) → f j ≡ h j) → flat_map f js ≡ flat_map h js
 flat_same f h [] same = refl
 flat_same f h (j ∷ js) same = (λ k. same j k ++ flat_same f h js same k)
@@ -116,12 +116,12 @@ flat_none : (h : ℕ → List Extent) (js : List ℕ) → ((j : ℕ) → h j ≡
 flat_none h [] none = refl
 flat_none h (j ∷ js) none = ap (λ xs. xs ++ flat_map h js) (none j) ∙ flat_none h js none
 
--- a number that isn't 0 is seen
+-- a number other than 0 is one block
 seen_some : (g : Geometry) (level logical b : ℕ) → b ≢ 0 → seen g level logical b ≡ single g level logical b ∷ []
 seen_some g level logical b some = ap (λ (t : Bool). if t then [] else single g level logical b ∷ []) (ne_eqb b 0 some)
 
 module _ (g : Geometry) (image : List ℕ) (i : ℕ) (fits : Fits g image) where
-  -- at and below a place that names nothing, nothing is seen
+  -- if a block-map position is 0, there are no blocks at it or below it
   seen_none : (n d a : ℕ) (p : List ℕ) → named g image i (a ∷ p) ≡ 0 → flat_map (seen_at g image i) (places_from n (a ∷ p) d) ≡ []
   seen_none n zero a p none =
       ap (λ b. seen g (levels_below (form_at g image i) (a ∷ p)) (first_block (form_at g image i) (a ∷ p)) b ++ []) none
@@ -133,7 +133,7 @@ module _ (g : Geometry) (image : List ℕ) (i : ℕ) (fits : Fits g image) where
       (λ j. seen_none n d j (a ∷ p) (named_stops g image i j a p (ap (in_zone g) none ∙ zero_out g image fits))) in
       (λ k. seen g (levels_below (form_at g image i) (a ∷ p)) (first_block (form_at g image i) (a ∷ p)) (none k) ++ rest k)
 
-  -- the blocks found from the number of a place on are those seen at the place and below it
+  -- the blocks at and below the number of a position are the blocks of this position and of those below it
   seen_from : (n d a : ℕ) (p : List ℕ) → n ≡ (constants g.edition).pointers → pointer_count (form_at g image i) ≡ n
       → levels_below (form_at g image i) (a ∷ p) ≡ d
       → holdings_from g image d (first_block (form_at g image i) (a ∷ p)) (named g image i (a ∷ p))
@@ -170,13 +170,13 @@ module _ (g : Geometry) (image : List ℕ) (i : ℕ) (fits : Fits g image) where
             ∙ (ap (λ m. single g (suc d) at b ∷ flat_map (entry m) (range_with_len 0 m)) (sym edition) ∙ (λ k. here k ++ rest k))
       ]
 
-  -- an indirect block holds as many numbers as one of the edition, or there are no addresses
+  -- an indirect block has as many entries as one of the edition, or there are no addresses
   pub pointers_or_none : (t : Bool) → (pointer_count (if t then file_form g.edition (mode_of g image i) else Bare) ≡ (constants g.edition).pointers)
       ⊎ (first_count (if t then file_form g.edition (mode_of g image i) else Bare) ≡ 0)
   pointers_or_none true = inl (pointers_in g.edition (mode_of g image i))
   pointers_or_none false = inr refl
 
-  -- the blocks below all addresses are those seen at all places
+  -- the blocks of all addresses are the blocks of all block-map positions
   seen_all : holdings g image i ≡ flat_map (seen_at g image i) (places (form_at g image i))
   unfolding holdings places
   seen_all =
@@ -192,7 +192,7 @@ module _ (g : Geometry) (image : List ℕ) (i : ℕ) (fits : Fits g image) where
             ∙ sym (ap (λ n. flat_map (seen_at g image i) (flat_map from (range_with_len 0 n))) none)
       ]
 
-  -- each is one block
+  -- each block of an i-node is a single block
   single_all : AreSingle g (holdings g image i)
   unfolding holdings
   single_all =

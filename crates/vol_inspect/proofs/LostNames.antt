@@ -1,4 +1,4 @@
--- The i-numbers that entries name, with one more entry.
+-- The i-numbers that have entries, as each entry is read.
 use Rattle.std.proofs.Common.{◌≡◌, ℕ, ◌+◌, ◌<◌, ◌≤◌, ◌&&◌, ◌∙◌, All, nat_lt, subst, inl, inr, Bool, true, false, List, length, get_or, refl, sym, ap, arith, get_or-set_other, get_or-set_same}
 use Rattle.std.proofs.Math.ListN.{set, length-set}
 use Rattle.std.specs.List.{filter, range_with_len}
@@ -15,7 +15,7 @@ use Rattle.vol_judge.proofs.PassedEntries.{split}
 use Rattle.vol_judge.specs.Directories.{root_of}
 use Rattle.vol_inspect.specs.Lost.{IsInList, KnowsNamed, NamedBefore, is_lost}
 
--- before the first entry nothing is named
+-- before the first entry, no i-number has a mark
 pub named_first : (geometry : Geometry) (image : List ℕ) (place : ℕ) (named : List Bool) → length named ≡ geometry.last_inode + 1
     → ((i : ℕ) → get_or named i false ≡ false) → place ≤ rank 1 0 → NamedBefore geometry image place named
 named_first geometry image place named room none low = record {
@@ -24,7 +24,7 @@ named_first geometry image place named room none low = record {
   only = λ i some. absurd (let both = sym (none i) ∙ some in cc);
 }
 
--- an entry that is `.` or `..`, or for no i-number of the volume, names nothing
+-- an entry that is `.` or `..`, or for no i-number of the volume, changes no mark
 pub named_kept : {geometry : Geometry} {image : List ℕ} {place d s : ℕ} {slot : Slot} {named : List Bool} → NamedBefore geometry image place named
     → IsNextSlot geometry image place d s slot → (is_dots (name_of slot.name) ≡ false → length named ≤ slot.inode)
     → NamedBefore geometry image (rank d (s + 1)) named
@@ -38,7 +38,7 @@ named_kept {geometry = geometry} {image = image} {place = place} {named = named}
   only = known.only;
 }
 
--- any other entry names its i-number
+-- any other entry marks its i-number
 pub named_more : {geometry : Geometry} {image : List ℕ} {place d s : ℕ} {slot : Slot} {named : List Bool} → NamedBefore geometry image place named
     → IsNextSlot geometry image place d s slot → is_dots (name_of slot.name) ≡ false → slot.inode < length named
     → NamedBefore geometry image (rank d (s + 1)) (set named slot.inode true)
@@ -61,7 +61,7 @@ named_more {geometry = geometry} {image = image} {place = place} {d = d} {s = s}
           ];
     }
 
--- past the last entry everything is known
+-- after the last entry, the marks are complete
 pub named_all : {geometry : Geometry} {image : List ℕ} {place : ℕ} {named : List Bool} → NamedBefore geometry image place named
     → IsPastEntries geometry image place → KnowsNamed geometry image named
 named_all known past = record {
@@ -70,7 +70,7 @@ named_all known past = record {
   only = known.only;
 }
 
--- both sides of a conjunction
+-- if a conjunction is true, its first part is
 left_true : (a b : Bool) → (a && b) ≡ true → a ≡ true
 left_true true b both = refl
 left_true false b both = absurd (true≢false (sym both))
@@ -85,7 +85,7 @@ range_low n = λ k d within.
     let low : k < n = omega (arith, length-range_with_len 0 n, within) in
     subst (λ i. i < n) (sym (get_or-range_with_len 0 n k d low)) (omega (arith, low))
 
--- lost i-nodes are those of the volume
+-- lost i-nodes have i-numbers of the volume
 pub lost_in_list : (geometry : Geometry) (image : List ℕ) (named : List Bool) (lost : List ℕ)
     → lost ≡ filter (is_lost geometry image named) (range_with_len 0 (geometry.last_inode + 1)) → All (IsInList geometry) lost
 lost_in_list geometry image named lost is =

@@ -1,4 +1,4 @@
--- The number of places that name a block: at each level, and in all.
+-- The number of block-map positions that point to a block, at each level and in all.
 use Rattle.std.proofs.Common.{◌≡◌, ◌≢◌, ℕ, zero, suc, ◌+◌, ◌-◌, ◌≤◌, ◌∙◌, ◌==◌, ◌&&◌, sym, ap, not, Bool, true, false, if◌then◌else◌, List, [], ◌∷◌, map, refl, arith, inl, inr}
 use Rattle.std.proofs.lemmas.Bool.{cases_eq, ne_eqb}
 use Rattle.std.proofs.lemmas.List.Sums.{sum_by-cons}
@@ -37,7 +37,7 @@ sum_levels f h (x ∷ xs) =
     let other = λ (e : ℕ). sum_by-cons (λ y. h y e) x xs in
     omega (arith, rest, sum_by-cons (λ y. all_levels (f y) + all_levels (h y)) x xs, each 0, each 1, each 2, each 3, other 0, other 1, other 2, other 3)
 
--- a block at one of the levels is at exactly one of them
+-- a level from 0 to 3 is exactly one of the four levels
 level_one : (t : Bool) (l : ℕ) → l ≤ 3 → one_if t ≡ all_levels (λ e. one_if (t && (e == l)))
 level_one false l low = refl
 level_one true zero low = refl
@@ -46,7 +46,7 @@ level_one true (suc (suc zero)) low = refl
 level_one true (suc (suc (suc zero))) low = refl
 level_one true (suc (suc (suc (suc l)))) low = absurd (omega (arith, low))
 
--- places are counted level by level
+-- a count of positions is the sum of the counts at each level
 by_level : (t : List ℕ → Bool) (level : List ℕ → ℕ) (qs : List (List ℕ)) → ((q : List ℕ) → IsAmong q qs → level q ≤ 3)
     → count_by t qs ≡ all_levels (λ e. count_by (λ q. t q && (e == level q)) qs)
 by_level t level [] low = refl
@@ -56,7 +56,7 @@ by_level t level (q ∷ qs) low =
     omega (arith, rest, level_one (t q) (level q) (low q (inl refl)), sum_by-cons (λ p. one_if (t p)) q qs, each 0, each 1, each 2, each 3)
 
 module _ (g : Geometry) (image : List ℕ) (i : ℕ) where
-  -- a number that isn't 0 occurs among the blocks of places once for each place that names it
+  -- a number other than 0 occurs among the numbers of positions once for each position that points to it
   named_counted : (b : ℕ) (qs : List (List ℕ)) → b ≢ 0 → count_by (λ k. k == b) (blocks_at g image i qs) ≡ count_by (λ q. named g image i q == b) qs
   named_counted b [] some = ap (count_by (λ k. k == b)) (at_nil g image i)
   named_counted b (q ∷ qs) some =
@@ -72,7 +72,7 @@ module _ (g : Geometry) (image : List ℕ) (i : ℕ) where
             omega (arith, rest, split, here, sum_by-cons (λ k. one_if (k == b)) (named g image i q) (blocks_at g image i qs))
       ]
 
-  -- the blocks found from the number of a place on are those that the place and the places below it name
+  -- the positions at and below a position that point to block `c` are as many as `c` is found at and below its number
   placed_from : (n d a c e : ℕ) (p : List ℕ) → n ≡ (constants g.edition).pointers → levels_below (form_at g image i) (a ∷ p) ≡ d
       → count_by (names_at g image i c e) (places_from n (a ∷ p) d) ≡ found_at g image d (named g image i (a ∷ p)) c e
   unfolding found_at
@@ -91,7 +91,7 @@ module _ (g : Geometry) (image : List ℕ) (i : ℕ) where
       ∙ (λ k. sum_by (λ j. placed_from n d j c e (a ∷ p) many less k) (range_with_len 0 (many k))) in
       sum_by-cons (λ q. one_if (names_at g image i c e q)) (a ∷ p) (flat_map entry (range_with_len 0 n)) ∙ (λ k. here_at b c e (is k) + rest k)
 
-  -- the places of an i-node, address by address
+  -- the positions of an i-node that point to a block, summed over its addresses
   pub node_is : Fits g image → (c e : ℕ) → node_count g image i c e
       ≡ sum_by (λ k. found_at g image (levels (form_at g image i) k) (address_at g.edition image (inode_place g.edition i) k) c e)
       (range_with_len 0 (first_count (form_at g image i)))
@@ -109,7 +109,7 @@ module _ (g : Geometry) (image : List ℕ) (i : ℕ) where
       ]
 
   module _ (b : ℕ) (some : b ≢ 0) where
-    -- the places of an i-node, level by level
+    -- the positions of an i-node that point to a block, summed over the levels
     node_all : count_by (λ k. k == b) (blocks_of g image i) ≡ all_levels (node_count g image i b)
     unfolding blocks_of blocks_at node_count
     node_all =
@@ -117,13 +117,13 @@ module _ (g : Geometry) (image : List ℕ) (i : ℕ) where
         ∙ by_level (λ q. named g image i q == b) (levels_below (form_at g image i)) (places (form_at g image i))
         (λ q among. levels_few (form_at g image i) q (among_places (form_at g image i) q among))
 
-    -- an i-node with no places names nothing
+    -- an i-node without a block map has no position that points to a block
     bare_none : has_places (kind_at g image i) ≡ false → count_by (λ k. k == b) (blocks_of g image i) ≡ 0
     unfolding blocks_of places
     bare_none bare =
         ap (λ t. count_by (λ k. k == b) (filter (λ k. not (k == 0)) (map (named g image i) (places (if t then file_form g.edition (mode_of g image i) else Bare))))) bare
 
-    -- the places of an i-node, kind by kind
+    -- the positions of an i-node that point to a block, summed over both kinds
     node_wanted : count_by (λ k. k == b) (blocks_of g image i)
         ≡ all_levels (wanted_count g image kinds.Directory i b) + all_levels (wanted_count g image kinds.Regular i b)
     node_wanted = elim (kind_at g image i) as (λ kind. kind_at g image i ≡ kind → count_by (λ k. k == b) (blocks_of g image i)
@@ -136,7 +136,7 @@ module _ (g : Geometry) (image : List ℕ) (i : ℕ) where
           | kinds.Odd ↦ λ is. bare_none (ap has_places is)
         ] refl
 
--- the places of all i-nodes, kind by kind and level by level
+-- the positions of all i-nodes that point to a block, summed over both kinds and all levels
 pub used_by_level : (g : Geometry) (image : List ℕ) (b : ℕ) → b ≢ 0
     → use_count g image b ≡ all_levels (naming_count g image kinds.Directory b) + all_levels (naming_count g image kinds.Regular b)
 unfolding use_count naming_count

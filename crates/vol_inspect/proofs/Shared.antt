@@ -1,4 +1,4 @@
--- The blocks that two places of files name, by the counts.
+-- The blocks that belong to files more than once, from the counts.
 use Rattle.std.proofs.Common.{◌≡◌, ℕ, ◌+◌, ◌-◌, ◌*◌, ◌<◌, ◌≤◌, ◌∙◌, ap, sym, min, Bool, cond, nat_lt, List, [], ◌∷◌, ◌++◌, map, refl, arith}
 use Rattle.std.specs.List.{filter, range_with_len}
 use Rattle.std.proofs.lemmas.Bool.Decides.{nat_tests}
@@ -16,7 +16,7 @@ map_same : (xs : List ℕ) → map (λ n. n) xs ≡ xs
 map_same [] = refl
 map_same (x ∷ xs) = ap (λ ys. x ∷ ys) (map_same xs)
 
--- filtering one more number
+-- filtering a range of one more number appends it if it passes
 pub kept_more : (p : ℕ → Bool) (a b : ℕ) → a ≤ b
     → filter p (range_with_len a (b + 1 - a)) ≡ filter p (range_with_len a (b - a)) ++ cond (p b) (b ∷ []) []
 kept_more p a b from =
@@ -26,11 +26,11 @@ kept_more p a b from =
     ∙ (filter_of_map_range_with_len_more p (λ n. n) a (b - a) b (omega arith)
     ∙ ap (λ xs. filter p xs ++ cond (p b) (b ∷ []) []) (map_same (range_with_len a (b - a)))))
 
--- numbers that are the same up to two are above one or not
+-- two numbers that are equal up to two are both above 1, or both not
 above_one : (n u : ℕ) → min 2 n ≡ min 2 u → nat_lt 1 n ≡ nat_lt 1 u
 above_one n u same = grind (arith, nat_tests)
 
--- a data block was counted twice if and only if two places name it
+-- a data block is counted twice if and only if two block-map positions point to it
 pub counted_is : (g : Geometry) (image directories files : List ℕ) (b : ℕ) → Fits g image → g.zone_start ≤ b → b < g.zone_end
     → CountsKind g image kinds.Directory directories → CountsKind g image kinds.Regular files
     → is_counted_twice directories files b ≡ is_shared g image b
@@ -38,7 +38,7 @@ counted_is g image directories files b fits from to ds fs =
     above_one (named_in directories (4 * b) + named_in files (4 * b)) (use_count g image b)
     (named_is g image directories files b fits (zone_within g b from to) ds fs)
 
--- filtering one more number, by whether it is kept
+-- filtering a range of one more number appends it if `test`, the result for this number, is true
 pub kept_next : (p : ℕ → Bool) (a b : ℕ) (kept new : List ℕ) (test : Bool) → a ≤ b → p b ≡ test → kept ≡ filter p (range_with_len a (b - a))
     → new ≡ kept ++ cond test (b ∷ []) [] → new ≡ filter p (range_with_len a (b + 1 - a))
 kept_next p a b kept new test from is was more =

@@ -1,4 +1,4 @@
--- The uses of blocks, by the counts.
+-- The uses of blocks, from the counts.
 use Rattle.std.proofs.Common.{◌≡◌, ℕ, ◌+◌, ◌*◌, ◌<◌, ◌≤◌, ◌∙◌, ◌==◌, sym, ap, min, not, Bool, true, false, cond, if◌then◌else◌, nat_lt, List, [], ◌∷◌, get_or, refl, arith, lit≤, inl, inr}
 use Rattle.std.proofs.lemmas.Bool.{cases_lt, ltb-false, lt-ltb}
 use Rattle.std.proofs.lemmas.List.Sums.{sum_by-cons}
@@ -20,23 +20,23 @@ use Rattle.vol_inspect.specs.declared.uses.Use.{Use}
 use Rattle.vol_inspect.specs.declared.uses.Use.TheVariants as uses
 use Rattle.vol_inspect.proofs.Named.{all_levels, used_by_level}
 
--- numbers between the ends are those of data blocks
+-- a number from the start of the data zone to before its end is in the zone
 pub zone_within : (geometry : Geometry) (k : ℕ) → geometry.zone_start ≤ k → k < geometry.zone_end → in_zone geometry k ≡ true
 zone_within geometry k from to = grind (arith, from, to)
 
--- a count at level 0
+-- the count at level 0 is the first of a block's counts
 count_here : (counts : List ℕ) (b n : ℕ) → get_or counts (4 * b + 0) 0 ≡ n → get_or counts (4 * b) 0 ≡ n
 count_here counts b n is = let at : 4 * b ≡ 4 * b + 0 = omega arith in ap (λ k. get_or counts k 0) at ∙ is
 
--- four numbers, each counted up to two, add up to the same number up to two
+-- the sum of four counts up to two is the sum of the numbers, up to two
 capped : (a b c d : ℕ) → min 2 (min 2 a + min 2 b + min 2 c + min 2 d) ≡ min 2 (a + b + c + d)
 capped a b c d = omega arith
 
--- so do two
+-- the sum of two counts up to two is the sum of the numbers, up to two
 both_capped : (x y a b : ℕ) → min 2 x ≡ min 2 a → min 2 y ≡ min 2 b → min 2 (x + y) ≡ min 2 (a + b)
 both_capped x y a b first next = omega (arith, first, next)
 
--- the counts of the places of a kind
+-- the counts of a block give the number of positions of this kind, up to two
 kind_is : (g : Geometry) (image counts : List ℕ) (kind : Kind) (b : ℕ) → CountsKind g image kind counts → in_zone g b ≡ true
     → min 2 (named_in counts (4 * b)) ≡ min 2 (all_levels (naming_count g image kind b))
 kind_is g image counts kind b done zone =
@@ -44,7 +44,7 @@ kind_is g image counts kind b done zone =
     ap (min 2) (λ i. count_here counts b (min 2 (n 0)) (done b 0 zone (lit≤ tt)) i + done b 1 zone (lit≤ tt) i + done b 2 zone (lit≤ tt) i + done b 3 zone (lit≤ tt) i)
     ∙ capped (n 0) (n 1) (n 2) (n 3)
 
--- the count of a data block is the number of places that name it, up to two
+-- the counts of a data block give the number of positions that point to it, up to two
 pub named_is : (g : Geometry) (image directories files : List ℕ) (b : ℕ) → Fits g image → in_zone g b ≡ true
     → CountsKind g image kinds.Directory directories → CountsKind g image kinds.Regular files
     → min 2 (named_in directories (4 * b) + named_in files (4 * b)) ≡ min 2 (use_count g image b)
@@ -54,11 +54,11 @@ named_is g image directories files b fits zone ds fs =
     (kind_is g image directories kinds.Directory b ds zone) (kind_is g image files kinds.Regular b fs zone)
     ∙ ap (min 2) (sym (used_by_level g image b (zone_some g image b fits zone)))
 
--- a block in an array is listed
+-- a block in an array is in the free list
 listed_yes : (left : ℕ) → is_listed (listed_at left) ≡ true
 listed_yes left = elim (left == 1) as (λ t. is_listed (if t then Linking else Plain) ≡ true) [ true ↦ refl | false ↦ refl ]
 
--- the blocks that a walk met are those that are listed
+-- the blocks that a walk passed are those in the free list
 listed_met : (g : Geometry) (image : List ℕ) (b : ℕ) (met : List ℕ) → not (count_by (λ k. k == b) met == 0) ≡ is_listed (listed_in g image met b)
 unfolding listed_in
 listed_met g image b [] = refl
@@ -75,13 +75,13 @@ pub met_is : (g : Geometry) (image : List ℕ) (b : ℕ) → is_listed (listed_o
 unfolding met_count
 met_is g image b = sym (listed_met g image b (free_walk g image).met)
 
--- a block that two places name is named twice
+-- a data block to which two positions point has the use `Twice`
 twice : (n d f : ℕ) (met : Bool) (how : Listed) → 2 ≤ n → data_use n met how d f ≡ uses.Twice
 twice n d f met how many =
     ap (λ t. cond t uses.Twice (if is_lost_of n met then uses.Lost else if met then free_use how
     else if d == 1 then uses.Directory else if f == 1 then uses.File else uses.Pointer)) (lt-ltb 1 (n + one_if met) (omega (arith, many)))
 
--- with counts up to two a data block has the same use
+-- a data block has the same use if the counts are the same up to two
 data_is : (n d f u x y : ℕ) (met : Bool) (how : Listed) → min 2 n ≡ min 2 u → d ≡ min 2 x → f ≡ min 2 y → x + y ≤ u
     → data_use n met how d f ≡ data_use u met how x y
 data_is n d f u x y met how count first next all = elim (cases_lt u 2) [
@@ -93,7 +93,7 @@ data_is n d f u x y met how count first next all = elim (cases_lt u 2) [
   | inr many ↦ twice n d f met how (omega (arith, count, many)) ∙ sym (twice u x y met how many)
 ]
 
--- the counts give the use of each block
+-- the use of each block computed from the counts is right
 pub use_is : (g : Geometry) (image directories files : List ℕ) (listed : List Listed) (b : ℕ) → Fits g image → b < g.zone_end
     → CountsKind g image kinds.Directory directories → CountsKind g image kinds.Regular files
     → ((x : ℕ) → x < g.zone_end → get_or listed x Absent ≡ listed_of g image x) → use_in g directories files listed b ≡ use_of g image b

@@ -13,7 +13,7 @@ use Rattle.vol_inspect.specs.declared.fault.InspectFault.TheVariants.{Unsound, N
 use Rattle.vol_inspect.specs.declared.free_chain.ChainReport.{ChainReport}
 use Rattle.vol_inspect.specs.declared.free_chain.FreeLink.{FreeLink}
 
--- a link of the chain: the block that holds it, its count as it is stored, and the numbers in use in its array (filsys.h, fblk.h)
+-- a link of the chain: the block that contains it, its count as it is stored, and the numbers in use in its array (filsys.h, fblk.h)
 pub record Link : Type 0 where
   pub block : ℕ
   pub count : ℕ
@@ -23,7 +23,7 @@ pub record Link : Type 0 where
 abbrev pub shown_link : FreeLink → Link
 shown_link link = record { block = link.block; count = link.count; numbers = link.numbers.items }
 
--- the byte of the count of the link in a block: a field of the super-block, which is block 1, and the first of another (filsys.h, fblk.h)
+-- the byte of a link's count in a block: in the super-block, which is block 1, it is a field; any other block begins with it (filsys.h, fblk.h)
 abbrev pub link_head : Edition → ℕ → ℕ
 link_head edition block = if block == 1 then free_head edition else 512 * block
 
@@ -36,11 +36,12 @@ link_of edition image block =
       numbers = link_numbers edition image (link_head edition block);
     }
 
--- the link in block b, if b is the last of `left` numbers left in an array (filsys.h, fblk.h)
+-- the link in block `b`, if `b` is the last of the `left` numbers left in an array (filsys.h, fblk.h)
 abbrev pub shown_from : Geometry → List ℕ → ℕ → ℕ → List Link
 shown_from g image left b = if left == 1 then link_of g.edition image b ∷ [] else []
 
--- the links of a walk over the free list that met these blocks, the last first: that of the super-block, and that in each block that was the last number left in an array (filsys.h, fblk.h)
+-- the links on a walk over the free list that passed these blocks, the last block first: the link of the super-block, and the link in each block that
+-- was the last number left in an array (filsys.h, fblk.h)
 unfoldable pub links_met : Geometry → List ℕ → List ℕ → List Link
 links_met g image [] = link_of g.edition image 1 ∷ []
 links_met g image (b ∷ met) = links_met g image met ++ shown_from g image (left_after g image met) b

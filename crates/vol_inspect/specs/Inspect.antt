@@ -19,19 +19,19 @@ use Rattle.vol_inspect.specs.declared.inode_report.InodeReport.{InodeReport}
 use Rattle.vol_inspect.specs.declared.super_report.SuperReport.{SuperReport}
 use Rattle.vol_inspect.specs.Extents.{extents_of}
 
--- a report on i-node i of an image with a geometry (manual section 5, file system)
+-- a report on i-node `i` of an image with a geometry (manual section 5, file system)
 pub record IsInodeReport (g : Geometry) (image : List ℕ) (i : ℕ) (report : InodeReport) : Type 0 where
   pub edition : report.edition ≡ g.edition
   pub number : report.number ≡ i
   pub node : report.node ≡ inode_of g.edition image i
   pub extents : report.extents.items ≡ extents_of g image i
 
--- the reason why an i-node of an image with this geometry isn't shown, or the geometry (this project)
+-- the geometry, or the reason why this i-node of an image with the geometry isn't shown (this project)
 abbrev pub numbered_in : ℕ → Result Geometry GeometryFault → Result Geometry InspectFault
 numbered_in i (Err fault) = Err (Unsound fault)
 numbered_in i (Ok g) = if (i == 0) || nat_lt g.last_inode i then Err NoEntry else Ok g
 
--- the geometry of an image in which i-node i can be shown, or the reason why it can't: rules 1 and 2 are checked first (this project)
+-- the geometry of an image whose i-node `i` can be shown, or the reason why it can't: rules 1 and 2 are checked first (this project)
 unfoldable pub node_in : Edition → List ℕ → ℕ → Result Geometry InspectFault
 node_in edition image i = numbered_in i (geometry_read edition image)
 
@@ -41,14 +41,14 @@ IsImagesFault NoMemory = ⊥
 IsImagesFault NoEntry = Unit {0}
 IsImagesFault (Unsound fault) = Unit {0}
 
--- the report on i-node i, or the reason why there is none (this project)
+-- the report on i-node `i`, or the reason why there is none (this project)
 abbrev pub InspectsInode : Edition → List ℕ → ℕ → Result InodeReport InspectFault → Type 0
 InspectsInode edition image i (Ok report) = (g : Geometry) × (node_in edition image i ≡ Ok g) × IsInodeReport g image i report
 InspectsInode edition image i (Err NoMemory) = IsOk (node_in edition image i)
 InspectsInode edition image i (Err NoEntry) = node_in edition image i ≡ Err NoEntry
 InspectsInode edition image i (Err (Unsound fault)) = node_in edition image i ≡ Err (Unsound fault)
 
--- the number of an array's entries in use, by its count: all of them if that is greater (this project)
+-- the number of an array's entries in use: its count, or the array's length if the count is greater (this project)
 abbrev pub used : ℕ → ℕ → ℕ
 used count places = if nat_lt places count then places else count
 

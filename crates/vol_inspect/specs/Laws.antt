@@ -9,19 +9,20 @@ use Rattle.vol_file.specs.Clears.{first_block}
 use Rattle.vol_inspect.specs.Extents.{single, extents_of}
 use Rattle.vol_inspect.specs.declared.extent.Extent.{Extent}
 
--- the blocks of an extent one by one (this project)
+-- the blocks of an extent, one by one (this project)
 abbrev pub laid_out : Extent → List Extent
 laid_out e = map (λ j. record e { logical = e.logical + j; block = e.block + j; count = 1 }) (range_with_len 0 e.count)
 
--- a number that is named, as one block; 0 names nothing (Lions on bmap)
+-- a number in the block map, as one block; 0 points to no block (Lions on bmap)
 abbrev pub seen : Geometry → ℕ → ℕ → ℕ → List Extent
 seen g level logical b = if b == 0 then [] else single g level logical b ∷ []
 
--- the block that place p of i-node i names, with the number of levels of blocks below it, and the first logical block at or below the place (Lions on bmap)
+-- the block that position `p` of i-node `i` points to, with the number of levels of blocks below it, and the first logical block at or below the
+-- position (Lions on bmap)
 abbrev pub seen_at : Geometry → List ℕ → ℕ → List ℕ → List Extent
 seen_at g image i p = seen g (levels_below (form_at g image i) p) (first_block (form_at g image i) p) (named g image i p)
 
--- block by block, the extents of an i-node are the blocks that its places name, in the order of the places (Lions on itrunc)
+-- block by block, the extents of an i-node are the blocks in its block map, in its order (Lions on itrunc)
 abbrev pub ShowsPlaces : Type 0
 ShowsPlaces = (g : Geometry) (image : List ℕ) (i : ℕ) → Fits g image
     → flat_map laid_out (extents_of g image i) ≡ flat_map (seen_at g image i) (places (form_at g image i))

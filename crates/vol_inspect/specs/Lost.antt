@@ -1,4 +1,4 @@
--- The i-nodes that no entry names.
+-- The i-nodes without a directory entry.
 use Rattle.std.specs.Prelude.{◌≡◌, ℕ, ◌+◌, ◌≤◌, ◌&&◌, Bool, true, false, not, nat_lt, List, filter, length, slice_index_or}
 use Rattle.std.specs.List.{range_with_len}
 use Rattle.vol_layout.specs.declared.geometry.Geometry.{Geometry}
@@ -16,24 +16,25 @@ has_content kinds.Special = true
 has_content kinds.Free = false
 has_content kinds.Odd = false
 
--- i is an i-number of the volume (manual section 5, file system)
+-- `i` is an i-number of the volume (manual section 5, file system)
 pub record IsInList (geometry : Geometry) (i : ℕ) : Type 0 where
   pub first : 1 ≤ i
   pub last : i ≤ geometry.last_inode
 
--- the marks say of each i-number whether an entry other than `.` and `..` is for it (ncheck)
+-- the mark of each i-number is true if an entry other than `.` and `..` is for it (ncheck)
 pub record KnowsNamed (geometry : Geometry) (image : List ℕ) (named : List Bool) : Type 0 where
   pub room : length named ≡ geometry.last_inode + 1
   pub all : (d s i : ℕ) → i ≤ geometry.last_inode → Enters geometry image d s i → slice_index_or named i false ≡ true
   pub only : (i : ℕ) → slice_index_or named i false ≡ true → (d : ℕ) × (s : ℕ) × Enters geometry image d s i
 
--- the marks say so of the entries before a place (ncheck)
+-- the marks are those of the entries before position `place` (ncheck)
 pub record NamedBefore (geometry : Geometry) (image : List ℕ) (place : ℕ) (named : List Bool) : Type 0 where
   pub room : length named ≡ geometry.last_inode + 1
   pub all : (i : ℕ) → i ≤ geometry.last_inode → IsEnteredBefore geometry image place i → slice_index_or named i false ≡ true
   pub only : (i : ℕ) → slice_index_or named i false ≡ true → (d : ℕ) × (s : ℕ) × Enters geometry image d s i
 
--- true if i-node i is lost, by marks of those that an entry names: it is above the root, has something to recover, and has no name (ncheck; this project)
+-- true if i-node `i` is lost, given a mark for each i-number that has an entry: it is above the root, has something to recover, and has no entry
+-- (ncheck; this project)
 abbrev pub is_lost : Geometry → List ℕ → List Bool → ℕ → Bool
 is_lost geometry image named i = nat_lt (root_of geometry) i && (has_content (kind_at geometry image i) && not (slice_index_or named i false))
 

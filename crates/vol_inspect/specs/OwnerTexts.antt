@@ -8,13 +8,14 @@ use Rattle.vol_inspect.specs.Texts.{link_where}
 use Rattle.vol_inspect.specs.declared.owners.Owner.{Owner}
 use Rattle.vol_inspect.specs.declared.owners.Owner.TheVariants as owners
 
--- the pointers that lead to a place, the last index first, from the i-node down: an address, and an entry of each indirect block (Lions on bmap; ino.h)
+-- the pointers to a position in the block map, the last index first, starting at the i-node: an address, and an entry of each indirect block (Lions
+-- on bmap; ino.h)
 unfoldable pub pointers_text : List ℕ → List ℕ
 pointers_text [] = []
 pointers_text (k ∷ []) = codes ", addr[" ++ (decimal k ++ codes "]")
 pointers_text (j ∷ (a ∷ p)) = pointers_text (a ∷ p) ++ (codes "[" ++ (decimal j ++ codes "]"))
 
--- the pointers that lead to a block, by the way of the first logical block at or below it (Lions on bmap)
+-- the pointers to a block, by the path to the first logical block at or below it (Lions on bmap)
 abbrev pub way_text : BlockMap → ℕ → ℕ → List ℕ
 way_text form level logical = option_map_or (λ p. pointers_text (drop level p)) (last_place form logical) []
 
@@ -24,11 +25,11 @@ level_text level =
     if level == 0 then codes "data" else if level == 1 then codes "indirect block" else if level == 2 then codes "doubly indirect block"
     else codes "triply indirect block"
 
--- the first logical block, of an indirect block the first below it (this project)
+-- the first logical block; for an indirect block, the first below it (this project)
 abbrev pub logical_text : ℕ → ℕ → List ℕ
 logical_text level logical = if level == 0 then codes ", logical " ++ decimal logical else codes ", from logical " ++ decimal logical
 
--- the place of a free block in the free list: an index, and the block that holds the array (filsys.h, fblk.h)
+-- the position of a free block in the free list: an index, and the block that contains the array (filsys.h, fblk.h)
 abbrev pub listed_text : ℕ → ℕ → List ℕ
 listed_text link index = codes "free, listed in " ++ (link_where link ++ (codes " free[" ++ (decimal index ++ codes "]")))
 
@@ -51,10 +52,10 @@ owner_text (owners.Free link index) = listed_text link index
 owner_text (owners.Node ino form e) = node_text ino form e.level e.logical
 owner_text owners.Lost = codes "lost"
 
--- the line of an owner of block b (this project)
+-- the line of an owner of block `b` (this project)
 abbrev pub owner_line : ℕ → Owner → List ℕ
 owner_line b owner = codes "block " ++ (decimal b ++ (codes ": " ++ (owner_text owner ++ codes "\n")))
 
--- the lines of the owners of block b (this project)
+-- the lines of the owners of block `b` (this project)
 unfoldable pub owners_text : ℕ → List Owner → List ℕ
 owners_text b found = flat_map (owner_line b) found

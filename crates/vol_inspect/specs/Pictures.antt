@@ -21,13 +21,14 @@ telling uses.Twice = 9
 abbrev pub more_telling : Use → Use → Use
 more_telling a b = if nat_lt (telling a) (telling b) then b else a
 
--- the cells, each for some blocks; the first has room for `left` more, and `best` is the use with the highest priority among its blocks so far (this project)
+-- the cells for the rest of the uses; the first cell has room for `left` more blocks, and `best` is the use with the highest priority among its
+-- blocks so far (this project)
 unfoldable pub cells_from : ℕ → ℕ → Use → List Use → List Use
 cells_from blocks left best [] = best ∷ []
 cells_from blocks zero best (u ∷ us) = best ∷ cells_from blocks (blocks - 1) u us
 cells_from blocks (suc left) best (u ∷ us) = cells_from blocks left (more_telling best u) us
 
--- the cells of some blocks each; a free block has the lowest priority (this project)
+-- the cells of this number of blocks each; a free block has the lowest priority (this project)
 abbrev pub cells : ℕ → List Use → List Use
 cells blocks found = cells_from blocks blocks uses.Free found
 
@@ -70,16 +71,16 @@ colour uses.Chain = 45
 colour uses.Lost = 103
 colour uses.Twice = 41
 
--- a cell: its letter, with colours between the codes that set and reset the colour (ECMA-48)
+-- a cell: its letter; in a coloured picture, between the codes that set and reset the colour (ECMA-48)
 abbrev pub cell_text : Bool → Use → List ℕ
 cell_text false u = letter u
 cell_text true u = (27 ∷ 91 ∷ []) ++ (decimal (colour u) ++ (codes "m" ++ (letter u ++ (27 ∷ 91 ∷ 48 ∷ 109 ∷ []))))
 
--- cell k, with a newline before it if it begins a row other than the first (this project)
+-- cell `k`, with a newline before it if it begins a row other than the first (this project)
 abbrev pub row_cell : Bool → ℕ → Use → ℕ → List ℕ
 row_cell coloured width u k = (if nat_lt 0 k && (k % width == 0) then codes "\n" else []) ++ cell_text coloured u
 
--- cells in rows of a width (this project)
+-- cells in rows of this width (this project)
 unfoldable pub rows_text : Bool → ℕ → List Use → List ℕ
 rows_text coloured width found =
     flat_map (λ k. row_cell coloured width (slice_index_or found k uses.Boot) k) (range_with_len 0 (length found))

@@ -6,7 +6,7 @@ use Rattle.vol_inspect.specs.declared.uses.Use.{Use}
 use Rattle.vol_inspect.specs.declared.uses.Use.TheVariants as uses
 use Rattle.vol_inspect.specs.declared.svg_picture.TheConstants.{STYLE}
 
--- the number of rows of a width that cells fill (this project)
+-- the number of rows of this width that cells fill (this project)
 abbrev pub row_count : ℕ → List Use → ℕ
 row_count width found = (length found + (width - 1)) / width
 
@@ -21,7 +21,7 @@ abbrev pub square_text : Use → ℕ → ℕ → List ℕ
 square_text u x y =
     codes "<path class='" ++ (letter u ++ (codes "' d='M" ++ (decimal x ++ (codes " " ++ (decimal y ++ codes "h9v9h-9z'/>\n")))))
 
--- the squares of cells in rows of a width (SVG 1.1)
+-- the squares of cells in rows of this width (SVG 1.1)
 unfoldable pub squares_text : ℕ → List Use → List ℕ
 squares_text width found =
     flat_map (λ k. square_text (slice_index_or found k uses.Boot) (10 * (k % width)) (10 * (k / width))) (range_with_len 0 (length found))

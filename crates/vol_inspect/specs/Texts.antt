@@ -33,7 +33,7 @@ kind_name kinds.Odd = codes "odd"
 abbrev pub range_text : ℕ → ℕ → List ℕ
 range_text first count = if nat_lt count 2 then decimal first else decimal first ++ (codes "-" ++ decimal (first + (count - 1)))
 
--- the note on numbers that are not those of data blocks (this project)
+-- the remark on numbers outside the data blocks (this project)
 abbrev pub inside_text : Bool → List ℕ
 inside_text true = []
 inside_text false = codes ", no data block"
@@ -42,7 +42,7 @@ inside_text false = codes ", no data block"
 abbrev pub below_text : ℕ → ℕ → List ℕ
 below_text level logical = codes "pointers, level " ++ (decimal level ++ (codes ", from logical " ++ decimal logical))
 
--- the blocks of an extent, and the logical blocks that they hold or lead to (this project)
+-- the blocks of an extent, and the logical blocks at or below them (this project)
 abbrev pub extent_text : Extent → List ℕ
 extent_text e =
     if e.level == 0 then
@@ -66,7 +66,7 @@ fields_text report =
     ++ (codes "\nsize " ++ (decimal report.node.size
     ++ codes "\naddr")))))))))))))))
 
--- the lines of the times, of which the sixth edition has two (this project)
+-- the lines of the times; the sixth edition has two (this project)
 abbrev pub times_text : ℕ → ℕ → Option ℕ → List ℕ
 times_text accessed modified None =
     codes "\natime " ++ (decimal accessed ++ (codes "\nmtime " ++ (decimal modified ++ codes "\n")))
@@ -110,11 +110,11 @@ counts_text report =
     ++ (codes ", free " ++ (decimal report.free_inodes
     ++ codes "\n")))))))
 
--- the beginning of a line of an array of this name: the index of the first number on it (this project)
+-- the beginning of a line of an array with this name: the index of the first number on it (this project)
 abbrev pub line_head : List ℕ → ℕ → List ℕ
 line_head name k = codes "\n" ++ (name ++ (codes "[" ++ (decimal k ++ codes "]")))
 
--- number k of an array, ten on a line (this project)
+-- number `k` of an array, ten on a line (this project)
 abbrev pub array_item : List ℕ → ℕ → ℕ → List ℕ
 array_item name n k = (if k % 10 == 0 then line_head name k else []) ++ (32 ∷ decimal n)
 
@@ -138,11 +138,11 @@ found_text report = counts_text report ++ free_fault_line report.fault
 abbrev pub super_text : SuperReport → List ℕ
 super_text report = free_text report ++ (cache_text report ++ (guards_text report ++ found_text report))
 
--- the place of a link of the free list's chain: the super-block, or a block (this project)
+-- the block that contains a link of the free list's chain: the super-block, or another block (this project)
 abbrev pub link_where : ℕ → List ℕ
 link_where block = if block == 1 then codes "super-block" else codes "block " ++ decimal block
 
--- the lines of a link: its place and count, and its numbers (this project)
+-- the lines of a link: its block and count, and its numbers (this project)
 abbrev pub link_text : FreeLink → List ℕ
 link_text link =
     link_where link.block ++ (codes ": nfree " ++ (decimal link.count ++ (array_text (codes "free") link.numbers.items ++ codes "\n")))

@@ -22,24 +22,27 @@ free_use Linking = uses.Chain
 free_use Plain = uses.Free
 free_use Absent = uses.Free
 
--- the use of a data block, by the number of places that name it, its status in the free list, and the numbers of places of directories and of regular files that name it as data (icheck)
+-- the use of a data block, from the number of block-map positions that point to it, its status in the free list, and the numbers of positions in
+-- directories and in regular files that point to it as data (icheck)
 abbrev pub data_use : ℕ → Bool → Listed → ℕ → ℕ → Use
 data_use named met listed directories files =
     if nat_lt 1 (named + one_if met) then uses.Twice else if is_lost_of named met then uses.Lost else if met then free_use listed
     else if directories == 1 then uses.Directory else if files == 1 then uses.File else uses.Pointer
 
--- the number of places that name a block: its counts at the levels 0 to 3 (this project)
+-- the number of block-map positions that point to a block: the sum of its counts at the levels 0 to 3 (this project)
 abbrev pub named_in : List ℕ → ℕ → ℕ
 named_in counts at = slice_index counts at + slice_index counts (at + 1) + slice_index counts (at + 2) + slice_index counts (at + 3)
 
--- the use of block b, by the counts (this project)
+-- the use of block `b`, from the counts (this project)
 abbrev pub use_in : Geometry → List ℕ → List ℕ → List Listed → ℕ → Use
 use_in g directories files listed b =
     if b == 0 then uses.Boot else if b == 1 then uses.SuperBlock else if nat_lt b g.zone_start then uses.IList
     else data_use (named_in directories (4 * b) + named_in files (4 * b)) (is_listed (slice_index_or listed b Absent)) (slice_index_or listed b Absent)
     (slice_index directories (4 * b)) (slice_index files (4 * b))
 
--- the use of block b: blocks 0 and 1 and the i-list are before the data zone; a data block that the block report has neither in a dup line nor as lost is free if the walk over the free list met it, and else has the use of the only place that names it (manual section 5, file system; icheck)
+-- the use of block `b`: blocks 0 and 1 and the i-list come before the data zone; a data block that the block report has neither in a dup line nor as
+-- lost is free if the walk over the free list passed it, and otherwise has the use of the only block-map position that points to it (manual section
+-- 5, file system; icheck)
 unfoldable pub use_of : Geometry → List ℕ → ℕ → Use
 use_of g image b =
     if b == 0 then uses.Boot else if b == 1 then uses.SuperBlock else if nat_lt b g.zone_start then uses.IList

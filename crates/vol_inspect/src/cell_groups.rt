@@ -1,4 +1,4 @@
-//! The cells of a picture, each for a block or for several.
+//! The cells of a picture, each for one block or several.
 ghost use Rattle.std.specs.Prelude.{◌≡◌, ◌≤◌, length, IfOk};
 ghost use Rattle.vol_inspect.specs.Pictures.{telling, more_telling, cells};
 
@@ -6,8 +6,8 @@ use crate::uses::Use;
 use std::alloc::{AllocError, Global};
 
 impl Use {
-    /// Returns the priority of a use if several blocks share a cell: faults first, then uses that occur once on a volume, then
-    /// directories, indirect blocks, files and free blocks.
+    /// Returns the priority of a use if several blocks share a cell: faults first, then uses that occur once on a volume, then directories, indirect
+    /// blocks, files and free blocks.
     fn telling(self) -> u8
         ensures { result ≡ telling self }
     {
@@ -37,8 +37,8 @@ impl Use {
     }
 }
 
-/// Returns the uses of cells of `blocks` blocks each, one after another, the last for the blocks that are left. A cell has the
-/// use with the highest priority among its blocks.
+/// Returns the uses of cells of `blocks` blocks each, in order; the last cell is for the blocks that are left. A cell has the use with the highest
+/// priority among its blocks.
 pub fn cells(alloc: Global, uses: &[Use], blocks: usize) -> Result<Vec<Use>, AllocError>
     requires blocks { 1 ≤ blocks }
     requires some { 1 ≤ length uses.now }

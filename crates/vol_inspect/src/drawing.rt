@@ -89,7 +89,7 @@ impl Use {
 
 /// Draws cells in rows of `width` letters, and a legend. With colours, each letter is between the colour codes of a terminal.
 ///
-/// Costs as much as the text is long, and memory for it.
+/// Takes time and memory in proportion to the length of the text.
 pub fn draw(
     alloc: Global,
     cells: &[Use],
@@ -158,7 +158,7 @@ fn push_legend(text: &mut String, coloured: bool) -> Result<(), AllocError>
     push_legend_lines(text, &ALL, coloured)
 }
 
-/// Appends the lines of some uses in the legend.
+/// Appends the lines of these uses in the legend.
 fn push_legend_lines(text: &mut String, all: &[Use], coloured: bool) -> Result<(), AllocError>
     ensures { OnOk result (string_bytes text.new ≡ string_bytes text.old ++ legend_lines coloured all.now) }
 {

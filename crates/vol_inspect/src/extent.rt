@@ -1,21 +1,21 @@
-//! Ranges of blocks that an i-node names.
+//! Ranges of blocks that belong to an i-node.
 ghost use Rattle.std.specs.Prelude.{◌≡◌, ◌+◌, ◌-◌, ◌<◌, ◌^◌, true};
 ghost use Rattle.vol_inspect.specs.Extents.{single, joins, extended};
 
 use vol_layout::Geometry;
 
-/// Consecutive blocks that an i-node names by places whose logical blocks are consecutive; or one indirect block.
+/// Consecutive blocks of an i-node that hold consecutive logical blocks; or one indirect block.
 #[derive(Clone, Copy)]
 pub struct Extent {
     /// The number of levels of blocks below each block: 0 for data, and 1 to 3 for an indirect block.
     pub level: u8,
-    /// The logical block that the first block holds, or the first logical block below it.
+    /// The logical block that the first block holds, or the first logical block below an indirect block.
     pub logical: u32,
     /// The first block.
     pub block: u32,
     /// The number of blocks: 1 for an indirect block.
     pub count: u32,
-    /// True if they are data blocks. A number that is not that of a data block reads as a hole, and isn't followed.
+    /// True if they are data blocks. A number outside the data blocks reads as a hole, and isn't followed.
     pub inside: bool,
 }
 

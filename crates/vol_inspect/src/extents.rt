@@ -1,4 +1,4 @@
-//! Collecting the blocks that an i-node names, joined to extents.
+//! Collects the blocks of an i-node and joins them to extents.
 ghost use Rattle.std.specs.Prelude.{◌≡◌, ◌+◌, ◌-◌, ◌<◌, ◌≤◌, ◌^◌, [], ◌∷◌, OnOk, IfOk};
 ghost use Rattle.vol_layout.specs.Edition.{constants};
 ghost use Rattle.vol_layout.specs.Geometry.{Fits};
@@ -14,15 +14,15 @@ use vol_layout::{BlockMap, Geometry, number};
 /// The extents found so far.
 #[derive(Drop)]
 pub(crate) struct Gathering {
-    /// Those that no more blocks can join.
+    /// The extents that no more blocks can join.
     pub done: Vec<Extent>,
-    /// The last one.
+    /// The last extent, which more blocks may join.
     pub last: Option<Extent>,
 }
 
-/// Returns the extents of i-node `i`, from 1 to the last, in the order of its places.
+/// Returns the extents of i-node `i`, from 1 to the last, in the order of its block map.
 ///
-/// Takes memory for the extents. Costs a read of each number below the i-node's addresses.
+/// Takes memory for the extents. Reads each number in the i-node's block map.
 pub(crate) fn extents(
     alloc: Global,
     image: &Image,
@@ -82,8 +82,7 @@ pub(crate) fn first_logical(form: BlockMap, k: usize) -> u32
     }
 }
 
-/// Collects number `b` and the numbers below it in `level` levels, if `b` isn't 0. The first logical block below it is
-/// `logical`.
+/// Collects number `b` and the numbers below it in `level` levels, if `b` isn't 0. The first logical block below `b` is `logical`.
 fn note_from(
     gathering: &mut Gathering,
     image: &Image,
@@ -123,7 +122,7 @@ fn note_from(
     Ok(())
 }
 
-/// Returns the number of logical blocks below a number that has `level` levels of indirect blocks below it.
+/// Returns the number of logical blocks below a block number with `level` levels of indirect blocks.
 pub(crate) fn span(geometry: &Geometry, level: u8) -> u32
     requires { level ≤ 2 }
     ensures { result ≡ (constants geometry.now.edition).pointers ^ level }

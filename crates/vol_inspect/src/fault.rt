@@ -1,8 +1,8 @@
-//! The reasons why nothing of an image is shown.
+//! The reasons why no part of an image can be shown.
 use std::alloc::AllocError;
 use vol_layout::GeometryFault;
 
-/// The reason why nothing of an image is shown.
+/// The reason why no part of an image can be shown.
 #[derive(Clone, Copy)]
 pub enum InspectFault {
     /// The image breaks rule 1 or rule 2.

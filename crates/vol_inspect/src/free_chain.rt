@@ -14,19 +14,19 @@ use vol_layout::{Edition, Geometry, Super, number};
 /// A link of the free list's chain.
 #[derive(Drop)]
 pub struct FreeLink {
-    /// The block that holds it; the super-block is block 1.
+    /// The block that contains the link; the super-block is block 1.
     pub block: u32,
-    /// `nfree`: the number of block numbers in use in its array, as it is stored.
+    /// `nfree`: the number of block numbers in use in the link's array, as it is stored.
     pub count: u16,
-    /// `free`: the numbers in use in the array, in order. The first is that of the next chain block. If the count is above the
-    /// array's length, all of them.
+    /// `free`: the numbers in use in the array, in order. The first is the number of the next chain block. If the count is above the array's length,
+    /// all numbers of the array.
     pub numbers: Vec<u32>,
 }
 
 /// The chain of the free list, up to the list's first fault.
 #[derive(Drop)]
 pub struct ChainReport {
-    /// The links, that of the super-block first.
+    /// The links; the first is the link in the super-block.
     pub links: Vec<FreeLink>,
     /// The number of blocks in the free list, up to its first fault.
     pub free_blocks: u32,
@@ -34,7 +34,7 @@ pub struct ChainReport {
     pub fault: Option<(FreeFault, u32)>,
 }
 
-/// Returns the chain of the free list. Rules 1 and 2 hold for the image, which may have any bytes otherwise.
+/// Returns the chain of the free list. The image must satisfy rules 1 and 2; otherwise it may have any bytes.
 ///
 /// Reads the free list up to its first fault. Takes a byte for each block of the volume, and the memory of the links.
 pub fn inspect_chain(
@@ -83,7 +83,7 @@ fn chain(alloc: Global, image: &Image, geometry: &Geometry) -> Result<ChainRepor
     }
 }
 
-/// Appends the link in block `b`, if this data block is the last of `left` entries left in an array.
+/// Appends the link in block `b`, if the walk took `b` as the last of the `left` numbers left in an array, and it is a data block.
 fn push_met(
     alloc: Global,
     links: &mut Vec<FreeLink>,
@@ -102,7 +102,7 @@ fn push_met(
     push_link(alloc, links, image, geometry.edition, b, BLOCK * b as usize)
 }
 
-/// Appends the link in a block, whose count is at byte `head`.
+/// Appends the link in a block whose count is at byte `head`.
 fn push_link(
     alloc: Global,
     links: &mut Vec<FreeLink>,

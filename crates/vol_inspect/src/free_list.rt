@@ -15,7 +15,7 @@ pub(crate) enum Listed {
     Absent,
     /// A free block without content.
     Plain,
-    /// A free block with the next count and array of the list.
+    /// A free block with the list's next count and array.
     Linking,
 }
 
@@ -36,7 +36,7 @@ pub(crate) fn listed_blocks(
     Ok(listed)
 }
 
-/// Notes the blocks that a walk over the free list meets. None is noted before, and no mark is set.
+/// Sets the status of the blocks that a walk over the free list passes. At the start no status and no mark is set.
 fn list(listed: &mut [Listed], marks: &mut [bool], image: &Image, geometry: &Geometry)
     requires fits { Fits geometry.now image.now }
     requires len { length listed.old ≡ geometry.now.zone_end }
@@ -56,7 +56,7 @@ fn list(listed: &mut [Listed], marks: &mut [bool], image: &Image, geometry: &Geo
     }
 }
 
-/// Returns the status of a free block that is the last of `left` entries left in an array.
+/// Returns the status of a free block that is the last of the `left` numbers left in an array.
 fn listed_at(left: u16) -> Listed
     ensures { result ≡ listed_at left }
 {

@@ -1,4 +1,4 @@
-//! An i-node and the blocks that it names.
+//! An i-node and its blocks.
 ghost use Rattle.std.specs.Prelude.{◌≡◌, ◌≤◌, OnOk, IfOk, IfErr, take};
 ghost use Rattle.vol_layout.specs.Geometry.{Fits};
 ghost use Rattle.vol_inspect.specs.Inspect.{InspectsInode, node_in, IsImagesFault};
@@ -10,7 +10,7 @@ use pdp_words::Image;
 use std::alloc::Global;
 use vol_layout::{Edition, Geometry, Inode, inode};
 
-/// An i-node and the blocks that it names.
+/// An i-node and its blocks.
 #[derive(Drop)]
 pub struct InodeReport {
     /// The volume's edition.
@@ -19,8 +19,8 @@ pub struct InodeReport {
     pub number: u16,
     /// The fields.
     pub node: Inode,
-    /// The blocks that its places name, in the order of the places, each indirect block before the blocks below it. Empty for
-    /// an i-node that isn't a regular file or directory.
+    /// The blocks in the i-node's block map, in its order; each indirect block comes before the blocks below it. Empty for an i-node that isn't a
+    /// regular file or directory.
     pub extents: Vec<Extent>,
 }
 
@@ -38,10 +38,9 @@ impl InodeReport {
     }
 }
 
-/// Returns the report on i-node `number`. Rules 1 and 2 hold for the image, which may have any bytes otherwise. A free i-node
-/// is shown too.
+/// Returns the report on i-node `number`. The image must satisfy rules 1 and 2; otherwise it may have any bytes. A free i-node is shown too.
 ///
-/// Costs a read of each number below the i-node's addresses, whatever its size. Takes memory for the extents.
+/// Reads each number in the i-node's block map, even past the file's size. Takes memory for the extents.
 pub fn inspect_inode(
     alloc: Global,
     edition: Edition,

@@ -1,5 +1,4 @@
-//! Looking into an image: an i-node with the blocks that it names, the super-block, and the use of each block, with pictures of
-//! that.
+//! Looks into an image: shows an i-node with its blocks, the super-block, and the use of each block, with pictures of the uses.
 #![tactic(auto)]
 
 mod cell_groups;

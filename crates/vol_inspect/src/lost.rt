@@ -1,4 +1,4 @@
-//! The i-nodes that no entry names.
+//! The i-nodes without a directory entry.
 ghost use Rattle.std.specs.Prelude.{◌≡◌, ◌+◌, ◌++◌, ◌∷◌, [], ◌≤◌, ℕ, All, List, IfOk, OnOk, length, if◌then◌else◌};
 ghost use Rattle.vol_layout.specs.Geometry.{Fits};
 ghost use Rattle.vol_layout.specs.declared.geometry.Geometry.{Geometry};
@@ -12,12 +12,12 @@ use vol_judge::entry_walk::{EntryAt, EntryPosition, next_entry};
 use vol_layout::i_list::kind;
 use vol_layout::{Geometry, Kind};
 
-/// Returns the i-nodes that no entry names, in ascending order: regular files, directories and special files above the root's i-number
-/// for which no directory has an entry other than `.` and `..`. The image may be any bytes otherwise. Directories that name one another
-/// aren't among them, nor is anything below a directory that no entry names.
+/// Returns the i-nodes without a directory entry, in ascending order: regular files, directories and special files above the root's i-number for
+/// which no directory has an entry other than `.` and `..`. The image may have any bytes otherwise. Directories that have entries for one another
+/// aren't among them, nor is anything below a directory without an entry.
 ///
-/// Costs a read of each i-node, and of each slot of each directory, except those below blocks that were found to have no entries.
-/// Takes a byte for each i-number, three for each block, and two for each that is found.
+/// Reads each i-node and each slot of each directory, but skips everything below blocks that were found to have no entries. Takes a byte for each
+/// i-number, three for each block, and two for each i-node that is found.
 pub fn lost_inodes(
     alloc: Global,
     image: &Image,
@@ -54,7 +54,7 @@ fn push_lost(
     Ok(())
 }
 
-/// True if i-node `i` is lost, given which i-numbers entries name.
+/// True if i-node `i` is lost, given the i-numbers that have an entry.
 fn is_lost(image: &Image, geometry: &Geometry, named: &[bool], i: u16) -> bool
     requires fits { Fits geometry.now image.now }
     requires last { i ≤ geometry.now.last_inode }
@@ -76,7 +76,7 @@ fn has_content(kind: Kind) -> bool
     }
 }
 
-/// Of each i-number whether an entry other than `.` and `..` is for it.
+/// Returns a mark for each i-number: true if it has an entry other than `.` and `..`.
 fn named_inodes(alloc: Global, image: &Image, geometry: &Geometry) -> Result<Vec<bool>, AllocError>
     requires { Fits geometry.now image.now }
     ensures { IfOk result (λ named. KnowsNamed geometry.now image.now named.items) }
@@ -91,7 +91,7 @@ fn named_inodes(alloc: Global, image: &Image, geometry: &Geometry) -> Result<Vec
     Ok(named)
 }
 
-/// Notes that an entry names what it is for, unless it is `.` or `..`.
+/// Marks the i-number of an entry, unless its name is `.` or `..`.
 fn note_named(entry: &EntryAt, named: &mut [bool])
     ensures { (geometry : Geometry) (image : List ℕ) (place : ℕ) → NamedBefore geometry image place named.old
         → IsNextSlot geometry image place entry.now.directory entry.now.number entry.now.slot

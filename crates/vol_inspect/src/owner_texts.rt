@@ -52,7 +52,7 @@ fn push_inodes(text: &mut String, first: u32, last: u32) -> Result<(), AllocErro
     write!(text, "i-list, i-nodes {first} to {last}")
 }
 
-/// Appends a block of an i-node, with `level` levels of blocks below it, of which logical block `logical` is the first.
+/// Appends a block of an i-node with `level` levels of blocks below it; the first logical block at or below it is `logical`.
 fn push_node(
     text: &mut String,
     ino: u16,
@@ -80,7 +80,7 @@ fn level_text(level: u8) -> &'static str
     }
 }
 
-/// Appends the place of a free block in the free list.
+/// Appends the position of a free block in the free list.
 fn push_listed(text: &mut String, link: u32, index: u16) -> Result<(), AllocError>
     ensures { OnOk result (string_bytes text.new ≡ string_bytes text.old ++ listed_text link index) }
 {
@@ -99,7 +99,7 @@ fn push_logical(text: &mut String, level: u8, logical: u32) -> Result<(), AllocE
     write!(text, ", from logical {logical}")
 }
 
-/// Appends the pointers that lead to a block with `level` levels of blocks below it, the first of which is logical block `logical`.
+/// Appends the pointers to a block with `level` levels of blocks below it; the first logical block at or below it is `logical`.
 fn push_way(text: &mut String, form: BlockMap, level: u8, logical: u32) -> Result<(), AllocError>
     ensures { OnOk result (string_bytes text.new ≡ string_bytes text.old ++ way_text form level logical) }
 {
@@ -109,7 +109,7 @@ fn push_way(text: &mut String, form: BlockMap, level: u8, logical: u32) -> Resul
     }
 }
 
-/// Appends the pointers of a way without the last `level` of them.
+/// Appends the pointers of a path through the block map, without the last `level` of them.
 fn push_pointers(text: &mut String, way: &BlockPath, level: usize) -> Result<(), AllocError>
     requires { way.now.depth ≤ 3 }
     ensures { OnOk result (string_bytes text.new ≡ string_bytes text.old ++ pointers_text (drop level (end_of way.now))) }

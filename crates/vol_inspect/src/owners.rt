@@ -20,7 +20,7 @@ use vol_layout::{BlockMap, Edition, Geometry, number};
 /// An owner of a block.
 #[derive(Clone, Copy)]
 pub enum Owner {
-    /// None: the volume has no such block.
+    /// No owner: the volume has no such block.
     Outside,
     /// The boot block, block 0.
     Boot,
@@ -31,26 +31,26 @@ pub enum Owner {
         first: u32,
         last: u32,
     },
-    /// The free list: the block that holds an array of it, which is 1 for the super-block, and the index in that array.
+    /// The free list: the block that contains the array (1 for the super-block), and the index in that array.
     Free {
         link: u32,
         index: u16,
     },
-    /// An i-node: the form of its block map, and the first of its places that names the block, as an extent of one block.
+    /// An i-node: the form of its block map, and the first position in it that points to the block, as an extent of one block.
     Node {
         ino: u16,
         form: BlockMap,
         extent: Extent,
     },
-    /// None: a data block that is neither free nor named by an i-node.
+    /// No owner: a data block that is neither free nor in the block map of an i-node.
     Lost,
 }
 
-/// Returns the owners of block `b`: the free list first, then i-nodes in ascending order. Rules 1 and 2 hold for the image, which
-/// may have any bytes otherwise.
+/// Returns the owners of block `b`: the free list first, then i-nodes in ascending order. The image must satisfy rules 1 and 2; otherwise it may have
+/// any bytes.
 ///
-/// Reads the free list up to its first fault, the i-list, and each indirect block at most once for each level at which it is named, and
-/// those on the way to the block once for each i-node. Takes five bytes for each block of the volume.
+/// Reads the free list up to its first fault, the i-list, and each indirect block at most once for each level at which it occurs; reads the indirect
+/// blocks above block `b` once for each i-node. Takes five bytes for each block of the volume.
 pub fn inspect_block(
     alloc: Global,
     edition: Edition,
@@ -132,7 +132,7 @@ fn data_owners(
     or_lost(found)
 }
 
-/// Returns the owners, or that the block is lost if there are none.
+/// Returns the owners, or `Lost` if there are none.
 fn or_lost(mut found: Vec<Owner>) -> Result<Vec<Owner>, AllocError>
     ensures { IfOk result (λ owners. owners.items ≡ or_lost found.items) }
 {
@@ -142,16 +142,16 @@ fn or_lost(mut found: Vec<Owner>) -> Result<Vec<Owner>, AllocError>
     Ok(found)
 }
 
-/// A block searched for in the free list.
+/// The search for a block in the free list.
 #[derive(Clone, Copy)]
 struct Listing {
-    /// Its place in the list, if it was met.
+    /// The block's position in the list, if it was found.
     found: Option<Owner>,
-    /// The block that holds the current array.
+    /// The block that contains the current array.
     link: u32,
 }
 
-/// Returns the place of block `b` in the free list, up to the list's first fault. No mark is set.
+/// Returns the position of block `b` in the free list, up to the list's first fault. At the start no mark is set.
 fn listed(marks: &mut [bool], image: &Image, geometry: &Geometry, b: u32) -> Option<Owner>
     requires fits { Fits geometry.now image.now }
     requires marks { length marks.old ≡ geometry.now.zone_end }
@@ -174,7 +174,7 @@ fn listed(marks: &mut [bool], image: &Image, geometry: &Geometry, b: u32) -> Opt
 }
 
 impl Listing {
-    /// Returns the listing past block `m`, the last of `left` numbers left in an array.
+    /// Returns the search after block `m`, the last of the `left` numbers left in an array.
     fn past(self, m: u32, left: u16, b: u32) -> Listing
         ensures found { result.found ≡ (if m == b then Some (Owner.Free self.link (left - 1)) else self.found) }
         ensures link { result.link ≡ (if left == 1 then m else self.link) }
@@ -192,7 +192,7 @@ impl Listing {
     }
 }
 
-/// Appends the i-nodes that name block `b`, in ascending order.
+/// Appends the i-nodes whose block maps have block `b`, in ascending order.
 fn push_nodes(
     found: &mut Vec<Owner>,
     dead: &mut [bool],
@@ -214,7 +214,7 @@ fn push_nodes(
     Ok(())
 }
 
-/// Appends an i-node, if one of its places names the block.
+/// Appends an i-node, if its block map has the block.
 fn push_node(
     found: &mut Vec<Owner>,
     ino: u16,
@@ -229,7 +229,7 @@ fn push_node(
     Ok(())
 }
 
-/// Returns the first place of i-node `i` that names block `b`.
+/// Returns the first position in the block map of i-node `i` that points to block `b`.
 fn naming(dead: &mut [bool], image: &Image, geometry: &Geometry, i: u16, b: u32) -> Option<Extent>
     requires fits { Fits geometry.now image.now }
     requires first { 1 ≤ i }
@@ -251,9 +251,8 @@ fn naming(dead: &mut [bool], image: &Image, geometry: &Geometry, i: u16, b: u32)
     None
 }
 
-/// Returns the first place that names block `b`, of the place that names number `m` with `level` levels of blocks below it and the
-/// places below that. The first logical block below it is `logical`. A block that was found not to lead to `b` is marked, and isn't
-/// followed again.
+/// Returns the first position that points to block `b`, from the position with number `m`, which has `level` levels of blocks below it, and the
+/// positions below. The first logical block below it is `logical`. A block that was found not to lead to `b` is marked, and isn't followed again.
 fn find_from(
     dead: &mut [bool],
     image: &Image,

@@ -1,4 +1,4 @@
-//! The number of places that name each block, counted up to two.
+//! The number of block-map positions that point to each block, counted up to two.
 ghost use Rattle.std.specs.Prelude.{◌≡◌, ◌*◌, ◌≤◌, length};
 ghost use Rattle.vol_layout.specs.Geometry.{Fits};
 ghost use Rattle.vol_inspect.specs.PlaceCounts.{CountsFrom, CountsNode, CountsWanted, CountsKind, IsTally, IsClear};
@@ -8,8 +8,8 @@ use pdp_words::{BLOCK, Image};
 use vol_layout::i_list::{address, kind, mode};
 use vol_layout::{BlockMap, Geometry, Kind, number};
 
-/// Counts the place that names number `b` with `level` levels of blocks below it, and the places below it. A block counted
-/// twice isn't followed again: the places below it were counted twice too.
+/// Counts the position with number `b`, which has `level` levels of blocks below it, and the positions below. A block counted twice isn't followed
+/// again: the positions below it were counted twice too.
 fn count_from(counts: &mut [u8], image: &Image, geometry: &Geometry, level: u8, b: u32)
     requires fits { Fits geometry.now image.now }
     requires level { level ≤ 3 }
@@ -34,7 +34,7 @@ fn count_from(counts: &mut [u8], image: &Image, geometry: &Geometry, level: u8, 
     }
 }
 
-/// Counts the places of i-node `i`.
+/// Counts the positions in the block map of i-node `i`.
 fn count_node(counts: &mut [u8], image: &Image, geometry: &Geometry, i: u16)
     requires fits { Fits geometry.now image.now }
     requires first { 1 ≤ i }
@@ -50,7 +50,7 @@ fn count_node(counts: &mut [u8], image: &Image, geometry: &Geometry, i: u16)
     }
 }
 
-/// Counts the places of all i-nodes of a kind. Nothing is counted before.
+/// Counts the block-map positions of all i-nodes of a kind. All counts are 0 at the start.
 pub(crate) fn count_kind(counts: &mut [u8], image: &Image, geometry: &Geometry, wanted: Kind)
     requires fits { Fits geometry.now image.now }
     requires len { length counts.old ≡ 4 * geometry.now.zone_end }
@@ -62,7 +62,7 @@ pub(crate) fn count_kind(counts: &mut [u8], image: &Image, geometry: &Geometry, 
     }
 }
 
-/// Counts the places of i-node `i`, if it is of a kind.
+/// Counts the block-map positions of i-node `i`, if it is of this kind.
 fn count_wanted(counts: &mut [u8], image: &Image, geometry: &Geometry, i: u16, wanted: Kind)
     requires fits { Fits geometry.now image.now }
     requires first { 1 ≤ i }

@@ -1,4 +1,4 @@
-//! The blocks that two places of files name.
+//! The blocks that belong to files more than once.
 ghost use Rattle.std.specs.Prelude.{◌≡◌, ◌+◌, ◌*◌, ◌<◌, length, IfOk};
 ghost use Rattle.vol_layout.specs.Geometry.{Fits};
 ghost use Rattle.vol_inspect.specs.SharedBlocks.{is_counted_twice, shared_blocks};
@@ -8,11 +8,11 @@ use pdp_words::Image;
 use std::alloc::{AllocError, Global};
 use vol_layout::{Geometry, Kind};
 
-/// Returns the data blocks that at least two places of regular files and directories name, to hold bytes or as an indirect
-/// block, in ascending order. The image may have any bytes otherwise.
+/// Returns the data blocks to which at least two block-map positions of regular files and directories point, for data or as an indirect block, in
+/// ascending order. The image may have any bytes otherwise.
 ///
-/// Reads each indirect block at most twice for each level at which directories name it, and twice for each level at which
-/// regular files do, however they are linked. Takes eight bytes for each block, and four for each that is found.
+/// Reads each indirect block at most twice for each level at which it occurs in directories, and twice for each level at which it occurs in regular
+/// files, however they are linked. Takes eight bytes for each block, and four for each that is found.
 pub fn shared_blocks(
     alloc: Global,
     image: &Image,

@@ -8,9 +8,9 @@ use crate::texts::push_fault;
 use std::alloc::AllocError;
 
 impl SuperReport {
-    /// Appends the lines of the volume's space: a heading; how many blocks, blocks for data and i-nodes there are, how many of
-    /// them are used and how many are free; then a line for the fault of the free list, if it has one, as the checkers print it.
-    /// A block counts as free if the free list has it, up to the list's first fault.
+    /// Appends the lines of the volume's space: a heading; one line each for all blocks, the data blocks and the i-nodes, with their number, how many
+    /// are used and how many are free; then a line for the fault of the free list, if it has one, as the checkers print it. A block counts as free if
+    /// the free list has it, up to the list's first fault.
     pub fn push_space(&self, text: &mut String) -> Result<(), AllocError>
         requires { self.now.geometry.zone_start ≤ self.now.geometry.zone_end }
         ensures { OnOk result (string_bytes text.new ≡ string_bytes text.old ++ space_text self.now) }
@@ -28,14 +28,14 @@ impl SuperReport {
     }
 }
 
-/// Returns the number of those in use.
+/// Returns the number of items in use, given the number of all items and the number of free ones.
 pub fn in_use(all: u64, free: u64) -> u64
     ensures { result ≡ in_use all free }
 {
     all.saturating_sub(free)
 }
 
-/// Appends the line of those that have this name.
+/// Appends the line for the items with this name.
 #[tactic(auto, unfolding(crate::specs::Space::space_line))]
 fn push_line(text: &mut String, name: &str, all: u64, free: u64) -> Result<(), AllocError>
     ensures { OnOk result (string_bytes text.new ≡ string_bytes text.old ++ space_line name.now all free) }

@@ -25,8 +25,8 @@ pub struct SuperReport {
     pub block_count: u32,
     /// `s_nfree`: the number of block numbers in use in the free array, as it is stored.
     pub free_count: u16,
-    /// `s_free`: the numbers in use in the array, in order. The first is that of the next chain block, and the last is the next
-    /// to be taken. If the count is above the array's length, all of them.
+    /// `s_free`: the numbers in use in the array, in order. The first is the number of the next chain block, and the last is the next block to be
+    /// allocated. If the count is above the array's length, all numbers of the array.
     pub free: Vec<u32>,
     /// The number of blocks in the free list, up to its first fault.
     pub free_blocks: usize,
@@ -34,8 +34,8 @@ pub struct SuperReport {
     pub fault: Option<(FreeFault, u32)>,
     /// `s_ninode`: the number of i-numbers in use in the cache, as it is stored.
     pub cache_count: u16,
-    /// `s_inode`: the i-numbers in use in the cache, in order; the last is the next to be taken. If the count is above 100, all
-    /// of them.
+    /// `s_inode`: the i-numbers in use in the cache, in order; the last is the next to be allocated. If the count is above 100, all numbers of the
+    /// cache.
     pub cache: Vec<u16>,
     /// The number of free i-nodes.
     pub free_inodes: u16,
@@ -45,10 +45,9 @@ pub struct SuperReport {
     pub time: u32,
 }
 
-/// Returns the report on the super-block. Rules 1 and 2 hold for the image, which may have any bytes otherwise.
+/// Returns the report on the super-block. The image must satisfy rules 1 and 2; otherwise it may have any bytes.
 ///
-/// Reads the i-list, and the free list up to its first fault. Takes a byte for each block of the volume, and four for each free
-/// one.
+/// Reads the i-list, and the free list up to its first fault. Takes a byte for each block of the volume, and four for each free block.
 pub fn inspect_super(
     alloc: Global,
     edition: Edition,
@@ -93,7 +92,7 @@ pub fn super_report(
     })
 }
 
-/// Returns the number of an array's entries in use, by its count.
+/// Returns the number of an array's entries in use: its count, or the array's length if the count is above that.
 pub(crate) fn used(count: u16, places: u16) -> u16
     ensures value { result ≡ used count places }
     ensures bound { result ≤ places }

@@ -13,7 +13,7 @@ const STYLE: &str =
 
 /// Returns a picture of cells as SVG: rows of `width` squares, and a legend below them.
 ///
-/// Costs as much as the text is long, and memory for it.
+/// Takes time and memory in proportion to the length of the text.
 pub fn svg(alloc: Global, cells: &[Use], width: usize) -> Result<String, AllocError>
     requires some { 1 ≤ width }
     requires narrow { width < 2 ^ 32 }
@@ -40,7 +40,7 @@ fn row_count(cells: &[Use], width: usize) -> usize
     (cells.len() + (width - 1)) / width
 }
 
-/// Appends the text before the squares; the legend begins at `top`.
+/// Appends the text before the squares; the legend begins at height `top`.
 fn push_head(text: &mut String, width: usize, top: usize) -> Result<(), AllocError>
     requires narrow { width < 2 ^ 32 }
     requires low { top < 2 ^ 40 }

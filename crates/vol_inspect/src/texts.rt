@@ -43,7 +43,7 @@ impl InodeReport {
     /// Appends the report's text: a line for each field by its name in the manual, the mode in octal digits followed by the
     /// kind and the permissions; then a line for each extent.
     ///
-    /// Costs as much as the text is long.
+    /// Takes time in proportion to the length of the text.
     pub fn push_text(&self, text: &mut String) -> Result<(), AllocError>
         ensures { OnOk result (string_bytes text.new ≡ string_bytes text.old ++ inode_text self.now) }
     {
@@ -78,11 +78,11 @@ impl InodeReport {
 }
 
 impl SuperReport {
-    /// Appends the report's text: a line for each field by its name in `filsys.h`, with the numbers of each array after its
-    /// count, ten on a line after the index of the first; then the numbers of data blocks and i-nodes, and how many of them are
-    /// free; then a line for the fault of the free list, if it has one, as the checkers print it.
+    /// Appends the report's text: a line for each field by its name in `filsys.h`, with the numbers of each array after its count, ten on a line
+    /// after the index of the first; then the numbers of data blocks and i-nodes, and how many of them are free; then a line for the fault of the
+    /// free list, if it has one, as the checkers print it.
     ///
-    /// Costs as much as the text is long.
+    /// Takes time in proportion to the length of the text.
     pub fn push_text(&self, text: &mut String) -> Result<(), AllocError>
         requires { self.now.geometry.zone_start ≤ self.now.geometry.zone_end }
         ensures { OnOk result (string_bytes text.new ≡ string_bytes text.old ++ super_text self.now) }
@@ -164,11 +164,10 @@ impl SuperReport {
 }
 
 impl ChainReport {
-    /// Appends the report's text: for each link a line with its place and its count, and its numbers, ten on a line after the
-    /// index of the first; then a line for the fault of the free list, if it has one, as the checkers print it; then the
-    /// numbers of links and of free blocks.
+    /// Appends the report's text: for each link a line with its block and its count, and its numbers, ten on a line after the index of the first;
+    /// then a line for the fault of the free list, if it has one, as the checkers print it; then the numbers of links and of free blocks.
     ///
-    /// Costs as much as the text is long.
+    /// Takes time in proportion to the length of the text.
     pub fn push_text(&self, text: &mut String) -> Result<(), AllocError>
         ensures { OnOk result (string_bytes text.new ≡ string_bytes text.old ++ chain_text self.now) }
     {
@@ -208,7 +207,7 @@ fn push_link(text: &mut String, link: &FreeLink) -> Result<(), AllocError>
     write!(text, "\n")
 }
 
-/// Appends the place of a link.
+/// Appends the block that contains a link.
 pub(crate) fn push_where(text: &mut String, block: u32) -> Result<(), AllocError>
     ensures { OnOk result (string_bytes text.new ≡ string_bytes text.old ++ link_where block) }
 {
@@ -307,7 +306,7 @@ impl fmt::Display for Extent {
     }
 }
 
-/// Returns the note on numbers that are not those of data blocks.
+/// Returns the remark on numbers outside the data blocks.
 fn inside_text(inside: bool) -> &'static str
     ensures { result.now ≡ inside_text inside }
 {
@@ -337,7 +336,7 @@ fn push_spaced(text: &mut String, numbers: &[u32]) -> Result<(), AllocError>
     Ok(())
 }
 
-/// Appends the numbers of an array of this name, ten on a line after the index of the first.
+/// Appends the numbers of an array with this name, ten on a line after the index of the first.
 fn push_array(text: &mut String, name: &str, numbers: &[u32]) -> Result<(), AllocError>
     ensures { OnOk result (string_bytes text.new ≡ string_bytes text.old ++ array_text name.now numbers.now) }
 {
@@ -347,7 +346,7 @@ fn push_array(text: &mut String, name: &str, numbers: &[u32]) -> Result<(), Allo
     Ok(())
 }
 
-/// Appends the words of an array of this name, as [`push_array`] does.
+/// Appends the words of an array with this name, as [`push_array`] does.
 fn push_words(text: &mut String, name: &str, numbers: &[u16]) -> Result<(), AllocError>
     ensures { OnOk result (string_bytes text.new ≡ string_bytes text.old ++ array_text name.now numbers.now) }
 {
@@ -358,7 +357,7 @@ fn push_words(text: &mut String, name: &str, numbers: &[u16]) -> Result<(), Allo
     Ok(())
 }
 
-/// Appends number `k` of an array of this name, at the beginning of a line or after other numbers.
+/// Appends number `k` of an array with this name, at the beginning of a line or after other numbers.
 fn push_item(text: &mut String, name: &str, number: u32, k: usize) -> Result<(), AllocError>
     ensures { OnOk result (string_bytes text.new ≡ string_bytes text.old ++ array_item name.now number k) }
 {

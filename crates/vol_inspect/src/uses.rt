@@ -30,17 +30,17 @@ pub enum Use {
     Free,
     /// A chain block of the free list, with the list's next count and array.
     Chain,
-    /// A block that no place names and that isn't in the free list.
+    /// A block that no block-map position points to and that isn't in the free list.
     Lost,
-    /// A block that two places name, or that one names and that is in the free list.
+    /// A block that two block-map positions point to, or one if it is also in the free list.
     Twice,
 }
 
-/// Returns the use of each block of a volume, from block 0 to the last, by the places of all files that name it and by the free
-/// list up to its first fault. The image may have any bytes otherwise.
+/// Returns the use of each block of a volume, from block 0 to the last, computed from the block maps of all files and from the free list up to its
+/// first fault. The image may have any bytes otherwise.
 ///
-/// Reads each indirect block at most twice for each level at which directories name it, and twice for each level at which
-/// regular files do, however they are linked. Takes about ten bytes for each block.
+/// Reads each indirect block at most twice for each level at which it occurs in directories, and twice for each level at which it occurs in regular
+/// files, however they are linked. Takes about ten bytes for each block.
 pub fn block_uses(alloc: Global, image: &Image, geometry: &Geometry) -> Result<Vec<Use>, AllocError>
     requires { Fits geometry.now image.now }
     ensures { IfOk result (λ uses. uses.items ≡ map (use_of geometry.now image.now) (range_with_len 0 geometry.now.zone_end)) }
@@ -55,7 +55,7 @@ pub fn block_uses(alloc: Global, image: &Image, geometry: &Geometry) -> Result<V
     Ok(uses)
 }
 
-/// Returns the number of places of i-nodes of a kind that name each block, by the levels of blocks below it, counted up to two.
+/// Returns the number of block-map positions of i-nodes of a kind that point to each block, by the levels of blocks below it, counted up to two.
 pub(crate) fn counts(
     alloc: Global,
     image: &Image,
@@ -71,7 +71,7 @@ pub(crate) fn counts(
     Ok(counts)
 }
 
-/// Returns the use of block `b`, by the counts.
+/// Returns the use of block `b`, computed from the counts.
 fn use_at(geometry: &Geometry, directories: &[u8], files: &[u8], listed: &[Listed], b: u32) -> Use
     requires directories { length directories.now ≡ 4 * geometry.now.zone_end }
     requires files { length files.now ≡ 4 * geometry.now.zone_end }
@@ -93,7 +93,7 @@ fn use_at(geometry: &Geometry, directories: &[u8], files: &[u8], listed: &[Liste
     data_use(named, listed[b as usize], directories[at], files[at])
 }
 
-/// Returns the number of places that name a block, each level counted up to two.
+/// Returns the number of block-map positions that point to a block, each level counted up to two.
 pub(crate) fn named_in(counts: &[u8], at: usize) -> u64
     requires { at + 3 < length counts.now }
     ensures value { result ≡ named_in counts.now at }
@@ -105,8 +105,8 @@ pub(crate) fn named_in(counts: &[u8], at: usize) -> u64
         + u64::from(counts[at + 3])
 }
 
-/// Returns the use of a data block that `named` places name, and that `directories` places of directories and `files` places of
-/// regular files name as data.
+/// Returns the use of a data block to which `named` block-map positions point, including `directories` positions of directories and `files` positions
+/// of regular files that point to it as data.
 fn data_use(named: u64, listed: Listed, directories: u8, files: u8) -> Use
     ensures { result ≡ data_use named (is_listed listed) listed directories files }
 {

@@ -1,4 +1,4 @@
--- Laws of the first block that is marked again.
+-- Laws of `again`: the first block that is already marked when blocks are marked one by one.
 use Rattle.std.proofs.Common.{◌≡◌, ◌≢◌, ℕ, zero, suc, ◌+◌, ◌-◌, ◌<◌, ◌≤◌, ◌∙◌, sym, ap, subst, cond, inl, inr, List, [], ◌∷◌, ◌++◌, length, get_or, set, Option, None, Some, refl, arith, eq-eqb}
 use Rattle.std.proofs.lemmas.Bool.{cases_eq, ne_eqb}
 use Rattle.std.proofs.lemmas.Option.{none-some, same_Some}
@@ -18,17 +18,17 @@ use Rattle.vol_judge.proofs.MarkLists.{flat_more, marked_none, marked_first, mar
 use Rattle.vol_judge.proofs.NamedOnce.{in_append, in_left, in_flat, flat_in}
 use Rattle.vol_judge.specs.SharedBlocks.{again, IsTwiceNamed}
 
--- a block without a mark is passed
+-- if the first block isn't marked, `again` marks it and continues with the rest
 pub again_past : (marks : List ℕ) (b : ℕ) (blocks : List ℕ) → get_or marks b 0 ≡ 0 → again marks (b ∷ blocks) ≡ again (set marks b 1) blocks
 unfolding again
 again_past marks b blocks fresh = ap (λ t. cond t (again (set marks b 1) blocks) (Some b)) (eq-eqb (get_or marks b 0) 0 fresh)
 
--- a block with a mark is found
+-- if the first block is marked, `again` returns it
 pub again_here : (marks : List ℕ) (b : ℕ) (blocks : List ℕ) → get_or marks b 0 ≢ 0 → again marks (b ∷ blocks) ≡ Some b
 unfolding again
 again_here marks b blocks before = ap (λ t. cond t (again (set marks b 1) blocks) (Some b)) (ne_eqb (get_or marks b 0) 0 before)
 
--- more blocks are marked after the first
+-- once all blocks of a list are marked, `again` continues in the next list
 pub again_then : (blocks more marks mid : List ℕ) (end : Option ℕ) → marked marks blocks ≡ Some mid → again mid more ≡ end → again marks (blocks ++ more) ≡ end
 again_then [] more marks mid end done next = ap (λ m. again m more) (same_Some marks mid (sym (marked_none marks) ∙ done)) ∙ next
 again_then (b ∷ blocks) more marks mid end done next = elim (cases_eq (get_or marks b 0) 0) [
@@ -38,7 +38,7 @@ again_then (b ∷ blocks) more marks mid end done next = elim (cases_eq (get_or 
   | inr before ↦ absurd (none-some mid (sym (marked_again marks b blocks before) ∙ done))
 ]
 
--- a block found among the first ones is the first of all
+-- the block that `again` finds in the first list is the one that it finds in both lists together
 pub again_left : (blocks more marks : List ℕ) (x : ℕ) → again marks blocks ≡ Some x → again marks (blocks ++ more) ≡ Some x
 unfolding again
 again_left [] more marks x found = absurd (none-some x found)
@@ -49,7 +49,7 @@ again_left (b ∷ blocks) more marks x found = elim (cases_eq (get_or marks b 0)
   | inr before ↦ again_here marks b (blocks ++ more) before ∙ (sym (again_here marks b blocks before) ∙ found)
 ]
 
--- a block found in some lists is the first in more
+-- the block that `again` finds in the lists of a range is the one that it finds in a longer range
 again_longer : (f : ℕ → List ℕ) (a n d : ℕ) (marks : List ℕ) (x : ℕ) → again marks (flat_map f (range_with_len a n)) ≡ Some x
     → again marks (flat_map f (range_with_len a (n + d))) ≡ Some x
 again_longer f a n zero marks x found = let size : n + 0 ≡ n = omega arith in ap (λ m. again marks (flat_map f (range_with_len a m))) size ∙ found
@@ -57,7 +57,7 @@ again_longer f a n (suc d) marks x found =
     ap (again marks) (flat_more f a (n + d) (n + suc d) (a + (n + d)) (omega arith) refl)
     ∙ again_left (flat_map f (range_with_len a (n + d))) (f (a + (n + d))) marks x (again_longer f a n d marks x found)
 
--- a block found in a list, once those before it are marked, is the first of all
+-- if the lists before list j can be marked, the block that `again` finds in list j is the one that it finds in the whole range
 again_stops : (f : ℕ → List ℕ) (a n j count : ℕ) (marks mid : List ℕ) (x : ℕ) → a + n ≡ j → n < count
     → marked marks (flat_map f (range_with_len a n)) ≡ Some mid → again mid (f j) ≡ Some x → again marks (flat_map f (range_with_len a count)) ≡ Some x
 again_stops f a n j count marks mid x at less done found =
@@ -66,7 +66,7 @@ again_stops f a n j count marks mid x at less done found =
     ∙ again_longer f a (n + 1) (count - (n + 1)) marks x
     (ap (again marks) (flat_more f a n (n + 1) j refl at) ∙ again_then (flat_map f (range_with_len a n)) (f j) marks mid (Some x) done found)
 
--- if a block is found, not all can be marked
+-- if `again` finds a block, the blocks can't all be marked
 pub again_marked : (blocks marks : List ℕ) (x : ℕ) → again marks blocks ≡ Some x → marked marks blocks ≡ None
 unfolding again
 again_marked [] marks x found = absurd (none-some x found)
@@ -75,7 +75,7 @@ again_marked (b ∷ blocks) marks x found = elim (cases_eq (get_or marks b 0) 0)
   | inr before ↦ marked_again marks b blocks before
 ]
 
--- the blocks before the one that is found, which are all marked then, and it among them
+-- the lists before and after the block x that `again` finds; the blocks before x can be marked, and then x is already marked
 pub record Split (blocks marks : List ℕ) (x : ℕ) : Type 0 where
   pub before : List ℕ
   pub after : List ℕ
@@ -112,34 +112,36 @@ split (b ∷ blocks) marks x found = elim (cases_eq (get_or marks b 0) 0) [
 ]
 
 module _ (g : Geometry) (image : List ℕ) where
-  -- a block that was marked before is found at once
+  -- if b is already marked, it is the block that `again` finds at and below b
   pub from_here : (d b : ℕ) (marks : List ℕ) → b ≢ 0 → get_or marks b 0 ≢ 0 → again marks (blocks_from g image d b) ≡ Some b
   from_here zero b marks some was = ap (again marks) (from_leaf g image b some) ∙ again_here marks b [] was
   from_here (suc d) b marks some was =
       ap (again marks) (from_entries g image (suc d) b some (omega arith))
       ∙ again_here marks b (entries_from g image (suc d - 1) b (constants g.edition).pointers) was
 
-  -- a block is marked before its entries
+  -- if b isn't marked, the block that `again` finds at and below its entries is the one that it finds at and below b
   pub from_below : (d b : ℕ) (marks : List ℕ) (x : ℕ) → b ≢ 0 → 1 ≤ d → get_or marks b 0 ≡ 0
       → again (set marks b 1) (entries_from g image (d - 1) b (constants g.edition).pointers) ≡ Some x → again marks (blocks_from g image d b) ≡ Some x
   from_below d b marks x some one fresh below =
       ap (again marks) (from_entries g image d b some one)
       ∙ (again_past marks b (entries_from g image (d - 1) b (constants g.edition).pointers) fresh ∙ below)
 
-  -- a block found in an entry is the first of all
+  -- if the blocks at and below the entries before j can be marked, the block that `again` finds at and below entry j is the one that it finds for all
+  -- entries
   pub entries_again : (d b j n : ℕ) (marks mid : List ℕ) (x : ℕ) → j < n → marked marks (entries_from g image d b j) ≡ Some mid
       → again mid (blocks_from g image d (pointer_in g image b j)) ≡ Some x → again marks (entries_from g image d b n) ≡ Some x
   unfolding entries_from
   entries_again d b j n marks mid x less done found =
       again_stops (λ j. blocks_from g image d (pointer_in g image b j)) 0 j j n marks mid x (omega arith) less done found
 
-  -- a block found from an address on is the first of all
+  -- if the blocks at and below the addresses before k can be marked, the block that `again` finds at and below address k is the one that it finds for
+  -- all addresses
   pub addresses_again : (i k n : ℕ) (marks mid : List ℕ) (x : ℕ) → k < n → marked marks (addresses_from g image i k) ≡ Some mid
       → again mid (address_blocks g image i k) ≡ Some x → again marks (addresses_from g image i n) ≡ Some x
   unfolding addresses_from
   addresses_again i k n marks mid x less done found = again_stops (address_blocks g image i) 0 k k n marks mid x (omega arith) less done found
 
-  -- a block found in a file breaks rule 7
+  -- if a block of file i is already marked after the files before i, rule 7 fails
   pub file_breaks : (i x : ℕ) (marks mid : List ℕ) → 1 ≤ i → i ≤ g.last_inode → IsZoned g image → length marks ≡ g.zone_end
       → ((b : ℕ) → get_or marks b 0 ≡ 0) → marked marks (files_from g image (i - 1)) ≡ Some mid → again mid (blocks_of g image i) ≡ Some x
       → IsApart g image → ⊥
@@ -147,7 +149,7 @@ module _ (g : Geometry) (image : List ℕ) where
       all_refused g image marks zoned len clear
       (files_fail g image i (i - 1) marks mid (omega arith) (omega arith) done (again_marked (blocks_of g image i) mid x found))
 
-  -- a block of the files before i, or of the first of its own, is among all blocks
+  -- the blocks of the files before i and the first blocks of file i are among all blocks
   among_all : (i b : ℕ) (before after : List ℕ) → 1 ≤ i → i ≤ g.last_inode → blocks_of g image i ≡ before ++ after
       → IsIn b (files_from g image (i - 1) ++ before) → IsIn b (all_blocks g image)
   unfolding files_from
@@ -158,7 +160,7 @@ module _ (g : Geometry) (image : List ℕ) where
     | inr own ↦ flat_in (blocks_of g image) b 1 g.last_inode i first (omega arith) (subst (IsIn b) (sym is) (in_left b before after own))
   ]
 
-  -- and it is the first that is named twice
+  -- if x is the first block of file i that is already marked after the files before i, it is the first block used twice
   pub file_twice : (i x : ℕ) (marks mid : List ℕ) → 1 ≤ i → i ≤ g.last_inode → IsZoned g image → length marks ≡ g.zone_end
       → ((b : ℕ) → get_or marks b 0 ≡ 0) → marked marks (files_from g image (i - 1)) ≡ Some mid → again mid (blocks_of g image i) ≡ Some x
       → IsTwiceNamed g image i x

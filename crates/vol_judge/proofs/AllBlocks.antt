@@ -1,4 +1,4 @@
--- Rule 7 by the marks of all blocks that places name.
+-- Rule 7 in terms of marks for all blocks that files use.
 use Rattle.std.proofs.Common.{◌≡◌, ◌≢◌, ℕ, ◌+◌, ◌<◌, ◌≤◌, ◌∙◌, sym, ap, subst, List, true, length, get_or, refl, arith, inl, inr, Some, None, Option}
 use Rattle.std.specs.List.{flat_map, range_with_len}
 use Rattle.vol_layout.specs.Geometry.{in_zone, Fits}
@@ -17,23 +17,23 @@ use Rattle.vol_judge.proofs.FileBlocks.{blocks_at_all}
 use Rattle.vol_judge.proofs.MarkLists.{marked_none, marked_more, marked_fails, marked_marks, marked_refused}
 use Rattle.vol_judge.proofs.NamedOnce.{in_flat, flat_in, once_each, once_same, once_flat, in_at, at_in, at_same_place, once_at}
 
--- the blocks that the places of all files name, by i-number and in the order of the places
+-- the blocks that all files use, in the order of i-numbers and then of block maps
 abbrev pub all_blocks : Geometry → List ℕ → List ℕ
 all_blocks geometry image = flat_map (blocks_of geometry image) (range_with_len 1 geometry.last_inode)
 
--- place p of file i names block b
+-- the address at position p of the block map of file i points to block b
 pub record NamedBy (geometry : Geometry) (image : List ℕ) (i : ℕ) (p : List ℕ) (b : ℕ) : Type 0 where
   pub place : IsPlaceOf geometry image i p
   pub is : named geometry image i p ≡ b
   pub some : b ≢ 0
 
--- a place of an i-node's block map is a place of a file
+-- a position in the block map of an i-node with a block map is a position of a file
 place_of : (geometry : Geometry) (image : List ℕ) (i : ℕ) (p : List ℕ) → 1 ≤ i → i ≤ geometry.last_inode → IsPlace (form_at geometry image i) p
     → IsPlaceOf geometry image i p
 place_of geometry image i p first last place =
     record { file = record { first = first; last = last; kind = place_file geometry.edition (mode_of geometry image i) p place }; place = place }
 
--- a block of a file is named by one of its places
+-- each block of a file is at a position in its block map
 block_named : (geometry : Geometry) (image : List ℕ) (i b : ℕ) → 1 ≤ i → i ≤ geometry.last_inode → IsIn b (blocks_of geometry image i)
     → (p : List ℕ) × NamedBy geometry image i p b
 block_named geometry image i b first last among =
@@ -46,14 +46,14 @@ block_named geometry image i b first last among =
       },
     )
 
--- a block that a place of a file names is one of its blocks
+-- each address of a file that isn't 0 is one of its blocks
 named_block : (geometry : Geometry) (image : List ℕ) (i : ℕ) (p : List ℕ) → IsPlaceOf geometry image i p → named geometry image i p ≢ 0
     → IsIn (named geometry image i p) (blocks_of geometry image i)
 named_block geometry image i p place some =
     subst (IsIn (named geometry image i p)) (sym (blocks_at_all geometry image i))
     (at_in geometry image i p (places (form_at geometry image i)) (places_among (form_at geometry image i) p place.place) some)
 
--- each of all blocks is named by a place
+-- each of all blocks is at a position in the block map of some file
 pub all_named : (geometry : Geometry) (image : List ℕ) (b : ℕ) → IsIn b (all_blocks geometry image)
     → (i : ℕ) × (p : List ℕ) × NamedBy geometry image i p b
 all_named geometry image b among =
@@ -61,14 +61,14 @@ all_named geometry image b among =
     let found = block_named geometry image file.0 b file.1 (omega (arith, file.2)) file.3 in
     (file.0, found.0, found.1)
 
--- a block that a place names is among all blocks
+-- each address of some file that isn't 0 is among all blocks
 pub named_all : (geometry : Geometry) (image : List ℕ) (i : ℕ) (p : List ℕ) → IsPlaceOf geometry image i p → named geometry image i p ≢ 0
     → IsIn (named geometry image i p) (all_blocks geometry image)
 named_all geometry image i p place some =
     flat_in (blocks_of geometry image) (named geometry image i p) 1 geometry.last_inode i place.file.first (omega (arith, place.file.last))
     (named_block geometry image i p place some)
 
--- if no block occurs twice, no two places name the same
+-- if no block occurs twice among all blocks, no two addresses point to the same block
 once_apart : (geometry : Geometry) (image : List ℕ) → Once (all_blocks geometry image) → IsApart geometry image
 once_apart geometry image once i j p q here there some same =
     let some_q : named geometry image j q ≢ 0 = λ none. some (same ∙ none) in
@@ -88,7 +88,7 @@ once_apart geometry image once i j p q here there some same =
           (places_among form p here.place) (places_among form q there_i.place) some same_i,
     )
 
--- if no two places name the same block, no block of a file occurs twice
+-- if no two addresses point to the same block, no block occurs twice in a file
 file_once : (geometry : Geometry) (image : List ℕ) (i : ℕ) → 1 ≤ i → i ≤ geometry.last_inode → IsApart geometry image → Once (blocks_of geometry image i)
 file_once geometry image i first last apart =
     let form = form_at geometry image i in
@@ -98,7 +98,7 @@ file_once geometry image i first last apart =
     (λ p q here there some same.
     (apart i i p q (place_of geometry image i p first last (among_places form p here)) (place_of geometry image i q first last (among_places form q there)) some same).1))
 
--- and none of all blocks occurs twice
+-- if no two addresses point to the same block, no block occurs twice among all blocks
 pub apart_once : (geometry : Geometry) (image : List ℕ) → IsApart geometry image → Once (all_blocks geometry image)
 apart_once geometry image apart =
     once_flat (blocks_of geometry image) 1 geometry.last_inode
@@ -108,19 +108,19 @@ apart_once geometry image apart =
     let q = block_named geometry image j b low' (omega (arith, high')) there in
     (apart i j p.0 q.0 p.1.place q.1.place (λ none. p.1.some (sym p.1.is ∙ none)) (p.1.is ∙ sym q.1.is)).0)
 
--- if each number is that of a data block, all blocks are data blocks
+-- if rule 5 holds, all blocks that files use are data blocks
 pub all_zoned : (geometry : Geometry) (image : List ℕ) (b : ℕ) → IsZoned geometry image → IsIn b (all_blocks geometry image) → in_zone geometry b ≡ true
 all_zoned geometry image b zoned among =
     let found = all_named geometry image b among in
     let by = found.2 in
     ap (in_zone geometry) (sym by.is) ∙ zoned found.0 found.1 by.place (λ none. by.some (sym by.is ∙ none))
 
--- and each has a mark
+-- if rule 5 holds, all blocks that files use are before the end of the data zone
 all_within : (geometry : Geometry) (image : List ℕ) (b : ℕ) → IsZoned geometry image → IsIn b (all_blocks geometry image) → b < geometry.zone_end
 all_within geometry image b zoned among =
     let bounds = zone_bounds geometry b (all_zoned geometry image b zoned among) in bounds.1
 
--- if all could be marked, no two places name the same block, and the marks are those of the blocks that they name
+-- if all blocks can be marked, no two addresses point to the same block, and the marked blocks are those that files use
 pub all_marked : (geometry : Geometry) (image marks new : List ℕ) → Fits geometry image → IsZoned geometry image → length marks ≡ geometry.zone_end
     → ((b : ℕ) → get_or marks b 0 ≡ 0) → marked marks (all_blocks geometry image) ≡ Some new
     → IsApart geometry image × MarksNamed geometry image new
@@ -143,7 +143,7 @@ all_marked geometry image marks new fits zoned len clear done =
       ),
     )
 
--- if one couldn't be, two places name the same block
+-- if not all blocks can be marked, two addresses point to the same block
 pub all_refused : (geometry : Geometry) (image marks : List ℕ) → IsZoned geometry image → length marks ≡ geometry.zone_end
     → ((b : ℕ) → get_or marks b 0 ≡ 0) → marked marks (all_blocks geometry image) ≡ None → IsApart geometry image → ⊥
 all_refused geometry image marks zoned len clear stops apart =
@@ -151,28 +151,28 @@ all_refused geometry image marks zoned len clear stops apart =
     (λ b among. let within = all_within geometry image b zoned among in omega (arith, within, len)) stops
     (apart_once geometry image apart) (λ b among. clear b)
 
--- the blocks that the places of the first n files name
+-- the blocks of the first n files
 unfoldable pub files_from : Geometry → List ℕ → ℕ → List ℕ
 files_from geometry image n = flat_map (blocks_of geometry image) (range_with_len 1 n)
 
--- those of all files are all blocks
+-- the blocks of the files up to the last i-number are all blocks
 pub files_all : (geometry : Geometry) (image : List ℕ) → files_from geometry image geometry.last_inode ≡ all_blocks geometry image
 unfolding files_from
 files_all geometry image = refl
 
--- before the first file nothing is marked
+-- marking the blocks of no files changes no mark
 pub files_none : (geometry : Geometry) (image marks : List ℕ) (n : ℕ) → n ≡ 0 → marked marks (files_from geometry image n) ≡ Some marks
 unfolding files_from
 files_none geometry image marks n none = ap (λ x. marked marks (flat_map (blocks_of geometry image) (range_with_len 1 x))) none ∙ marked_none marks
 
--- one more file is marked
+-- marking the blocks of the first n files and then of file n + 1 marks the blocks of the first n + 1 files
 pub files_more : (geometry : Geometry) (image : List ℕ) (i n m : ℕ) (marks mid : List ℕ) (end : Option (List ℕ)) → 1 + n ≡ i → n + 1 ≡ m
     → marked marks (files_from geometry image n) ≡ Some mid → marked mid (blocks_of geometry image i) ≡ end
     → marked marks (files_from geometry image m) ≡ end
 unfolding files_from
 files_more geometry image i n m marks mid end at next done last = marked_more (blocks_of geometry image) 1 n i m marks mid end at next done last
 
--- a file that can't be marked after those before it stops all
+-- if a file's blocks can't be marked after those of the files before it, not all blocks can be marked
 pub files_fail : (geometry : Geometry) (image : List ℕ) (i n : ℕ) (marks mid : List ℕ) → 1 + n ≡ i → n < geometry.last_inode
     → marked marks (files_from geometry image n) ≡ Some mid → marked mid (blocks_of geometry image i) ≡ None
     → marked marks (all_blocks geometry image) ≡ None

@@ -20,16 +20,16 @@ use Rattle.vol_dir.specs.Scan.{IsNextEntry}
 use Rattle.vol_judge.specs.DirectoryNames.{IsValidEntry, HasEntriesBelow, HasEntriesIn, is_in, HoldsNamesBelow}
 use Rattle.vol_dir.proofs.NextEntries.{entry_next, none_from}
 
--- zero bytes aren't a name
+-- zero bytes read as an empty name
 zeros : (k : ℕ) → name_of (replicate k 0) ≡ []
 zeros zero = refl
 zeros (suc k) = refl
 
--- the first items of a list of one more
+-- the first n + 1 items of a list are its head and the first n items of its tail
 take_next : (n m x : ℕ) (xs : List ℕ) → m ≡ suc n → take m (x ∷ xs) ≡ x ∷ take n xs
 take_next n m x xs e = rw e
 
--- a byte that isn't zero belongs to the name
+-- a first byte that isn't zero belongs to the name
 name_of-more : (x : ℕ) (xs : List ℕ) → (x == 0) ≡ false → name_of (x ∷ xs) ≡ x ∷ name_of xs
 name_of-more x xs e =
     let more : position_or_len (λ c. c == 0) (x ∷ xs) ≡ suc (position_or_len (λ c. c == 0) xs) = rw e (omega arith) in
@@ -39,7 +39,7 @@ name_of-more x xs e =
 name_of-end : (x : ℕ) (xs : List ℕ) → (x == 0) ≡ true → name_of (x ∷ xs) ≡ []
 name_of-end x xs e = rw e
 
--- a name stops at its first zero byte, however many follow
+-- a name ends at its first zero byte, however many zero bytes follow
 stops : (k : ℕ) (xs : List ℕ) → name_of (name_of xs ++ replicate k 0) ≡ name_of xs
 stops k [] = zeros k
 stops k (x ∷ xs) =
@@ -53,28 +53,28 @@ stops k (x ∷ xs) =
 pub none_some : (slot : Option (List ℕ × ℕ)) (entry : List ℕ × ℕ) → slot ≡ Some entry → slot ≡ None → ⊥
 none_some slot entry some none = cc
 
--- a slot has one entry
+-- a slot has at most one entry
 pub same_entry : (slot : Option (List ℕ × ℕ)) (name other : List ℕ) (i j : ℕ) → slot ≡ Some (name, i) → slot ≡ Some (other, j) → (name ≡ other) × (i ≡ j)
 same_entry slot name other i j one two =
     let both : Some (name, i) ≡ Some (other, j) = sym one ∙ two in
     let pair : (name, i) ≡ (other, j) = cc in
     (ap (λ (e : List ℕ × ℕ). e.0) pair, ap (λ (e : List ℕ × ℕ). e.1) pair)
 
--- a stored name reads as the name
+-- a stored name reads back as the same name
 pub name_of-padded : (xs : List ℕ) → name_of (padded_name (name_of xs)) ≡ name_of xs
 name_of-padded xs = stops (14 - length (name_of xs)) xs
 
--- slots are counted in 32 bits
+-- the number of a directory's slots fits in 32 bits
 pub count_low : (edition : Edition) (size : ℕ) → min size (constants edition).greatest / 16 < 67637569
 count_low V6 size = omega arith
 count_low V7 size = omega arith
 
--- the number of the next slot is within its bound
+-- the slot of the next entry is below the greatest number of slots
 pub next_low : (geometry : Geometry) (image : List ℕ) (d : ℕ) {from s : ℕ} {slot : Slot} → IsNextEntry (entry_at geometry image d) from (slot_count geometry image d) s slot → s < 67637568
 next_low geometry image d next =
     omega (arith, count_low geometry.edition (size_of geometry image d), next.within)
 
--- an entry up to the one that a search finds is before the start of the search, or is that one
+-- an entry up to the next entry is before the start of the search, or is the next entry itself
 entry_split : (geometry : Geometry) (image : List ℕ) (d : ℕ) {from s : ℕ} {slot : Slot} (t i : ℕ) (name : List ℕ) → IsNextEntry (entry_at geometry image d) from (slot_count geometry image d) s slot
     → t < s + 1 → entry_at geometry image d t ≡ Some (name, i) → (t < from) ⊎ ((t ≡ s) × (name ≡ name_of slot.name) × (i ≡ slot.inode))
 entry_split geometry image d {from = from} {s = s} {slot = slot} t i name next low entry =
@@ -91,14 +91,14 @@ entry_split geometry image d {from = from} {s = s} {slot = slot} t i name next l
       ]
     ]
 
--- a name below the next entry is in the set
+-- if a name isn't in the set of the names below slot `from`, no entry below `from` has it
 below_in : {geometry : Geometry} {image : List ℕ} {d from t i : ℕ} {names : BTreeSet (List ℕ)} (name other : List ℕ) → HoldsNamesBelow geometry image d from names
     → t < from → entry_at geometry image d t ≡ Some (name, i) → name ≡ other → is_in names (padded_name other) ≡ false → ⊥
 below_in {names = names} name other held low entry same new =
     let there : is_in names (padded_name name) ≡ true = held.all _ _ name low entry in
     let there' = rw same at there in cc
 
--- the next entry, of a name that isn't in the set, keeps rule 9
+-- if the slots below `from` keep rule 9, and the next entry is valid and its name isn't in the set, the slots up to that entry keep rule 9
 pub below_next : {geometry : Geometry} {image : List ℕ} {d from s : ℕ} {slot : Slot} {names : BTreeSet (List ℕ)} → HasEntriesBelow geometry image d from
     → HoldsNamesBelow geometry image d from names → IsNextEntry (entry_at geometry image d) from (slot_count geometry image d) s slot → IsValidEntry geometry image (name_of slot.name) slot.inode
     → is_in names (padded_name (name_of slot.name)) ≡ false → HasEntriesBelow geometry image d (s + 1)
@@ -121,7 +121,7 @@ below_next {geometry = geometry} {image = image} {d = d} {slot = slot} {names = 
       ];
 }
 
--- once its name is in the set
+-- with the name of the next entry added, the set has the names of the entries up to that entry
 pub names_next : {geometry : Geometry} {image : List ℕ} {d from s : ℕ} {slot : Slot} {names after : BTreeSet (List ℕ)}
     → HoldsNamesBelow geometry image d from names → IsNextEntry (entry_at geometry image d) from (slot_count geometry image d) s slot
     → Updates (slice_cmp nat_cmp) names after (padded_name (name_of slot.name)) true → HoldsNamesBelow geometry image d (s + 1) after
@@ -155,7 +155,7 @@ names_next {geometry = geometry} {image = image} {d = d} {from = from} {s = s} {
           ];
     }
 
--- a name that is in the set occurs twice
+-- if the name of the next entry is already in the set, the directory breaks rule 9
 pub twice : {geometry : Geometry} {image : List ℕ} {d from s : ℕ} {slot : Slot} {names : BTreeSet (List ℕ)} → HoldsNamesBelow geometry image d from names
     → IsNextEntry (entry_at geometry image d) from (slot_count geometry image d) s slot → is_in names (padded_name (name_of slot.name)) ≡ true → HasEntriesIn geometry image d → ⊥
 twice {slot = slot} held next there rule =
@@ -164,7 +164,7 @@ twice {slot = slot} held next there rule =
     let same : had.slot ≡ _ = rule.once had.slot _ had.inode slot.inode (name_of slot.name) entry (entry_next next) in
     omega (arith, had.below, next.reached, same)
 
--- if no slot is left, rule 9 holds of the directory
+-- if the slots below `from` keep rule 9 and no later slot has an entry, the directory keeps rule 9
 pub all_below : {geometry : Geometry} {image : List ℕ} {d from : ℕ} → size_of geometry image d % 16 ≡ 0 → HasEntriesBelow geometry image d from
     → ((t : ℕ) → from ≤ t → t < slot_count geometry image d → entry_at geometry image d t ≡ None) → HasEntriesIn geometry image d
 all_below {geometry = geometry} {image = image} {d = d} {from = from} whole below none =
@@ -179,12 +179,12 @@ all_below {geometry = geometry} {image = image} {d = d} {from = from} whole belo
       once = λ s t i j name entry entry'. below.once s t i j name (low s i name entry) (low t j name entry') entry entry';
     }
 
--- rule 9 holds of each directory below d
+-- if the directories before d keep rule 9, and d does if it is a directory, all directories up to d keep it
 pub each_more : {geometry : Geometry} {image : List ℕ} {d : ℕ} → ((e : ℕ) → e < d → IsDirectory geometry image e → HasEntriesIn geometry image e)
     → (IsDirectory geometry image d → HasEntriesIn geometry image d) → (e : ℕ) → e < d + 1 → IsDirectory geometry image e → HasEntriesIn geometry image e
 each_more {geometry = geometry} {image = image} {d = d} below here = below_more (λ e. IsDirectory geometry image e → HasEntriesIn geometry image e) d below here
 
--- and so it holds, if all directories are below d
+-- if all directories up to the last i-number keep rule 9, rule 9 holds
 pub each_holds : {geometry : Geometry} {image : List ℕ} (d : ℕ) → ((e : ℕ) → e < d → IsDirectory geometry image e → HasEntriesIn geometry image e)
     → geometry.last_inode < d → HasEntries geometry image
 each_holds d below last =
@@ -196,7 +196,7 @@ each_holds d below last =
       once = λ e s t i j name has has'. (each e has.directory).once s t i j name has.entry has'.entry;
     }
 
--- if it fails of a directory, it fails
+-- if a directory breaks rule 9, rule 9 fails
 pub fails_in : {geometry : Geometry} {image : List ℕ} {d : ℕ} → IsDirectory geometry image d → (HasEntriesIn geometry image d → ⊥) → HasEntries geometry image → ⊥
 fails_in {geometry = geometry} {image = image} {d = d} is broken rule =
     let here : HasEntriesIn geometry image d = record {

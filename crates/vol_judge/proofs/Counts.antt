@@ -32,7 +32,7 @@ pub last_low : {geometry : Geometry} {image : List ℕ} → Fits geometry image 
 last_low {geometry = geometry} fits =
     last_by geometry.edition geometry.last_inode geometry.zone_start geometry.zone_end fits.i_list fits.zone fits.limit
 
--- one more at one number is one more in the sum
+-- if a single term grows by 1, so does the sum
 sum_one : (f g : ℕ → ℕ) (a n d : ℕ) → a ≤ d → d < a + n → g d ≡ f d + 1 → ((t : ℕ) → a ≤ t → t < a + n → t ≢ d → f t ≡ g t)
     → sum_by g (range_with_len a n) ≡ sum_by f (range_with_len a n) + 1
 sum_one f g a zero d low high more same = absurd (omega arith)
@@ -54,40 +54,40 @@ sum_one f g a (suc n) d low high more same =
     added : (l r a b x y : ℕ) → l ≡ a + x → r ≡ b + y → b + y ≡ a + x + 1 → r ≡ l + 1
     added l r a b x y p q e = omega arith
 
--- counting a mapped list
+-- counting in a mapped list is counting with the composed test
 count_map : {X : Type 0} (p : X → Bool) (f : ℕ → X) (xs : List ℕ) → count_by p (map f xs) ≡ count_by (λ x. p (f x)) xs
 count_map p f [] = refl
 count_map p f (x ∷ xs) =
     sum_by-cons (λ y. cond (p y) 1 0) (f x) (map f xs)
     ∙ (ap (λ m. cond (p (f x)) 1 0 + m) (count_map p f xs) ∙ sym (sum_by-cons (λ y. cond (p (f y)) 1 0) x xs))
 
--- a slot that is for i has an entry for i
+-- if `is_for i` is true for a slot, the slot has an entry for i
 for_entry : (i : ℕ) (slot : Option (List ℕ × ℕ)) → is_for i slot ≡ true → (name : List ℕ) × (slot ≡ Some (name, i))
 for_entry i None is = absurd (cc)
 for_entry i (Some entry) is = (entry.0, ap (λ n. Some (entry.0, n)) (eqb-true entry.1 i is))
 
--- tests of an order
+-- the test of m < n is true if m < n
 test_low : (m n : ℕ) → m < n → nat_lt m n ≡ true
 test_low m n low = lt-ltb m n low
 
 test_high : (m n : ℕ) → n ≤ m → nat_lt m n ≡ false
 test_high m n high = le-ltb m n high
 
--- a slot with no entry for i isn't counted
+-- a slot without an entry for i isn't counted
 before_other : (geometry : Geometry) (image : List ℕ) (place i d t : ℕ) → is_for i (entry_at geometry image d t) ≡ false → is_before geometry image place i d t ≡ false
 before_other geometry image place i d t other = rw other
 
--- one at a place or after it isn't counted
+-- a slot at or after the position isn't counted
 before_late : (geometry : Geometry) (image : List ℕ) (place i d t : ℕ) → place ≤ rank d t → is_before geometry image place i d t ≡ false
 before_late geometry image place i d t late =
     elim (is_for i (entry_at geometry image d t)) as (λ b. (b && nat_lt (rank d t) place) ≡ false) [ true ↦ test_high (rank d t) place late | false ↦ refl ]
 
--- one for i before it is
+-- a slot before the position with an entry for i is counted
 before_early : (geometry : Geometry) (image : List ℕ) (place i d t : ℕ) → is_for i (entry_at geometry image d t) ≡ true → rank d t < place
     → is_before geometry image place i d t ≡ true
 before_early geometry image place i d t is early = rw is (test_low (rank d t) place early)
 
--- only the next entry is added to the count
+-- passing the next entry changes only whether that entry is counted
 before_same : {geometry : Geometry} {image : List ℕ} {place d s : ℕ} {slot : Slot} (i e t : ℕ) → IsNextSlot geometry image place d s slot
     → IsDirectory geometry image e → (e ≡ d → t ≡ s → i ≡ slot.inode → ⊥)
     → is_before geometry image place i e t ≡ is_before geometry image (rank d (s + 1)) i e t
@@ -111,7 +111,7 @@ before_same {geometry = geometry} {image = image} {place = place} {d = d} {s = s
           ]
     ]
 
--- counts in an i-number that agree slot by slot agree
+-- two counts in an i-number are equal if they agree at each slot
 in_same : (geometry : Geometry) (image : List ℕ) (p q i d : ℕ) (kind : Kind)
     → ((t : ℕ) → kind ≡ kinds.Directory → is_before geometry image p i d t ≡ is_before geometry image q i d t)
     → count_before_in geometry image p i d kind ≡ count_before_in geometry image q i d kind
@@ -123,7 +123,7 @@ in_same geometry image p q i d kinds.Regular same = refl
 in_same geometry image p q i d kinds.Special same = refl
 in_same geometry image p q i d kinds.Odd same = refl
 
--- one more slot in a directory is one more in its count
+-- if one more slot is counted, the count in the directory is greater by 1
 in_one : (geometry : Geometry) (image : List ℕ) (p q i d s : ℕ) (kind : Kind) → kind ≡ kinds.Directory → s < slot_count geometry image d
     → is_before geometry image p i d s ≡ false → is_before geometry image q i d s ≡ true
     → ((t : ℕ) → t ≢ s → is_before geometry image p i d t ≡ is_before geometry image q i d t)
@@ -136,7 +136,7 @@ in_one geometry image p q i d s kind is within old new same =
     one : (a b : Bool) → a ≡ false → b ≡ true → cond b 1 0 ≡ cond a 1 0 + 1
     one a b e f = rw (e, f) refl
 
--- the next entry is one more for its i-number
+-- passing the next entry adds 1 to the count of its i-number
 count_here : {geometry : Geometry} {image : List ℕ} {place d s : ℕ} {slot : Slot} → IsNextSlot geometry image place d s slot
     → count_before geometry image (rank d (s + 1)) slot.inode ≡ count_before geometry image place slot.inode + 1
 unfolding count_before
@@ -157,7 +157,7 @@ count_here {geometry = geometry} {image = image} {place = place} {d = d} {s = s}
     is_for_entry : (i : ℕ) (slot : Option (List ℕ × ℕ)) (name : List ℕ) → slot ≡ Some (name, i) → is_for i slot ≡ true
     is_for_entry i slot name is = rw is (eq-eqb i i refl)
 
--- and none for any other
+-- passing the next entry doesn't change the count of any other i-number
 count_other : {geometry : Geometry} {image : List ℕ} {place d s : ℕ} {slot : Slot} (i : ℕ) → IsNextSlot geometry image place d s slot → i ≢ slot.inode
     → count_before geometry image place i ≡ count_before geometry image (rank d (s + 1)) i
 unfolding count_before
@@ -184,7 +184,7 @@ count_first geometry image place i low =
     in_none e first kinds.Special = refl
     in_none e first kinds.Odd = refl
 
--- if no entry is left, all are counted
+-- if no entry follows a position, the count before it is the number of all entries
 count_all : (geometry : Geometry) (image : List ℕ) (place i : ℕ) → IsPastEntries geometry image place
     → count_before geometry image place i ≡ entry_count geometry image i
 unfolding count_before entry_count slots
@@ -209,7 +209,7 @@ count_all geometry image place i none =
     in_all e first last kinds.Special is = refl
     in_all e first last kinds.Odd is = refl
 
--- the counts begin with zeros
+-- the counts before the first position are zeros
 pub counts_first : (geometry : Geometry) (image counts : List ℕ) (place : ℕ) → length counts ≡ geometry.last_inode + 1
     → ((i : ℕ) → get_or counts i 0 ≡ 0) → place ≤ rank 1 0 → CountsBefore geometry image place counts
 counts_first geometry image counts place room zeros low = record {
@@ -218,7 +218,7 @@ counts_first geometry image counts place room zeros low = record {
   count = λ i last. zeros i ∙ sym (count_first geometry image place i low);
 }
 
--- the next entry is counted
+-- adding 1 to the count of the next entry's i-number gives the counts after that entry
 pub counts_next : {geometry : Geometry} {image counts : List ℕ} {place d s : ℕ} {slot : Slot} → CountsBefore geometry image place counts
     → IsNextSlot geometry image place d s slot → slot.inode < length counts
     → CountsBefore geometry image (rank d (s + 1)) (set counts slot.inode (get_or counts slot.inode 0 + 1))
@@ -240,7 +240,7 @@ counts_next {geometry = geometry} {image = image} {counts = counts} {place = pla
           ];
     }
 
--- an entry for no i-number of the volume isn't counted
+-- an entry for an i-number above the last changes no count
 pub counts_past : {geometry : Geometry} {image counts : List ℕ} {place d s : ℕ} {slot : Slot} → CountsBefore geometry image place counts
     → IsNextSlot geometry image place d s slot → geometry.last_inode < slot.inode → CountsBefore geometry image (rank d (s + 1)) counts
 counts_past is next past = record {
@@ -249,7 +249,7 @@ counts_past is next past = record {
   count = λ i last. is.count i last ∙ count_other i next (λ same. omega (arith, same, last, past));
 }
 
--- if no entry is left, the counts are whole
+-- if no entry follows a position, the counts before it are the counts of all entries
 pub counts_all : {geometry : Geometry} {image counts : List ℕ} {place : ℕ} → CountsBefore geometry image place counts → IsPastEntries geometry image place
     → HasCounts geometry image counts
 counts_all {geometry = geometry} {image = image} {place = place} is none = record {

@@ -1,4 +1,4 @@
--- The i-number that a directory has for a name, while its entries are read.
+-- The i-number of a name in a directory, while its entries are read.
 use Rattle.std.proofs.Common.{◌≡◌, ℕ, ◌+◌, ◌<◌, ◌≤◌, inl, inr, if◌then◌else◌, List, Option, None, Some, ap, ◌∙◌, arith}
 use Rattle.std.specs.Str.{bytes_eq}
 use Rattle.std.proofs.lemmas.Bool.{cases_lt, cases_Bool}
@@ -12,11 +12,11 @@ use Rattle.vol_judge.specs.InodeMarks.{IsNamed, IsNamedUpTo}
 use Rattle.vol_judge.proofs.CollectedNames.{same_entry, none_some}
 use Rattle.vol_dir.proofs.NextEntries.{entry_next, none_from}
 
--- no slot below slot 0 has the name
+-- before the first slot is read, no i-number is noted
 pub named_first : (geometry : Geometry) (image : List ℕ) (d : ℕ) (name : List ℕ) → IsNamedUpTo geometry image d 0 name None
 named_first geometry image d name = record { all = λ s i low has. absurd (omega (arith, low)); only = λ i same. absurd (cc) }
 
--- in a directory with no name twice, all entries of a name have one i-number
+-- in a directory that keeps rule 9, all entries with the same name have the same i-number
 same_number : {geometry : Geometry} {image : List ℕ} {d s t i j : ℕ} {name : List ℕ} → HasEntries geometry image → HasEntry geometry image d s name i
     → HasEntry geometry image d t name j → i ≡ j
 same_number {geometry = geometry} {image = image} {d = d} {s = s} {t = t} {i = i} {j = j} {name = name} rule has other =
@@ -24,7 +24,7 @@ same_number {geometry = geometry} {image = image} {d = d} {s = s} {t = t} {i = i
     let here : entry_at geometry image d t ≡ Some (name, i) = rw same at has.entry in
     (same_entry (entry_at geometry image d t) name name i j here other.entry).1
 
--- the next entry is noted, if it has the name
+-- when the next entry is read, its i-number is noted if it has the name; else the noted i-number doesn't change
 pub named_noted : {geometry : Geometry} {image : List ℕ} {d from s : ℕ} {name : List ℕ} {number : Option ℕ} {slot : Slot} → HasEntries geometry image
     → IsDirectory geometry image d → IsNamedUpTo geometry image d from name number
     → IsNextEntry (entry_at geometry image d) from (slot_count geometry image d) s slot
@@ -56,12 +56,12 @@ named_noted {geometry = geometry} {image = image} {d = d} {from = from} {s = s} 
       })
     ]
 
--- an entry that is found is the only one of its name
+-- if an i-number is noted for the name, it is the right one, since no other entry has the name
 pub named_found : {geometry : Geometry} {image : List ℕ} {d n : ℕ} {name : List ℕ} {number : Option ℕ} (j : ℕ) → HasEntries geometry image
     → IsNamedUpTo geometry image d n name number → number ≡ Some j → IsNamed geometry image d name number
 named_found j rule known some = record { all = λ s i has. let found = known.only j some in some ∙ ap Some (same_number rule found.1 has); only = known.only }
 
--- if no entry is left, all have been read
+-- if no entry is left, the noted i-number is the right one
 pub named_all : {geometry : Geometry} {image : List ℕ} {d from : ℕ} {name : List ℕ} {number : Option ℕ} → IsNamedUpTo geometry image d from name number
     → ((t : ℕ) → from ≤ t → t < slot_count geometry image d → entry_at geometry image d t ≡ None) → IsNamed geometry image d name number
 named_all {geometry = geometry} {image = image} {d = d} {from = from} {name = name} known none = record {

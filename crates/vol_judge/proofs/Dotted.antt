@@ -1,4 +1,4 @@
--- Rule 10, by one directory after the other.
+-- Rule 10, checked for one directory after another.
 use Rattle.std.proofs.Common.{◌≡◌, ◌≢◌, ℕ, ◌+◌, ◌<◌, ◌≤◌, ◌∙◌, Bool, true, not, nat_eq, inl, inr, IsTrue, ◌↔◌, List, Option, None, Some, get_or, refl, sym, ap, arith, eqb-true, eq-eqb}
 use Rattle.std.specs.Option.{option_eq}
 use Rattle.std.proofs.Math.Dec.{eqb}
@@ -14,7 +14,7 @@ use Rattle.vol_judge.specs.InodeMarks.{IsNamed}
 use Rattle.vol_judge.specs.DirectoryTree.{NotesParents}
 use Rattle.vol_judge.proofs.Decisions.{not_true, not_false, same_option, other_option}
 
--- if rule 10 holds, each directory and the root have their entries
+-- if rule 10 holds, each directory and the root have their entries `.` and `..`
 pub each_keeps : {geometry : Geometry} {image : List ℕ} → HasDots geometry image → (d : ℕ) → NeedsDots geometry image d → KeepsDots geometry image d
 each_keeps {geometry = geometry} {image = image} rule d needs =
     let is : IsDirectory geometry image d = elim needs [ inl is ↦ is | inr same ↦ rw same rule.root.1.directory ] in
@@ -23,7 +23,7 @@ each_keeps {geometry = geometry} {image = image} rule d needs =
       parent = record { root = λ same. rw same rule.root; other = λ other. rule.parent d is other };
     }
 
--- and if they have, it holds
+-- if each directory and the root have their entries `.` and `..`, rule 10 holds
 pub all_keep : {geometry : Geometry} {image : List ℕ} → ((d : ℕ) → NeedsDots geometry image d → KeepsDots geometry image d) → HasDots geometry image
 all_keep {geometry = geometry} all = record {
   itself = λ d is. (all d (inl is)).own;
@@ -31,25 +31,25 @@ all_keep {geometry = geometry} all = record {
   parent = λ d is other. (all d (inl is)).parent.other other;
 }
 
--- a property of all below d, and of d, is one of all below d + 1
+-- if the directories before d have `.` and `..`, and d does if it needs them, all up to d have them
 pub keep_more : {geometry : Geometry} {image : List ℕ} (d : ℕ) → ((e : ℕ) → e < d → NeedsDots geometry image e → KeepsDots geometry image e)
     → (NeedsDots geometry image d → KeepsDots geometry image d) → (e : ℕ) → e < d + 1 → NeedsDots geometry image e → KeepsDots geometry image e
 keep_more {geometry = geometry} {image = image} d below here = below_more (λ e. NeedsDots geometry image e → KeepsDots geometry image e) d below here
 
--- a property of all below one past the last i-number is one of all
+-- if the directories up to the last i-number have `.` and `..`, rule 10 holds
 pub keep_all : {geometry : Geometry} {image : List ℕ} (d : ℕ) → Fits geometry image
     → ((e : ℕ) → e < d → NeedsDots geometry image e → KeepsDots geometry image e) → geometry.last_inode < d → HasDots geometry image
 keep_all {geometry = geometry} d fits below last =
     all_keep (λ e needs. below e (elim needs [ inl is ↦ omega (arith, is.last) | inr same ↦ omega (arith, same, fits.root) ]) needs)
 
--- a directory that isn't the first without an entry for itself, and is after none, is before it
+-- if d isn't after the first directory without an entry for itself, and isn't that directory, it is before it
 before_first : (nameless : Option ℕ) (d : ℕ) → ((n : ℕ) → nameless ≡ Some n → d ≤ n) → (nameless ≡ Some d → ⊥) → IsBeforeFirst nameless d
 before_first nameless d reached other n is = elim (cases_eq d n) [
   | inl same ↦ absurd (other (is ∙ ap Some (sym same)))
   | inr apart ↦ let low = reached n is in omega (arith, low, apart)
 ]
 
--- a directory up to the first one without an entry for itself has one exactly if it isn't that one
+-- if d isn't after the first directory without an entry for itself, d has an entry for itself exactly if it isn't that directory
 pub itself_decides : {geometry : Geometry} {image : List ℕ} {ups : List (Option ℕ)} {nameless : Option ℕ} {d : ℕ} (b : Bool)
     → KnowsDots geometry image ups nameless → IsDirectory geometry image d → ((n : ℕ) → nameless ≡ Some n → d ≤ n)
     → b ≡ not (option_eq eqb nameless (Some d)) → IsTrue b ↔ NamesItself geometry image d
@@ -64,14 +64,14 @@ itself_decides {nameless = nameless} {d = d} b known is reached test = (
       ],
 )
 
--- and then its `..` is known
+-- if d is before the first directory without an entry for itself, its noted `..` is the right one
 pub up_known : {geometry : Geometry} {image : List ℕ} {ups : List (Option ℕ)} {nameless : Option ℕ} {d : ℕ} (b : Bool)
     → KnowsDots geometry image ups nameless → IsDirectory geometry image d → ((n : ℕ) → nameless ≡ Some n → d ≤ n)
     → b ≡ not (option_eq eqb nameless (Some d)) → b ≡ true → IsNamed geometry image d dot_dot (get_or ups d None)
 up_known {nameless = nameless} {d = d} b known is reached test right =
     known.named d is (before_first nameless d reached (other_option nameless d (not_true b (option_eq eqb nameless (Some d)) test right)))
 
--- a directory that is not after the first without an entry for itself
+-- if all directories before d keep rule 10, d isn't after the first directory without an entry for itself
 pub none_before : {geometry : Geometry} {image : List ℕ} {ups : List (Option ℕ)} {nameless : Option ℕ} {d : ℕ} → KnowsDots geometry image ups nameless
     → ((e : ℕ) → e < d → NeedsDots geometry image e → KeepsDots geometry image e) → (n : ℕ) → nameless ≡ Some n → d ≤ n
 none_before {d = d} known below n is = elim (cases_lt n d) [
@@ -79,7 +79,7 @@ none_before {d = d} known below n is = elim (cases_lt n d) [
   | inr late ↦ late
 ]
 
--- a directory without an entry `..` doesn't name its parent
+-- a directory without an entry `..` has none for its parent
 pub no_parent : {geometry : Geometry} {image : List ℕ} {d : ℕ} {number : Option ℕ} → IsNamed geometry image d dot_dot number → number ≡ None
     → NamesParent geometry image d → ⊥
 no_parent {geometry = geometry} {d = d} named none names = elim (cases_eq d (root_of geometry)) [
@@ -87,7 +87,7 @@ no_parent {geometry = geometry} {d = d} named none names = elim (cases_eq d (roo
   | inr other ↦ let parent = names.other other in let up = named.all parent.0 parent.1 parent.3 in cc
 ]
 
--- the root is its own parent exactly if its `..` names it
+-- the root's `..` is for its parent exactly if it is for the root
 pub root_parent : {geometry : Geometry} {image : List ℕ} {d : ℕ} {number : Option ℕ} (up root : ℕ) → IsNamed geometry image d dot_dot number
     → number ≡ Some up → d ≡ root → d ≡ root_of geometry → IsTrue (nat_eq up root) ↔ NamesParent geometry image d
 root_parent {d = d} up root named some own is = (
@@ -101,7 +101,7 @@ root_parent {d = d} up root named some own is = (
       eq-eqb up root (same ∙ own),
 )
 
--- and the directory of an entry for any other, whether that is its parent
+-- the `..` of any other directory is for its parent exactly if it is for the noted parent
 pub other_parent : {geometry : Geometry} {image : List ℕ} {ups parents : List (Option ℕ)} {d : ℕ} (up : ℕ) (b : Bool)
     → NotesParents geometry image ups parents → IsDirectory geometry image d → IsNamed geometry image d dot_dot (get_or ups d None)
     → get_or ups d None ≡ Some up → d ≢ root_of geometry → b ≡ option_eq eqb (get_or parents d None) (Some up) → IsTrue b ↔ NamesParent geometry image d

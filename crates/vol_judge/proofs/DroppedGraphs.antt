@@ -8,7 +8,7 @@ use Rattle.vol_judge.proofs.GraphCounts.{one_for, one_here, one_else, counted_so
 use Rattle.vol_judge.proofs.GraphParts.{has_entry, not_free, not_directory, entry_parts, root_directory, elsewhere, counted_slot, below_kept}
 use Rattle.vol_layout.specs.declared.mode.Kind.TheVariants as kinds
 
--- an entry that exists after one was removed existed before
+-- after an entry is removed, every entry existed before
 pub was_there : (old new : Graph) (d s x t : ℕ) (entry gone : List ℕ × ℕ) → ChangesSlot old new d s (Some gone) None
     → (x ≢ d → new.entry x t ≡ old.entry x t) → new.entry x t ≡ Some entry → old.entry x t ≡ Some entry
 was_there old new d s x t entry gone slot away some = elim (cases_eq x d) [
@@ -19,7 +19,7 @@ was_there old new d s x t entry gone slot away some = elim (cases_eq x d) [
   | inr there ↦ sym (away there) ∙ some
 ]
 
--- an entry for another i-number stays
+-- an entry for another i-number isn't removed
 pub stays_there : (old new : Graph) (d s x t i j : ℕ) (name word : List ℕ) → ChangesSlot old new d s (Some (name, i)) None
     → (x ≢ d → new.entry x t ≡ old.entry x t) → j ≢ i → old.entry x t ≡ Some (word, j) → new.entry x t ≡ Some (word, j)
 stays_there old new d s x t i j name word slot away apart some = elim (cases_eq x d) [
@@ -32,7 +32,8 @@ stays_there old new d s x t i j name word slot away apart some = elim (cases_eq 
   | inr there ↦ away there ∙ some
 ]
 
--- i, which isn't a directory, loses its name in slot s of d; if it isn't free then, it has another name, as its link count says
+-- i, which isn't a directory, loses its name in slot s of d; then i is free and there are no entries for it, or its link count is the number of
+-- entries for it and at least 1
 pub record IsUnnamed (old new : Graph) (last i d s : ℕ) (name : List ℕ) : Type 0 where
   pub before : IsGraphWithin old last
   pub after : IsGraphWithin new last
@@ -44,7 +45,7 @@ pub record IsUnnamed (old new : Graph) (last i d s : ℕ) (name : List ℕ) : Ty
   pub links : new.kind i ≢ kinds.Free → (new.links i ≡ counted new last i) × (1 ≤ new.links i)
   pub kept : (x : ℕ) → x ≢ i → old.kind x ≢ kinds.Free → new.links x ≡ old.links x
 
--- it has one fewer entry, and every other i-number as many as before
+-- there is one entry less for i than before, and as many as before for every other i-number
 dropped_count : (old new : Graph) (last i d s j : ℕ) (name : List ℕ) → IsGraphWithin old last → IsGraphWithin new last
     → ChangesSlot old new d s (Some (name, i)) None → KeepsOthers old new d i → old.kind i ≢ kinds.Directory → new.kind i ≢ kinds.Directory
     → counted new last j + one_for j (Some (name, i)) ≡ counted old last j
@@ -52,7 +53,7 @@ dropped_count old new last i d s j name before after slot others was is =
     let change = counted_slot old new last d s j (Some (name, i)) None before after slot (elsewhere old new last d i before after others was is) in
     omega (arith, change)
 
--- then the graph stays sound
+-- if i loses its name in this way, the graph stays sound
 pub unnamed_sound : (old new : Graph) (root last i d s : ℕ) (name : List ℕ) → IsGraphSound old root last → IsUnnamed old new last i d s name
     → IsGraphSound new root last
 unnamed_sound old new root last i d s name sound drops =
@@ -125,7 +126,7 @@ unnamed_sound old new root last i d s name sound drops =
       ];
     }
 
--- a graph in which a file keeps another name stays sound
+-- a graph in which a file loses a name but has another stays sound
 pub dropped_name_sound : (old new : Graph) (root last i d s : ℕ) (name : List ℕ) → IsGraphWithin old last → IsGraphWithin new last
     → IsGraphSound old root last → DropsName old new i d s name → IsGraphSound new root last
 dropped_name_sound old new root last i d s name before after sound drops =
@@ -146,7 +147,7 @@ dropped_name_sound old new root last i d s name before after sound drops =
       kept = drops.kept;
     })
 
--- a graph in which a file is freed with its last name stays sound
+-- a graph in which a file loses its last name and is freed stays sound
 pub dropped_file_sound : (old new : Graph) (root last i d s : ℕ) (name : List ℕ) → IsGraphWithin old last → IsGraphWithin new last
     → IsGraphSound old root last → DropsFile old new i d s name → IsGraphSound new root last
 dropped_file_sound old new root last i d s name before after sound drops =

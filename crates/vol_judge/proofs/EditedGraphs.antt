@@ -1,4 +1,4 @@
--- The change of a graph when its image changes.
+-- The change of an image's graph when the image changes.
 use Rattle.std.proofs.Common.{◌≡◌, ◌≢◌, ◌∙◌, sym, ap, refl, ℕ, ◌%◌, ◌≤◌, ◌==◌, true, false, if◌then◌else◌, List, [], Option, None, Some, inl, inr}
 use Rattle.std.specs.List.{list_any}
 use Rattle.std.proofs.lemmas.Bool.{cases_Bool, and_parts, leb-true, not-false}
@@ -18,7 +18,7 @@ use Rattle.vol_judge.specs.GraphEdits.{IsSameGraph, IsNewName, ChangesSlot, Keep
 use Rattle.vol_judge.proofs.GraphParts.{is_directory}
 use Rattle.vol_judge.proofs.ImageGraphs.{kind_inside, inside_from, directory_to, directory_from, entry_from, other_by}
 
--- if i-node x has the same kind in both images, if the volume has it, it has so in their graphs
+-- if x has the same kind in both images, or isn't an i-number of the volume, it has the same kind in both graphs
 pub kind_kept : (geometry : Geometry) (old new : List ℕ) (x : ℕ)
     → (1 ≤ x → x ≤ geometry.last_inode → kind_at geometry new x ≡ kind_at geometry old x) → kind_in geometry new x ≡ kind_in geometry old x
 kind_kept geometry old new x same = elim (cases_Bool (is_number geometry x)) [
@@ -30,7 +30,7 @@ kind_kept geometry old new x same = elim (cases_Bool (is_number geometry x)) [
       ∙ sym (ap (λ b. if b then kind_at geometry old x else kinds.Free) other)
 ]
 
--- if the slots of a directory are the same in both images, so are its entries in their graphs; other nodes have none
+-- if the slots of a directory are the same in both images, its entries are the same in both graphs; other nodes have none
 pub entry_kept : (geometry : Geometry) (old new : List ℕ) (x t : ℕ) → kind_in geometry new x ≡ kind_in geometry old x
     → (IsDirectory geometry old x → entry_at geometry new x t ≡ entry_at geometry old x t)
     → (graph_of geometry new).entry x t ≡ (graph_of geometry old).entry x t
@@ -43,7 +43,7 @@ entry_kept geometry old new x t kind same =
       | inr other ↦ other_by (kind_in geometry old x) geometry new x t other ∙ sym (other_by (kind_in geometry old x) geometry old x t other)
     ]
 
--- everything besides d and i that stays in the image stays in the graph
+-- if only d and i change in the image, only they change in the graph
 pub keeps_others : (geometry : Geometry) (old new : List ℕ) (d i : ℕ)
     → ((x : ℕ) → 1 ≤ x → x ≤ geometry.last_inode → x ≢ i → kind_at geometry new x ≡ kind_at geometry old x)
     → ((x : ℕ) → IsDirectory geometry old x → x ≢ d → x ≢ i → size_of geometry new x ≡ size_of geometry old x)
@@ -56,7 +56,7 @@ keeps_others geometry old new d i kind size entry = record {
       entry_kept geometry old new x t (kind_kept geometry old new x (λ first last. kind x first last other)) (λ is. entry x t is away other);
 }
 
--- if kinds, link counts, and the sizes and entries of directories are the same, so is the graph
+-- if kinds, link counts, and the sizes and entries of directories are the same in both images, so are the graphs
 pub same_graph : (geometry : Geometry) (old new : List ℕ)
     → ((x : ℕ) → 1 ≤ x → x ≤ geometry.last_inode → kind_at geometry new x ≡ kind_at geometry old x)
     → ((x : ℕ) → 1 ≤ x → x ≤ geometry.last_inode → (inode_of geometry.edition new x).links ≡ (inode_of geometry.edition old x).links)
@@ -70,7 +70,7 @@ same_graph geometry old new kind links size entry = record {
   entry = λ x t. entry_kept geometry old new x t (kind_kept geometry old new x (kind x)) (entry x t);
 }
 
--- replacing an entry of a directory changes a slot of the graph
+-- replacing an entry of a directory in the image changes one slot in the graph
 pub changes_slot : (geometry : Geometry) (old new : List ℕ) (d s : ℕ) (before after : Option (List ℕ × ℕ)) → IsDirectory geometry old d
     → kind_at geometry new d ≡ kinds.Directory → size_of geometry new d % 16 ≡ 0 → entry_at geometry old d s ≡ before
     → Replaces geometry old new d s after → ChangesSlot (graph_of geometry old) (graph_of geometry new) d s before after
@@ -87,7 +87,7 @@ changes_slot geometry old new d s before after directory kind whole was replaced
       whole = whole;
     }
 
--- a name that the map of a directory doesn't have is new in the graph
+-- a valid name that isn't in the map of a directory is new in the graph
 pub new_name : (geometry : Geometry) (image name : List ℕ) (d : ℕ) → get (names_of (slots geometry image d)) name ≡ None → name ≢ []
     → list_any (λ c. c == 47) name ≡ false → IsNewName (graph_of geometry image) d name
 new_name geometry image name d none some plain = record {
@@ -97,7 +97,7 @@ new_name geometry image name d none some plain = record {
   plain = plain;
 }
 
--- a directory in which a search for others than `.` and `..` finds none has only these
+-- a directory in which no slot holds a name other than `.` and `..` has only these entries in the graph
 pub only_dots : (geometry : Geometry) (image word : List ℕ) (i t j : ℕ) → ((s : ℕ) → holds_other (entry_at geometry image i s) ≡ false)
     → (graph_of geometry image).entry i t ≡ Some (word, j) → is_dots word ≡ true
 only_dots geometry image word i t j none some =

@@ -9,33 +9,33 @@ use Rattle.vol_judge.proofs.GraphParts.{not_free, not_directory, has_entry, entr
 use Rattle.vol_judge.proofs.DroppedGraphs.{was_there, stays_there}
 use Rattle.vol_layout.specs.declared.mode.Kind.TheVariants as kinds
 
--- no entry of the removed directory leads on
+-- no entry other than `.` and `..` is in the removed directory
 leads_not : (old new : Graph) (i d s e t j : ℕ) (name : List ℕ) → DropsDirectory old new i d s name → Leads old e t j → e ≢ i
 leads_not old new i d s e t j name drops leads same =
     true≢false (sym (drops.only t j leads.0 (sym (ap (λ y. old.entry y t) same) ∙ leads.1)) ∙ leads.2)
 
--- removing an entry leads to it
+-- before the removal, slot s of d leads to the removed directory
 leads_to : (old new : Graph) (i d s : ℕ) (name : List ℕ) → DropsDirectory old new i d s name → Leads old d s i
 leads_to old new i d s name drops = (name, drops.slot.was, drops.named)
 
--- so the two directories differ
+-- the removed directory isn't d
 apart_from : (old new : Graph) (i d s : ℕ) (name : List ℕ) → DropsDirectory old new i d s name → d ≢ i
 apart_from old new i d s name drops = leads_not old new i d s d s i name drops (leads_to old new i d s name drops)
 
--- and the root differs from it too
+-- the removed directory isn't the root
 root_apart : (old new : Graph) (root last i d s : ℕ) (name : List ℕ) → IsGraphSound old root last → DropsDirectory old new i d s name → root ≢ i
 root_apart old new root last i d s name sound drops same =
     sound.root_none d s (name, drops.slot.was ∙ ap (λ n. Some (name, n)) (sym same), drops.named)
 
--- nothing besides d and the removed directory changes
+-- the entries of nodes other than d and the removed directory don't change
 beyond : (old new : Graph) (i d s x t : ℕ) (name : List ℕ) → DropsDirectory old new i d s name → x ≢ i → x ≢ d → new.entry x t ≡ old.entry x t
 beyond old new i d s x t name drops other away = drops.others.entry x t away other
 
--- the removed directory has no entries afterwards
+-- after the removal, the removed directory has no entries
 gone_entry : (old new : Graph) (last i d s t : ℕ) (name : List ℕ) → IsGraphWithin new last → DropsDirectory old new i d s name → new.entry i t ≡ None
 gone_entry old new last i d s t name after drops = after.directories i t (not_directory (new.kind i) drops.kind)
 
--- an entry that exists afterwards existed before
+-- after the removal, every entry existed before
 kept_entry : (old new : Graph) (last i d s x t : ℕ) (name : List ℕ) (entry : List ℕ × ℕ) → IsGraphWithin new last
     → DropsDirectory old new i d s name → new.entry x t ≡ Some entry → (x ≢ i) × (old.entry x t ≡ Some entry)
 kept_entry old new last i d s x t name entry after drops some = elim (cases_eq x i) [
@@ -43,7 +43,7 @@ kept_entry old new last i d s x t name entry after drops some = elim (cases_eq x
   | inr other ↦ (other, was_there old new d s x t entry (name, i) drops.slot (beyond old new i d s x t name drops other) some)
 ]
 
--- `..` of a directory other than the root names one from which an entry leads to it
+-- the `..` of a directory other than the root is for a directory with an entry for it
 up_leads : (graph : Graph) (root last x t j : ℕ) → IsGraphSound graph root last → graph.kind x ≡ kinds.Directory → x ≢ root
     → graph.entry x t ≡ Some (dot_dot, j) → (u : ℕ) × Leads graph j u x
 up_leads graph root last x t j sound is other some =
@@ -52,13 +52,13 @@ up_leads graph root last x t j sound is other some =
     let same : j ≡ above.1 = (entry_parts dot_dot dot_dot j above.1 (sym some ∙ (ap (graph.entry x) place ∙ above.3))).1 in
     (above.2, (above.4.0, ap (λ e. graph.entry e above.2) same ∙ above.4.1, above.4.2))
 
--- `..` of the root names the root
+-- the root's `..` is for the root
 root_up : (graph : Graph) (root last t j : ℕ) → IsGraphSound graph root last → graph.entry root t ≡ Some (dot_dot, j) → j ≡ root
 root_up graph root last t j sound some =
     let place = sound.once root t sound.of_root.0 j root dot_dot some sound.of_root.1 in
     (entry_parts dot_dot dot_dot j root (sym some ∙ (ap (graph.entry root) place ∙ sound.of_root.1))).1
 
--- no entry for the removed directory is left
+-- after the removal, there is no entry for the removed directory
 none_left : (old new : Graph) (root last i d s x t : ℕ) (name word : List ℕ) → IsGraphWithin old last → IsGraphWithin new last
     → IsGraphSound old root last → DropsDirectory old new i d s name → new.entry x t ≡ Some (word, i) → ⊥
 none_left old new root last i d s x t name word before after sound drops some =
@@ -83,7 +83,7 @@ none_left old new root last i d s x t name word before after sound drops some =
           let none : new.entry x t ≡ None = ap (λ y. new.entry y t) same.0 ∙ (ap (new.entry d) same.1 ∙ drops.slot.is) in cc
     ]
 
--- the removed directory has one entry for the directory above it
+-- the removed directory has exactly one entry for d
 count_up : (old new : Graph) (root last i d s : ℕ) (name : List ℕ) → IsGraphWithin old last → IsGraphSound old root last
     → DropsDirectory old new i d s name → counted_in old d i ≡ 1
 count_up old new root last i d s name before sound drops =
@@ -97,7 +97,7 @@ count_up old new root last i d s name before sound drops =
       | inr again ↦ other (sound.once i t above.0 d d dot_dot (some ∙ ap (λ n. Some (n, d)) again) up)
     ])
 
--- and none for others
+-- the removed directory has no entries for other i-numbers than d and itself
 count_others : (old new : Graph) (root last i d s j : ℕ) (name : List ℕ) → IsGraphSound old root last → DropsDirectory old new i d s name
     → j ≢ i → j ≢ d → counted_in old j i ≡ 0
 count_others old new root last i d s j name sound drops apart other =
@@ -111,7 +111,7 @@ count_others old new root last i d s j name sound drops apart other =
           other (sound.one i j leads.0 d s drops.was leads.1 (leads_to old new i d s name drops)).0
     ])
 
--- the entries for each i-number are fewer by those in the slot and in the removed directory
+-- the number of entries for each i-number falls by the entries in slot s of d and in the removed directory
 emptied_count : (old new : Graph) (last i d s j : ℕ) (name : List ℕ) → IsGraphWithin old last → IsGraphWithin new last
     → DropsDirectory old new i d s name → counted new last j + one_for j (Some (name, i)) + counted_in old j i ≡ counted old last j
 emptied_count old new last i d s j name before after drops =
@@ -126,7 +126,7 @@ emptied_count old new last i d s j name before after drops =
     let none = slots_none new j i (λ t word e. let empty = gone_entry old new last i d s t name after drops in cc) in
     omega (arith, all, here, was, is, none)
 
--- as the link counts say
+-- after the removal, the link counts are right
 emptied_links : (old new : Graph) (root last i d s j : ℕ) (name : List ℕ) → IsGraphWithin old last → IsGraphWithin new last
     → IsGraphSound old root last → DropsDirectory old new i d s name → new.kind j ≢ kinds.Free → new.links j ≡ counted new last j
 emptied_links old new root last i d s j name before after sound drops some =

@@ -1,4 +1,4 @@
--- The blocks of a file by its addresses.
+-- The blocks of a file, address by address.
 use Rattle.std.proofs.Common.{◌≡◌, ℕ, zero, suc, ◌+◌, ◌-◌, ◌<◌, ◌≤◌, ◌∙◌, sym, ap, List, [], ◌∷◌, ◌++◌, refl, arith, inl, inr, Some, Option}
 use Rattle.std.proofs.lemmas.Bool.{cases_eq}
 use Rattle.std.specs.List.{flat_map, range_with_len}
@@ -19,12 +19,12 @@ use Rattle.vol_judge.proofs.BlocksFrom.{from_zero, from_leaf, entries_from, from
 use Rattle.vol_judge.proofs.MarkLists.{marked_none, marked_more}
 use Rattle.vol_judge.proofs.ZonedFiles.{file_counted}
 
--- a file's blocks are those that the places of its block map name
+-- the blocks of a file are the blocks at the positions of its block map
 pub blocks_at_all : (geometry : Geometry) (image : List ℕ) (i : ℕ) → blocks_of geometry image i ≡ blocks_at geometry image i (places (form_at geometry image i))
 unfolding blocks_of blocks_at
 blocks_at_all geometry image i = refl
 
--- the blocks of lists of places, one after another
+-- the blocks at several lists of positions are the blocks at each list, in order
 at_flat : (geometry : Geometry) (image : List ℕ) (i : ℕ) (places_by : ℕ → List (List ℕ)) (blocks_by : ℕ → List ℕ) (js : List ℕ)
     → ((j : ℕ) → blocks_at geometry image i (places_by j) ≡ blocks_by j)
     → blocks_at geometry image i (flat_map places_by js) ≡ flat_map blocks_by js
@@ -34,7 +34,7 @@ at_flat geometry image i places_by blocks_by (j ∷ js) same =
     ∙ (ap (λ xs. xs ++ blocks_at geometry image i (flat_map places_by js)) (same j)
     ∙ ap (λ xs. blocks_by j ++ xs) (at_flat geometry image i places_by blocks_by js same))
 
--- at and below a place that names 0 nothing is named
+-- if the address at a position is 0, the addresses below it are 0 too
 zero_under : (geometry : Geometry) (image : List ℕ) (i a : ℕ) (p q : List ℕ) → Fits geometry image → named geometry image i (a ∷ p) ≡ 0
     → IsFront (a ∷ p) q → named geometry image i q ≡ 0
 zero_under geometry image i a p [] fits none front = absurd front
@@ -42,7 +42,7 @@ zero_under geometry image i a p (x ∷ q) fits none (inl e) = ap (named geometry
 zero_under geometry image i a p (x ∷ q) fits none (inr front) =
     named_past geometry image i x q (a ∷ p) fits front (ap (in_zone geometry) none ∙ zero_out geometry image fits)
 
--- the blocks that a place and those below it name are those found from its number on
+-- the blocks at a position and below it are the block of its address and the blocks below that
 pub at_from : (geometry : Geometry) (image : List ℕ) (i n d a : ℕ) (p : List ℕ) → Fits geometry image → n ≡ (constants geometry.edition).pointers
     → blocks_at geometry image i (places_from n (a ∷ p) d) ≡ blocks_from geometry image d (named geometry image i (a ∷ p))
 unfolding entries_from
@@ -73,23 +73,23 @@ at_from geometry image i n (suc d) a p fits many =
           ∙ sym (from_entries geometry image (suc d) b some (omega arith)))))
     ]
 
--- the blocks found from address k of i-node i on
+-- the blocks at and below address k of i-node i
 abbrev pub address_blocks : Geometry → List ℕ → ℕ → ℕ → List ℕ
 address_blocks geometry image i k =
     blocks_from geometry image (levels (form_at geometry image i) k) (address_at geometry.edition image (inode_place geometry.edition i) k)
 
--- the blocks found from the first n addresses of i-node i on
+-- the blocks at and below the first n addresses of i-node i
 unfoldable pub addresses_from : Geometry → List ℕ → ℕ → ℕ → List ℕ
 addresses_from geometry image i n = flat_map (address_blocks geometry image i) (range_with_len 0 n)
 
--- lists of places by equal counts and entries
+-- flat maps of equal functions over a range are equal
 flat_equal : (f g : ℕ → List ℕ) (a n : ℕ) → ((j : ℕ) → a ≤ j → j < a + n → f j ≡ g j) → flat_map f (range_with_len a n) ≡ flat_map g (range_with_len a n)
 flat_equal f g a zero same = refl
 flat_equal f g a (suc n) same =
     ap (λ xs. xs ++ flat_map f (range_with_len (a + 1) n)) (same a (omega arith) (omega arith))
     ∙ ap (λ xs. g a ++ xs) (flat_equal f g (a + 1) n (λ j low high. same j (omega arith) (omega arith)))
 
--- the blocks of a file are those found from all its addresses on
+-- the blocks of a file are those at and below all its addresses
 pub blocks_by_address : (geometry : Geometry) (image : List ℕ) (i : ℕ) → Fits geometry image → 1 ≤ i → i ≤ geometry.last_inode
     → blocks_of geometry image i ≡ addresses_from geometry image i (first_count (form_at geometry image i))
 unfolding addresses_from places
@@ -102,12 +102,12 @@ blocks_by_address geometry image i fits first last =
     (λ k low high. at_from geometry image i (pointer_count form) (levels form k) k [] fits
     (pointers_file geometry image i (file_counted geometry image i k first last (omega (arith, high))))))
 
--- before the first address nothing is marked
+-- marking the blocks of no addresses changes no mark
 pub addresses_none : (geometry : Geometry) (image : List ℕ) (i : ℕ) (marks : List ℕ) → marked marks (addresses_from geometry image i 0) ≡ Some marks
 unfolding addresses_from
 addresses_none geometry image i marks = marked_none marks
 
--- one more address is marked
+-- marking the blocks of the first k addresses and then of address k marks the blocks of the first k + 1 addresses
 pub addresses_more : (geometry : Geometry) (image : List ℕ) (i k n : ℕ) (marks mid : List ℕ) (end : Option (List ℕ)) → k + 1 ≡ n
     → marked marks (addresses_from geometry image i k) ≡ Some mid → marked mid (address_blocks geometry image i k) ≡ end
     → marked marks (addresses_from geometry image i n) ≡ end

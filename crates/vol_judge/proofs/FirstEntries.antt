@@ -10,7 +10,7 @@ use Rattle.vol_dir.specs.Scan.{IsNextEntry}
 use Rattle.vol_judge.specs.DirectoryNames.{HasEntriesBelow, IsNamedBelow, is_in, HoldsNamesBelow}
 use Rattle.vol_judge.proofs.CollectedNames.{none_some, name_of-padded}
 
--- an entry before the one that a search finds is before the start of the search
+-- an entry before the next entry is before the start of the search
 early : (geometry : Geometry) (image : List ℕ) (d : ℕ) {from s : ℕ} {slot : Slot} (t i : ℕ) (name : List ℕ)
     → IsNextEntry (entry_at geometry image d) from (slot_count geometry image d) s slot → t < s → entry_at geometry image d t ≡ Some (name, i) → t < from
 early geometry image d {from = from} t i name next low entry = elim (cases_lt t from) [
@@ -18,7 +18,7 @@ early geometry image d {from = from} t i name next low entry = elim (cases_lt t 
   | inr above ↦ absurd (none_some (entry_at geometry image d t) (name, i) entry (next.none t above low))
 ]
 
--- so a property of the slots before the start is one of those before the entry found
+-- if the slots before the start of a search keep rule 9, so do the slots before the next entry
 pub below_reached : {geometry : Geometry} {image : List ℕ} {d from s : ℕ} {slot : Slot} → HasEntriesBelow geometry image d from
     → IsNextEntry (entry_at geometry image d) from (slot_count geometry image d) s slot → HasEntriesBelow geometry image d s
 below_reached {geometry = geometry} {image = image} {d = d} below next = record {
@@ -27,7 +27,7 @@ below_reached {geometry = geometry} {image = image} {d = d} below next = record 
       below.once u t i j name (early geometry image d u i name next low entry) (early geometry image d t j name next low' entry') entry entry';
 }
 
--- a name that is in the set occurs before the next entry
+-- a name in the set belongs to an entry before the next entry
 pub named_reached : {geometry : Geometry} {image : List ℕ} {d from s : ℕ} {slot : Slot} {names : BTreeSet (List ℕ)} → HoldsNamesBelow geometry image d from names
     → IsNextEntry (entry_at geometry image d) from (slot_count geometry image d) s slot → is_in names (padded_name (name_of slot.name)) ≡ true
     → IsNamedBelow geometry image d s (name_of slot.name)

@@ -35,7 +35,7 @@ has_entry graph last d s entry within some = elim (is_directory (graph.kind d)) 
   | inr other ↦ let none = within.directories d s other in absurd (cc)
 ]
 
--- the parts of an entry
+-- equal entries have equal names and i-numbers
 pub entry_parts : (name word : List ℕ) (i j : ℕ) → ◌≡◌ {A = Option (List ℕ × ℕ)} (Some (name, i)) (Some (word, j)) → (name ≡ word) × (i ≡ j)
 entry_parts name word i j e =
     (ap (λ o. option_map_or (λ (entry : List ℕ × ℕ). entry.0) o name) e, ap (λ o. option_map_or (λ (entry : List ℕ × ℕ). entry.1) o i) e)
@@ -62,11 +62,11 @@ not_dots graph root last d name sound is new =
     (false_from_ne_true (bytes_eq name dot) (λ e. new.fresh self.0 d (self.1 ∙ ap (λ n. Some (n, d)) (sym (same_bytes name dot e)))))
     (false_from_ne_true (bytes_eq name dot_dot) (λ e. new.fresh up.0 up.1 (up.2 ∙ ap (λ n. Some (n, up.1)) (sym (same_bytes name dot_dot e)))))
 
--- no entry is for a free i-node
+-- there are no entries for a free i-node
 pub counted_free : (graph : Graph) (root last i : ℕ) → IsGraphSound graph root last → graph.kind i ≡ kinds.Free → counted graph last i ≡ 0
 counted_free graph root last i sound free = counted_none graph last i (λ d t name e. (sound.allocated d t i name e).1 free)
 
--- nothing except d changes if i isn't a directory, neither before nor after
+-- if i is a directory neither before nor after the change, only entries of d change
 pub elsewhere : (old new : Graph) (last d i : ℕ) → IsGraphWithin old last → IsGraphWithin new last → KeepsOthers old new d i
     → old.kind i ≢ kinds.Directory → new.kind i ≢ kinds.Directory → (x t : ℕ) → x ≢ d → new.entry x t ≡ old.entry x t
 elsewhere old new last d i before after others was is x t other = elim (cases_eq x i) [
@@ -75,7 +75,7 @@ elsewhere old new last d i before after others was is x t other = elim (cases_eq
   | inr away ↦ others.entry x t other away
 ]
 
--- if one slot changes, the number of entries for each i-number changes by what that slot had and has for it
+-- if one slot changes, the number of entries for j changes by the entries for j in that slot
 pub counted_slot : (old new : Graph) (last d s j : ℕ) (was is : Option (List ℕ × ℕ)) → IsGraphWithin old last → IsGraphWithin new last
     → ChangesSlot old new d s was is → ((x t : ℕ) → x ≢ d → new.entry x t ≡ old.entry x t)
     → counted new last j + one_for j was ≡ counted old last j + one_for j is
@@ -87,26 +87,26 @@ counted_slot old new last d s j was is before after slot away =
     let second : one_for j (new.entry d s) ≡ one_for j is = ap (one_for j) slot.is in
     omega (arith, all, here, first, second)
 
--- a node below the root stays there if entries stay
+-- a node below the root stays below it if all entries stay
 pub below_same : (old new : Graph) (root i : ℕ) → ((d s j : ℕ) → Leads old d s j → Leads new d s j) → IsBelow old root i → IsBelow new root i
 below_same old new root i stays at_root = at_root
 below_same old new root i stays (below d s j above leads) = below d s j (below_same old new root d stays above) (stays d s j leads)
 
--- a node below the root stays there if no chain passes through i, and entries for others stay
+-- a node other than i stays below the root if no entry is in i and all entries for other nodes stay
 pub below_kept : (old new : Graph) (root i x : ℕ) → ((e t j : ℕ) → Leads old e t j → e ≢ i)
     → ((e t j : ℕ) → j ≢ i → Leads old e t j → Leads new e t j) → IsBelow old root x → x ≢ i → IsBelow new root x
 below_kept old new root i x apart stays at_root other = at_root
 below_kept old new root i x apart stays (below e t j above leads) other =
     below e t j (below_kept old new root i e apart stays above (apart e t j leads)) (stays e t j other leads)
 
--- `.` or `..`
+-- a name for which `is_dots` is true is `.` or `..`
 pub dots_cases : (name : List ℕ) → is_dots name ≡ true → (name ≡ dot) ⊎ (name ≡ dot_dot)
 dots_cases name e = elim (or_cases (bytes_eq name dot) (bytes_eq name dot_dot) e) [
   | inl one ↦ inl (same_bytes name dot one)
   | inr two ↦ inr (same_bytes name dot_dot two)
 ]
 
--- `.` names the directory itself
+-- an entry `.` is for the directory itself
 pub dot_is : (graph : Graph) (root last d s i : ℕ) → IsGraphSound graph root last → graph.kind d ≡ kinds.Directory
     → graph.entry d s ≡ Some (dot, i) → i ≡ d
 dot_is graph root last d s i sound is some =
@@ -114,7 +114,7 @@ dot_is graph root last d s i sound is some =
     let place = sound.once d s self.0 i d dot some self.1 in
     (entry_parts dot dot i d (sym some ∙ (ap (graph.entry d) place ∙ self.1))).1
 
--- a graph in which no directory changes stays sound
+-- a graph stays sound if no directory changes
 pub same_sound : (old new : Graph) (root last : ℕ) → IsGraphWithin old last → IsGraphWithin new last → IsGraphSound old root last
     → IsSameGraph old new → IsGraphSound new root last
 same_sound old new root last before after sound same =

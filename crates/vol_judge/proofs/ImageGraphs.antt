@@ -1,4 +1,4 @@
--- Rules 9 to 12 of an image mean the same as those of its graph.
+-- Rules 9 to 12 of an image are equivalent to those of its graph.
 use Rattle.std.proofs.Common.{◌≡◌, ◌≢◌, ◌∙◌, sym, ap, refl, ℕ, ◌/◌, ◌≤◌, if◌then◌else◌, true, false, List, map, None, Some, inl, inr, arith}
 use Rattle.std.specs.List.{count_by, range_with_len}
 use Rattle.std.proofs.lemmas.Bool.{le-leb, leb-true, and_parts, and_from, le-ltb}
@@ -17,34 +17,34 @@ use Rattle.vol_judge.specs.Graph.{entry_by, kind_in, graph_of, IsGraphWithin, Le
 use Rattle.vol_judge.proofs.GraphParts.{is_directory}
 use Rattle.vol_judge.proofs.GraphCounts.{sum_same, slots_none}
 
--- the kind of one of the volume's i-numbers
+-- an i-number of the volume has the same kind in the image and in the graph
 pub kind_inside : (geometry : Geometry) (image : List ℕ) (i : ℕ) → 1 ≤ i → i ≤ geometry.last_inode → kind_in geometry image i ≡ kind_at geometry image i
 kind_inside geometry image i first last =
     ap (λ b. if b then kind_at geometry image i else kinds.Free) (and_from _ _ (le-leb 1 i first) (le-leb i geometry.last_inode last))
 
--- a node that isn't free has one of the volume's i-numbers
+-- a node that isn't free in the graph has an i-number of the volume
 pub inside_from : (geometry : Geometry) (image : List ℕ) (i : ℕ) → kind_in geometry image i ≢ kinds.Free → (1 ≤ i) × (i ≤ geometry.last_inode)
 inside_from geometry image i used = elim (is_number geometry i) as (λ b. is_number geometry i ≡ b → (1 ≤ i) × (i ≤ geometry.last_inode)) [
   | true ↦ λ e. let parts = and_parts _ _ e in (leb-true 1 i parts.0, leb-true i geometry.last_inode parts.1)
   | false ↦ λ e. absurd (used (ap (λ b. if b then kind_at geometry image i else kinds.Free) e))
 ] refl
 
--- a directory is one of the graph
+-- a directory of the image is a directory of the graph
 pub directory_to : (geometry : Geometry) (image : List ℕ) (d : ℕ) → IsDirectory geometry image d → kind_in geometry image d ≡ kinds.Directory
 directory_to geometry image d directory = kind_inside geometry image d directory.first directory.last ∙ directory.kind
 
--- and one of the graph is one of the image
+-- a directory of the graph is a directory of the image
 pub directory_from : (geometry : Geometry) (image : List ℕ) (d : ℕ) → kind_in geometry image d ≡ kinds.Directory → IsDirectory geometry image d
 directory_from geometry image d is =
     let inside = inside_from geometry image d (λ e. let clash : kinds.Directory ≡ kinds.Free = sym is ∙ e in cc) in
     record { first = inside.0; last = inside.1; kind = sym (kind_inside geometry image d inside.0 inside.1) ∙ is }
 
--- an entry is one of the graph
+-- an entry of the image is an entry of the graph
 pub entry_to : (geometry : Geometry) (image name : List ℕ) (d s i : ℕ) → HasEntry geometry image d s name i
     → (graph_of geometry image).entry d s ≡ Some (name, i)
 entry_to geometry image name d s i has = ap (λ k. entry_by k geometry image d s) (directory_to geometry image d has.directory) ∙ has.entry
 
--- and one of the graph is one of the image
+-- an entry of the graph is an entry of the image
 pub entry_from : (geometry : Geometry) (image name : List ℕ) (d s i : ℕ) → (graph_of geometry image).entry d s ≡ Some (name, i)
     → HasEntry geometry image d s name i
 entry_from geometry image name d s i is =
@@ -56,32 +56,32 @@ entry_from geometry image name d s i is =
       | kinds.Odd ↦ λ e entry. cc
     ] refl is
 
--- an entry other than `.` and `..` leads on in the graph
+-- an entry of the image, other than `.` and `..`, is also in the graph
 pub leads_to : (geometry : Geometry) (image : List ℕ) (d s i : ℕ) → Enters geometry image d s i → Leads (graph_of geometry image) d s i
 leads_to geometry image d s i enters = (enters.0, entry_to geometry image enters.0 d s i enters.1, enters.2)
 
--- and conversely
+-- an entry of the graph, other than `.` and `..`, is also in the image
 pub leads_from : (geometry : Geometry) (image : List ℕ) (d s i : ℕ) → Leads (graph_of geometry image) d s i → Enters geometry image d s i
 leads_from geometry image d s i leads = (leads.0, entry_from geometry image leads.0 d s i leads.1, leads.2)
 
--- a node that is reached is below the root in the graph
+-- a node reached from the root in the image is below the root in the graph
 pub reached_to : (geometry : Geometry) (image : List ℕ) (i : ℕ) → IsReached geometry image i → IsBelow (graph_of geometry image) (root_of geometry) i
 reached_to geometry image i root_reached = root_below
 reached_to geometry image i (one_reached d s j above enters) =
     one_below d s j (reached_to geometry image d above) (leads_to geometry image d s j enters)
 
--- and conversely
+-- a node below the root in the graph is reached from the root in the image
 pub reached_from : (geometry : Geometry) (image : List ℕ) (i : ℕ) → IsBelow (graph_of geometry image) (root_of geometry) i → IsReached geometry image i
 reached_from geometry image i root_below = root_reached
 reached_from geometry image i (one_below d s j above leads) =
     one_reached d s j (reached_from geometry image d above) (leads_from geometry image d s j leads)
 
--- no slot is past the size
+-- a slot past the size of a directory is empty
 slot_past : (geometry : Geometry) (image : List ℕ) (d s : ℕ) → size_of geometry image d / 16 ≤ s → entry_at geometry image d s ≡ None
 unfolding entry_at
 slot_past geometry image d s past = rw (le-ltb s (slot_count geometry image d) (omega (arith, past)))
 
--- a slot that is empty is empty for each kind of i-node
+-- a slot without an entry has none in the graph either, for any kind of i-node
 pub empty_by : (kind : Kind) (geometry : Geometry) (image : List ℕ) (d s : ℕ) → entry_at geometry image d s ≡ None → entry_by kind geometry image d s ≡ None
 empty_by kinds.Directory geometry image d s none = none
 empty_by kinds.Free geometry image d s none = refl
@@ -97,7 +97,7 @@ other_by kinds.Regular geometry image d s other = refl
 other_by kinds.Special geometry image d s other = refl
 other_by kinds.Odd geometry image d s other = refl
 
--- the graph of each image is one of its volume
+-- the graph of an image has no node outside the volume's i-numbers, and no entry past a directory's size
 pub graph_within : (geometry : Geometry) (image : List ℕ) → IsGraphWithin (graph_of geometry image) geometry.last_inode
 graph_within geometry image = record {
   numbers = inside_from geometry image;
@@ -105,7 +105,7 @@ graph_within geometry image = record {
   directories = λ d s other. other_by (kind_in geometry image d) geometry image d s other;
 }
 
--- an i-number that is not one of the volume's directories counts no entries
+-- an i-number that isn't a directory has no entries to count
 other_count : (kind : Kind) (geometry : Geometry) (image : List ℕ) (i d : ℕ) → kind ≢ kinds.Directory → count_in geometry image i d kind ≡ 0
 other_count kinds.Directory geometry image i d other = absurd (other refl)
 other_count kinds.Free geometry image i d other = refl
@@ -113,7 +113,7 @@ other_count kinds.Regular geometry image i d other = refl
 other_count kinds.Special geometry image i d other = refl
 other_count kinds.Odd geometry image i d other = refl
 
--- the entries of one i-number are counted alike
+-- the number of entries for i in one directory is the same in the image and in the graph
 count_to_graph : (geometry : Geometry) (image : List ℕ) (i d : ℕ) → HasSizes geometry image → 1 ≤ d → d ≤ geometry.last_inode
     → count_in geometry image i d (kind_at geometry image d) ≡ counted_in (graph_of geometry image) i d
 unfolding slots
@@ -133,7 +133,7 @@ count_to_graph geometry image i d sizes first last = elim (is_directory (kind_at
       (λ t name e. let empty : (graph_of geometry image).entry d t ≡ None = (graph_within geometry image).directories d t none in cc))
 ]
 
--- all entries are counted alike
+-- the number of all entries for i is the same in the image and in the graph
 pub counted_to_graph : (geometry : Geometry) (image : List ℕ) (i : ℕ) → HasSizes geometry image
     → entry_count geometry image i ≡ counted (graph_of geometry image) geometry.last_inode i
 unfolding entry_count counted
@@ -141,21 +141,21 @@ counted_to_graph geometry image i sizes =
     sum_same (λ d. count_in geometry image i d (kind_at geometry image d)) (counted_in (graph_of geometry image) i) 1 geometry.last_inode
     (λ d low high. count_to_graph geometry image i d sizes low (omega (arith, high)))
 
--- an i-number that an entry may be for is one of the volume's
+-- an i-number from the root's to the last that isn't free in the image isn't free in the graph
 pub used_to : (geometry : Geometry) (image : List ℕ) (i : ℕ) → root_of geometry ≤ i → i ≤ geometry.last_inode → kind_at geometry image i ≢ kinds.Free
     → kind_in geometry image i ≢ kinds.Free
 used_to geometry image i from to used e =
     let one = root_first geometry.edition in
     let first : 1 ≤ i = omega (arith, one, from) in used (sym (kind_inside geometry image i first to) ∙ e)
 
--- a node in use in the graph is in use in the image
+-- a node that isn't free in the graph isn't free in the image
 pub used_from : (geometry : Geometry) (image : List ℕ) (i : ℕ) → kind_in geometry image i ≢ kinds.Free
     → (1 ≤ i) × (i ≤ geometry.last_inode) × (kind_at geometry image i ≢ kinds.Free)
 used_from geometry image i used =
     let inside = inside_from geometry image i used in
     (inside.0, inside.1, (λ e. used (kind_inside geometry image i inside.0 inside.1 ∙ e)))
 
--- rules 9 to 12 of an image are those of its graph
+-- if rules 9 to 12 hold for an image, they hold for its graph
 pub graph_from_rules : (geometry : Geometry) (image : List ℕ) → HasSizes geometry image → HasEntries geometry image → HasDots geometry image
     → IsTree geometry image → HasLinks geometry image → IsGraphSound (graph_of geometry image) (root_of geometry) geometry.last_inode
 graph_from_rules geometry image sizes entries dots tree links = record {
@@ -178,7 +178,7 @@ graph_from_rules geometry image sizes entries dots tree links = record {
   linked = λ i from used. let inside = used_from geometry image i used in links.linked i from inside.1 inside.2;
 }
 
--- and conversely
+-- if rules 9 to 12 hold for the graph of an image, they hold for the image
 pub rules_from_graph : (geometry : Geometry) (image : List ℕ) → HasSizes geometry image
     → IsGraphSound (graph_of geometry image) (root_of geometry) geometry.last_inode
     → HasEntries geometry image × HasDots geometry image × IsTree geometry image × HasLinks geometry image

@@ -1,4 +1,4 @@
--- A graph in which a directory is made.
+-- A graph in which a directory is created.
 use Rattle.std.proofs.Common.{◌≡◌, ◌≢◌, ◌∙◌, sym, ap, ℕ, ◌+◌, ◌/◌, ◌%◌, ◌≤◌, ◌==◌, true≢false, List, None, Some, inl, inr, ◌⊎◌, arith}
 use Rattle.std.specs.List.{list_any, sum_by, range_with_len}
 use Rattle.std.proofs.lemmas.Bool.{cases_eq}
@@ -10,16 +10,16 @@ use Rattle.vol_judge.proofs.GraphParts.{not_free, not_directory, entry_parts, ro
 use Rattle.vol_judge.proofs.NamedGraphs.{added_or_old, old_stays}
 use Rattle.vol_layout.specs.declared.mode.Kind.TheVariants as kinds
 
--- the directory is not the one that is made
+-- directory d isn't the new directory
 apart_from : (old new : Graph) (made d s : ℕ) (name : List ℕ) → AddsDirectory old new made d s name → d ≢ made
 apart_from old new made d s name adds same = not_free (old.kind d) adds.slot.directory (ap old.kind same ∙ adds.was)
 
--- nothing besides d and the new node changes
+-- the entries of nodes other than d and the new directory don't change
 beyond : (old new : Graph) (made d s x t : ℕ) (name : List ℕ) → AddsDirectory old new made d s name → x ≢ made → x ≢ d
     → new.entry x t ≡ old.entry x t
 beyond old new made d s x t name adds other away = adds.others.entry x t away other
 
--- the entries of the new node
+-- the entries of the new directory are `.` in slot 0 and `..` in slot 1
 made_entry : (old new : Graph) (made d s t j : ℕ) (name word : List ℕ) → AddsDirectory old new made d s name
     → new.entry made t ≡ Some (word, j)
     → ((t ≡ 0) × (word ≡ dot) × (j ≡ made)) ⊎ ((t ≡ 1) × (word ≡ dot_dot) × (j ≡ d))
@@ -33,7 +33,7 @@ made_entry old new made d s t j name word adds some = elim (cases_eq t 0) [
   ]
 ]
 
--- an entry that leads on afterwards is the new one, or existed before
+-- after a directory is created, an entry other than `.` and `..` is the new one in slot s of d, or existed before
 lead_cases : (old new : Graph) (made d s x t j : ℕ) (name : List ℕ) → AddsDirectory old new made d s name → Leads new x t j
     → ((x ≡ d) × (t ≡ s) × (j ≡ made)) ⊎ Leads old x t j
 lead_cases old new made d s x t j name adds leads = elim (cases_eq x made) [
@@ -47,7 +47,7 @@ lead_cases old new made d s x t j name adds leads = elim (cases_eq x made) [
   ]
 ]
 
--- an entry that existed stays
+-- after a directory is created, every old entry still exists
 made_stays : (old new : Graph) (last made d s x t : ℕ) (name : List ℕ) (entry : List ℕ × ℕ) → IsGraphWithin old last
     → AddsDirectory old new made d s name → old.entry x t ≡ Some entry → new.entry x t ≡ Some entry
 made_stays old new last made d s x t name entry before adds some = elim (cases_eq x made) [
@@ -57,11 +57,11 @@ made_stays old new last made d s x t name entry before adds some = elim (cases_e
   | inr other ↦ old_stays old new d s x t entry (Some (name, made)) adds.slot (beyond old new made d s x t name adds other) some
 ]
 
--- a sum of two terms
+-- a sum of two terms is their sum
 sum_two : (f : ℕ → ℕ) → sum_by f (range_with_len 0 2) ≡ f 0 + f 1
 sum_two f = omega arith
 
--- each i-number has as many more entries as the three new slots have for it
+-- the number of entries for each i-number grows by the entries in the three new slots
 made_count : (old new : Graph) (last made d s j : ℕ) (name : List ℕ) → IsGraphWithin old last → IsGraphWithin new last
     → AddsDirectory old new made d s name
     → counted new last j ≡ counted old last j + one_for j (Some (name, made)) + one_for j (Some (dot, made)) + one_for j (Some (dot_dot, d))
@@ -83,7 +83,7 @@ made_count old new last made d s j name before after adds =
     let second : one_for j (new.entry made 1) ≡ one_for j (Some (dot_dot, d)) = ap (one_for j) adds.parent in
     omega (arith, all, here, was, is, none, two, first, second)
 
--- no name occurs twice in a directory afterwards
+-- after a directory is created, no name occurs twice in a directory
 made_once : (old new : Graph) (root last made d s : ℕ) (name : List ℕ) → IsGraphWithin old last → IsGraphSound old root last
     → IsNewName old d name → AddsDirectory old new made d s name → (x t u j k : ℕ) (word : List ℕ) → new.entry x t ≡ Some (word, j)
     → new.entry x u ≡ Some (word, k) → t ≡ u
@@ -116,7 +116,7 @@ made_once old new root last made d s name before sound fresh adds x t u j k word
       ]
 ]
 
--- a graph in which a directory is made stays sound
+-- a graph in which a directory is created stays sound
 pub added_directory_sound : (old new : Graph) (root last made d s : ℕ) (name : List ℕ) → IsGraphWithin old last → IsGraphWithin new last
     → IsGraphSound old root last → IsNewName old d name → root ≤ made → AddsDirectory old new made d s name → IsGraphSound new root last
 added_directory_sound old new root last made d s name before after sound fresh from adds =

@@ -1,4 +1,4 @@
--- Consequences of the marks of the blocks that files name and of those of the free ones.
+-- Consequences of comparing the marks of used blocks with the marks of free blocks.
 use Rattle.std.proofs.Common.{◌≡◌, ℕ, ◌<◌, ◌≤◌, inl, inr, Bool, true, false, List, get_or, subst, arith}
 use Rattle.std.proofs.lemmas.Bool.{cases_eq}
 use Rattle.std.proofs.lemmas.Bool.Decides.{nat_tests}
@@ -12,16 +12,16 @@ use Rattle.vol_judge.specs.Lost.{IsFirstLost}
 use Rattle.vol_judge.specs.Marks.{MarksZone}
 use Rattle.vol_judge.specs.Sound.{IsNoneLost}
 
--- the free blocks are those that are marked
+-- the free blocks are those in the marks of the free list
 same_free : {geometry : Geometry} {image blocks : List ℕ} {free : List Bool} → Fits geometry image → (marks : AreFreeMarks geometry image free)
     → IsFree geometry image blocks → blocks ≡ marks.blocks
 same_free fits marks is = IsFree_unique (omega (arith, zone_behind fits)) is marks.free
 
--- a number within the data zone is that of a data block
+-- each number from `zone_start` to below `zone_end` is the number of a data block
 zone_within : (geometry : Geometry) (k : ℕ) → geometry.zone_start ≤ k → k < geometry.zone_end → in_zone geometry k ≡ true
 zone_within geometry k from below = grind (arith, nat_tests)
 
--- if each data block is named or free, none is lost
+-- if each data block is marked as used or free, no block is lost
 pub none_lost : {geometry : Geometry} {image : List ℕ} (places : List ℕ) (free : List Bool) → Fits geometry image
     → MarksZone geometry image places → AreFreeMarks geometry image free
     → ((k : ℕ) → geometry.zone_start ≤ k → k < geometry.zone_end → get_or places k 0 ≡ 0 → get_or free k false ≡ true) → IsNoneLost geometry image
@@ -31,7 +31,7 @@ none_lost {geometry = geometry} {image = image} places free fits marks set cover
       | inr some ↦ inr ((marks k zone).0 some)
     ]
 
--- a data block that is neither, after those that are one or the other, is the first that is lost, and then rule 8 fails
+-- the first data block that is marked neither as used nor as free is the first lost block, and rule 8 fails
 pub first_lost : {geometry : Geometry} {image : List ℕ} (places : List ℕ) (free : List Bool) (b : ℕ) → Fits geometry image
     → MarksZone geometry image places → AreFreeMarks geometry image free → geometry.zone_start ≤ b → b < geometry.zone_end
     → get_or places b 0 ≡ 0 → get_or free b false ≡ false

@@ -1,4 +1,4 @@
--- Laws of marks of data blocks as more of them are set.
+-- Laws of `ExtendsMarks` and `KnowsMarked`, as more marks of data blocks are set.
 use Rattle.std.proofs.Common.{◌≡◌, ◌≢◌, ℕ, zero, suc, ◌+◌, ◌-◌, ◌<◌, ◌≤◌, ◌==◌, ◌∙◌, if◌then◌else◌, true, false, sym, ap, subst, inl, inr, List, [], ◌∷◌, ◌++◌, length, get_or, set, refl, arith, lit≤, get_or-set_same, get_or-set_other}
 use Rattle.std.proofs.lemmas.Bool.{cases_eq}
 use Rattle.std.specs.List.{flat_map, range_with_len}
@@ -19,38 +19,38 @@ use Rattle.vol_judge.proofs.FileBlocks.{address_blocks, addresses_from}
 use Rattle.vol_judge.proofs.MarkLists.{flat_more}
 use Rattle.vol_judge.proofs.NamedOnce.{in_append, in_left, in_right, in_flat, flat_in}
 
--- an address has three levels below it at most
+-- an address has at most three levels below it
 pub levels_most : (form : BlockMap) (k : ℕ) → k < first_count form → levels form k ≤ 3
 levels_most Small k low = omega arith
 levels_most Large k low = elim (k == 7) as (λ t. (if t then 2 else 1) ≤ 3) [ true ↦ lit≤ tt | false ↦ lit≤ tt ]
 levels_most Deep k low = omega arith
 levels_most Bare k low = omega arith
 
--- the mark that is set isn't 0
+-- a newly set mark isn't 0
 set_some : (marks : List ℕ) (b d x : ℕ) → b < length marks → x ≡ b → get_or (set marks b (d + 1)) x 0 ≢ 0
 set_some marks b d x within same none =
     let here : get_or (set marks b (d + 1)) b 0 ≡ d + 1 = get_or-set_same marks b (d + 1) 0 within in
     let there : get_or (set marks b (d + 1)) b 0 ≡ 0 = ap (λ y. get_or (set marks b (d + 1)) y 0) (sym same) ∙ none in
     omega (arith, here, there)
 
--- and no other becomes 0
+-- setting a mark makes no other mark 0
 set_kept : (marks : List ℕ) (b d x : ℕ) → b < length marks → get_or marks x 0 ≢ 0 → get_or (set marks b (d + 1)) x 0 ≢ 0
 set_kept marks b d x within some = elim (cases_eq x b) [
   | inl same ↦ set_some marks b d x within same
   | inr other ↦ λ none. some (sym (get_or-set_other marks b x (d + 1) 0 other) ∙ none)
 ]
 
--- blocks whose data blocks are marked add nothing
+-- a list whose data blocks are all marked needs no new marks
 pub ext_known : (g : Geometry) (blocks marks : List ℕ) → ((x : ℕ) → IsIn x blocks → in_zone g x ≡ true → get_or marks x 0 ≢ 0)
     → ExtendsMarks g blocks marks marks
 ext_known g blocks marks known = record { all = known; only = λ x some. inl some; kept = λ x some. some }
 
--- nor does an empty list
+-- an empty list needs no new marks
 pub ext_none : (g : Geometry) (marks : List ℕ) → ExtendsMarks g [] marks marks
 unfolding IsIn
 ext_none g marks = ext_known g [] marks (λ x among zone. absurd among)
 
--- one list of blocks after another
+-- marking one list and then another marks both
 ext_more : (g : Geometry) (xs ys old mid new : List ℕ) → ExtendsMarks g xs old mid → ExtendsMarks g ys mid new → ExtendsMarks g (xs ++ ys) old new
 ext_more g xs ys old mid new first second = record {
   all = λ x among zone. elim (in_append x xs ys among) [
@@ -64,13 +64,13 @@ ext_more g xs ys old mid new first second = record {
   kept = λ x some. second.kept x (first.kept x some);
 }
 
--- the lists of a range of numbers, and of one more
+-- marking the lists of n numbers and then the next list marks the lists of n + 1 numbers
 ext_next : (g : Geometry) (f : ℕ → List ℕ) (a n m j : ℕ) (old mid new : List ℕ) → m ≡ n + 1 → a + n ≡ j
     → ExtendsMarks g (flat_map f (range_with_len a n)) old mid → ExtendsMarks g (f j) mid new → ExtendsMarks g (flat_map f (range_with_len a m)) old new
 ext_next g f a n m j old mid new size at first second =
     subst (λ xs. ExtendsMarks g xs old new) (sym (flat_more f a n m j size at)) (ext_more g (flat_map f (range_with_len a n)) (f j) old mid new first second)
 
--- a block is marked after those below it
+-- after the blocks below b, setting the mark of b marks b too
 ext_set : (g : Geometry) (b d : ℕ) (below old new : List ℕ) → b < length new → ExtendsMarks g below old new
     → ExtendsMarks g (b ∷ below) old (set new b (d + 1))
 unfolding IsIn
@@ -89,11 +89,11 @@ ext_set g b d below old new within ext = record {
   kept = λ x some. set_kept new b d x within (ext.kept x some);
 }
 
--- nothing is known if no mark is set
+-- if no mark is set, `KnowsMarked` holds
 pub known_none : (g : Geometry) (image marks : List ℕ) → ((b : ℕ) → get_or marks b 0 ≡ 0) → KnowsMarked g image marks
 known_none g image marks clear b d is x among zone = absurd (omega (arith, is, clear b))
 
--- one more block is known
+-- setting the mark of b to d + 1 is right if all data blocks in the d levels below b are marked
 pub known_more : (g : Geometry) (image marks : List ℕ) (b d : ℕ) → b < length marks → KnowsMarked g image marks
     → ((x : ℕ) → IsIn x (blocks_from g image d b) → in_zone g x ≡ true → get_or (set marks b (d + 1)) x 0 ≢ 0)
     → KnowsMarked g image (set marks b (d + 1))
@@ -107,18 +107,18 @@ known_more g image marks b d within known new k e is x among zone = elim (cases_
 ]
 
 module _ (g : Geometry) (image : List ℕ) where
-  -- from 0 on no block is found
+  -- there are no blocks at and below address 0
   none_from : (d b x : ℕ) → b ≡ 0 → IsIn x (blocks_from g image d b) → ⊥
   unfolding IsIn
   none_from d b x none among = subst (IsIn x) (ap (blocks_from g image d) none ∙ from_zero g image d) among
 
-  -- a block is found from itself on
+  -- block b is one of the blocks at and below b
   here_in : (d b x : ℕ) → b ≢ 0 → x ≡ b → IsIn x (blocks_from g image d b)
   unfolding IsIn
   here_in zero b x some same = subst (IsIn x) (sym (from_leaf g image b some)) (inl same)
   here_in (suc d) b x some same = subst (IsIn x) (sym (from_suc g image d b some)) (inl same)
 
-  -- a block found in fewer levels is found in more
+  -- a block found in fewer levels below b is found in more levels
   from_less : (d e b x : ℕ) → d ≤ e → IsIn x (blocks_from g image d b) → IsIn x (blocks_from g image e b)
   unfolding IsIn entries_from
   from_less zero e b x less among = elim (cases_eq b 0) [
@@ -141,7 +141,7 @@ module _ (g : Geometry) (image : List ℕ) where
     ]
   ]
 
-  -- from a number outside the data blocks on, none is found
+  -- there are no data blocks at and below an address outside the data zone
   out_from : (d b x : ℕ) → in_zone g b ≡ false → IsIn x (blocks_from g image d b) → in_zone g x ≡ true → ⊥
   unfolding IsIn entries_from
   out_from zero b x out among zone = elim (cases_eq b 0) [
@@ -161,23 +161,23 @@ module _ (g : Geometry) (image : List ℕ) where
     ]
   ]
 
-  -- a number outside the data blocks adds nothing
+  -- an address outside the data zone needs no new marks
   pub ext_out : (d b : ℕ) (marks : List ℕ) → in_zone g b ≡ false → ExtendsMarks g (blocks_from g image d b) marks marks
   ext_out d b marks out = ext_known g (blocks_from g image d b) marks (λ x among zone. absurd (out_from d b x out among zone))
 
-  -- nor does a block that was visited in as many levels
+  -- a block whose mark is greater than d needs no new marks for d levels
   pub ext_again : (d b : ℕ) (marks : List ℕ) → KnowsMarked g image marks → d < get_or marks b 0 → ExtendsMarks g (blocks_from g image d b) marks marks
   ext_again d b marks known less =
       let size : get_or marks b 0 ≡ get_or marks b 0 - 1 + 1 = omega (arith, less) in
       ext_known g (blocks_from g image d b) marks (λ x among zone.
       known b (get_or marks b 0 - 1) size x (from_less d (get_or marks b 0 - 1) b x (omega (arith, less)) among) zone)
 
-  -- a block with no levels below it
+  -- with no levels below it, only the mark of b is set
   pub ext_leaf : (b : ℕ) (marks : List ℕ) → b ≢ 0 → b < length marks → ExtendsMarks g (blocks_from g image 0 b) marks (set marks b 1)
   ext_leaf b marks some within =
       subst (λ xs. ExtendsMarks g xs marks (set marks b 1)) (sym (from_leaf g image b some)) (ext_set g b 0 [] marks marks within (ext_none g marks))
 
-  -- a block after its entries
+  -- after the blocks of its entries, block b is marked
   pub ext_from : (d b : ℕ) (old new : List ℕ) → b ≢ 0 → 1 ≤ d → b < length new
       → ExtendsMarks g (entries_from g image (d - 1) b (constants g.edition).pointers) old new
       → ExtendsMarks g (blocks_from g image d b) old (set new b (d + 1))
@@ -185,19 +185,19 @@ module _ (g : Geometry) (image : List ℕ) where
       subst (λ xs. ExtendsMarks g xs old (set new b (d + 1))) (sym (from_entries g image d b some one))
       (ext_set g b d (entries_from g image (d - 1) b (constants g.edition).pointers) old new within ext)
 
-  -- before the first entry nothing is added
+  -- no entries need no marks
   pub ext_start : (d b : ℕ) (marks : List ℕ) → ExtendsMarks g (entries_from g image d b 0) marks marks
   unfolding entries_from
   ext_start d b marks = ext_none g marks
 
-  -- one more entry
+  -- marking the blocks of the first j entries and then of entry j marks the blocks of the first j + 1 entries
   pub ext_entry : (d b j n : ℕ) (old mid new : List ℕ) → n ≡ j + 1 → ExtendsMarks g (entries_from g image d b j) old mid
       → ExtendsMarks g (blocks_from g image d (pointer_in g image b j)) mid new → ExtendsMarks g (entries_from g image d b n) old new
   unfolding entries_from
   ext_entry d b j n old mid new size first second =
       ext_next g (λ j. blocks_from g image d (pointer_in g image b j)) 0 j n j old mid new size (omega arith) first second
 
-  -- entries that are 0 add nothing
+  -- entries that are 0 need no marks
   pub ext_zeros : (d b j n m : ℕ) (old new : List ℕ) → j + n ≡ m → ((x : ℕ) → j ≤ x → x < m → pointer_in g image b x ≡ 0)
       → ExtendsMarks g (entries_from g image d b j) old new → ExtendsMarks g (entries_from g image d b m) old new
   ext_zeros d b j zero m old new size zeros ext =
@@ -208,29 +208,29 @@ module _ (g : Geometry) (image : List ℕ) where
       (ext_known g (blocks_from g image d (pointer_in g image b (j + n))) new
       (λ x among zone. absurd (none_from d (pointer_in g image b (j + n)) x (zeros (j + n) (omega arith) (omega arith)) among)))
 
-  -- before the first address nothing is added
+  -- no addresses need no marks
   pub ext_first : (i : ℕ) (marks : List ℕ) → ExtendsMarks g (addresses_from g image i 0) marks marks
   unfolding addresses_from
   ext_first i marks = ext_none g marks
 
-  -- one more address
+  -- marking the blocks of the first k addresses and then of address k marks the blocks of the first k + 1 addresses
   pub ext_address : (i k n : ℕ) (old mid new : List ℕ) → n ≡ k + 1 → ExtendsMarks g (addresses_from g image i k) old mid
       → ExtendsMarks g (address_blocks g image i k) mid new → ExtendsMarks g (addresses_from g image i n) old new
   unfolding addresses_from
   ext_address i k n old mid new size first second = ext_next g (address_blocks g image i) 0 k n k old mid new size (omega arith) first second
 
-  -- before the first file nothing is added
+  -- no files need no marks
   pub ext_begin : (n : ℕ) (marks : List ℕ) → n ≡ 0 → ExtendsMarks g (files_from g image n) marks marks
   unfolding files_from
   ext_begin n marks none = subst (λ x. ExtendsMarks g (files_from g image x) marks marks) (sym none) (ext_none g marks)
 
-  -- one more file
+  -- marking the blocks of the first n files and then of file n + 1 marks the blocks of the first n + 1 files
   pub ext_file : (i n m : ℕ) (old mid new : List ℕ) → m ≡ n + 1 → 1 + n ≡ i → ExtendsMarks g (files_from g image n) old mid
       → ExtendsMarks g (blocks_of g image i) mid new → ExtendsMarks g (files_from g image m) old new
   unfolding files_from
   ext_file i n m old mid new size at first second = ext_next g (blocks_of g image) 1 n m i old mid new size at first second
 
-  -- the marks once all files are visited
+  -- once the blocks of all files are marked, the marked data blocks are those that files use
   pub ext_all : (marks new : List ℕ) → Fits g image → ((b : ℕ) → get_or marks b 0 ≡ 0) → ExtendsMarks g (files_from g image g.last_inode) marks new
       → MarksZone g image new
   ext_all marks new fits clear ext b zone = (

@@ -1,4 +1,4 @@
--- The free blocks that a place names, by marks.
+-- The free blocks that files use, found by marks.
 use Rattle.std.proofs.Common.{◌≡◌, ◌≢◌, ℕ, ◌∙◌, ap, sym, subst, inl, inr, true, List, [], ◌∷◌, ◌++◌, Option, None, Some, MatchOption, get_or, refl, arith, append_assoc}
 use Rattle.std.specs.Option.{option_map}
 use Rattle.vol_layout.specs.Geometry.{in_zone, Fits}
@@ -16,16 +16,16 @@ use Rattle.vol_judge.specs.Sound.{IsFreeApart}
 use Rattle.vol_judge.specs.declared.finding.Finding.TheVariants.{UsedAndFree}
 use Rattle.vol_judge.proofs.NamedOnce.{in_append, in_left, in_right}
 
--- the result of a search for the first marked block: None, or that block
+-- the result of a search for the first marked block of a list: None if no block is marked
 abbrev pub FindsMarked : List ℕ → List ℕ → Option ℕ → Type 0
 FindsMarked marks blocks found = MatchOption found (AreClear marks blocks) (IsFirstMarked marks blocks)
 
--- among no blocks none is marked
+-- in an empty list no block is marked
 pub clear_none : (marks : List ℕ) → AreClear marks []
 unfolding IsIn
 clear_none marks k among = absurd among
 
--- nor among those before a block that isn't marked, and that
+-- if no block of a list is marked, and b isn't, no block of the list followed by b is marked
 pub clear_more : (marks blocks : List ℕ) (b : ℕ) → AreClear marks blocks → get_or marks b 0 ≡ 0 → AreClear marks (blocks ++ b ∷ [])
 unfolding IsIn
 clear_more marks blocks b clear none k among = elim (in_append k blocks (b ∷ []) among) [
@@ -34,7 +34,7 @@ clear_more marks blocks b clear none k among = elim (in_append k blocks (b ∷ [
   | inr (inr past) ↦ absurd past
 ]
 
--- the first that is marked is the first of more
+-- the first marked block of a list is the first of a longer list
 pub marked_more : (marks blocks : List ℕ) (b n : ℕ) → IsFirstMarked marks blocks n → IsFirstMarked marks (blocks ++ b ∷ []) n
 marked_more marks blocks b n first = record {
   before = first.before;
@@ -45,7 +45,7 @@ marked_more marks blocks b n first = record {
 }
 
 module _ (g : Geometry) (image marks blocks : List ℕ) (fits : Fits g image) (names : MarksZone g image marks) (free : IsFree g image blocks) where
-  -- if none of the free blocks is marked, none is named
+  -- if no free block is marked, no file uses a free block
   clear_apart : AreClear marks blocks → IsFreeApart g image
   clear_apart clear = λ others is i p place there.
       let same : others ≡ blocks = IsFree_unique (omega (arith, zone_behind fits)) is free in
@@ -54,7 +54,7 @@ module _ (g : Geometry) (image marks blocks : List ℕ) (fits : Fits g image) (n
       let none : get_or marks (named g image i p) 0 ≡ 0 = clear (named g image i p) (subst (IsIn (named g image i p)) same there) in
       (names (named g image i p) zone).1 (i, p, record { place = place; holds = named_holds g image i p (named g image i p) fits refl some }) none
 
-  -- the first that is marked is the first that is named, and then rule 7 fails
+  -- the first marked free block is the first one that a file uses, and rule 7 fails
   first_named : (b : ℕ) → IsApart g image → IsFirstMarked marks blocks b → IsNamedFree g image b × (IsFreeApart g image → ⊥)
   unfolding IsIn
   first_named b apart first =
@@ -75,7 +75,7 @@ module _ (g : Geometry) (image marks blocks : List ℕ) (fits : Fits g image) (n
         λ rule. rule blocks free by.0 by.1 by.2.place (subst (λ x. IsIn x blocks) (sym named_is) there),
       )
 
-  -- the search of the free blocks finds the first one that is named, if any is
+  -- the search returns the first free block that a file uses, or None if there is none
   pub named_found : (found : Option ℕ) → IsApart g image → FindsMarked marks blocks found
       → Finds (IsFreeApart g image) (IsFirstTwice g image) (option_map UsedAndFree found)
   named_found None apart clear = clear_apart clear

@@ -9,7 +9,7 @@ use Rattle.vol_judge.proofs.GraphCounts.{one_for, one_here, one_else}
 use Rattle.vol_judge.proofs.GraphParts.{not_directory, entry_parts, root_directory, counted_free, elsewhere, counted_slot, below_same}
 use Rattle.vol_layout.specs.declared.mode.Kind.TheVariants as kinds
 
--- an entry that a slot has afterwards is the new one, or existed before
+-- after an entry is added, each entry is the new one or existed before
 pub added_or_old : (old new : Graph) (d s i x t j : ℕ) (name word : List ℕ) → ChangesSlot old new d s None (Some (name, i))
     → (x ≢ d → new.entry x t ≡ old.entry x t) → new.entry x t ≡ Some (word, j)
     → ((x ≡ d) × (t ≡ s) × (word ≡ name) × (j ≡ i)) ⊎ (old.entry x t ≡ Some (word, j))
@@ -23,7 +23,7 @@ added_or_old old new d s i x t j name word slot away some = elim (cases_eq x d) 
   | inr there ↦ inr (sym (away there) ∙ some)
 ]
 
--- an entry that existed stays
+-- after an entry is added, every old entry still exists
 pub old_stays : (old new : Graph) (d s x t : ℕ) (entry : List ℕ × ℕ) (added : Option (List ℕ × ℕ)) → ChangesSlot old new d s None added
     → (x ≢ d → new.entry x t ≡ old.entry x t) → old.entry x t ≡ Some entry → new.entry x t ≡ Some entry
 old_stays old new d s x t entry added slot away some = elim (cases_eq x d) [
@@ -35,7 +35,7 @@ old_stays old new d s x t entry added slot away some = elim (cases_eq x d) [
   | inr there ↦ away there ∙ some
 ]
 
--- i, which isn't a directory, gets a new name, in slot s of d, which is counted
+-- i, which isn't a directory, gets a new name in slot s of d, and its link count is then the number of entries for it
 pub record IsNamed (old new : Graph) (last i d s : ℕ) (name : List ℕ) : Type 0 where
   pub before : IsGraphWithin old last
   pub after : IsGraphWithin new last
@@ -47,7 +47,7 @@ pub record IsNamed (old new : Graph) (last i d s : ℕ) (name : List ℕ) : Type
   pub links : new.links i ≡ counted old last i + 1
   pub kept : (x : ℕ) → x ≢ i → old.kind x ≢ kinds.Free → new.links x ≡ old.links x
 
--- it has one more entry, and every other i-number as many as before
+-- there is one entry more for i than before, and as many as before for every other i-number
 named_count : (old new : Graph) (last i d s j : ℕ) (name : List ℕ) → IsNamed old new last i d s name
     → counted new last j ≡ counted old last j + one_for j (Some (name, i))
 named_count old new last i d s j name named =
@@ -56,7 +56,7 @@ named_count old new last i d s j name named =
     (elsewhere old new last d i named.before named.after named.others named.was_other named.other) in
     omega (arith, change)
 
--- then the graph stays sound
+-- if i gets a name in this way, the graph stays sound
 pub named_sound : (old new : Graph) (root last i d s : ℕ) (name : List ℕ) → IsGraphSound old root last → IsNewName old d name → root ≤ i
     → IsNamed old new last i d s name → IsGraphSound new root last
 named_sound old new root last i d s name sound fresh from named =
@@ -135,7 +135,7 @@ named_sound old new root last i d s name sound fresh from named =
       ];
     }
 
--- a graph in which a file is made stays sound
+-- a graph in which a file is created stays sound
 pub added_file_sound : (old new : Graph) (root last made d s : ℕ) (name : List ℕ) → IsGraphWithin old last → IsGraphWithin new last
     → IsGraphSound old root last → IsNewName old d name → root ≤ made → AddsFile old new made d s name → IsGraphSound new root last
 added_file_sound old new root last made d s name before after sound fresh from adds =
@@ -151,7 +151,7 @@ added_file_sound old new root last made d s name before after sound fresh from a
       kept = adds.kept;
     })
 
--- a graph in which a file has one more name stays sound
+-- a graph in which a file gets another name stays sound
 pub added_link_sound : (old new : Graph) (root last i d s : ℕ) (name : List ℕ) → IsGraphWithin old last → IsGraphWithin new last
     → IsGraphSound old root last → IsNewName old d name → root ≤ i → AddsLink old new i d s name → IsGraphSound new root last
 added_link_sound old new root last i d s name before after sound fresh from adds =

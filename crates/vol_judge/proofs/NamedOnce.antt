@@ -1,4 +1,4 @@
--- Rule 7 by the list of all blocks that places name.
+-- Rule 7 in terms of the list of all blocks that files use.
 use Rattle.std.proofs.Common.{◌≡◌, ◌≢◌, ℕ, zero, suc, ◌+◌, ◌<◌, ◌≤◌, ◌⊎◌, ◌∙◌, sym, ap, subst, List, [], ◌∷◌, ◌++◌, refl, arith, inl, inr}
 use Rattle.std.proofs.lemmas.Bool.{cases_eq}
 use Rattle.std.specs.List.{count_by, flat_map, range_with_len}
@@ -11,27 +11,27 @@ use Rattle.vol_file.specs.Laws.{IsAmong}
 use Rattle.vol_file.proofs.BlockLists.{at_nil, at_zero, at_some}
 use Rattle.vol_file.proofs.PlaceLists.{comes_same, counted_more, first_or_later}
 
--- an item of two lists joined is in one of them
+-- an item of two joined lists is in one of them
 pub in_append : (b : ℕ) (xs ys : List ℕ) → IsIn b (xs ++ ys) → IsIn b xs ⊎ IsIn b ys
 unfolding IsIn
 in_append b [] ys among = inr among
 in_append b (x ∷ xs) ys (inl e) = inl (inl e)
 in_append b (x ∷ xs) ys (inr later) = elim (in_append b xs ys later) [ inl l ↦ inl (inr l) | inr r ↦ inr r ]
 
--- an item of the first of two lists is in both joined
+-- an item of the first list is in the joined list
 pub in_left : (b : ℕ) (xs ys : List ℕ) → IsIn b xs → IsIn b (xs ++ ys)
 unfolding IsIn
 in_left b [] ys among = absurd among
 in_left b (x ∷ xs) ys (inl e) = inl e
 in_left b (x ∷ xs) ys (inr later) = inr (in_left b xs ys later)
 
--- an item of the second of two lists is in both joined
+-- an item of the second list is in the joined list
 pub in_right : (b : ℕ) (xs ys : List ℕ) → IsIn b ys → IsIn b (xs ++ ys)
 unfolding IsIn
 in_right b [] ys among = among
 in_right b (x ∷ xs) ys among = inr (in_right b xs ys among)
 
--- two lists joined have nothing twice
+-- if nothing occurs twice in two joined lists, nothing occurs twice in either, and they have no item in common
 once_parts : (xs ys : List ℕ) → Once (xs ++ ys) → Once xs × Once ys × ((b : ℕ) → IsIn b xs → IsIn b ys → ⊥)
 unfolding IsIn Once
 once_parts [] ys once = (tt, once, λ b none among. none)
@@ -45,7 +45,7 @@ once_parts (x ∷ xs) ys once =
       ],
     )
 
--- lists with nothing twice, and nothing in common, joined
+-- if nothing occurs twice in either of two lists, and they have no item in common, nothing occurs twice in the joined list
 pub once_append : (xs ys : List ℕ) → Once xs → Once ys → ((b : ℕ) → IsIn b xs → IsIn b ys → ⊥) → Once (xs ++ ys)
 unfolding IsIn Once
 once_append [] ys left right apart = right
@@ -54,7 +54,7 @@ once_append (x ∷ xs) ys left right apart = (
   once_append xs ys left.1 right (λ b l r. apart b (inr l) r),
 )
 
--- an item in the lists of a range of numbers is in the list of one of them
+-- an item in the joined lists of a range is in the list of some number of the range
 pub in_flat : (f : ℕ → List ℕ) (b a n : ℕ) → IsIn b (flat_map f (range_with_len a n)) → (j : ℕ) × (a ≤ j) × (j < a + n) × IsIn b (f j)
 unfolding IsIn
 in_flat f b a zero among = absurd among
@@ -66,7 +66,7 @@ in_flat f b a (suc n) among =
           (found.0, omega (arith, found.1), omega (arith, found.2), found.3)
     ]
 
--- an item in the list of one number of a range is in the lists of all
+-- an item in the list of a number of the range is in the joined lists
 pub flat_in : (f : ℕ → List ℕ) (b a n j : ℕ) → a ≤ j → j < a + n → IsIn b (f j) → IsIn b (flat_map f (range_with_len a n))
 flat_in f b a zero j low high among = absurd (omega arith)
 flat_in f b a (suc n) j low high among =
@@ -75,7 +75,7 @@ flat_in f b a (suc n) j low high among =
       | inr later ↦ in_right b (f a) (flat_map f (range_with_len (a + 1) n)) (flat_in f b (a + 1) n j later (omega arith) among)
     ]
 
--- if the lists of a range have nothing twice, each list has nothing twice
+-- if nothing occurs twice in the joined lists, nothing occurs twice in each list
 pub once_each : (f : ℕ → List ℕ) (a n j : ℕ) → a ≤ j → j < a + n → Once (flat_map f (range_with_len a n)) → Once (f j)
 once_each f a zero j low high once = absurd (omega arith)
 once_each f a (suc n) j low high once =
@@ -85,7 +85,7 @@ once_each f a (suc n) j low high once =
       | inr later ↦ once_each f (a + 1) n j later (omega arith) parts.1
     ]
 
--- and two of them have nothing in common
+-- if nothing occurs twice in the joined lists, no two of the lists have an item in common
 pub once_same : (f : ℕ → List ℕ) (b a n j k : ℕ) → a ≤ j → j < a + n → a ≤ k → k < a + n → Once (flat_map f (range_with_len a n))
     → IsIn b (f j) → IsIn b (f k) → j ≡ k
 once_same f b a zero j k low high low' high' once here there = absurd (omega arith)
@@ -103,7 +103,7 @@ once_same f b a (suc n) j k low high low' high' once here there =
       ]
     ]
 
--- lists of a range with nothing twice, no two of which have an item in common
+-- if nothing occurs twice in each list, and no two of the lists have an item in common, nothing occurs twice in the joined lists
 pub once_flat : (f : ℕ → List ℕ) (a n : ℕ) → ((j : ℕ) → a ≤ j → j < a + n → Once (f j))
     → ((b j k : ℕ) → a ≤ j → j < a + n → a ≤ k → k < a + n → IsIn b (f j) → IsIn b (f k) → j ≡ k)
     → Once (flat_map f (range_with_len a n))
@@ -119,7 +119,7 @@ once_flat f a (suc n) each apart =
     apart b a found.0 (omega arith) (omega arith) (omega (arith, found.1)) (omega (arith, found.2)) here found.3 in
     omega (arith, same, found.1))
 
--- a block that some places name is named by one of them
+-- a block at some positions of a block map is at one of them, and isn't 0
 pub in_at : (geometry : Geometry) (image : List ℕ) (i b : ℕ) (ps : List (List ℕ)) → IsIn b (blocks_at geometry image i ps)
     → (p : List ℕ) × IsAmong p ps × (named geometry image i p ≡ b) × (b ≢ 0)
 unfolding IsIn
@@ -138,7 +138,7 @@ in_at geometry image i b (p ∷ ps) among =
           ]
     ]
 
--- a block that one of some places names is among the blocks that they name
+-- an address that isn't 0, at one of some positions, is among the blocks at these positions
 pub at_in : (geometry : Geometry) (image : List ℕ) (i : ℕ) (p : List ℕ) (ps : List (List ℕ)) → IsAmong p ps → named geometry image i p ≢ 0
     → IsIn (named geometry image i p) (blocks_at geometry image i ps)
 unfolding IsIn
@@ -153,7 +153,7 @@ at_in geometry image i p (q ∷ ps) (inr later) some =
       | inr there ↦ subst (IsIn (named geometry image i p)) (sym (at_some geometry image i (named geometry image i q) q ps refl there)) (inr rest)
     ]
 
--- if the blocks that some places name have none twice, no two of the places name the same
+-- if no block occurs twice at some positions, no two of these positions have the same address
 pub at_same_place : (geometry : Geometry) (image : List ℕ) (i : ℕ) (p q : List ℕ) (ps : List (List ℕ)) → Once (blocks_at geometry image i ps)
     → IsAmong p ps → IsAmong q ps → named geometry image i p ≢ 0 → named geometry image i p ≡ named geometry image i q → p ≡ q
 unfolding Once
@@ -185,13 +185,13 @@ at_same_place geometry image i p q (r ∷ rs) once here there some same =
           ]
     ]
 
--- a place of a list occurs in it
+-- a position that is in a list occurs in it at least once
 counted_among : (p : List ℕ) (qs : List (List ℕ)) → IsAmong p qs → 1 ≤ count_by (bytes_eq p) qs
 counted_among p [] among = absurd among
 counted_among p (q ∷ qs) (inl e) = omega (arith, counted_more p q qs, comes_same p q e)
 counted_among p (q ∷ qs) (inr later) = omega (arith, counted_more p q qs, counted_among p qs later)
 
--- if no two of some places, each listed once, name the same, the blocks that they name have none twice
+-- if no two of some positions have the same address, and no position is listed twice, no block occurs twice at these positions
 pub once_at : (geometry : Geometry) (image : List ℕ) (i : ℕ) (ps : List (List ℕ)) → ((p : List ℕ) → IsAmong p ps → count_by (bytes_eq p) ps ≤ 1)
     → ((p q : List ℕ) → IsAmong p ps → IsAmong q ps → named geometry image i p ≢ 0 → named geometry image i p ≡ named geometry image i q → p ≡ q)
     → Once (blocks_at geometry image i ps)

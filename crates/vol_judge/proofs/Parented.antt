@@ -1,4 +1,4 @@
--- The directories of the entries for each directory.
+-- The directory that holds the entry for each directory.
 use Rattle.std.proofs.Common.{◌≡◌, ◌≢◌, ℕ, ◌+◌, ◌<◌, ◌≤◌, ◌∙◌, ◌⊎◌, inl, inr, true, false, List, Option, None, Some, IfNone, IfSome, length, get_or, refl, sym, ap, subst, arith, get_or-set_other, get_or-set_same}
 use Rattle.std.specs.Option.{is_some}
 use Rattle.std.proofs.Math.ListN.{set, length-set}
@@ -18,12 +18,12 @@ use Rattle.vol_judge.specs.declared.finding.Finding.TheVariants as findings
 use Rattle.vol_judge.proofs.Parents.{some_number}
 use Rattle.vol_judge.proofs.PassedEntries.{split}
 
--- an option that isn't some is none
+-- if `is_some o` is false, o is None
 pub none_of : (o : Option ℕ) → is_some o ≡ false → o ≡ None
 none_of None none = refl
 none_of (Some e) none = absurd (cc)
 
--- before the first entry none is noted
+-- before the first entry, no parent is noted
 pub parents_first : (geometry : Geometry) (image : List ℕ) (ups : List (Option ℕ)) (place : ℕ) (parents : List (Option ℕ)) → length parents ≡ geometry.last_inode + 1
     → ((i : ℕ) → get_or parents i None ≡ None) → place ≤ rank 1 0 → NotesParentsBefore geometry image ups place parents
 parents_first geometry image ups place parents room none low = record {
@@ -33,14 +33,15 @@ parents_first geometry image ups place parents room none low = record {
   only = λ i e some. absurd (let both = sym (none i) ∙ some in cc);
 }
 
--- and no directory is entered
+-- before the first position there is no entry, so none is for the root or second for a directory
 pub once_first : (geometry : Geometry) (image : List ℕ) (place : ℕ) → place ≤ rank 1 0 → HasOnceBefore geometry image place
 once_first geometry image place low = record {
   one = λ i e s f t is enters enters' before before'. absurd (omega (arith, before, low, enters.1.directory.first));
   root_none = λ e s enters before. absurd (omega (arith, before, low, enters.1.directory.first));
 }
 
--- an entry changes no note if it is `.` or `..`, if it is for the root or for no directory, or if another entry is noted and `..` doesn't name this one's directory
+-- the next entry changes no note if it is `.` or `..`, if it is for the root or for no directory, or if a parent is noted and the child's `..` isn't
+-- for this entry's directory
 pub parents_kept : {geometry : Geometry} {image : List ℕ} {place d s : ℕ} {slot : Slot} {ups parents : List (Option ℕ)}
     → NotesParentsBefore geometry image ups place parents → IsNextSlot geometry image place d s slot
     → (is_dots (name_of slot.name) ≡ false → IsDirectory geometry image slot.inode → slot.inode ≢ root_of geometry
@@ -67,7 +68,7 @@ parents_kept {geometry = geometry} {image = image} {place = place} {d = d} {s = 
   only = λ i e some. let had = known.only i e some in (had.0, had.1, omega (arith, had.2, next.reached));
 }
 
--- an entry for a directory is noted, if none is, or it is in the one that the directory names by `..`
+-- the directory of the next entry is noted if no parent is noted, or if the child's `..` is for it
 pub parents_noted : {geometry : Geometry} {image : List ℕ} {place d s : ℕ} {slot : Slot} {ups parents : List (Option ℕ)}
     → NotesParentsBefore geometry image ups place parents → IsNextSlot geometry image place d s slot → slot.inode < length parents
     → is_dots (name_of slot.name) ≡ false → (get_or parents slot.inode None ≡ None) ⊎ (get_or ups slot.inode None ≡ Some d)
@@ -119,7 +120,7 @@ parents_noted {geometry = geometry} {image = image} {place = place} {d = d} {s =
           ];
     }
 
--- an entry `.` or `..`, or one for a node that is neither the root nor a directory, leads to no directory
+-- if the next entry is `.` or `..`, or is for neither the root nor a directory, there is still at most one entry for each directory
 pub once_passed : {geometry : Geometry} {image : List ℕ} {place d s : ℕ} {slot : Slot}
     → HasOnceBefore geometry image place → IsNextSlot geometry image place d s slot
     → (is_dots (name_of slot.name) ≡ false → (slot.inode ≢ root_of geometry) × (IsDirectory geometry image slot.inode → ⊥))
@@ -142,7 +143,7 @@ once_passed {geometry = geometry} {image = image} {place = place} {d = d} {s = s
       root_none = λ e t enters before. once.root_none e t enters (early e t (root_of geometry) (inl refl) enters before);
     }
 
--- an entry for a directory without one before enters it once
+-- if the next entry is for a directory without a noted parent, there is still at most one entry for each directory
 pub once_noted : {geometry : Geometry} {image : List ℕ} {place d s : ℕ} {slot : Slot} {ups parents : List (Option ℕ)}
     → NotesParentsBefore geometry image ups place parents → HasOnceBefore geometry image place → IsNextSlot geometry image place d s slot
     → slot.inode ≢ root_of geometry → get_or parents slot.inode None ≡ None → HasOnceBefore geometry image (rank d (s + 1))
@@ -172,7 +173,7 @@ once_noted {geometry = geometry} {image = image} {place = place} {d = d} {s = s}
           ];
     }
 
--- a property of the entries before the start of a search is one of all entries before the one that it finds
+-- if there is at most one entry for each directory before the start of a search, there is at most one before the next entry
 once_here : {geometry : Geometry} {image : List ℕ} {place d s : ℕ} {slot : Slot} → HasOnceBefore geometry image place
     → IsNextSlot geometry image place d s slot → HasOnceBefore geometry image (rank d s)
 once_here once next = record {
@@ -181,7 +182,7 @@ once_here once next = record {
   root_none = λ e t enters before. once.root_none e t enters (next.before e t _ enters.0 enters.1 before);
 }
 
--- an entry for the root is the first that is one too many
+-- an entry for the root is the first violation
 pub again_root : {geometry : Geometry} {image : List ℕ} {place d s : ℕ} {slot : Slot}
     → HasOnceBefore geometry image place → IsNextSlot geometry image place d s slot
     → is_dots (name_of slot.name) ≡ false → slot.inode ≡ root_of geometry → IsEnteredAgain geometry image (findings.RootEntered d s)
@@ -190,7 +191,7 @@ again_root {geometry = geometry} {image = image} {d = d} {s = s} {slot = slot} o
     let here' = rw root at here in
     (once_here once next, here')
 
--- so is one for a directory with one noted
+-- an entry for a directory with a noted parent is the first violation
 pub again_second : {geometry : Geometry} {image : List ℕ} {place d s : ℕ} {slot : Slot} {ups parents : List (Option ℕ)}
     → NotesParentsBefore geometry image ups place parents → HasOnceBefore geometry image place → IsNextSlot geometry image place d s slot
     → is_dots (name_of slot.name) ≡ false → IsDirectory geometry image slot.inode → is_some (get_or parents slot.inode None) ≡ true
@@ -207,7 +208,7 @@ again_second {geometry = geometry} {image = image} {d = d} {s = s} {slot = slot}
       },
     )
 
--- if no entry is left, all are noted
+-- if no entry is left, the parents of all directories are noted
 pub parents_all : {geometry : Geometry} {image : List ℕ} {place : ℕ} {ups parents : List (Option ℕ)} → NotesParentsBefore geometry image ups place parents
     → IsPastEntries geometry image place → NotesParents geometry image ups parents
 parents_all known none = record {
@@ -217,7 +218,7 @@ parents_all known none = record {
   only = λ i e some. let had = known.only i e some in (had.0, had.1);
 }
 
--- and each directory is entered once, and the root never
+-- if no entry is left, there is at most one entry for each directory, and none for the root
 pub once_all : {geometry : Geometry} {image : List ℕ} {place : ℕ} → HasOnceBefore geometry image place → IsPastEntries geometry image place
     → IsOnce geometry image
 once_all once none = record {
@@ -226,7 +227,7 @@ once_all once none = record {
   root_none = λ e s enters. once.root_none e s enters (none e s _ enters.0 enters.1);
 }
 
--- if each directory is entered once, the parent of each is known
+-- if there is at most one entry for each directory, the noted parent is the directory that holds it
 pub parents_known : {geometry : Geometry} {image : List ℕ} {ups parents : List (Option ℕ)} → NotesParents geometry image ups parents → IsOnce geometry image
     → KnowsParents geometry image parents
 parents_known {geometry = geometry} notes once = record {
@@ -239,7 +240,7 @@ parents_known {geometry = geometry} notes once = record {
   only = notes.only;
 }
 
--- an entry that is one too many breaks the rule
+-- an entry for the root, or a second entry for a directory, breaks rule 11
 pub again_broken : (geometry : Geometry) (image : List ℕ) (finding : Finding) → IsEnteredAgain geometry image finding → IsOnce geometry image → ⊥
 again_broken geometry image (findings.RootEntered d s) again rule = rule.root_none d s again.1
 again_broken geometry image (findings.EnteredTwice d s) again rule =
@@ -249,7 +250,7 @@ again_broken geometry image (findings.EnteredTwice d s) again rule =
     omega (arith, had.before, same.0, same.1)
 again_broken geometry image _ again rule = absurd again
 
--- the violation found before, or else that of the next entry, is the first
+-- the first violation up to the next entry is the one found before it, or else the violation by the next entry
 pub again_next : {geometry : Geometry} {image : List ℕ} {ups parents : List (Option ℕ)} {place d s : ℕ} {slot : Slot} (first second result : Option Finding)
     → IfNone first (result ≡ second) → IfSome first (λ f. result ≡ first) → NotesParentsBefore geometry image ups place parents
     → IsNextSlot geometry image place d s slot → IfNone first (HasOnceBefore geometry image place) → IfSome first (IsEnteredAgain geometry image)
@@ -267,14 +268,14 @@ again_next {geometry = geometry} {image = image} {place = place} {d = d} {s = s}
     subst (λ o. IfNone o (HasOnceBefore geometry image (rank d (s + 1))) × IfSome o (IsEnteredAgain geometry image)) (sym none)
     (tt, found place known once next)
 
--- if no entry is left, nothing was found, or the first of all
+-- if no entry is left, the noted violation is the first of all, or None if there is none
 pub again_all : {geometry : Geometry} {image : List ℕ} {place : ℕ} (again : Option Finding) → IfNone again (HasOnceBefore geometry image place)
     → IfSome again (IsEnteredAgain geometry image) → IsPastEntries geometry image place
     → Finds (IsOnce geometry image) (IsEnteredAgain geometry image) again
 again_all None once found none = once_all once none
 again_all {geometry = geometry} {image = image} (Some f) once found none = (found, again_broken geometry image f found)
 
--- it is the first violation of the rule
+-- the first entry that is for the root or isn't the first entry for a directory is the first violation of rule 11
 pub again_first : (geometry : Geometry) (image : List ℕ) (finding : Finding) → IsEnteredAgain geometry image finding → IsFirstTree geometry image finding
 again_first geometry image (findings.RootEntered d s) again = again
 again_first geometry image (findings.EnteredTwice d s) again = again

@@ -12,12 +12,12 @@ use Rattle.vol_judge.specs.Dots.{NamesItself, KnowsDots}
 use Rattle.vol_judge.specs.InodeMarks.{IsNamed, NameThemselvesBelow}
 use Rattle.vol_judge.proofs.EachDirectory.{directories_more}
 
--- a slot that holds a name has an entry of it
+-- a slot that holds a name has an entry with this name
 pub held_some : (name : List ℕ) (slot : Option (List ℕ × ℕ)) → holds name slot ≡ true → (i : ℕ) × (slot ≡ Some (name, i))
 held_some name None held = absurd (cc)
 held_some name (Some entry) held = let same = sym (same_bytes name entry.0 held) in (entry.1, (λ k. Some (same k, entry.1)))
 
--- a directory with an entry for itself is passed, and its `..` is noted
+-- if d has an entry for itself, the invariant holds up to d with its `..` noted
 pub themselves_named : {geometry : Geometry} {image : List ℕ} {d : ℕ} {ups : List (Option ℕ)} {own number : Option ℕ}
     → NameThemselvesBelow geometry image d ups → IsNamed geometry image d dot own → own ≡ Some d → IsNamed geometry image d dot_dot number
     → d < length ups → NameThemselvesBelow geometry image (d + 1) (set ups d number)
@@ -37,7 +37,7 @@ themselves_named {geometry = geometry} {image = image} {d = d} {ups = ups} {numb
   };
 }
 
--- a node that isn't a directory names nothing
+-- if d isn't a directory, the invariant holds up to d with nothing noted
 pub themselves_other : {geometry : Geometry} {image : List ℕ} {d : ℕ} {ups : List (Option ℕ)} → NameThemselvesBelow geometry image d ups
     → (IsDirectory geometry image d → ⊥) → NameThemselvesBelow geometry image (d + 1) ups
 themselves_other {geometry = geometry} {image = image} {d = d} {ups = ups} below other = record {
@@ -48,7 +48,7 @@ themselves_other {geometry = geometry} {image = image} {d = d} {ups = ups} below
   };
 }
 
--- a directory that doesn't name itself is the first
+-- if d has no entry for itself, it is the first such directory
 pub dots_until : {geometry : Geometry} {image : List ℕ} {d : ℕ} {ups : List (Option ℕ)} → NameThemselvesBelow geometry image d ups
     → IsDirectory geometry image d → (NamesItself geometry image d → ⊥) → KnowsDots geometry image ups (Some d)
 dots_until {geometry = geometry} {image = image} {d = d} below is wrong = record {
@@ -58,7 +58,7 @@ dots_until {geometry = geometry} {image = image} {d = d} below is wrong = record
   named = λ e is' before. below.named.named e (before d refl) is';
 }
 
--- past the last directory all name themselves
+-- after the last i-number, all directories have an entry for themselves
 pub dots_all : {geometry : Geometry} {image : List ℕ} {d : ℕ} {ups : List (Option ℕ)} → NameThemselvesBelow geometry image d ups
     → geometry.last_inode < d → KnowsDots geometry image ups None
 dots_all below last = record {
@@ -68,7 +68,7 @@ dots_all below last = record {
   named = λ e is before. below.named.named e (omega (arith, is.last)) is;
 }
 
--- an option that is some is of a number
+-- if `is_some o` is true, o is `Some j` for some number j
 pub some_number : (o : Option ℕ) → is_some o ≡ true → (j : ℕ) × (o ≡ Some j)
 some_number None some = absurd (cc)
 some_number (Some j) some = (j, refl)

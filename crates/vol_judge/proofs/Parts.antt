@@ -1,4 +1,4 @@
--- Consequences of all rules for an image, and the parts from which all rules follow.
+-- Consequences of soundness for an image, and conditions that imply it.
 use Rattle.std.proofs.Common.{◌≡◌, ℕ, ◌≤◌, inr, true, List, None, refl, arith}
 use Rattle.std.proofs.lemmas.Bool.Decides.{nat_tests}
 use Rattle.vol_layout.specs.Edition.{constants}
@@ -13,7 +13,7 @@ use Rattle.vol_judge.specs.Directories.{HasDots, IsTree, HasLinks}
 use Rattle.vol_judge.specs.Sound.{Rule, IsSound}
 use Rattle.vol_judge.proofs.RuleNumbers.{judged}
 
--- an image that is sound is whole
+-- a sound image is whole
 pub sound_whole : (edition : Edition) (image : List ℕ) → IsSound edition image → is_whole edition image ≡ true
 unfolding Rule
 sound_whole edition image sound = sound 1
@@ -23,7 +23,7 @@ pub sound_bounded : (edition : Edition) (image : List ℕ) → IsSound edition i
 unfolding Rule
 sound_bounded edition image sound = sound 2
 
--- the geometry of a sound image fits it, if its blocks are no more than the edition's numbers
+-- the geometry of a sound image fits it, if its number of blocks is within the edition's limit
 pub sound_fits : (edition : Edition) (image : List ℕ) → IsSound edition image → block_count edition image ≤ (constants edition).number_limit
     → Fits (geometry_of edition image) image
 sound_fits V6 image sound limit =
@@ -35,7 +35,7 @@ sound_fits V7 image sound limit =
     let bounded : is_bounded V7 image ≡ true = sound_bounded V7 image sound in
     record { blocks = grind (arith, nat_tests); i_list = grind (arith, nat_tests); zone = grind (arith, nat_tests); root = grind (arith, nat_tests); limit = limit }
 
--- a sound image has a free stack
+-- the free list of a sound image is a stack
 pub sound_stack : (edition : Edition) (image : List ℕ) → IsSound edition image → HasStack (geometry_of edition image) image
 unfolding Rule
 sound_stack edition image sound = sound 6
@@ -54,40 +54,40 @@ sound_with edition image blocks fits sound free = record {
   outside = (sound 7).1 blocks free;
 }
 
--- the files of a sound image are sound
+-- the geometry of a sound image fits, and rules 3 to 7 hold
 pub sound_files : (edition : Edition) (image : List ℕ) → Fits (geometry_of edition image) image → IsSound edition image
     → Rules3To7 (geometry_of edition image) image
 sound_files edition image fits sound =
     let stack = sound_stack edition image sound in record { blocks = stack.blocks; sound = sound_with edition image stack.blocks fits sound stack.free }
 
--- each data block of a sound image is free, or named by a place
+-- each data block of a sound image is free or used by a file
 pub sound_covered : (edition : Edition) (image blocks : List ℕ) → IsSound edition image → IsFree (geometry_of edition image) image blocks
     → IsCovered (geometry_of edition image) image blocks
 unfolding Rule
 sound_covered edition image blocks sound free = sound 8 blocks free
 
--- the entries of a sound image
+-- a sound image keeps rule 9
 pub sound_entries : (edition : Edition) (image : List ℕ) → IsSound edition image → HasEntries (geometry_of edition image) image
 unfolding Rule
 sound_entries edition image sound = sound 9
 
--- the entries `.` and `..` of a sound image
+-- a sound image keeps rule 10
 pub sound_dots : (edition : Edition) (image : List ℕ) → IsSound edition image → HasDots (geometry_of edition image) image
 unfolding Rule
 sound_dots edition image sound = sound 10
 
--- the directories of a sound image are a tree
+-- a sound image keeps rule 11
 pub sound_tree : (edition : Edition) (image : List ℕ) → IsSound edition image → IsTree (geometry_of edition image) image
 unfolding Rule
 sound_tree edition image sound = sound 11
 
--- the link counts of a sound image
+-- a sound image keeps rule 12
 pub sound_links : (edition : Edition) (image : List ℕ) → IsSound edition image → HasLinks (geometry_of edition image) image
 unfolding Rule
 sound_links edition image sound = sound 12
 
--- an image is sound if rules 1 and 2 hold, its geometry fits, rules 3 to 7 hold with some free blocks, each data block is
--- free or named, and rules 9 to 12 hold
+-- an image is sound if rules 1 and 2 hold, its geometry fits, rules 3 to 7 hold with some free blocks, each data block is free or used, and rules 9
+-- to 12 hold
 pub sound_of : (edition : Edition) (image blocks : List ℕ) → is_whole edition image ≡ true → is_bounded edition image ≡ true
     → Rules3To7With (geometry_of edition image) image blocks → IsCovered (geometry_of edition image) image blocks
     → HasEntries (geometry_of edition image) image → HasDots (geometry_of edition image) image → IsTree (geometry_of edition image) image

@@ -1,4 +1,4 @@
--- Reaching the directories from the root, by a walk up from each.
+-- Reaching the directories from the root, by a walk up from each directory.
 use Rattle.std.proofs.Common.{◌≡◌, ◌≢◌, ℕ, ◌+◌, ◌<◌, ◌≤◌, ◌==◌, inl, inr, false, if◌then◌else◌, List, Option, length, get_or, refl, sym, ◌∙◌, arith, get_or-set_other, get_or-set_same}
 use Rattle.std.proofs.Math.ListN.{set, length-set}
 use Rattle.std.proofs.lemmas.Bool.{cases_eq}
@@ -10,7 +10,7 @@ use Rattle.vol_dir.specs.Entries.{IsDirectory}
 use Rattle.vol_judge.specs.Directories.{root_of, IsReached, at_root}
 use Rattle.vol_judge.specs.Reach.{AreWalked, WalksUp, unwalked}
 
--- first the root alone is marked
+-- at first only the root is marked
 pub walked_first : (geometry : Geometry) (image walks : List ℕ) → length walks ≡ geometry.last_inode + 1 → ((i : ℕ) → get_or walks i 0 ≡ 0)
     → root_of geometry < length walks → AreWalked geometry image 1 (set walks (root_of geometry) (root_of geometry))
 walked_first geometry image walks len none room = record {
@@ -24,11 +24,11 @@ walked_first geometry image walks len none room = record {
       ];
 }
 
--- no walk up begins at the root or at a node that isn't a directory
+-- if no walk begins at d, the walks up from the directories before d + 1 are done
 pub walked_later : {geometry : Geometry} {image walks : List ℕ} {d : ℕ} → AreWalked geometry image d walks → AreWalked geometry image (d + 1) walks
 walked_later is = record { room = is.room; root = is.root; early = λ i apart some. omega (arith, is.early i apart some); reached = is.reached }
 
--- a walk begins at its directory
+-- a walk up begins at directory d itself
 pub walk_first : {geometry : Geometry} {image walks : List ℕ} {d : ℕ} (ups : List (Option ℕ)) → AreWalked geometry image d walks → IsDirectory geometry image d
     → d ≢ root_of geometry → WalksUp geometry image ups d d walks
 walk_first {geometry = geometry} {image = image} {walks = walks} {d = d} ups is directory other =
@@ -51,12 +51,12 @@ walk_first {geometry = geometry} {image = image} {walks = walks} {d = d} ups is 
       begun = inl refl;
     }
 
--- a directory that no walk passed is not the root
+-- a directory that no walk has marked isn't the root
 pub not_root : {geometry : Geometry} {image walks : List ℕ} {ups : List (Option ℕ)} {d place : ℕ} → WalksUp geometry image ups d place walks
     → get_or walks place 0 ≡ 0 → place ≢ root_of geometry
 not_root {geometry = geometry} is zero same = let zero' = rw same at zero in omega (arith, zero', is.root, root_first geometry.edition)
 
--- a walk that reaches a directory that an earlier one passed reaches the root
+-- a walk that meets a mark of an earlier walk reaches the root
 pub walk_done : {geometry : Geometry} {image walks : List ℕ} {ups : List (Option ℕ)} {d place : ℕ} → WalksUp geometry image ups d place walks
     → get_or walks place 0 ≢ 0 → get_or walks place 0 ≢ d → AreWalked geometry image (d + 1) walks × IsReached geometry image d
 walk_done {geometry = geometry} {image = image} {walks = walks} {d = d} {place = place} is some other =
@@ -77,7 +77,7 @@ walk_done {geometry = geometry} {image = image} {walks = walks} {d = d} {place =
       ],
     )
 
--- each step leaves fewer i-numbers that no walk has passed
+-- each step marks one more i-number
 pub walk_fewer : (walks : List ℕ) (n d : ℕ) → n < length walks → get_or walks n 0 ≡ 0 → 1 ≤ d → unwalked (set walks n d) + 1 ≤ unwalked walks
 walk_fewer walks n d room zero first =
     let sums = sum_by-set (λ walk. if walk == 0 then 1 else 0) walks n d 0 room in

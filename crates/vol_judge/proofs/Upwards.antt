@@ -7,7 +7,7 @@ use Rattle.vol_judge.specs.Directories.{root_of, Enters, IsReached, at_root, bel
 use Rattle.vol_judge.specs.Reach.{WalksUp}
 use Rattle.vol_judge.specs.DirectoryTree.{KnowsParents}
 
--- a mark of a walk is kept, and so is the one that is set
+-- after the mark of n is set to d, it is d, and so is each mark that was d before
 set_walk : (walks : List ℕ) (n d i : ℕ) → n < length walks → (get_or walks i 0 ≡ d) ⊎ (i ≡ n) → get_or (set walks n d) i 0 ≡ d
 set_walk walks n d i room (inr same) = rw same (rw get_or-set_same refl)
 set_walk walks n d i room (inl walked) =
@@ -16,11 +16,11 @@ set_walk walks n d i room (inl walked) =
       | inr apart ↦ rw get_or-set_other walked
     ]
 
--- a mark of a walk other than the one that is set existed before
+-- if a mark of an i-number other than n is d after the mark of n is set, it was d before
 was_walk : (walks : List ℕ) (n d i : ℕ) → (i ≡ n → ⊥) → get_or (set walks n d) i 0 ≡ d → get_or walks i 0 ≡ d
 was_walk walks n d i apart same = rw get_or-set_other at same
 
--- a walk continues to the parent
+-- the walk may move on to the parent, after marking the present directory
 pub goes_on : {geometry : Geometry} {image walks : List ℕ} {parents : List (Option ℕ)} {d place : ℕ} (up : ℕ) → KnowsParents geometry image parents
     → WalksUp geometry image parents d place walks → place ≢ root_of geometry → place < length walks → get_or parents place None ≡ Some up
     → WalksUp geometry image parents d up (set walks place d)
@@ -68,14 +68,14 @@ goes_on {geometry = geometry} {image = image} {walks = walks} {parents = parents
       ];
     }
 
--- if only marked directories have entries for marked ones, and the root isn't marked, no marked one is reached
+-- if entries for marked directories are only in marked directories, and the root isn't marked, no marked directory can be reached
 closed : {geometry : Geometry} {image : List ℕ} {d : ℕ} (walks : List ℕ) (i : ℕ) → get_or walks (root_of geometry) 0 ≢ d
     → ((i e s : ℕ) → get_or walks i 0 ≡ d → Enters geometry image e s i → get_or walks e 0 ≡ d)
     → IsReached geometry image i → get_or walks i 0 ≡ d → ⊥
 closed walks _ root from at_root walked = root walked
 closed walks _ root from (below e s i reached enters) walked = closed walks e root from reached (from i e s walked enters)
 
--- a directory whose walk runs into itself isn't reached
+-- a directory whose walk returns to a directory of the same walk can't be reached
 pub goes_round : {geometry : Geometry} {image walks : List ℕ} {parents : List (Option ℕ)} {d place : ℕ} → KnowsParents geometry image parents
     → WalksUp geometry image parents d place walks → get_or walks place 0 ≡ d → d ≢ root_of geometry → IsReached geometry image d → ⊥
 goes_round {geometry = geometry} {walks = walks} {d = d} known is top other reached =
@@ -86,7 +86,7 @@ goes_round {geometry = geometry} {walks = walks} {d = d} known is top other reac
     ])
     reached (elim is.begun [ inl same ↦ rw same at top | inr walked ↦ walked ])
 
--- nor is one whose walk reaches a directory without a parent
+-- a directory whose walk meets a directory without a parent can't be reached
 pub goes_nowhere : {geometry : Geometry} {image walks : List ℕ} {parents : List (Option ℕ)} {d place : ℕ} → KnowsParents geometry image parents
     → WalksUp geometry image parents d place walks → place ≢ root_of geometry → place < length walks → d ≢ root_of geometry
     → get_or parents place None ≡ None → IsReached geometry image d → ⊥

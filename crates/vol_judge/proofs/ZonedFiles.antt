@@ -1,4 +1,4 @@
--- Rule 5 by the addresses of each file.
+-- Rule 5 in terms of the addresses of each file.
 use Rattle.std.proofs.Common.{◌≡◌, ℕ, zero, suc, ◌<◌, ◌≤◌, List, [], ◌∷◌, true, false, if◌then◌else◌, refl, arith}
 use Rattle.vol_layout.specs.Edition.{constants}
 use Rattle.vol_layout.specs.Inode.{inode_place, address_at, kind_of}
@@ -10,19 +10,19 @@ use Rattle.vol_layout.specs.declared.block_map.BlockMap.TheVariants.{Bare}
 use Rattle.vol_file.proofs.Nodes.{pointers_file}
 use Rattle.vol_judge.specs.Marks.{IsInside, IsFileZoned}
 
--- a mode whose block map has an address is of a kind with places
+-- a mode whose block map has an address belongs to a kind with a block map
 kind_counted : (edition : Edition) (mode k : ℕ) → k < first_count (form_of edition mode) → has_places (kind_of edition mode) ≡ true
 kind_counted edition mode k h =
     elim (has_places (kind_of edition mode)) as (λ t. k < first_count (if t then file_form edition mode else Bare) → t ≡ true)
     [ true ↦ λ h. refl | false ↦ λ h. absurd (omega arith) ] h
 
--- an i-node with an address is a file
+-- an i-node whose block map has an address belongs to a file
 pub file_counted : (geometry : Geometry) (image : List ℕ) (i k : ℕ) → 1 ≤ i → i ≤ geometry.last_inode
     → k < first_count (form_at geometry image i) → IsFile geometry image i
 file_counted geometry image i k first last h =
     record { first = first; last = last; kind = kind_counted geometry.edition (mode_of geometry image i) k h }
 
--- if a file's numbers are data blocks', so is everything found below one of its places
+-- if a file keeps rule 5, all addresses below a position of its block map are in the data zone
 pub place_inside : (geometry : Geometry) (image : List ℕ) (i : ℕ) → IsFile geometry image i → IsFileZoned geometry image i → (d a : ℕ) (p : List ℕ)
     → IsPlace (form_at geometry image i) (a ∷ p) → d ≤ levels_below (form_at geometry image i) (a ∷ p)
     → IsInside geometry image d (named geometry image i (a ∷ p))
@@ -35,7 +35,7 @@ place_inside geometry image i file zoned (suc d) a p place deep = (
       place_inside geometry image i file zoned d j (a ∷ p) (omega (arith, h, many), omega (arith, deep), place) (omega (arith, deep)),
 )
 
--- so is everything found below one of its addresses
+-- if a file keeps rule 5, all addresses below each of its i-node's addresses are in the data zone
 pub address_inside : (geometry : Geometry) (image : List ℕ) (i k : ℕ) → 1 ≤ i → i ≤ geometry.last_inode
     → k < first_count (form_at geometry image i) → IsFileZoned geometry image i
     → IsInside geometry image (levels (form_at geometry image i) k) (address_at geometry.edition image (inode_place geometry.edition i) k)

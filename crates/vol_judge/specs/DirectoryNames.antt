@@ -11,7 +11,7 @@ use Rattle.vol_dir.specs.Entries.{entry_at}
 use Rattle.vol_layout.specs.declared.geometry.Geometry.{Geometry}
 use Rattle.vol_layout.specs.declared.mode.Kind.TheVariants as kinds
 
--- an entry has a name, without a slash, for an allocated i-number from the root's to the last (rule 9)
+-- an entry has a name that isn't empty and has no slash, and an i-number in the range from the root's to the last, whose i-node is allocated (rule 9)
 pub record IsValidEntry (geometry : Geometry) (image name : List ℕ) (i : ℕ) : Type 0 where
   pub some : name ≢ []
   pub no_slash : list_any (λ c. c == 47) name ≡ false
@@ -19,31 +19,31 @@ pub record IsValidEntry (geometry : Geometry) (image name : List ℕ) (i : ℕ) 
   pub last : i ≤ geometry.last_inode
   pub allocated : kind_at geometry image i ≢ kinds.Free
 
--- rule 9 holds of the slots of directory d below slot n (this project)
+-- the slots of directory d below slot n keep rule 9 (this project)
 pub record HasEntriesBelow (geometry : Geometry) (image : List ℕ) (d n : ℕ) : Type 0 where
   pub entries : (t i : ℕ) (name : List ℕ) → t < n → entry_at geometry image d t ≡ Some (name, i) → IsValidEntry geometry image name i
   pub once : (s t i j : ℕ) (name : List ℕ) → s < n → t < n → entry_at geometry image d s ≡ Some (name, i)
       → entry_at geometry image d t ≡ Some (name, j) → s ≡ t
 
--- rule 9 holds of directory d (this project)
+-- directory d keeps rule 9 (this project)
 pub record HasEntriesIn (geometry : Geometry) (image : List ℕ) (d : ℕ) : Type 0 where
   pub whole : size_of geometry image d % 16 ≡ 0
   pub entries : (t i : ℕ) (name : List ℕ) → entry_at geometry image d t ≡ Some (name, i) → IsValidEntry geometry image name i
   pub once : (s t i j : ℕ) (name : List ℕ) → entry_at geometry image d s ≡ Some (name, i)
       → entry_at geometry image d t ≡ Some (name, j) → s ≡ t
 
--- directory d has an entry with this name below slot n (manual section 5, directories)
+-- an entry of directory d below slot n has this name (manual section 5, directories)
 pub record IsNamedBelow (geometry : Geometry) (image : List ℕ) (d n : ℕ) (name : List ℕ) : Type 0 where
   pub slot : ℕ
   pub inode : ℕ
   pub below : slot < n
   pub entry : entry_at geometry image d slot ≡ Some (name, inode)
 
--- true if a set of names, as slots store them, has a name (this project)
+-- true if a name is in a set of names, written as slots store them (this project)
 abbrev pub is_in : BTreeSet (List ℕ) → List ℕ → Bool
 is_in names name = contains (slice_cmp nat_cmp) names name
 
--- the names, as slots store them, are those of the entries of directory d below slot n (this project)
+-- the set has exactly the names of the entries of directory d below slot n, written as slots store them (this project)
 pub record HoldsNamesBelow (geometry : Geometry) (image : List ℕ) (d n : ℕ) (names : BTreeSet (List ℕ)) : Type 0 where
   pub all : (t i : ℕ) (name : List ℕ) → t < n → entry_at geometry image d t ≡ Some (name, i) → is_in names (padded_name name) ≡ true
   pub only : (name : List ℕ) → is_in names name ≡ true → IsNamedBelow geometry image d n (name_of name)

@@ -8,7 +8,7 @@ use Rattle.vol_layout.specs.declared.geometry.Geometry.{Geometry}
 use Rattle.vol_judge.specs.declared.finding.Finding.{Finding}
 use Rattle.vol_judge.specs.declared.finding.Finding.TheVariants as findings
 
--- rule 10 checks d for its entries `.` and `..`: it is a directory or the root (rule 10)
+-- d must have the entries `.` and `..`: it is a directory or the root (rule 10)
 abbrev pub NeedsDots : Geometry → List ℕ → ℕ → Type 0
 NeedsDots geometry image d = IsDirectory geometry image d ⊎ (d ≡ root_of geometry)
 
@@ -16,34 +16,36 @@ NeedsDots geometry image d = IsDirectory geometry image d ⊎ (d ≡ root_of geo
 abbrev pub NamesItself : Geometry → List ℕ → ℕ → Type 0
 NamesItself geometry image d = (s : ℕ) × HasEntry geometry image d s dot d
 
--- d has an entry `..`: the root one for itself, and any other one for a directory that has an entry for it, other than `.` and `..` (rule 10)
+-- d has an entry `..`: in the root for itself, in any other directory for a directory that holds an entry for d, other than `.` and `..` (rule 10)
 pub record NamesParent (geometry : Geometry) (image : List ℕ) (d : ℕ) : Type 0 where
   pub root : d ≡ root_of geometry → (s : ℕ) × HasEntry geometry image d s dot_dot d
   pub other : d ≢ root_of geometry → (s : ℕ) × (e : ℕ) × (t : ℕ) × HasEntry geometry image d s dot_dot e × Enters geometry image e t d
 
--- d has its entries `.` and `..` (rule 10)
+-- d has its entries `.` and `..` as rule 10 requires (rule 10)
 pub record KeepsDots (geometry : Geometry) (image : List ℕ) (d : ℕ) : Type 0 where
   pub own : NamesItself geometry image d
   pub parent : NamesParent geometry image d
 
--- directory d is before the first one without an entry `.` for itself, if there is one (this project)
+-- directory d comes before `nameless`, the first directory without an entry `.` for itself, if there is one (this project)
 abbrev pub IsBeforeFirst : Option ℕ → ℕ → Type 0
 IsBeforeFirst nameless d = (n : ℕ) → nameless ≡ Some n → d < n
 
--- the first directory without an entry `.` for itself, and what those before it name `..` (manual section 5, directories)
+-- `nameless` is the first directory without an entry `.` for itself, and `ups` has the i-numbers in the `..` of the directories before it (manual
+-- section 5, directories)
 pub record KnowsDots (geometry : Geometry) (image : List ℕ) (ups : List (Option ℕ)) (nameless : Option ℕ) : Type 0 where
   pub room : length ups ≡ geometry.last_inode + 1
   pub without : (d : ℕ) → nameless ≡ Some d → IsDirectory geometry image d × (NamesItself geometry image d → ⊥)
   pub itself : (d : ℕ) → IsDirectory geometry image d → IsBeforeFirst nameless d → NamesItself geometry image d
   pub named : (d : ℕ) → IsDirectory geometry image d → IsBeforeFirst nameless d → IsNamed geometry image d dot_dot (slice_index_or ups d None)
 
--- which of its entries `.` and `..` is the first that d lacks (rule 10)
+-- the first of the entries `.` and `..` that is missing in d (rule 10)
 abbrev pub IsWrongDots : Geometry → List ℕ → ℕ → Finding → Type 0
 IsWrongDots geometry image d (findings.NoDot e) = (e ≡ d) × (NamesItself geometry image d → ⊥)
 IsWrongDots geometry image d (findings.NoDotDot e) = (e ≡ d) × NamesItself geometry image d × (NamesParent geometry image d → ⊥)
 IsWrongDots geometry image d _ = ⊥
 
--- the first violation of rule 10: the first directory that lacks its entry `.` or `..`, and the first of these that it lacks; the root counts, whatever it is (this project)
+-- the first violation of rule 10: in the first directory that lacks its entry `.` or `..`, the first of the two that it lacks; the root is checked
+-- even if it isn't a directory (this project)
 pub record IsFirstDots (geometry : Geometry) (image : List ℕ) (finding : Finding) : Type 0 where
   pub d : ℕ
   pub needs : NeedsDots geometry image d

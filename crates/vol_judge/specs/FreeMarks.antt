@@ -3,7 +3,7 @@ use Rattle.std.specs.Prelude.{◌≡◌, ℕ, Bool, true, false, List, slice_ind
 use Rattle.vol_free.specs.Stack.{IsIn, IsFree}
 use Rattle.vol_layout.specs.declared.geometry.Geometry.{Geometry}
 
--- the free stack exists, and exactly its blocks are marked (icheck)
+-- the free list is a stack, and exactly its blocks are marked (icheck)
 pub record AreFreeMarks (geometry : Geometry) (image : List ℕ) (marks : List Bool) : Type 0 where
   pub blocks : List ℕ
   pub free : IsFree geometry image blocks

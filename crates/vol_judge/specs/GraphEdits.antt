@@ -5,20 +5,20 @@ use Rattle.vol_dir.specs.Names.{dot, dot_dot, is_dots}
 use Rattle.vol_judge.specs.Graph.{Graph}
 use Rattle.vol_layout.specs.declared.mode.Kind.TheVariants as kinds
 
--- directories with their sizes and entries, kinds, and the link counts of i-nodes that aren't free are as they were (Lions on writei, itrunc)
+-- kinds, entries, the sizes of directories, and the link counts of i-nodes that aren't free are unchanged (Lions on writei, itrunc)
 pub record IsSameGraph (old new : Graph) : Type 0 where
   pub kind : (i : ℕ) → new.kind i ≡ old.kind i
   pub links : (i : ℕ) → old.kind i ≢ kinds.Free → new.links i ≡ old.links i
   pub size : (d : ℕ) → old.kind d ≡ kinds.Directory → new.size d ≡ old.size d
   pub entry : (d s : ℕ) → new.entry d s ≡ old.entry d s
 
--- a name that directory d doesn't have, and that is valid for an entry (manual section 5, directories)
+-- a name that is valid for an entry, and that directory d doesn't have (manual section 5, directories)
 pub record IsNewName (graph : Graph) (d : ℕ) (name : List ℕ) : Type 0 where
   pub fresh : (s i : ℕ) → graph.entry d s ≡ Some (name, i) → ⊥
   pub some : name ≢ []
   pub plain : list_any (λ c. c == 47) name ≡ false
 
--- slot s of directory d changes from one entry to another, and no other slot of d does; d has whole slots (Lions on wdir)
+-- slot s of directory d changes from one entry to another, and no other slot of d changes; d has a whole number of slots (Lions on wdir)
 pub record ChangesSlot (old new : Graph) (d s : ℕ) (before after : Option (List ℕ × ℕ)) : Type 0 where
   pub directory : old.kind d ≡ kinds.Directory
   pub was : old.entry d s ≡ before
@@ -26,13 +26,13 @@ pub record ChangesSlot (old new : Graph) (d s : ℕ) (before after : Option (Lis
   pub beside : (t : ℕ) → t ≢ s → new.entry d t ≡ old.entry d t
   pub whole : new.size d % 16 ≡ 0
 
--- except for directory d and i-number i, kinds, entries and the sizes of directories are as they were (this project)
+-- except for directory d and i-number i, kinds, entries and the sizes of directories are unchanged (this project)
 pub record KeepsOthers (old new : Graph) (d i : ℕ) : Type 0 where
   pub kind : (x : ℕ) → x ≢ i → new.kind x ≡ old.kind x
   pub size : (x : ℕ) → x ≢ d → x ≢ i → old.kind x ≡ kinds.Directory → new.size x ≡ old.size x
   pub entry : (x t : ℕ) → x ≢ d → x ≢ i → new.entry x t ≡ old.entry x t
 
--- a regular file is made, with its name in slot s of directory d (Lions on maknode)
+-- a regular file is created, with its name in slot s of directory d (Lions on maknode)
 pub record AddsFile (old new : Graph) (made d s : ℕ) (name : List ℕ) : Type 0 where
   pub slot : ChangesSlot old new d s None (Some (name, made))
   pub others : KeepsOthers old new d made
@@ -41,7 +41,7 @@ pub record AddsFile (old new : Graph) (made d s : ℕ) (name : List ℕ) : Type 
   pub links : new.links made ≡ 1
   pub kept : (x : ℕ) → x ≢ made → old.kind x ≢ kinds.Free → new.links x ≡ old.links x
 
--- a directory is made, with `.` and `..` in its first two slots, and its name in slot s of directory d (mkdir)
+-- a directory is created, with `.` and `..` in its first two slots, and its name in slot s of directory d (mkdir)
 pub record AddsDirectory (old new : Graph) (made d s : ℕ) (name : List ℕ) : Type 0 where
   pub slot : ChangesSlot old new d s None (Some (name, made))
   pub others : KeepsOthers old new d made
@@ -55,7 +55,7 @@ pub record AddsDirectory (old new : Graph) (made d s : ℕ) (name : List ℕ) : 
   pub more : new.links d ≡ old.links d + 1
   pub kept : (x : ℕ) → x ≢ made → x ≢ d → old.kind x ≢ kinds.Free → new.links x ≡ old.links x
 
--- i, which isn't a directory, has one more name, in slot s of directory d (Lions on link)
+-- i, which isn't a directory, gets one more name, in slot s of directory d (Lions on link)
 pub record AddsLink (old new : Graph) (i d s : ℕ) (name : List ℕ) : Type 0 where
   pub slot : ChangesSlot old new d s None (Some (name, i))
   pub others : KeepsOthers old new d i
@@ -65,7 +65,7 @@ pub record AddsLink (old new : Graph) (i d s : ℕ) (name : List ℕ) : Type 0 w
   pub links : new.links i ≡ old.links i + 1
   pub kept : (x : ℕ) → x ≢ i → old.kind x ≢ kinds.Free → new.links x ≡ old.links x
 
--- i, which isn't a directory, loses the name in slot s of directory d, and keeps another (Lions on unlink)
+-- i, which isn't a directory, loses its name in slot s of directory d, and has another one (Lions on unlink)
 pub record DropsName (old new : Graph) (i d s : ℕ) (name : List ℕ) : Type 0 where
   pub slot : ChangesSlot old new d s (Some (name, i)) None
   pub others : KeepsOthers old new d i
@@ -75,7 +75,7 @@ pub record DropsName (old new : Graph) (i d s : ℕ) (name : List ℕ) : Type 0 
   pub links : new.links i + 1 ≡ old.links i
   pub kept : (x : ℕ) → x ≢ i → old.kind x ≢ kinds.Free → new.links x ≡ old.links x
 
--- i, which isn't a directory, loses its last name, that in slot s of directory d, and is free (Lions on unlink, iput)
+-- i, which isn't a directory, loses its last name, in slot s of directory d, and is freed (Lions on unlink, iput)
 pub record DropsFile (old new : Graph) (i d s : ℕ) (name : List ℕ) : Type 0 where
   pub slot : ChangesSlot old new d s (Some (name, i)) None
   pub others : KeepsOthers old new d i
@@ -84,7 +84,7 @@ pub record DropsFile (old new : Graph) (i d s : ℕ) (name : List ℕ) : Type 0 
   pub last : old.links i ≤ 1
   pub kept : (x : ℕ) → x ≢ i → old.kind x ≢ kinds.Free → new.links x ≡ old.links x
 
--- a directory with only the entries `.` and `..` loses its name, that in slot s of directory d, and is free (rmdir)
+-- a directory with no entries but `.` and `..` loses its name, in slot s of directory d, and is freed (rmdir)
 pub record DropsDirectory (old new : Graph) (i d s : ℕ) (name : List ℕ) : Type 0 where
   pub slot : ChangesSlot old new d s (Some (name, i)) None
   pub others : KeepsOthers old new d i

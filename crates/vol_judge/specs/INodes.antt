@@ -8,22 +8,22 @@ use Rattle.vol_layout.specs.declared.mode.Kind.TheVariants as kinds
 use Rattle.vol_judge.specs.declared.finding.Finding.{Finding}
 use Rattle.vol_judge.specs.declared.finding.Finding.TheVariants as findings
 
--- no mode of an i-number below n is odd (rule 3)
+-- no i-node before n has an odd mode (rule 3)
 abbrev pub AreKnownBelow : Geometry → List ℕ → ℕ → Type 0
 AreKnownBelow geometry image n = (i : ℕ) → 1 ≤ i → i < n → kind_at geometry image i ≢ kinds.Odd
 
--- no mode is odd (rule 3)
+-- no i-node has an odd mode (rule 3)
 abbrev pub AreKnown : Geometry → List ℕ → Type 0
 AreKnown geometry image = (i : ℕ) → 1 ≤ i → i ≤ geometry.last_inode → kind_at geometry image i ≢ kinds.Odd
 
--- the mode of i-node i is odd, and none before it is (rule 3)
+-- i is the first i-node with an odd mode (rule 3)
 pub record IsFirstOdd (geometry : Geometry) (image : List ℕ) (i : ℕ) : Type 0 where
   pub first : 1 ≤ i
   pub last : i ≤ geometry.last_inode
   pub odd : kind_at geometry image i ≡ kinds.Odd
   pub before : AreKnownBelow geometry image i
 
--- the first violation of rule 3: an odd mode, then the kind of the root, then that of i-number 1 (this project)
+-- the first violation of rule 3: an odd mode, else the kind of the root, else the kind of i-number 1 (this project)
 abbrev pub IsFirstKind : Geometry → List ℕ → Finding → Type 0
 IsFirstKind geometry image (findings.OddMode i) = IsFirstOdd geometry image i
 IsFirstKind geometry image findings.RootKind =
@@ -33,18 +33,18 @@ IsFirstKind geometry image findings.BadBlocksKind =
     × (KeepsBadBlocks geometry image → ⊥)
 IsFirstKind geometry image _ = ⊥
 
--- the i-nodes below n are within the limits of sizes and link counts (rule 4)
+-- the i-nodes before n are within the limits of sizes and link counts (rule 4)
 pub record AreLimitedBelow (geometry : Geometry) (image : List ℕ) (n : ℕ) : Type 0 where
   pub sized : (i : ℕ) → 1 ≤ i → i < n → IsSized geometry image i
   pub linked : (i : ℕ) → 1 ≤ i → i < n → IsLinked geometry image i
 
--- i is one of the i-numbers, and the i-nodes before it are within the limits (rule 4)
+-- i is an i-number of the volume, and the i-nodes before it are within the limits (rule 4)
 pub record IsPastLimited (geometry : Geometry) (image : List ℕ) (i : ℕ) : Type 0 where
   pub first : 1 ≤ i
   pub last : i ≤ geometry.last_inode
   pub before : AreLimitedBelow geometry image i
 
--- the first violation of rule 4: an i-node that is too large, or has too many links (this project)
+-- the first violation of rule 4: the first i-node that is too large or has too many links (this project)
 abbrev pub IsFirstSize : Geometry → List ℕ → Finding → Type 0
 IsFirstSize geometry image (findings.TooLarge i) = IsPastLimited geometry image i × (IsSized geometry image i → ⊥)
 IsFirstSize geometry image (findings.TooManyLinks i) =

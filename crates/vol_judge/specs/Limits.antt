@@ -9,7 +9,7 @@ use Rattle.vol_layout.specs.declared.geometry.Geometry.{Geometry}
 use Rattle.vol_layout.specs.declared.mode.Kind.TheVariants as kinds
 use Rattle.vol_layout.specs.declared.block_map.BlockMap.TheVariants.{Small}
 
--- i-number 1 of the seventh edition, which it keeps for bad blocks, is free or a regular file (ino.h)
+-- in the seventh edition, i-number 1, which is reserved for bad blocks, is free or a regular file (ino.h)
 abbrev pub KeepsBadBlocks : Geometry → List ℕ → Type 0
 KeepsBadBlocks geometry image =
     geometry.edition ≡ V7 → (kind_at geometry image 1 ≡ kinds.Free) ⊎ (kind_at geometry image 1 ≡ kinds.Regular)

@@ -7,7 +7,7 @@ use Rattle.vol_layout.specs.declared.geometry.Geometry.{Geometry}
 use Rattle.vol_judge.specs.declared.finding.Finding.{Finding}
 use Rattle.vol_judge.specs.declared.finding.Finding.TheVariants as findings
 
--- i-node i has `entries` entries and a wrong link count, and those of the i-nodes before it are right (rule 12)
+-- i is the first i-node with a wrong link count: there are `entries` entries for it, and its link count is `links` (rule 12)
 pub record IsFirstUncounted (geometry : Geometry) (image : List ℕ) (i entries links : ℕ) : Type 0 where
   pub first : 1 ≤ i
   pub last : i ≤ geometry.last_inode

@@ -1,4 +1,4 @@
--- Soundness of an image: twelve rules, of which the first that fails is reported.
+-- Soundness of an image: twelve rules. The first that fails is reported.
 use Rattle.std.specs.Prelude.{◌≡◌, ℕ, zero, suc, ◌<◌, Bool, true, false, List, [], ◌∷◌, ◌++◌, Option, None, Some}
 use Rattle.vol_layout.specs.Geometry.{geometry_of, is_whole, is_bounded}
 use Rattle.vol_free.specs.Stack.{IsFree, HasStack}
@@ -8,20 +8,20 @@ use Rattle.vol_judge.specs.Directories.{HasDots, IsTree, HasLinks}
 use Rattle.vol_layout.specs.declared.edition.Edition.{Edition}
 use Rattle.vol_layout.specs.declared.geometry.Geometry.{Geometry}
 
--- rule 7, for the free stack: no block in it is named by a place of a file (icheck)
+-- rule 7, for the free list: no file uses a free block (icheck)
 abbrev pub IsFreeApart : Geometry → List ℕ → Type 0
 IsFreeApart geometry image = (blocks : List ℕ) → IsFree geometry image blocks → IsOutside geometry image blocks
 
--- rule 8: each data block is named by a place or is in the free stack (icheck)
+-- rule 8: each data block is used by a file or is in the free list (icheck)
 abbrev pub IsNoneLost : Geometry → List ℕ → Type 0
 IsNoneLost geometry image = (blocks : List ℕ) → IsFree geometry image blocks → IsCovered geometry image blocks
 
--- a fact that is checked, or not (this project)
+-- the fact itself if it is checked, otherwise a fact that always holds (this project)
 abbrev pub Asked : Bool → Type 0 → Type 0
 Asked true fact = fact
 Asked false fact = Unit {0}
 
--- rules 6 to 8; if the free list isn't checked, the facts about it are left out (icheck)
+-- rules 6 to 8; if the free list isn't checked, without the requirements on it (icheck)
 abbrev pub free_rules : Bool → Geometry → List ℕ → List (Type 0)
 free_rules free geometry image =
     Asked free (HasStack geometry image)
@@ -49,7 +49,7 @@ volume_rules free geometry image =
     ∷ HasSizes geometry image
     ∷ (block_rules free geometry image ++ directory_rules geometry image)
 
--- the rules, from number 0, which is always true; if the free list isn't checked, the facts about it are left out (this project)
+-- all rules in order, after a rule 0 that always holds; if the free list isn't checked, without the requirements on it (this project)
 abbrev pub rules : Bool → Edition → List ℕ → Geometry → List (Type 0)
 rules free edition image geometry =
     Unit {0}
@@ -57,7 +57,7 @@ rules free edition image geometry =
     ∷ (is_bounded edition image ≡ true)
     ∷ volume_rules free geometry image
 
--- fact n of a list, true past its end (this project)
+-- fact n of a list, or, past its end, a fact that always holds (this project)
 abbrev pub nth_fact : List (Type 0) → ℕ → Type 0
 nth_fact [] n = Unit {0}
 nth_fact (fact ∷ facts) zero = fact

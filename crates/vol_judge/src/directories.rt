@@ -18,11 +18,11 @@ use std::alloc::{AllocError, Global};
 pub use tree::find_tree;
 use vol_layout::Geometry;
 
-/// Returns the first of rules 9 to 12 that a volume breaks, or `None` if it keeps them. Its geometry fits. Fails only if
-/// memory runs out.
+/// Returns the first of rules 9 to 12 that a volume breaks, or `None` if it keeps all four. The geometry must fit the image. Fails only if memory
+/// runs out.
 ///
-/// Costs a few reads of each i-node and of each slot of each directory, and sorting the names of each directory. Takes
-/// memory for a few bytes per i-number, and for the names of one directory at a time.
+/// Costs a few reads of each i-node and of each slot of each directory, and sorting the names of each directory. Takes a few bytes per i-number, and
+/// memory for the names of one directory at a time.
 pub(crate) fn judge_directories(
     alloc: Global,
     image: &Image,

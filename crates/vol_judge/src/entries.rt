@@ -17,11 +17,11 @@ use vol_layout::i_list::{kind, size};
 use vol_layout::slot::{NAME, SLOT};
 use vol_layout::{Geometry, Kind, Slot};
 
-/// Returns the first violation of rule 9: of the first directory that breaks it, the size or the first slot that does.
+/// Returns the first violation of rule 9. In the first directory that breaks the rule, it is the size if that isn't a whole number of slots, else the
+/// first slot that breaks the rule.
 ///
-/// Costs a read of each slot of each directory, except slots below blocks already found without entries, and sorting the
-/// names of each directory. Takes memory for the names of one directory at a time, and, if the directories claim more
-/// blocks than there are, for three bytes per block.
+/// Costs a read of each slot of each directory, except slots below blocks already found to have no entries, and sorting the names of each directory.
+/// Takes memory for the names of one directory at a time, and three bytes per block if the directories claim more blocks than the volume has.
 pub fn find_entry(
     alloc: Global,
     image: &Image,
@@ -34,7 +34,7 @@ pub fn find_entry(
     find_marked(alloc, image, geometry, &mut marks)
 }
 
-/// Does what [`find_entry`] does, with marks of blocks below which no slot has an entry.
+/// Does the work of [`find_entry`]. `marks` marks blocks below which no slot has an entry.
 fn find_marked(
     alloc: Global,
     image: &Image,
@@ -55,7 +55,7 @@ fn find_marked(
     Ok(None)
 }
 
-/// Returns the first violation of rule 9 in directory `d`. Marks blocks below which no slot has an entry.
+/// Returns the first violation of rule 9 in directory `d`. Marks the blocks below which no slot has an entry.
 fn find_in(
     alloc: Global,
     image: &Image,
@@ -86,7 +86,7 @@ fn find_in(
     Ok(None)
 }
 
-/// Returns the violation of rule 9 by the entry in slot `s` of directory `d`, not counting a name that occurs twice.
+/// Returns the violation of rule 9 by the entry in slot `s` of directory `d`, if there is one. Doesn't check whether the name occurs twice.
 fn find_wrong(image: &Image, geometry: &Geometry, d: u16, s: u32, slot: &Slot) -> Option<Finding>
     requires { Fits geometry.now image.now }
     ensures { Finds (IsValidEntry geometry.now image.now (name_of slot.now.name) slot.now.inode)
@@ -108,14 +108,14 @@ fn find_wrong(image: &Image, geometry: &Geometry, d: u16, s: u32, slot: &Slot) -
     None
 }
 
-/// True if an i-number is from the root's to the last.
+/// True if `i` is in the range from the root's i-number to the last i-number.
 fn is_numbered(geometry: &Geometry, i: u16) -> bool
     ensures { IsTrue result ↔ IsNumbered geometry.now i }
 {
     geometry.edition.constants().root <= i && i <= geometry.last_inode
 }
 
-/// Returns the name of a slot, padded with zero bytes: the bytes after the first zero byte don't count.
+/// Returns the name of a slot, with all bytes after its first zero byte replaced by zeros.
 fn stored_name(slot: &Slot) -> [u8; NAME]
     ensures { result ≡ padded_name (name_of slot.now.name) }
 {

@@ -13,7 +13,7 @@ use vol_file::no_marks;
 use vol_layout::i_list::{kind, size};
 use vol_layout::{Geometry, Kind, Slot};
 
-/// True if i-number `i` is that of a directory.
+/// True if i-node `i` is a directory.
 pub fn is_directory(image: &Image, geometry: &Geometry, i: u16) -> bool
     requires fits { Fits geometry.now image.now }
     requires first { 1 ≤ i }
@@ -26,7 +26,7 @@ pub fn is_directory(image: &Image, geometry: &Geometry, i: u16) -> bool
 /// A position among the slots of all directories, directory by directory.
 #[derive(Clone, Copy)]
 pub struct EntryPosition {
-    /// The directory's i-number, from 1 on.
+    /// The directory's i-number, at least 1.
     pub directory: u16,
     /// The number of the slot.
     pub slot: u32,
@@ -77,10 +77,10 @@ impl EntryAt {
     }
 }
 
-/// Returns unset marks for searches over the slots of all directories, or none at all if the directories claim no more
-/// blocks than the volume has, since no search of them then takes long.
+/// Returns marks, all unset, for searches over the slots of all directories. If the directories claim no more blocks than the volume has, a search is
+/// fast without marks, and the vector is empty.
 ///
-/// Costs a read of each i-node. Takes three bytes per block, or nothing.
+/// Costs a read of each i-node. Takes three bytes per block, or no memory if the vector is empty.
 pub(crate) fn marks_for(
     alloc: Global,
     image: &Image,
@@ -102,9 +102,9 @@ pub(crate) fn marks_for(
     }
 }
 
-/// Returns the first entry from a position on, over all directories.
+/// Returns the first entry at or after a position, over all directories.
 ///
-/// Costs a read of each i-node that is passed, and of each slot except those below marked blocks, which have no entries.
+/// Costs a read of each i-node that it passes, and of each slot except those below marked blocks, which have no entries.
 pub fn next_entry(
     image: &Image,
     geometry: &Geometry,

@@ -1,5 +1,5 @@
-//! Rule 6: the free list is a stack of data blocks, in which each occurs once. Its blocks are marked, and compared with
-//! those that files name.
+//! Rule 6: the free list is a stack of data blocks, each of which occurs in it once. The search marks the free blocks, and compares them with the
+//! blocks that files use.
 ghost use Rattle.std.specs.Prelude.{◌≡◌, ℕ, ◌<◌, ◌++◌, ◌∷◌, [], false, length, slice_index_or, List, IfOk, MatchOption};
 ghost use Rattle.std.specs.Option.{option_map};
 ghost use Rattle.std.specs.Result.{result_err};
@@ -18,19 +18,19 @@ use pdp_words::Image;
 use vol_free::FreeWalk;
 use vol_layout::Geometry;
 
-/// The blocks of a free list that is a stack.
+/// Facts about a free list that is a stack.
 #[derive(Clone, Copy)]
 pub struct FreeStack {
     /// The number of free blocks.
     pub count: u32,
-    /// The first of them, in the order of the list, that is marked as named. It breaks rule 7, if no two places of files
-    /// name one block.
+    /// Rule 7 broken by the first free block, in the order of the list, that is marked as used. It is the first violation of rule 7 if no block is
+    /// used twice by files.
     pub named: Option<Finding>,
 }
 
-/// Returns the first violation of rule 6, from the top of the free list on, or else the number of free blocks and the first
-/// of them that is marked in `named`. Both slices have a mark for each block. No mark of `free` is set before; after an
-/// `Ok`, those of the free blocks are. `named` may hold any marks, as it does if rule 5 or 7 fails.
+/// Returns the first violation of rule 6, found by walking the free list from its top. If there is none, returns the number of free blocks and the
+/// first one that is marked in `named`. Both slices have a mark for each block. The marks in `free` are unset at first; if the result is `Ok`, those
+/// of the free blocks are then set. `named` may hold any marks, as it does if rule 5 or 7 fails.
 ///
 /// Reads each block of the free list at most once. Takes no memory.
 pub fn find_fault(
@@ -65,7 +65,7 @@ pub fn find_fault(
     }
 }
 
-/// Returns the first of some blocks that is marked, where `first` is that of all but the last, which is block `b`.
+/// Returns the first marked block of a list that ends with block `b`; `first` is the first marked block before `b`.
 fn first_named(first: Option<u32>, named: &[u8], b: u32) -> Option<u32>
     requires { b < length named.now }
     ensures { (blocks : List ℕ) → MatchOption first (AreClear named.now blocks) (IsFirstMarked named.now blocks)
@@ -78,7 +78,7 @@ fn first_named(first: Option<u32>, named: &[u8], b: u32) -> Option<u32>
     }
 }
 
-/// Returns the violation of rule 7 by the first free block that is marked as named.
+/// Returns the violation of rule 7 by `first`, the first free block that is marked as used.
 fn used_and_free(first: Option<u32>) -> Option<Finding>
     ensures { result ≡ option_map Finding.UsedAndFree first }
 {

@@ -15,8 +15,8 @@ use vol_layout::{BlockMap, Edition, Geometry, Kind, inode};
 /// The greatest size of a small file: eight blocks.
 const SMALL_BYTES: u32 = 4096;
 
-/// Returns the first violation of rule 3: an odd mode, then the kind of the root, then that of i-number 1. Reads the mode
-/// of each i-node. Takes no memory.
+/// Returns the first violation of rule 3. Checks that no mode is odd, then the kind of the root, then the kind of i-number 1. Reads the mode of each
+/// i-node. Takes no memory.
 pub fn find_kind(image: &Image, geometry: &Geometry) -> Option<Finding>
     requires { Fits geometry.now image.now }
     ensures { Finds (HasKinds geometry.now image.now) (IsFirstKind geometry.now image.now) result }
@@ -61,7 +61,7 @@ fn has_root(image: &Image, geometry: &Geometry) -> bool
     matches!(kind(image, geometry, root), Kind::Directory)
 }
 
-/// True if i-number 1 is free or a regular file in the seventh edition, which keeps it for bad blocks.
+/// True if i-number 1, which the seventh edition reserves for bad blocks, is free or a regular file. Always true in the sixth edition.
 fn has_bad_blocks(image: &Image, geometry: &Geometry) -> bool
     requires { Fits geometry.now image.now }
     ensures { IsTrue result ↔ KeepsBadBlocks geometry.now image.now }
@@ -87,7 +87,7 @@ fn is_sized(image: &Image, geometry: &Geometry, i: u16) -> bool
     }
 }
 
-/// True if the link count of i-node `i` isn't above the limit, or it is free.
+/// True if i-node `i` is free, or its link count isn't above the limit.
 fn is_linked(image: &Image, geometry: &Geometry, i: u16) -> bool
     requires fits { Fits geometry.now image.now }
     requires first { 1 ≤ i }

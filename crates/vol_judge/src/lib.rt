@@ -1,4 +1,4 @@
-//! The judge of volumes: the first of the twelve rules of soundness that an image breaks.
+//! The judge of volumes: finds the first of the twelve rules of soundness that an image breaks.
 #![tactic(auto)]
 
 mod directories;

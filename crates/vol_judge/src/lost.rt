@@ -1,4 +1,4 @@
-//! Rule 8: each data block is named by a place or free.
+//! Rule 8: each data block is used by a file or free.
 ghost use Rattle.std.specs.Prelude.{◌≡◌, ℕ, List, length};
 ghost use Rattle.vol_layout.specs.Geometry.{Fits};
 ghost use Rattle.vol_judge.specs.Finds.{Finds};
@@ -10,8 +10,7 @@ ghost use Rattle.vol_judge.specs.Sound.{IsNoneLost};
 use crate::finding::Finding;
 use vol_layout::Geometry;
 
-/// Returns the first violation of rule 8: the first data block that is neither named nor free. Reads each mark once. Takes
-/// no memory.
+/// Returns the first violation of rule 8: the first data block that is neither used by a file nor free. Reads each mark once. Takes no memory.
 pub fn find_lost(geometry: &Geometry, named: &[u8], free: &[bool]) -> Option<Finding>
     requires room { length named.now ≡ geometry.now.zone_end }
     requires free_room { length free.now ≡ geometry.now.zone_end }

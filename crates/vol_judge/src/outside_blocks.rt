@@ -1,4 +1,4 @@
-//! Rule 5: each number that a place of a file names is that of a data block.
+//! Rule 5: each address in the block map of a file is 0 or the number of a data block.
 ghost use Rattle.std.specs.Prelude.{◌≡◌, ℕ, ◌≤◌, length};
 ghost use Rattle.vol_layout.specs.Geometry.{Fits};
 ghost use Rattle.vol_file.specs.Rules.{IsZoned};
@@ -14,12 +14,11 @@ use vol_file::next_pointer;
 use vol_layout::i_list::{address, mode};
 use vol_layout::{BlockMap, Geometry, number};
 
-/// Returns the first violation of rule 5: of the first i-node that names a number outside the data blocks, the first such
-/// number in the order of its places. `known` has a byte for each block, with any value at first: the number of levels
-/// below the block that were found to be within the data zone. So no block is read more than once for each level.
+/// Returns the first violation of rule 5: the first i-node with an address outside the data zone, and the first such address in the order of its
+/// block map. `known` has a byte for each block, with any value at first. The search stores in it the number of levels below the block that were
+/// found to be within the data zone, so no block is read more than once for each level.
 ///
-/// Costs two reads of each i-node and at most four of each entry of the indirect blocks, however they are linked. Takes no
-/// memory.
+/// Costs two reads of each i-node and at most four of each entry of the indirect blocks, even if these point to each other. Takes no memory.
 pub fn find_outside(image: &Image, geometry: &Geometry, known: &mut [u8]) -> Option<Finding>
     requires fits { Fits geometry.now image.now }
     requires len { length known.old ≡ geometry.now.zone_end }
@@ -34,7 +33,7 @@ pub fn find_outside(image: &Image, geometry: &Geometry, known: &mut [u8]) -> Opt
     None
 }
 
-/// Returns the first number that a place of i-node `i` names and that is not that of a data block.
+/// Returns the first address in the block map of i-node `i` that is neither 0 nor the number of a data block.
 fn outside_in(image: &Image, geometry: &Geometry, i: u16, known: &mut [u8]) -> Option<u32>
     requires fits { Fits geometry.now image.now }
     requires first { 1 ≤ i }
@@ -54,7 +53,7 @@ fn outside_in(image: &Image, geometry: &Geometry, i: u16, known: &mut [u8]) -> O
     None
 }
 
-/// Returns the first of number `b` and the numbers below it, in `level` levels, that is neither 0 nor that of a data block.
+/// Returns the first address that is neither 0 nor the number of a data block, among `b` and the addresses in the `level` levels below it.
 fn outside_from(
     image: &Image,
     geometry: &Geometry,

@@ -1,4 +1,4 @@
-//! Rule 7, for files: no two places name the same block. The blocks that they name are marked.
+//! Rule 7, for files: no two addresses in block maps point to the same block. The search marks the blocks that files use.
 ghost use Rattle.std.specs.Prelude.{◌≡◌, ◌≢◌, ℕ, ◌≤◌, ◌↔◌, length, slice_index, slice_index_or, vec_len, IfNone, IfSome, IfOk, true, false, Some};
 ghost use Rattle.vol_layout.specs.Geometry.{Fits};
 ghost use Rattle.vol_file.specs.Rules.{IsZoned, IsApart};
@@ -14,10 +14,9 @@ use vol_file::next_pointer;
 use vol_layout::i_list::{address, mode};
 use vol_layout::{BlockMap, Geometry, number};
 
-/// Returns a flag for each block of the volume, true if a place names it. Each number that a place names is that of a data
-/// block, and none is named twice.
+/// Returns a flag for each block of the volume, true if a file uses it. Rule 5 must hold, and no block may be used twice.
 ///
-/// Costs what [`find_twice`] does, and a read of each mark. Takes two bytes for each block.
+/// Costs as much as [`find_twice`], and a read of each mark. Takes two bytes for each block.
 pub fn named_blocks(
     alloc: Global,
     image: &Image,
@@ -56,9 +55,9 @@ pub(crate) fn clear(marks: &mut [u8])
     marks.fill(0);
 }
 
-/// Returns the first violation of rule 7 by files alone: the first block that two places name, by i-number and in the order
-/// of the places. Each number that they name is that of a data block. There is a mark for each block, with any value at
-/// first; if no block is named twice, those that places name are marked afterwards.
+/// Returns the first violation of rule 7 by files: the first block that two addresses point to, in the order of i-numbers and then of block maps.
+/// Rule 5 must hold. `marks` has a mark for each block, with any value at first. If no block is used twice, the blocks that files use are marked
+/// afterwards.
 ///
 /// Costs a read of each i-node, and at most two of each entry of the indirect blocks. Takes no memory.
 pub fn find_twice(image: &Image, geometry: &Geometry, marks: &mut [u8]) -> Option<Finding>
@@ -77,7 +76,7 @@ pub fn find_twice(image: &Image, geometry: &Geometry, marks: &mut [u8]) -> Optio
     None
 }
 
-/// Marks the blocks of i-node `i`, and returns the first that was marked already, if any.
+/// Marks the blocks of i-node `i`, and returns the first one that was already marked, if any.
 fn again_in(image: &Image, geometry: &Geometry, i: u16, marks: &mut [u8]) -> Option<u32>
     requires fits { Fits geometry.now image.now }
     requires first { 1 ≤ i }
@@ -97,8 +96,7 @@ fn again_in(image: &Image, geometry: &Geometry, i: u16, marks: &mut [u8]) -> Opt
     None
 }
 
-/// Marks block `b`, if it isn't 0, and the blocks below it in `level` levels, and returns the first that was marked
-/// already, if any.
+/// Marks block `b`, if it isn't 0, and the blocks in the `level` levels below it. Returns the first one that was already marked, if any.
 fn again_from(
     image: &Image,
     geometry: &Geometry,

@@ -1,4 +1,4 @@
-//! The data blocks that the places of files name, on any volume, even if rules 5 and 7 are broken.
+//! The data blocks that files use, on any volume, even if rules 5 and 7 are broken.
 ghost use Rattle.std.specs.Prelude.{◌≡◌, ℕ, ◌≤◌, length};
 ghost use Rattle.vol_layout.specs.Geometry.{Fits};
 ghost use Rattle.vol_file.specs.Changes.{blocks_of};
@@ -10,11 +10,9 @@ use vol_file::next_pointer;
 use vol_layout::i_list::{address, mode};
 use vol_layout::{BlockMap, Geometry, number};
 
-/// Marks the data blocks that places of files name, whatever else they name. There is a mark for each block, with any value
-/// at first.
+/// Marks the data blocks that files use, and ignores addresses outside the data zone. `marks` has a mark for each block, with any value at first.
 ///
-/// Costs a read of each i-node and at most four of each entry of the indirect blocks, however they are linked. Takes no
-/// memory.
+/// Costs a read of each i-node and at most four of each entry of the indirect blocks, even if these point to each other. Takes no memory.
 pub fn mark_named(image: &Image, geometry: &Geometry, marks: &mut [u8])
     requires fits { Fits geometry.now image.now }
     requires len { length marks.old ≡ geometry.now.zone_end }
@@ -26,7 +24,7 @@ pub fn mark_named(image: &Image, geometry: &Geometry, marks: &mut [u8])
     }
 }
 
-/// Marks the data blocks that places of i-node `i` name.
+/// Marks the data blocks that i-node `i` uses.
 fn mark_file(image: &Image, geometry: &Geometry, i: u16, marks: &mut [u8])
     requires fits { Fits geometry.now image.now }
     requires first { 1 ≤ i }
@@ -43,8 +41,8 @@ fn mark_file(image: &Image, geometry: &Geometry, i: u16, marks: &mut [u8])
     }
 }
 
-/// Marks block `b` and the blocks below it in `level` levels, if they are data blocks. A mark is one more than the number
-/// of levels below its block that were visited.
+/// Marks block `b` and the blocks in the `level` levels below it, if they are data blocks. A mark is one more than the number of levels below its
+/// block that were visited.
 fn mark_from(image: &Image, geometry: &Geometry, b: u32, level: u8, marks: &mut [u8])
     requires fits { Fits geometry.now image.now }
     requires low { level ≤ 3 }

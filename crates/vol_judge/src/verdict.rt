@@ -1,4 +1,4 @@
-//! The twelve rules in order, up to the first that fails.
+//! Checks the twelve rules in order, up to the first that fails.
 ghost use Rattle.std.specs.Prelude.{◌≡◌, ℕ, false, true, IfNone, IfOk, List, length, slice_index_or};
 ghost use Rattle.std.specs.Result.{result_err};
 ghost use Rattle.vol_layout.specs.Geometry.{Fits, geometry_of};
@@ -21,22 +21,20 @@ use pdp_words::Image;
 use std::alloc::{AllocError, Global};
 use vol_layout::{Edition, Geometry, GeometryFault};
 
-/// The facts about a sound image that judging it finds.
+/// Facts about a sound image, found by judging it.
 #[derive(Clone, Copy)]
 pub struct Examined {
-    /// Its geometry.
+    /// The image's geometry.
     pub geometry: Geometry,
     /// The number of free blocks.
     pub free: u32,
 }
 
-/// Returns the first of the twelve rules of soundness that an image breaks, or `None` if it keeps them all. The image may
-/// be any bytes. If `free` is false, the free list is neither checked nor read: rules 6 and 8 are skipped, and rule 7
-/// checks only the places of files.
+/// Returns the first of the twelve rules of soundness that an image breaks, or `None` if it keeps them all. The image may be any bytes. If `free` is
+/// false, the free list is neither checked nor read: rules 6 and 8 are skipped, and rule 7 is checked only for the blocks that files use.
 ///
-/// The time grows with the image's blocks, with the slots of its directories, whatever they hold, and with sorting the
-/// names of each directory. The memory is a few bytes for each block and i-number, and the names of one directory at a
-/// time. Fails only if memory runs out.
+/// The time grows with the number of blocks of the image and the number of slots of its directories, full or empty, and includes sorting the names of
+/// each directory. The memory is a few bytes for each block and i-number, and the names of one directory at a time. Fails only if memory runs out.
 pub fn judge(
     alloc: Global,
     edition: Edition,
@@ -48,10 +46,10 @@ pub fn judge(
     Ok(examine(alloc, edition, image, free)?.err())
 }
 
-/// Returns the first rule that an image breaks, as [`judge`] does, as the inner error, or else what judging found. If the
-/// free list isn't checked, the number of free blocks is 0.
+/// Judges an image, as [`judge`] does. Returns the first rule that it breaks as the inner error, or else its geometry and its number of free blocks,
+/// which is 0 if the free list isn't checked.
 ///
-/// Costs what [`judge`] does. Fails only if memory runs out.
+/// Costs as much as [`judge`]. Fails only if memory runs out.
 pub fn examine(
     alloc: Global,
     edition: Edition,
@@ -130,8 +128,8 @@ fn judge_blocks(
     }
 }
 
-/// Returns the number of free blocks if rules 6 to 8 hold, else the first rule that fails. `twice` is the first block that
-/// two places of files name, and `named` marks the blocks that they name.
+/// Returns the number of free blocks if rules 6 to 8 hold, else the first rule that fails. `twice` is the first block that files use twice, if any,
+/// and `named` marks the blocks that files use.
 fn judge_free(
     alloc: Global,
     image: &Image,
@@ -151,9 +149,8 @@ fn judge_free(
     Ok(judge_marks(image, geometry, twice, named, &mut free))
 }
 
-/// Returns the number of free blocks if rules 6 to 8 hold, else the first rule that fails. `twice` is the first block that
-/// two places of files name, and `named` marks the blocks that they name. Marks the free blocks in `free`, which has no
-/// marks at first.
+/// Returns the number of free blocks if rules 6 to 8 hold, else the first rule that fails. `twice` is the first block that files use twice, if any,
+/// and `named` marks the blocks that files use. Marks the free blocks in `free`, which has no marks at first.
 fn judge_marks(
     image: &Image,
     geometry: &Geometry,

@@ -1,4 +1,4 @@
--- The names and the bodies of files that a write keeps.
+-- The block maps and bodies of files that a write does not change.
 use Rattle.std.proofs.Common.{◌≡◌, ◌≢◌, ℕ, ◌+◌, ◌*◌, ◌/◌, ◌%◌, ◌<◌, ◌≤◌, ◌∙◌, sym, ap, List, [], ◌∷◌, get_or, refl, arith, inl, inr, Some, None, if◌then◌else◌, true, false}
 use Rattle.std.specs.Option.{option_map_or}
 use Rattle.pdp_words.specs.Words.{SameOutside}
@@ -20,12 +20,12 @@ use Rattle.vol_layout.proofs.PlaceLaws.{last_leaf, place_front, front_above, fro
 use Rattle.vol_layout.proofs.BodyLaws.{zone_bounds, same_body, zone_byte_in, body_byte_is}
 use Rattle.vol_layout.proofs.NameLaws.{stored_apart_from}
 
--- an indirect block of a file with its edition's block map holds as many numbers as one of the edition
+-- for a regular file or directory, `pointer_count` is the edition's number of block numbers in an indirect block
 pub pointers_in : (edition : Edition) (mode : ℕ) → pointer_count (file_form edition mode) ≡ (constants edition).pointers
 pointers_in V6 mode = elim (is_large V6 mode) as (λ t. pointer_count (if t then Large else Small) ≡ 256) [ true ↦ refl | false ↦ refl ]
 pointers_in V7 mode = refl
 
--- an indirect block of a file holds at most as many numbers as one of its edition
+-- for any i-node, `pointer_count` is at most the edition's number of block numbers in an indirect block
 pub pointers_of : (edition : Edition) (mode : ℕ) → pointer_count (form_of edition mode) ≤ (constants edition).pointers
 pointers_of edition mode =
     elim (has_places (kind_of edition mode)) as (λ t. pointer_count (if t then file_form edition mode else Bare) ≤ (constants edition).pointers) [
@@ -33,12 +33,12 @@ pointers_of edition mode =
       | false ↦ omega arith
     ]
 
--- a file with its edition's block map has as many addresses as its i-node
+-- a file uses all addresses of its i-node
 pub addresses_in : (edition : Edition) (mode : ℕ) → first_count (file_form edition mode) ≡ address_count edition
 addresses_in V6 mode = elim (is_large V6 mode) as (λ t. first_count (if t then Large else Small) ≡ 8) [ true ↦ refl | false ↦ refl ]
 addresses_in V7 mode = refl
 
--- a file has no more addresses than its i-node
+-- a file uses at most the addresses of its i-node
 pub addresses_few : (edition : Edition) (mode : ℕ) → first_count (form_of edition mode) ≤ address_count edition
 addresses_few edition mode =
     elim (has_places (kind_of edition mode)) as (λ t. first_count (if t then file_form edition mode else Bare) ≤ address_count edition) [
@@ -46,30 +46,30 @@ addresses_few edition mode =
       | false ↦ omega arith
     ]
 
--- a file has at most 13 addresses
+-- a file uses at most 13 addresses
 pub addresses_of : (edition : Edition) (mode : ℕ) → first_count (form_of edition mode) ≤ 13
 addresses_of V6 mode = let few : first_count (form_of V6 mode) ≤ 8 = addresses_few V6 mode in omega arith
 addresses_of V7 mode = addresses_few V7 mode
 
--- a write of a data block keeps the i-nodes
+-- a write of a data block does not change the i-nodes
 pub block_keeps_inode : (geometry : Geometry) (old new : List ℕ) (k i : ℕ) → Fits geometry old → SameOutside old new (512 * k) (512 * k + 512)
     → in_zone geometry k ≡ true → 1 ≤ i → i ≤ geometry.last_inode → KeepsInode geometry old new i
 block_keeps_inode geometry old new k i fits same zone first last =
     let bounds : (geometry.zone_start ≤ k) × (k < geometry.zone_end) = zone_bounds geometry k zone in
     inode_kept geometry old new (512 * k) (512 * k + 512) i fits same (omega arith) first last
 
--- the addresses of i-node i and the block map of its file are the same in both images
+-- i-node `i` has the same block map and the same addresses in both images
 pub record KeepsPlaces (geometry : Geometry) (old new : List ℕ) (i : ℕ) : Type 0 where
   pub form : form_at geometry new i ≡ form_at geometry old i
   pub addresses : (k : ℕ) → k < 13
       → address_at geometry.edition new (inode_place geometry.edition i) k ≡ address_at geometry.edition old (inode_place geometry.edition i) k
 
--- a kept i-node keeps its places
+-- an i-node with the same bytes has the same block map and addresses
 pub places_kept : (geometry : Geometry) (old new : List ℕ) (i : ℕ) → KeepsInode geometry old new i → KeepsPlaces geometry old new i
 places_kept geometry old new i kept =
     record { form = form_kept geometry old new i kept; addresses = λ k h. address_kept geometry old new i k kept h }
 
--- entry j of block m stays if its number does, provided that m is a data block
+-- entry `j` of block `m` is unchanged if its bytes are, or if `m` isn't a data block
 pub entry_kept : (geometry : Geometry) (old new : List ℕ) (m j : ℕ)
     → (in_zone geometry m ≡ true → number geometry.edition new (512 * m) j ≡ number geometry.edition old (512 * m) j)
     → pointer_in geometry new m j ≡ pointer_in geometry old m j
@@ -79,7 +79,7 @@ entry_kept geometry old new m j same =
     → (if z then number geometry.edition new (512 * m) j else 0) ≡ (if z then number geometry.edition old (512 * m) j else 0))
     [ true ↦ λ z. same z | false ↦ λ z. refl ] refl
 
--- the name of a place stays if the address stays, and the entry in each data block on the path
+-- the block number at position `p` in the block map is unchanged if the address and all entries on the path to `p` are unchanged
 pub named_kept : (geometry : Geometry) (old new : List ℕ) (i : ℕ) (p : List ℕ)
     → ((k : ℕ) → IsFront (k ∷ []) p → address_at geometry.edition new (inode_place geometry.edition i) k ≡ address_at geometry.edition old (inode_place geometry.edition i) k)
     → ((j a : ℕ) (q : List ℕ) → IsFront (j ∷ (a ∷ q)) p → in_zone geometry (named geometry old i (a ∷ q)) ≡ true
@@ -91,7 +91,7 @@ named_kept geometry old new i (j ∷ (a ∷ p)) addresses entries =
     ap (λ m. pointer_in geometry new m j) (named_kept geometry old new i (a ∷ p) (λ k front. addresses k (inr front)) (λ h b q front. entries h b q (inr front)))
     ∙ entry_kept geometry old new (named geometry old i (a ∷ p)) j (entries j a p (inl refl))
 
--- the name of place p stays if the addresses and the block map stay, and each data block on the way to it
+-- the block number at position `p` is unchanged if the addresses, the block map and all data blocks on the path to `p` are unchanged
 pub named_frame : (geometry : Geometry) (old new : List ℕ) (i : ℕ) (p : List ℕ) → KeepsPlaces geometry old new i → IsPlace (form_at geometry old i) p
     → ((j a : ℕ) (q : List ℕ) → IsFront (j ∷ (a ∷ q)) p → in_zone geometry (named geometry old i (a ∷ q)) ≡ true
     → IsCopy old new (512 * named geometry old i (a ∷ q)) (512 * named geometry old i (a ∷ q)) 512)
@@ -109,7 +109,7 @@ named_frame geometry old new i p kept place blocks =
     number_copied geometry.edition old new (512 * named geometry old i (a ∷ q)) (512 * named geometry old i (a ∷ q)) 512 j (blocks j a q front zone)
     (number_room geometry.edition j within))
 
--- a write of block k keeps the names of the places, if k isn't an indirect block of the file
+-- a write of block `k` does not change the block number at any position in the block map if `k` isn't an indirect block of the file
 pub named_apart : (geometry : Geometry) (old new : List ℕ) (i k : ℕ) (p : List ℕ) → KeepsPlaces geometry old new i
     → SameOutside old new (512 * k) (512 * k + 512)
     → ((q : List ℕ) → IsPlace (form_at geometry old i) q → 1 ≤ levels_below (form_at geometry old i) q → named geometry old i q ≢ k)
@@ -120,7 +120,7 @@ named_apart geometry old new i k p kept same apart place =
     let here : IsPlace (form_at geometry old i) (j ∷ (a ∷ q)) = place_front (form_at geometry old i) p (j ∷ (a ∷ q)) place front in
     copy_block old new (named geometry old i (a ∷ q)) k same (apart (a ∷ q) here.2 here.1))
 
--- the number stored for a logical block stays if the name of its last place does
+-- the block number stored for a logical block is unchanged if the number at the position in the block map that points to it is unchanged
 pub stored_kept : (geometry : Geometry) (old new : List ℕ) (i : ℕ) (form : BlockMap) (b : ℕ)
     → ((p : List ℕ) → last_place form b ≡ Some p → named geometry new i p ≡ named geometry old i p)
     → stored geometry new i form b ≡ stored geometry old i form b
@@ -128,7 +128,7 @@ stored_kept geometry old new i form b same =
     elim (last_place form b) as (λ o. last_place form b ≡ o → option_map_or (named geometry new i) o 0 ≡ option_map_or (named geometry old i) o 0)
     [ None ↦ λ e. refl | Some p ↦ λ e. same p e ] refl
 
--- a write of block k keeps the numbers stored for logical blocks, if k isn't an indirect block of the file
+-- a write of block `k` does not change the number stored for any logical block if `k` isn't an indirect block of the file
 pub stored_apart : (geometry : Geometry) (old new : List ℕ) (i k b : ℕ) → KeepsPlaces geometry old new i
     → SameOutside old new (512 * k) (512 * k + 512)
     → ((q : List ℕ) → IsPlace (form_at geometry old i) q → 1 ≤ levels_below (form_at geometry old i) q → named geometry old i q ≢ k)
@@ -138,7 +138,7 @@ stored_apart geometry old new i k b kept same apart =
     ∙ stored_kept geometry old new i (form_at geometry old i) b
     (λ p e. named_apart geometry old new i k p kept same apart (last_leaf (form_at geometry old i) b p e).place)
 
--- byte r of data block m stays if that byte of the image does
+-- byte `r` of data block `m` is unchanged if that byte of the image is
 pub zone_byte_kept : (geometry : Geometry) (old new : List ℕ) (m r : ℕ)
     → (in_zone geometry m ≡ true → get_or new (512 * m + r) 0 ≡ get_or old (512 * m + r) 0) → zone_byte geometry new m r ≡ zone_byte geometry old m r
 unfolding zone_byte
@@ -146,7 +146,7 @@ zone_byte_kept geometry old new m r same =
     elim (in_zone geometry m) as (λ z. in_zone geometry m ≡ z → (if z then get_or new (512 * m + r) 0 else 0) ≡ (if z then get_or old (512 * m + r) 0 else 0))
     [ true ↦ λ z. same z | false ↦ λ z. refl ] refl
 
--- the body stays if places and size are kept, and for each of its logical blocks the number stored and that data block
+-- the body is unchanged if the block map, the size, the block numbers of its logical blocks and the bytes of these blocks are unchanged
 pub body_frame : (geometry : Geometry) (old new : List ℕ) (i : ℕ) → KeepsPlaces geometry old new i
     → body_size geometry new i ≡ body_size geometry old i
     → ((b : ℕ) → 512 * b < body_size geometry old i
@@ -166,7 +166,7 @@ body_frame geometry old new i kept size names blocks =
     (λ z. (blocks (n / 512) low z).bytes (n % 512) byte)
     ∙ sym (body_byte_is geometry old i n)))))
 
--- a write of block k leaves the body of each file if k is on none of its paths
+-- a write of block `k` does not change the body of a file if no path to a logical block of the body contains `k`
 pub body_ways_kept : (geometry : Geometry) (old new : List ℕ) (i k : ℕ) → Fits geometry old → KeepsInode geometry old new i
     → SameOutside old new (512 * k) (512 * k + 512)
     → ((b : ℕ) (p q : List ℕ) → 512 * b < body_size geometry old i → last_place (form_at geometry old i) b ≡ Some p → IsFront q p → named geometry old i q ≢ k)
@@ -179,7 +179,7 @@ body_ways_kept geometry old new i k fits kept same apart =
     (λ b low zone. copy_block old new (stored geometry old i (form_at geometry old i) b) k same
     (stored_apart_from geometry old i k (form_at geometry old i) b fits zone (λ p e. apart b p p low e (front_self (form_at geometry old i) p (last_leaf (form_at geometry old i) b p e).place))))
 
--- a write of block k leaves the body of each file that doesn't name k
+-- a write of block `k` does not change the body of a file that doesn't point to `k`
 pub body_apart : (geometry : Geometry) (old new : List ℕ) (i k : ℕ) → Fits geometry old → KeepsInode geometry old new i
     → SameOutside old new (512 * k) (512 * k + 512)
     → ((q : List ℕ) → IsPlace (form_at geometry old i) q → named geometry old i q ≢ k)
@@ -188,7 +188,7 @@ body_apart geometry old new i k fits kept same apart =
     body_ways_kept geometry old new i k fits kept same
     (λ b p q low e front. apart q (place_front (form_at geometry old i) p q (last_leaf (form_at geometry old i) b p e).place front))
 
--- after a write of data block k, no indirect block of the file, a logical block stored in k has its new bytes
+-- after a write of data block `k`, which isn't an indirect block of the file, a logical block stored in `k` has the new bytes
 pub body_byte_there : (geometry : Geometry) (old new : List ℕ) (i k n : ℕ) → KeepsPlaces geometry old new i
     → SameOutside old new (512 * k) (512 * k + 512) → in_zone geometry k ≡ true
     → ((q : List ℕ) → IsPlace (form_at geometry old i) q → 1 ≤ levels_below (form_at geometry old i) q → named geometry old i q ≢ k)
@@ -198,7 +198,7 @@ body_byte_there geometry old new i k n kept same zone apart here =
     ∙ (ap (λ m. zone_byte geometry new m (n % 512)) (stored_apart geometry old new i k (n / 512) kept same apart ∙ here)
     ∙ zone_byte_in geometry new k (n % 512) zone)
 
--- after a write of data block k, no indirect block of the file, its bytes of every other logical block are as before
+-- a write of data block `k`, which isn't an indirect block of the file, does not change the bytes of logical blocks stored in other blocks
 pub body_byte_elsewhere : (geometry : Geometry) (old new : List ℕ) (i k n : ℕ) → KeepsPlaces geometry old new i
     → SameOutside old new (512 * k) (512 * k + 512)
     → ((q : List ℕ) → IsPlace (form_at geometry old i) q → 1 ≤ levels_below (form_at geometry old i) q → named geometry old i q ≢ k)
@@ -211,14 +211,14 @@ body_byte_elsewhere geometry old new i k n kept same apart other =
     (λ z. (copy_block old new (stored geometry old i (form_at geometry old i) (n / 512)) k same other).bytes (n % 512) byte)
     ∙ sym (body_byte_is geometry old i n)))
 
--- a write below the data zone leaves each data block
+-- a write that ends before the data zone does not change a data block
 pub zone_kept : (geometry : Geometry) (old new : List ℕ) (from to m : ℕ) → SameOutside old new from to → to ≤ 512 * geometry.zone_start
     → in_zone geometry m ≡ true → IsCopy old new (512 * m) (512 * m) 512
 zone_kept geometry old new from to m same below zone =
     let bounds : (geometry.zone_start ≤ m) × (m < geometry.zone_end) = zone_bounds geometry m zone in
     copy_above old new from to (512 * m) 512 same (omega arith)
 
--- a write below the data zone, as of an i-node, keeps the names of a file's places if the file's own addresses stay
+-- a write that ends before the data zone does not change the block numbers in the block map of a file whose own addresses stay
 pub named_list_kept : (geometry : Geometry) (old new : List ℕ) (from to i : ℕ) (p : List ℕ) → KeepsPlaces geometry old new i
     → SameOutside old new from to → to ≤ 512 * geometry.zone_start → IsPlace (form_at geometry old i) p
     → named geometry new i p ≡ named geometry old i p
@@ -226,7 +226,7 @@ named_list_kept geometry old new from to i p kept same below place =
     named_frame geometry old new i p kept place
     (λ j a q front zone. zone_kept geometry old new from to (named geometry old i (a ∷ q)) same below zone)
 
--- a write below the data zone leaves the numbers stored for the logical blocks of such a file
+-- a write that ends before the data zone does not change the block numbers stored for the logical blocks of a file whose own addresses stay
 pub stored_list_kept : (geometry : Geometry) (old new : List ℕ) (from to i b : ℕ) → KeepsPlaces geometry old new i
     → SameOutside old new from to → to ≤ 512 * geometry.zone_start
     → stored geometry new i (form_at geometry new i) b ≡ stored geometry old i (form_at geometry old i) b
@@ -235,7 +235,7 @@ stored_list_kept geometry old new from to i b kept same below =
     ∙ stored_kept geometry old new i (form_at geometry old i) b
     (λ p e. named_list_kept geometry old new from to i p kept same below (last_leaf (form_at geometry old i) b p e).place)
 
--- a write below the data zone leaves each byte of the body of such a file, whatever its size
+-- a write that ends before the data zone does not change any byte of the body of a file whose own addresses stay, at any size
 pub body_byte_list_kept : (geometry : Geometry) (old new : List ℕ) (from to i n : ℕ) → KeepsPlaces geometry old new i
     → SameOutside old new from to → to ≤ 512 * geometry.zone_start → body_byte geometry new i n ≡ body_byte geometry old i n
 body_byte_list_kept geometry old new from to i n kept same below =

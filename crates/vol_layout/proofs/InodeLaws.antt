@@ -1,4 +1,4 @@
--- Laws of the i-nodes: their fields, their positions, and the writes that keep them.
+-- Laws of the i-nodes: their fields, their positions, and the writes that do not change them.
 use Rattle.std.specs.List.{range_with_len}
 use Rattle.std.proofs.Common.{◌≡◌, ◌≢◌, ℕ, ◌+◌, ◌-◌, ◌*◌, ◌<◌, ◌≤◌, ◌∙◌, sym, ap, subst, List, map, length, get_or, refl, arith, inl, inr, Some, None, if◌then◌else◌, true, false, ltb, min}
 use Rattle.std.proofs.lemmas.List.FromFn.{length-map-range_with_len, get_or-map-range_with_len}
@@ -17,51 +17,49 @@ use Rattle.vol_layout.specs.declared.edition.Edition.TheVariants.{V6, V7}
 use Rattle.vol_layout.specs.declared.geometry.Geometry.{Geometry}
 use Rattle.vol_layout.proofs.CopyLaws.{IsCopy, copy_below, copy_above, byte_copied, word_copied, long_copied, addr3_copied}
 
--- the mode in an i-node
+-- the mode of an i-node is its first word
 pub inode_mode : (edition : Edition) (image : List ℕ) (at : ℕ) → (inode_at edition image at).mode.bits ≡ word image at
 unfolding inode_at
 inode_mode V6 image at = refl
 inode_mode V7 image at = refl
 
--- the size in an i-node
 pub inode_size : (edition : Edition) (image : List ℕ) (at : ℕ) → (inode_at edition image at).size ≡ size_at edition image at
 unfolding inode_at
 inode_size V6 image at = refl
 inode_size V7 image at = refl
 
--- the addresses in an i-node
 pub inode_addresses : (edition : Edition) (image : List ℕ) (at : ℕ) → (inode_at edition image at).addresses ≡ addresses_at edition image at
 unfolding inode_at
 inode_addresses V6 image at = refl
 inode_addresses V7 image at = refl
 
--- address k of an i-node
+-- item `k` of an i-node's addresses is `address_at` at `k`
 pub inode_address : (edition : Edition) (image : List ℕ) (at k : ℕ) → k < 13
     → get_or (inode_at edition image at).addresses k 0 ≡ address_at edition image at k
 unfolding addresses_at
 inode_address edition image at k h =
     ap (λ xs. get_or xs k 0) (inode_addresses edition image at) ∙ get_or-map-range_with_len (address_at edition image at) 0 13 k k 0 h (omega arith)
 
--- the links, the owner, the group and the times of an i-node of the sixth edition
+-- the link count, owner, group and times of a sixth edition i-node are at these bytes
 pub inode_v6 : (image : List ℕ) (at : ℕ) → let node = inode_at V6 image at in
     (node.links ≡ get_or image (at + 2) 0) × (node.uid ≡ get_or image (at + 3) 0) × (node.gid ≡ get_or image (at + 4) 0)
     × (node.accessed ≡ long image (at + 24)) × (node.modified ≡ long image (at + 28)) × (node.changed ≡ None)
 unfolding inode_at
 inode_v6 image at = (refl, refl, refl, refl, refl, refl)
 
--- the links, the owner, the group and the times of an i-node of the seventh edition
+-- the link count, owner, group and times of a seventh edition i-node are at these bytes
 pub inode_v7 : (image : List ℕ) (at : ℕ) → let node = inode_at V7 image at in
     (node.links ≡ word image (at + 2)) × (node.uid ≡ word image (at + 4)) × (node.gid ≡ word image (at + 6))
     × (node.accessed ≡ long image (at + 52)) × (node.modified ≡ long image (at + 56)) × (node.changed ≡ Some (long image (at + 60)))
 unfolding inode_at
 inode_v7 image at = (refl, refl, refl, refl, refl, refl)
 
--- an i-node begins where the manual's formula says
+-- an i-node begins at the byte computed by the manual's formula
 pub place_manual : (edition : Edition) (i : ℕ) → 1 ≤ i → inode_place edition i ≡ manual_place edition i
 place_manual V6 i h = omega arith
 place_manual V7 i h = omega arith
 
--- the i-nodes are after blocks 0 and 1
+-- an i-node begins after blocks 0 and 1
 pub place_from : (edition : Edition) (i : ℕ) → 1024 ≤ inode_place edition i
 place_from edition i = omega arith
 
@@ -70,7 +68,7 @@ pub place_apart : (edition : Edition) (i j : ℕ) → 1 ≤ i → i < j → inod
 place_apart V6 i j h less = omega arith
 place_apart V7 i j h less = omega arith
 
--- the i-nodes of a volume end before the data zone
+-- an i-node of the volume ends before the data zone
 pub place_room : (geometry : Geometry) (image : List ℕ) (i : ℕ) → Fits geometry image → 1 ≤ i → i ≤ geometry.last_inode
     → inode_place geometry.edition i + (constants geometry.edition).inode_bytes ≤ 512 * geometry.zone_start
 place_room geometry image i fits first last =
@@ -81,7 +79,7 @@ place_room geometry image i fits first last =
     ap (λ x. 1024 + (constants geometry.edition).inode_bytes * x) end ∙ fits.i_list in
     omega (arith, apart, whole)
 
--- a copied address of an i-node
+-- a copied i-node has the same address `k`
 pub address_copied : (edition : Edition) (old new : List ℕ) (from to k : ℕ) → IsCopy old new from to (constants edition).inode_bytes → k < 13
     → address_at edition new to k ≡ address_at edition old from k
 address_copied V6 old new from to k copy h =
@@ -93,13 +91,13 @@ address_copied V6 old new from to k copy h =
 address_copied V7 old new from to k copy h =
     addr3_copied old new from to 64 (12 + 3 * k) (from + 12 + 3 * k) (to + 12 + 3 * k) copy (omega arith) (omega arith) (omega arith)
 
--- the copied mode of an i-node
+-- a copied i-node has the same mode
 pub mode_copied : (edition : Edition) (old new : List ℕ) (from to : ℕ) → IsCopy old new from to (constants edition).inode_bytes
     → word new to ≡ word old from
 mode_copied V6 old new from to copy = word_copied old new from to 32 0 from to copy (omega arith) (omega arith) (omega arith)
 mode_copied V7 old new from to copy = word_copied old new from to 64 0 from to copy (omega arith) (omega arith) (omega arith)
 
--- the copied size of an i-node
+-- a copied i-node has the same size
 pub size_copied : (edition : Edition) (old new : List ℕ) (from to : ℕ) → IsCopy old new from to (constants edition).inode_bytes
     → size_at edition new to ≡ size_at edition old from
 size_copied V6 old new from to copy =
@@ -108,7 +106,7 @@ size_copied V6 old new from to copy =
     omega arith
 size_copied V7 old new from to copy = long_copied old new from to 64 8 (from + 8) (to + 8) copy (omega arith) refl refl
 
--- the copied addresses of an i-node
+-- a copied i-node has the same addresses
 pub addresses_copied : (edition : Edition) (old new : List ℕ) (from to : ℕ) → IsCopy old new from to (constants edition).inode_bytes
     → addresses_at edition new to ≡ addresses_at edition old from
 unfolding addresses_at
@@ -120,7 +118,7 @@ addresses_copied edition old new from to copy =
     get_or-map-range_with_len (address_at edition new to) 0 13 k k 0 low (omega arith)
     ∙ (address_copied edition old new from to k copy low ∙ sym (get_or-map-range_with_len (address_at edition old from) 0 13 k k 0 low (omega arith))))
 
--- a copied i-node
+-- a copied i-node has the same fields
 pub inode_copied : (edition : Edition) (old new : List ℕ) (from to : ℕ) → IsCopy old new from to (constants edition).inode_bytes
     → inode_at edition new to ≡ inode_at edition old from
 unfolding inode_at
@@ -146,19 +144,19 @@ inode_copied V7 old new from to copy =
     let changed : long new (to + 60) ≡ long old (from + 60) = long_copied old new from to 64 60 (from + 60) (to + 60) copy (omega arith) refl refl in
     cc
 
--- the bytes of i-node i are the same in both images
+-- i-node `i` has the same bytes in both images
 abbrev pub KeepsInode : Geometry → List ℕ → List ℕ → ℕ → Type 0
 KeepsInode geometry old new i =
     IsCopy old new (inode_place geometry.edition i) (inode_place geometry.edition i) (constants geometry.edition).inode_bytes
 
--- a write of the data zone alone keeps the i-nodes
+-- a write that begins in the data zone does not change the i-nodes
 pub inode_kept : (geometry : Geometry) (old new : List ℕ) (from to i : ℕ) → Fits geometry old → SameOutside old new from to
     → 512 * geometry.zone_start ≤ from → 1 ≤ i → i ≤ geometry.last_inode → KeepsInode geometry old new i
 inode_kept geometry old new from to i fits same zone first last =
     let room : inode_place geometry.edition i + (constants geometry.edition).inode_bytes ≤ 512 * geometry.zone_start = place_room geometry old i fits first last in
     copy_below old new from to (inode_place geometry.edition i) (constants geometry.edition).inode_bytes same (omega arith)
 
--- a write of one i-node keeps the others
+-- a write of i-node `i` does not change another i-node
 pub inode_apart : (geometry : Geometry) (old new : List ℕ) (i j : ℕ) → 1 ≤ i → 1 ≤ j → j ≢ i
     → SameOutside old new (inode_place geometry.edition i) (inode_place geometry.edition i + (constants geometry.edition).inode_bytes)
     → KeepsInode geometry old new j
@@ -170,42 +168,42 @@ inode_apart geometry old new i j first second other same =
           (inode_place geometry.edition j) (constants geometry.edition).inode_bytes same (place_apart geometry.edition i j first (omega arith))
     ]
 
--- a kept i-node has the same mode
+-- an i-node with the same bytes has the same mode
 pub mode_kept : (geometry : Geometry) (old new : List ℕ) (i : ℕ) → KeepsInode geometry old new i → mode_of geometry new i ≡ mode_of geometry old i
 mode_kept geometry old new i kept =
     mode_copied geometry.edition old new (inode_place geometry.edition i) (inode_place geometry.edition i) kept
 
--- the block map of a file depends on the mode alone
+-- an i-node with the same mode has the same block map
 pub form_same : (geometry : Geometry) (old new : List ℕ) (i : ℕ) → mode_of geometry new i ≡ mode_of geometry old i → form_at geometry new i ≡ form_at geometry old i
 form_same geometry old new i e = ap (form_of geometry.edition) e
 
--- a kept i-node has the same block map
+-- an i-node with the same bytes has the same block map
 pub form_kept : (geometry : Geometry) (old new : List ℕ) (i : ℕ) → KeepsInode geometry old new i → form_at geometry new i ≡ form_at geometry old i
 form_kept geometry old new i kept = form_same geometry old new i (mode_kept geometry old new i kept)
 
--- a kept i-node has the same size
+-- an i-node with the same bytes has the same size
 pub size_kept : (geometry : Geometry) (old new : List ℕ) (i : ℕ) → KeepsInode geometry old new i
     → size_at geometry.edition new (inode_place geometry.edition i) ≡ size_at geometry.edition old (inode_place geometry.edition i)
 size_kept geometry old new i kept =
     size_copied geometry.edition old new (inode_place geometry.edition i) (inode_place geometry.edition i) kept
 
--- the body of a kept i-node has the same size
+-- an i-node with the same bytes has a body of the same size
 pub body_size_kept : (geometry : Geometry) (old new : List ℕ) (i : ℕ) → KeepsInode geometry old new i → body_size geometry new i ≡ body_size geometry old i
 body_size_kept geometry old new i kept = ap (λ n. min n (constants geometry.edition).greatest) (size_kept geometry old new i kept)
 
--- a kept i-node has the same addresses
+-- an i-node with the same bytes has the same addresses
 pub address_kept : (geometry : Geometry) (old new : List ℕ) (i k : ℕ) → KeepsInode geometry old new i → k < 13
     → address_at geometry.edition new (inode_place geometry.edition i) k ≡ address_at geometry.edition old (inode_place geometry.edition i) k
 address_kept geometry old new i k kept h =
     address_copied geometry.edition old new (inode_place geometry.edition i) (inode_place geometry.edition i) k kept h
 
--- a kept i-node is the same
+-- an i-node with the same bytes has the same fields
 pub inode_of_kept : (geometry : Geometry) (old new : List ℕ) (i : ℕ) → KeepsInode geometry old new i
     → inode_of geometry.edition new i ≡ inode_of geometry.edition old i
 inode_of_kept geometry old new i kept =
     inode_copied geometry.edition old new (inode_place geometry.edition i) (inode_place geometry.edition i) kept
 
--- a kept i-node is still that of a file
+-- an i-node with the same bytes is still a regular file or directory
 pub file_kept : (geometry : Geometry) (old new : List ℕ) (i : ℕ) → KeepsInode geometry old new i → IsFile geometry old i → IsFile geometry new i
 file_kept geometry old new i kept file = record {
   first = file.first;
@@ -213,7 +211,7 @@ file_kept geometry old new i kept file = record {
   kind = subst (λ mode. has_places (kind_of geometry.edition mode) ≡ true) (sym (mode_kept geometry old new i kept)) file.kind;
 }
 
--- a geometry fits after each write
+-- a geometry still fits the image after a write
 pub fits_kept : (geometry : Geometry) (old new : List ℕ) (from to : ℕ) → SameOutside old new from to → Fits geometry old → Fits geometry new
 fits_kept geometry old new from to same fits =
     record { blocks = let len : length new ≡ length old = same.len in omega arith; i_list = fits.i_list; zone = fits.zone; root = fits.root; limit = fits.limit }

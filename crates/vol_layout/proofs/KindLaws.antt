@@ -20,7 +20,7 @@ file_used edition mode file zero =
     let none : has_places (kind_of edition mode) ≡ false = ap has_places (ap (kind_of edition) zero ∙ kind_zero edition) in
     absurd (cc)
 
--- a mode of the sixth edition without the allocated bit isn't a file's
+-- a mode of the sixth edition without the allocated bit is odd, unless it is 0
 pub kind_low : (mode : ℕ) → mode ≢ 0 → mode < 32768 → kind_of V6 mode ≡ kinds.Odd
 unfolding kind_of
 kind_low mode some low =
@@ -36,23 +36,23 @@ file_allocated mode file =
       | inr high ↦ high
     ]
 
--- a regular file or directory has the block map of its edition
+-- the block map of a regular file or directory is `file_form`
 pub form_file : (edition : Edition) (mode : ℕ) → has_places (kind_of edition mode) ≡ true → form_of edition mode ≡ file_form edition mode
 form_file edition mode file = rw file
 
--- a bare i-node has no place
+-- a bare block map has no positions
 pub bare_none : (p : List ℕ) → IsPlace Bare p → ⊥
 bare_none [] place = place
 bare_none (k ∷ []) place = omega arith
 bare_none (j ∷ (a ∷ p)) place = bare_none (a ∷ p) place.2
 
--- an i-node that has a place is that of a regular file or directory
+-- an i-node whose block map has a position is a regular file or directory
 pub place_file : (edition : Edition) (mode : ℕ) (p : List ℕ) → IsPlace (form_of edition mode) p → has_places (kind_of edition mode) ≡ true
 place_file edition mode p place =
     elim (has_places (kind_of edition mode)) as (λ t. IsPlace (if t then file_form edition mode else Bare) p → t ≡ true)
     [ true ↦ λ h. refl | false ↦ λ h. absurd (bare_none p h) ] place
 
--- the kind of an i-node that is in use stays with other permission bits
+-- changing the permission bits does not change the kind of an allocated i-node
 pub kind_permitted : (edition : Edition) (mode bits : ℕ) → kind_of edition mode ≢ kinds.Free → kind_of edition mode ≢ kinds.Odd
     → kind_of edition (mode / 4096 * 4096 + bits % 4096) ≡ kind_of edition mode
 unfolding kind_of

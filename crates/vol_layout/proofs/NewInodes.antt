@@ -1,4 +1,4 @@
--- The i-node of a new node can be stored.
+-- A new i-node can be stored.
 use Rattle.std.proofs.Common.{◌≡◌, refl, ℕ, ◌≤◌, get_or, replicate, inl, inr, rules, arith}
 use Rattle.std.proofs.lemmas.Bool.{cases_lt}
 use Rattle.std.proofs.lemmas.Grind.{common_steps}
@@ -10,11 +10,11 @@ use Rattle.vol_layout.specs.declared.edition.Edition.{Edition}
 use Rattle.vol_layout.specs.declared.edition.Edition.TheVariants.{V6, V7}
 use Rattle.vol_layout.specs.declared.mode.Mode.{Mode}
 
--- a number of a list of zeros is zero, also past its end
+-- every item of a list of zeros is 0, and so is the default past its end
 pub zeros_at : (n k : ℕ) → get_or {A = ℕ} (replicate n 0) k 0 ≡ 0
 zeros_at n k = elim (cases_lt k n) [ inl low ↦ get_or-replicate n k 0 0 low | inr past ↦ grind (arith, common_steps) ]
 
--- its numbers fit their fields, if the links and the owner's numbers are within their limits
+-- the values of a new i-node fit their fields if the link count, user number and group number are within their limits
 pub new_storable : (edition : Edition) (bits : Mode) (count uid gid now : ℕ) → count ≤ (constants edition).link_limit
     → uid ≤ (constants edition).id_limit → gid ≤ (constants edition).id_limit → IsStorable edition (new_inode edition bits count uid gid now)
 new_storable V6 bits count uid gid now few user group =

@@ -1,4 +1,4 @@
--- The seventh edition's form of an allocated mode of the sixth.
+-- Modes of allocated i-nodes converted from the sixth edition to the seventh.
 use Rattle.std.proofs.Common.{◌≡◌, ◌≢◌, ◌∙◌, sym, ap, refl, eqb, ltb, false, ℕ, ◌+◌, ◌*◌, ◌/◌, ◌%◌, ◌≤◌, bit_and, ◌⊎◌, inl, inr, arith}
 use Rattle.std.proofs.lemmas.Bool.{cases_lt, ne_eqb, le-ltb}
 use Rattle.std.proofs.lemmas.Nat.{and_mask}
@@ -6,14 +6,14 @@ use Rattle.vol_layout.proofs.BitLaws.{type_v6}
 use Rattle.vol_layout.specs.Inode.{kind_of, kind_of_type_v6, kind_of_type_v7, raised_mode}
 use Rattle.vol_layout.specs.declared.edition.Edition.TheVariants.{V6, V7}
 
--- the kind of a mode of the seventh edition is that of its type
+-- the kind of a seventh edition mode depends on its type bits
 seventh_kind : (mode type : ℕ) → mode ≢ 0 → mode / 4096 ≡ type → kind_of V7 mode ≡ kind_of_type_v7 type
 unfolding kind_of
 seventh_kind mode type some is =
     let t : eqb mode 0 ≡ false = ne_eqb mode 0 some in
     rw t (ap kind_of_type_v7 is)
 
--- the kind of an allocated mode of the sixth edition is that of its type
+-- the kind of an allocated sixth edition mode depends on its type bits
 sixth_kind : (mode type : ℕ) → 32768 ≤ mode → mode / 8192 % 4 ≡ type → kind_of V6 mode ≡ kind_of_type_v6 type
 unfolding kind_of
 sixth_kind mode type high is =
@@ -21,17 +21,17 @@ sixth_kind mode type high is =
     let u : ltb mode 32768 ≡ false = le-ltb mode 32768 high in
     rw (t, u) (ap kind_of_type_v6 is)
 
--- a mode with a type other than 0
+-- converting a mode with type bits other than 0 keeps the type
 raised_other : (mode : ℕ) → mode / 8192 % 4 ≢ 0 → raised_mode mode ≡ mode / 8192 % 4 * 8192 + mode % 4096
 raised_other mode some =
     let t : eqb (mode / 8192 % 4) 0 ≡ false = ne_eqb (mode / 8192 % 4) 0 some in
     rw t refl
 
--- a mode of type 0
+-- converting a mode with type bits 0 gives a regular file
 raised_regular : (mode : ℕ) → mode / 8192 % 4 ≡ 0 → raised_mode mode ≡ 32768 + mode % 4096
 raised_regular mode none = rw none refl
 
--- its kind stays
+-- converting a mode keeps the kind
 pub raised_kind : (mode : ℕ) → 32768 ≤ mode → kind_of V7 (raised_mode mode) ≡ kind_of V6 mode
 raised_kind mode high =
     elim (cases_lt (mode / 8192 % 4) 1) [
@@ -56,7 +56,7 @@ raised_kind mode high =
           ]
     ]
 
--- its permission bits stay
+-- converting a mode keeps the permission bits
 pub raised_permissions : (mode : ℕ) → raised_mode mode % 4096 ≡ mode % 4096
 raised_permissions mode =
     elim (cases_lt (mode / 8192 % 4) 1) [
@@ -64,7 +64,7 @@ raised_permissions mode =
       | inr some ↦ let is = raised_other mode (λ none. omega arith) in omega (arith, is)
     ]
 
--- its bits are those of the type and those of the permissions
+-- the converted mode is the sum of its type bits and its permission bits
 pub raised_bits : (mode kind : ℕ) → ((bit_and mode 24576 ≡ 0) × (kind ≡ 32768)) ⊎ ((bit_and mode 24576 ≢ 0) × (kind ≡ bit_and mode 24576))
     → kind + bit_and mode 4095 ≡ raised_mode mode
 raised_bits mode kind (inl is) =

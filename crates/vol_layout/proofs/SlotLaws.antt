@@ -7,7 +7,7 @@ use Rattle.vol_layout.specs.Slot.{slot_at}
 use Rattle.vol_layout.proofs.BodyLaws.{length-slice_range, get_or-slice_range}
 use Rattle.vol_layout.proofs.CopyLaws.{IsCopy, byte_copied, word_copied}
 
--- a part of copied bytes is a part of those that they were copied from
+-- a part of copied bytes equals the same part of the original bytes
 pub part_copied : (old new : List ℕ) (from to size skip n : ℕ) → IsCopy old new from to size → skip + n ≤ size
     → from + size ≤ length old → to + size ≤ length new
     → slice_range new (to + skip) (to + skip + n) ≡ slice_range old (from + skip) (from + skip + n)
@@ -21,7 +21,7 @@ part_copied old new from to size skip n copy h room_old room_new =
     ∙ (byte_copied old new from to size (skip + r) (from + skip + r) (to + skip + r) copy (omega arith) (omega arith) (omega arith)
     ∙ sym (get_or-slice_range old (from + skip) n r below)))
 
--- a slot is copied with its bytes
+-- a slot in copied bytes is the same at both positions
 pub slot_copied : (old new : List ℕ) (from to : ℕ) → IsCopy old new from to 16 → from + 16 ≤ length old → to + 16 ≤ length new
     → slot_at new to ≡ slot_at old from
 slot_copied old new from to copy room_old room_new =
@@ -32,7 +32,7 @@ slot_copied old new from to copy room_old room_new =
     ap (slice_range new (to + 2)) stop ∙ (part_copied old new from to 16 2 14 copy (omega arith) room_old room_new ∙ sym (ap (slice_range old (from + 2)) end)) in
     rw (number, name)
 
--- if the 16 bytes of a slot are stored, so is the slot
+-- the slot at byte `at` of an image is the slot whose 16 bytes are stored there
 pub slot_stored : (image bytes : List ℕ) (at : ℕ) → length bytes ≡ 16 → at + 16 ≤ length image → slice_range image at (at + length bytes) ≡ bytes
     → slot_at image at ≡ slot_at bytes 0
 slot_stored image bytes at len room is =

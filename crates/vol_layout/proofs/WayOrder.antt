@@ -1,4 +1,4 @@
--- The order of the block paths: each logical block's path ends at the next place with no level below it.
+-- The order of the positions in the block map that point to data blocks: they point to the logical blocks in ascending order.
 use Rattle.std.proofs.Common.{◌≡◌, ℕ, zero, suc, ◌+◌, ◌-◌, ◌*◌, ◌/◌, ◌%◌, ◌<◌, ◌==◌, ◌∙◌, ◌⊎◌, sym, ap, subst, cond, List, [], ◌∷◌, ◌++◌, map, filter, false, refl, arith, inl, inr, Option, Some}
 use Rattle.std.specs.List.{flat_map, range_with_len}
 use Rattle.std.proofs.lemmas.Bool.Decides.{nat_tests}
@@ -14,7 +14,7 @@ use Rattle.vol_layout.specs.declared.block_map.BlockMap.TheVariants.{Small, Larg
 use Rattle.vol_layout.proofs.PlaceLaws.{large_levels}
 use Rattle.vol_layout.proofs.LastPlaces.{last_small, last_large, last_huge, last_direct, last_single, last_double, last_triple}
 
--- the numbers of two ranges in a row
+-- a range of `m + n` numbers is a range of `m` followed by a range of `n`
 range_more : (a m n : ℕ) → range_with_len a (m + n) ≡ range_with_len a m ++ range_with_len (a + m) n
 range_more a zero n =
     let none : 0 + n ≡ n = omega arith in
@@ -26,25 +26,25 @@ range_more a (suc m) n =
     ap (range_with_len a) next
     ∙ ap (λ xs. a ∷ xs) (range_more (a + 1) m n ∙ ap (λ x. range_with_len (a + 1) m ++ range_with_len x n) same)
 
--- those of a list of places that have no level below them
+-- the positions in a list that have no level below them
 abbrev leaves_of : BlockMap → List (List ℕ) → List (List ℕ)
 leaves_of form ps = filter (λ p. levels_below form p == 0) ps
 
--- the last places of logical blocks in a row
+-- the positions in the block map that point to some consecutive logical blocks
 abbrev ends : BlockMap → ℕ → ℕ → List (Option (List ℕ))
 ends form x n = map (last_place form) (range_with_len x n)
 
--- the last places of two rows of blocks, one after the other
+-- the positions for `m + n` logical blocks are those for the first `m` followed by those for the other `n`
 ends_more : (form : BlockMap) (x m n : ℕ) → ends form x (m + n) ≡ ends form x m ++ ends form (x + m) n
 ends_more form x m n =
     ap (map (last_place form)) (range_more x m n) ∙ map-append (last_place form) (range_with_len x m) (range_with_len (x + m) n)
 
--- of two lists in a row
+-- `leaves_of` of two joined lists is `leaves_of` of the first followed by that of the second
 leaves_append : (form : BlockMap) (ps qs : List (List ℕ)) → map Some (leaves_of form (ps ++ qs)) ≡ map Some (leaves_of form ps) ++ map Some (leaves_of form qs)
 leaves_append form ps qs =
     ap (map Some) (filter-append (λ p. levels_below form p == 0) ps qs) ∙ map-append Some (leaves_of form ps) (leaves_of form qs)
 
--- lists of places, each of which has the last places of m blocks in a row
+-- if each of `count` lists has the positions for `m` logical blocks, one after another, the joined list has those for `count * m`
 run : (form : BlockMap) (f : ℕ → List (List ℕ)) (m x from count : ℕ)
     → ((i : ℕ) → i < count → map Some (leaves_of form (f (from + i))) ≡ ends form (x + i * m) m)
     → map Some (leaves_of form (flat_map f (range_with_len from count))) ≡ ends form x (count * m)
@@ -66,17 +66,17 @@ run form f m x from (suc count) each =
     ∙ (ap (λ xs. xs ++ map Some (leaves_of form (flat_map f (range_with_len (from + 1) count)))) here
     ∙ (ap (λ xs. ends form x m ++ xs) rest ∙ sym (ap (ends form x) whole ∙ ends_more form x m (count * m))))
 
--- the number of places with no level below them that are below one with d levels
+-- the number of positions in the block map without a level below them that are below a position with `d` levels
 abbrev spread : ℕ → ℕ → ℕ
 spread n zero = 1
 spread n (suc d) = n * spread n d
 
--- the place below p, in d levels of n entries each, that has number b in their order
+-- position number `b`, in order, of the positions in the block map `d` levels below position `p`, where each indirect block has `n` entries
 abbrev numbered : ℕ → List ℕ → ℕ → ℕ → List ℕ
 numbered n p zero b = p
 numbered n p (suc d) b = numbered n ((b / spread n d) ∷ p) d (b % spread n d)
 
--- a number of two digits
+-- `i * m + b` is below `n * m` if `i` is below `n` and `b` is below `m`
 two_digits : (i n m b : ℕ) → i < n → b < m → i * m + b < n * m
 two_digits i n m b low small =
     let whole : n * m ≡ i * m + m + (n - (i + 1)) * m =
@@ -84,7 +84,7 @@ two_digits i n m b low small =
     ap (λ k. k * m) parts ∙ grind arith in
     omega (arith, whole)
 
--- the places at and below a place are the last places of consecutive logical blocks
+-- the positions in the block map at and below a position with `d` levels point to consecutive logical blocks
 under : (form : BlockMap) (n a : ℕ) (p : List ℕ) (d x : ℕ) → levels_below form (a ∷ p) ≡ d
     → ((b : ℕ) → b < spread n d → last_place form (x + b) ≡ Some (numbered n (a ∷ p) d b))
     → map Some (leaves_of form (places_from n (a ∷ p) d)) ≡ ends form x (spread n d)
@@ -110,14 +110,14 @@ under form n a p (suc d) x deep last =
     ∙ (last (i * spread n d + b) (two_digits i n (spread n d) b low small)
     ∙ ap Some (ap (λ h. numbered n (h ∷ (a ∷ p)) d ((i * spread n d + b) % spread n d)) high ∙ ap (numbered n (i ∷ (a ∷ p)) d) less)))))
 
--- the same from an address on, by how many levels it has
+-- the positions in the block map at and below an address with `d` levels point to consecutive logical blocks
 from_address : (form : BlockMap) (n k d x : ℕ) → levels form k ≡ d
     → ((b : ℕ) → b < spread n d → last_place form (x + b) ≡ Some (numbered n (k ∷ []) d b))
     → map Some (leaves_of form (places_from n (k ∷ []) (levels form k))) ≡ ends form x (spread n d)
 from_address form n k d x deep last =
     ap (λ e. map Some (leaves_of form (places_from n (k ∷ []) e))) deep ∙ under form n k [] d x deep last
 
--- addresses in a row that have as many levels each
+-- the positions in the block map at and below consecutive addresses with `d` levels each point to consecutive logical blocks
 addresses : (form : BlockMap) (n d x from count : ℕ) → ((i : ℕ) → i < count → levels form (from + i) ≡ d)
     → ((i b : ℕ) → i < count → b < spread n d → last_place form (x + i * spread n d + b) ≡ Some (numbered n ((from + i) ∷ []) d b))
     → map Some (leaves_of form (flat_map (λ k. places_from n (k ∷ []) (levels form k)) (range_with_len from count))) ≡ ends form x (count * spread n d)
@@ -125,12 +125,12 @@ addresses form n d x from count deep last =
     run form (λ k. places_from n (k ∷ []) (levels form k)) (spread n d) x from count
     (λ i low. from_address form n (from + i) d (x + i * spread n d) (deep i low) (λ b small. last i b low small))
 
--- no place is left over
+-- if the positions in the block map that point to data blocks are `xs`, they are `xs` followed by the empty list
 none_left : (form : BlockMap) (xs : List (Option (List ℕ))) (whole : map Some (leaves form) ≡ xs)
     → map Some (leaves form) ≡ xs ++ map Some []
 none_left form xs whole = whole ∙ sym (append-nil xs)
 
--- the addresses of a small file
+-- the positions in the block map of a small file point to its logical blocks in order
 small_order : (form : BlockMap) → form ≡ Small → map Some (leaves form) ≡ ends form 0 (block_limit form)
 unfolding places
 small_order form is =
@@ -145,7 +145,7 @@ small_order form is =
     ∙ (ap (last_place Small) place ∙ (last_small i few ∙ ap (λ k. Some (k ∷ [])) (sym same))))
     ∙ ap (ends form 0) count
 
--- the addresses of a large file that have one level below them
+-- the logical blocks below the first seven addresses of a large file are in order
 large_first : (form : BlockMap) → form ≡ Large → (i b : ℕ) → i < 7 → b < spread (pointer_count form) 1
     → last_place form (0 + i * spread (pointer_count form) 1 + b) ≡ Some (numbered (pointer_count form) ((0 + i) ∷ []) 1 b)
 large_first form is i b low small =
@@ -158,7 +158,7 @@ large_first form is i b low small =
     ∙ (last_large (256 * i + b) (omega arith)
     ∙ (ap (λ x. Some (x ∷ (((256 * i + b) / 256) ∷ []))) entry ∙ ap (λ x. Some ((b / 1) ∷ (x ∷ []))) address)))
 
--- the entries of the doubly indirect block of a large file, as many as there are logical blocks for
+-- the logical blocks below the first 121 entries of a large file's doubly indirect block are in order
 large_second : (form : BlockMap) → form ≡ Large → (i b : ℕ) → i < 121 → b < spread (pointer_count form) 1
     → last_place form (0 + 7 * spread (pointer_count form) 1 + i * spread (pointer_count form) 1 + b)
     ≡ Some (numbered (pointer_count form) ((0 + i) ∷ (7 ∷ [])) 1 b)
@@ -173,15 +173,15 @@ large_second form is i b low small =
     ∙ (last_huge (1792 + (256 * i + b)) (omega arith) (omega arith)
     ∙ (ap (λ x. Some (x ∷ (((1792 + (256 * i + b)) / 256 - 7) ∷ (7 ∷ [])))) entry ∙ ap (λ x. Some ((b / 1) ∷ (x ∷ (7 ∷ [])))) above)))
 
--- the entries of the doubly indirect block of a large file
+-- the positions in the block map at and below an entry of a large file's doubly indirect block
 abbrev entries_of : BlockMap → ℕ → List (List ℕ)
 entries_of form j = places_from (pointer_count form) (j ∷ (7 ∷ [])) 1
 
--- the places of the doubly indirect block of a large file that are the last place of no logical block
+-- the positions in the block map below a large file's doubly indirect block that point to no logical block
 abbrev large_rest : BlockMap → List (List ℕ)
 large_rest form = leaves_of form (flat_map (entries_of form) (range_with_len 121 135))
 
--- the places at and below the last address of a large file
+-- the positions in the block map below the last address of a large file point to logical blocks in order, and the rest to none
 large_last : (form : BlockMap) → form ≡ Large
     → map Some (leaves_of form (places_from (pointer_count form) (7 ∷ []) (levels form 7)))
     ≡ ends form (0 + 7 * spread (pointer_count form) 1) (121 * spread (pointer_count form) 1) ++ map Some (large_rest form)
@@ -205,7 +205,7 @@ large_last form is =
     ∙ (ap (λ ps. map Some (leaves_of form ps)) parts
     ∙ (leaves_append form front back ∙ ap (λ xs. xs ++ map Some (leaves_of form back)) first)))
 
--- the paths of a large file
+-- the positions in the block map of a large file point to its logical blocks in order, and the rest to none
 large_order : (form : BlockMap) → form ≡ Large → map Some (leaves form) ≡ ends form 0 (block_limit form) ++ map Some (large_rest form)
 unfolding places
 large_order form is =
@@ -229,7 +229,7 @@ large_order form is =
     ∙ ap (λ xs. xs ++ map Some (large_rest form))
     (sym (ends_more form 0 (7 * spread n 1) (121 * spread n 1)) ∙ ap (ends form 0) limit)))))
 
--- the addresses of data blocks in the seventh edition
+-- the direct blocks of the seventh edition are in order
 deep_direct : (form : BlockMap) → form ≡ Deep → (i b : ℕ) → i < 10 → b < 1
     → last_place form (0 + i * 1 + b) ≡ Some ((0 + i) ∷ [])
 deep_direct form is i b low small =
@@ -237,7 +237,7 @@ deep_direct form is i b low small =
     let same : i ≡ 0 + i = omega arith in
     ap (λ f. last_place f (0 + i * 1 + b)) is ∙ (ap (last_place Deep) place ∙ (last_direct i low ∙ ap (λ k. Some (k ∷ [])) same))
 
--- below the indirect block
+-- the logical blocks below the indirect block of the seventh edition are in order
 deep_single : (form : BlockMap) (x b : ℕ) → form ≡ Deep → x ≡ 10 → b < spread (pointer_count form) 1
     → last_place form (x + b) ≡ Some (numbered (pointer_count form) (10 ∷ []) 1 b)
 deep_single form x b is at small =
@@ -246,7 +246,7 @@ deep_single form x b is at small =
     subst (λ f. last_place f (x + b) ≡ Some (numbered (pointer_count f) (10 ∷ []) 1 b)) (sym is)
     (last_single (x + b) (omega arith) (omega arith) ∙ ap (λ k. Some (k ∷ (10 ∷ []))) entry)
 
--- below the doubly indirect block
+-- the logical blocks below the doubly indirect block of the seventh edition are in order
 deep_double : (form : BlockMap) (x b : ℕ) → form ≡ Deep → x ≡ 138 → b < spread (pointer_count form) 2
     → last_place form (x + b) ≡ Some (numbered (pointer_count form) (11 ∷ []) 2 b)
 deep_double form x b is at small =
@@ -257,7 +257,7 @@ deep_double form x b is at small =
     (last_double (x + b) (omega arith) (omega arith)
     ∙ (ap (λ k. Some (k ∷ (((x + b - 138) / 128) ∷ (11 ∷ [])))) entry ∙ ap (λ k. Some ((b % 128 / 1) ∷ (k ∷ (11 ∷ [])))) above))
 
--- below the triply indirect block
+-- the logical blocks below the triply indirect block of the seventh edition are in order
 deep_triple : (form : BlockMap) (x b : ℕ) → form ≡ Deep → x ≡ 16522 → b < spread (pointer_count form) 3
     → last_place form (x + b) ≡ Some (numbered (pointer_count form) (12 ∷ []) 3 b)
 deep_triple form x b is at small =
@@ -271,7 +271,7 @@ deep_triple form x b is at small =
     ∙ (ap (λ k. Some (k ∷ ((b / 128 % 128) ∷ ((b / 16384) ∷ (12 ∷ []))))) entry
     ∙ ap (λ k. Some ((b % 16384 % 128 / 1) ∷ (k ∷ ((b / 16384) ∷ (12 ∷ []))))) above)))
 
--- the paths of a file of the seventh edition
+-- the positions in the block map of a seventh edition file point to its logical blocks in order
 deep_order : (form : BlockMap) → form ≡ Deep → map Some (leaves form) ≡ ends form 0 (block_limit form)
 unfolding places
 deep_order form is =
@@ -317,12 +317,11 @@ deep_order form is =
     ∙ (append_assoc (ends form 0 one ++ ends form (0 + one) (spread n 1)) (ends form (0 + two) (spread n 2)) (ends form (0 + three) (spread n 3))
     ∙ append_assoc (ends form 0 one) (ends form (0 + one) (spread n 1)) (ends form (0 + two) (spread n 2) ++ ends form (0 + three) (spread n 3)))))))))))))
 
--- an i-node that has no places has no paths
+-- a bare block map has no positions and no logical blocks
 bare_order : (form : BlockMap) → form ≡ Bare → map Some (leaves form) ≡ ends form 0 (block_limit form)
 unfolding places
 bare_order form is = rw is refl
 
--- the paths of each block map
 pub orders_ways : OrdersWays
 orders_ways form =
     elim form as (λ f. form ≡ f → (rest : List (List ℕ)) × (map Some (leaves form) ≡ ends form 0 (block_limit form) ++ map Some rest)

@@ -1,4 +1,4 @@
--- The constants in which the two editions differ.
+-- The constants that differ between the two editions.
 use Rattle.std.specs.Prelude.{ℕ, ◌+◌, ◌*◌, List}
 use Rattle.pdp_words.specs.Words.{word, long}
 use Rattle.vol_layout.specs.declared.edition.Edition.{Edition}
@@ -36,7 +36,7 @@ constants V7 = record {
   block_limit = 16777216;
 }
 
--- number j of an array of block numbers at byte `at`: words in the sixth edition, longs in the seventh (filsys.h, fblk.h)
+-- the block number with index j in the array at byte `at`: words in the sixth edition, longs in the seventh (filsys.h, fblk.h)
 abbrev pub number : Edition → List ℕ → ℕ → ℕ → ℕ
 number V6 image at j = word image (at + 2 * j)
 number V7 image at j = long image (at + 4 * j)

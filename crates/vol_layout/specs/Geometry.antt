@@ -1,4 +1,4 @@
--- The division of a volume into blocks, as its super-block says.
+-- The division of a volume into blocks, as stated by its super-block.
 use Rattle.std.specs.Prelude.{◌≡◌, ℕ, ◌+◌, ◌-◌, ◌*◌, ◌<◌, ◌≤◌, Bool, ◌&&◌, nat_lt, nat_le, if◌then◌else◌, List, length, Result, Ok, Err}
 use Rattle.pdp_words.specs.Words.{word, long}
 use Rattle.vol_layout.specs.Edition.{constants}
@@ -8,7 +8,8 @@ use Rattle.vol_layout.specs.declared.geometry.Geometry.{Geometry}
 use Rattle.vol_layout.specs.declared.geometry.GeometryFault.{GeometryFault}
 use Rattle.vol_layout.specs.declared.geometry.GeometryFault.TheVariants.{Short, Bounds}
 
--- the word isize of the super-block: the blocks of the i-list in the sixth edition, the block after it in the seventh (filsys.h)
+-- the word isize of the super-block: the number of blocks of the i-list in the sixth edition, the first block after the i-list in the seventh
+-- (filsys.h)
 abbrev pub list_size : List ℕ → ℕ
 list_size image = word image 512
 
@@ -17,7 +18,7 @@ abbrev pub block_count : Edition → List ℕ → ℕ
 block_count V6 image = word image 514
 block_count V7 image = long image 514
 
--- rule 1: the image has at least 1024 bytes, and at least as many blocks as the super-block says (this project)
+-- rule 1: the image has at least 1024 bytes, and at least as many blocks as the super-block states (this project)
 abbrev pub is_whole : Edition → List ℕ → Bool
 is_whole edition image = nat_le 1024 (length image) && nat_le (512 * block_count edition image) (length image)
 
@@ -49,12 +50,12 @@ unfoldable pub geometry_read : Edition → List ℕ → Result Geometry Geometry
 geometry_read edition image =
     if is_whole edition image then (if is_bounded edition image then Ok (geometry_of edition image) else Err Bounds) else Err Short
 
--- true if a number is that of a data block (icheck)
+-- true if a number is the number of a data block (icheck)
 abbrev pub in_zone : Geometry → ℕ → Bool
 in_zone geometry k = nat_le geometry.zone_start k && nat_lt k geometry.zone_end
 
--- the image has the geometry's blocks, the i-list ends where the data zone begins, the data zone has a block, the root's
--- i-number is below the last, and the edition can store each block number (this project; rules 1 and 2 imply all that)
+-- the image has all blocks of the geometry, the i-list ends where the data zone begins, the data zone has at least one block, the root's i-number is
+-- below the last, and the edition can store each block number (this project; rules 1 and 2 imply all that)
 pub record Fits (geometry : Geometry) (image : List ℕ) : Type 0 where
   pub blocks : 512 * geometry.zone_end ≤ length image
   pub i_list : 1024 + (constants geometry.edition).inode_bytes * geometry.last_inode ≡ 512 * geometry.zone_start

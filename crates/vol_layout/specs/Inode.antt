@@ -10,24 +10,24 @@ use Rattle.vol_layout.specs.declared.mode.Kind.TheVariants as kinds
 use Rattle.vol_layout.specs.declared.mode.Mode.{Mode}
 use Rattle.vol_layout.specs.declared.i_node.Inode.{Inode}
 
--- the kind for the type bits 060000 of an allocated mode (manual section 5 of the sixth edition, file system)
+-- the kind of an allocated i-node with the type bits 060000 of a mode (manual section 5 of the sixth edition, file system)
 abbrev pub kind_of_type_v6 : ℕ → Kind
 kind_of_type_v6 type = if type == 0 then kinds.Regular else if type == 2 then kinds.Directory else kinds.Special
 
--- the kind for the type bits 0170000; both multiplexor types are special files (stat.h of the seventh edition)
+-- the kind of an i-node with the type bits 0170000 of a mode; both multiplexor types are special files (stat.h of the seventh edition)
 abbrev pub kind_of_type_v7 : ℕ → Kind
 kind_of_type_v7 type =
     if type == 8 then kinds.Regular else if type == 4 then kinds.Directory
     else if type == 2 then kinds.Special else if type == 6 then kinds.Special
     else if type == 3 then kinds.Special else if type == 7 then kinds.Special else kinds.Odd
 
--- the kind for a mode: free if it is 0; odd if it isn't a mode of the edition (manual section 5, file system; stat.h)
+-- the kind of an i-node with this mode: free if the mode is 0, odd if it isn't valid in the edition (manual section 5, file system; stat.h)
 unfoldable pub kind_of : Edition → ℕ → Kind
 kind_of V6 mode =
     if mode == 0 then kinds.Free else if nat_lt mode 32768 then kinds.Odd else kind_of_type_v6 (mode / 8192 % 4)
 kind_of V7 mode = if mode == 0 then kinds.Free else kind_of_type_v7 (mode / 4096)
 
--- the permission bits of a mode, with set-uid, set-gid and sticky: those in octal 7777 (manual section 5, file system; stat.h)
+-- the permission bits of a mode, octal 7777, which include set-uid, set-gid and sticky (manual section 5, file system; stat.h)
 abbrev pub permissions_of : ℕ → ℕ
 permissions_of mode = mode % 4096
 
@@ -40,11 +40,12 @@ is_large V7 mode = false
 abbrev pub with_large : ℕ → Bool → ℕ
 with_large mode large = mode % 4096 + mode / 8192 * 8192 + (if large then 4096 else 0)
 
--- the mode of the seventh edition for an allocated one of the sixth: the type and the permission bits stay, the large flag is cleared (manual section 5 of the sixth edition, file system; stat.h of the seventh)
+-- a mode of an allocated i-node converted from the sixth edition to the seventh: the type and the permission bits stay, the large flag is cleared
+-- (manual section 5 of the sixth edition, file system; stat.h of the seventh)
 abbrev pub raised_mode : ℕ → ℕ
 raised_mode mode = (if mode / 8192 % 4 == 0 then 32768 else mode / 8192 % 4 * 8192) + mode % 4096
 
--- the byte at which i-node i begins: the i-list begins in block 2, with i-number 1 (manual section 5, file system)
+-- the byte at which i-node i begins: i-node 1 is the first of the i-list, which begins at block 2 (manual section 5, file system)
 abbrev pub inode_place : Edition → ℕ → ℕ
 inode_place edition i = 1024 + (constants edition).inode_bytes * (i - 1)
 
@@ -53,11 +54,11 @@ abbrev pub address_at : Edition → List ℕ → ℕ → ℕ → ℕ
 address_at V6 image at k = if nat_lt k 8 then word image (at + 8 + 2 * k) else 0
 address_at V7 image at k = addr3 image (at + 12 + 3 * k)
 
--- all addresses of the i-node at byte `at`, 13 values; the sixth edition has the first 8 (manual section 5, file system; ino.h)
+-- all addresses of the i-node at byte `at`, as 13 values; the sixth edition has only the first 8 (manual section 5, file system; ino.h)
 unfoldable pub addresses_at : Edition → List ℕ → ℕ → List ℕ
 addresses_at edition image at = map (address_at edition image at) (range_with_len 0 13)
 
--- the size in the i-node at byte `at`: 24 bits in the sixth edition, the high 8 first; a long in the seventh (ino.h)
+-- the size in the i-node at byte `at`: 24 bits in the sixth edition, the high 8 bits first; a long in the seventh (ino.h)
 abbrev pub size_at : Edition → List ℕ → ℕ → ℕ
 size_at V6 image at = 65536 * slice_index image (at + 5) + word image (at + 6)
 size_at V7 image at = long image (at + 8)
@@ -67,7 +68,7 @@ abbrev pub address_count : Edition → ℕ
 address_count V6 = 8
 address_count V7 = 13
 
--- the offset of the addresses in an i-node; the size is right before them in both editions (ino.h)
+-- the offset of the addresses in an i-node; the size comes right before them in both editions (ino.h)
 abbrev pub address_offset : Edition → ℕ
 address_offset V6 = 8
 address_offset V7 = 12
@@ -119,12 +120,12 @@ inode_at V7 image at = record {
 abbrev pub inode_of : Edition → List ℕ → ℕ → Inode
 inode_of edition image i = inode_at edition image (inode_place edition i)
 
--- the time of a new i-node's last change, which the sixth edition doesn't store (ino.h)
+-- the time of the last change of a new i-node, which the sixth edition doesn't store (ino.h)
 abbrev pub first_change : Edition → ℕ → Option ℕ
 first_change V6 now = None
 first_change V7 now = Some now
 
--- the i-node of a new node: it has no bytes and no addresses, and all its times are `now` (Lions on maknode, ialloc)
+-- a new i-node: its size is 0, it has no addresses, and all its times are `now` (Lions on maknode, ialloc)
 abbrev pub new_inode : Edition → Mode → ℕ → ℕ → ℕ → ℕ → Inode
 new_inode edition bits count uid gid now = record {
   mode = bits;
@@ -138,7 +139,7 @@ new_inode edition bits count uid gid now = record {
   changed = first_change edition now;
 }
 
--- the i-node's values fit the fields of the edition, and those that it lacks are zero or None (manual section 5, file system; ino.h)
+-- the values of an i-node fit the fields of the edition, and fields that the edition lacks are zero or None (manual section 5, file system; ino.h)
 pub data IsStorable : Edition → Inode → Type 0 where
   in_v6 : {node : Inode} → node.links < 256 → node.uid < 256 → node.gid < 256 → node.size < 16777216
       → ((k : ℕ) → k < 8 → slice_index node.addresses k < 65536)
@@ -146,7 +147,8 @@ pub data IsStorable : Edition → Inode → Type 0 where
       → node.changed ≡ None → IsStorable V6 node
   in_v7 : {node : Inode} → ((k : ℕ) → slice_index node.addresses k < 16777216) → IsSome node.changed → IsStorable V7 node
 
--- the i-node of the seventh edition for an allocated one of the sixth, before it has blocks: it was changed at `now`, and all fields except its addresses and the large flag stay (manual section 5 of the sixth edition, file system; ino.h of the seventh)
+-- an allocated i-node converted from the sixth edition to the seventh, without blocks: the addresses are removed, the large flag is cleared, the last
+-- change is at `now`, and the other fields stay (manual section 5 of the sixth edition, file system; ino.h of the seventh)
 abbrev pub raised_inode : Inode → ℕ → Inode
 raised_inode node now =
     record node { mode = record { bits = raised_mode node.mode.bits }; addresses = replicate 13 0; changed = Some now }

@@ -5,29 +5,27 @@ ghost use Rattle.std.specs.Option.{option_map};
 use crate::edition::Edition;
 use crate::mode::{Kind, Mode};
 
-/// A block map: how the addresses of an i-node lead to a file's blocks.
+/// A block map: how the addresses of an i-node point to the blocks of a file.
 #[derive(Clone, Copy)]
 pub enum BlockMap {
-    /// Sixth edition, without the large flag: eight addresses of data blocks.
+    /// Sixth edition, large flag clear: eight addresses of data blocks.
     Small,
-    /// Sixth edition, with the large flag: seven addresses of indirect blocks, and an eighth of a
-    /// doubly indirect one.
+    /// Sixth edition, large flag set: seven addresses of indirect blocks, and an eighth of a doubly indirect block.
     Large,
-    /// Seventh edition: ten addresses of data blocks, and one each of an indirect, a doubly indirect
-    /// and a triply indirect block.
+    /// Seventh edition: ten addresses of data blocks, and one address each of an indirect, a doubly indirect and a triply indirect block.
     Deep,
-    /// An i-node that has no blocks: a free, special or odd one.
+    /// An i-node without blocks: its kind is free, special or odd.
     Bare,
 }
 
-/// The block path of a logical block, from the i-node down: an address, and an entry of each indirect block after it.
+/// The path from an i-node down to a logical block: the index of an address, and the index of an entry in each indirect block.
 #[derive(Clone, Copy)]
 pub struct BlockPath {
-    /// The index of an address of the i-node, from 0.
+    /// The index of the i-node's address, from 0.
     pub address: usize,
-    /// The index of an entry of each indirect block, from 0; those from `depth` on are unused.
+    /// The index of the entry in each indirect block, from 0. Entries at index `depth` and later are unused.
     pub entries: [u32; 3],
-    /// The number of indirect blocks.
+    /// The number of indirect blocks on the path.
     pub depth: usize,
 }
 
@@ -60,7 +58,7 @@ impl BlockMap {
         }
     }
 
-    /// Returns the number of addresses of an i-node that are places of a file with this block map.
+    /// Returns the number of addresses that an i-node with this block map uses.
     pub fn address_count(self) -> usize
         ensures { result ≡ first_count self }
     {
@@ -85,7 +83,7 @@ impl BlockMap {
         }
     }
 
-    /// Returns the block path of a logical block, or `None` past the blocks that a file with this block map can have.
+    /// Returns the path to a logical block, or `None` if a file with this block map can't have that block.
     #[tactic(auto, unfolding(crate::specs::BlockMaps::last_place))]
     pub fn way(self, block: u32) -> Option<BlockPath>
         ensures end { option_map end_of result ≡ last_place self block }
@@ -117,7 +115,7 @@ impl BlockMap {
 }
 
 impl BlockPath {
-    /// Returns the block path that starts at an address and takes the first `depth` of some entries.
+    /// Returns the block path through address `address` and the first `depth` of `entries`.
     fn new(address: u32, entries: [u32; 3], depth: usize) -> BlockPath
         ensures address { result.address ≡ address }
         ensures entries { result.entries ≡ entries }

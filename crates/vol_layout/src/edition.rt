@@ -1,7 +1,7 @@
-//! The two editions, and the constants in which they differ.
+//! The two editions, and the constants that differ between them.
 ghost use Rattle.std.specs.Prelude.{◌≡◌};
 
-/// An edition of Unix, which has its own volume layout.
+/// An edition of Unix. Each edition has its own volume layout.
 #[derive(Clone, Copy, PartialEq, Eq)]
 pub enum Edition {
     /// The Sixth Edition, of 1975.
@@ -25,18 +25,17 @@ pub struct Constants {
     pub number_bytes: usize,
     /// The number of block numbers in an indirect block.
     pub pointers: u32,
-    /// The greatest size of a file, in bytes.
+    /// The greatest size of a file in bytes.
     pub greatest: u32,
-    /// The bound below which all block numbers are.
+    /// The exclusive upper limit of block numbers.
     pub number_limit: u32,
     /// The highest link count.
     pub link_limit: u16,
     /// The highest user and group number.
     pub id_limit: u16,
-    /// The greatest number of blocks of an i-list: an i-number is a word, and each i-node has one.
+    /// The greatest number of blocks of an i-list: an i-number is a word, and each i-node has an i-number.
     pub list_block_limit: u16,
-    /// The greatest number of blocks of a volume: the sixth edition counts them in a word, and in the seventh a block
-    /// number has 24 bits.
+    /// The greatest number of blocks of a volume: the sixth edition counts blocks in a word, and a block number of the seventh has 24 bits.
     pub block_limit: u32,
 }
 

@@ -23,10 +23,10 @@ pub struct Geometry {
 /// The reason why an image has no geometry.
 #[derive(Clone, Copy, Debug, Error)]
 pub enum GeometryFault {
-    /// The image has fewer than 1024 bytes, or fewer blocks than its super-block says: rule 1.
+    /// The image has fewer than 1024 bytes, or fewer blocks than its super-block states (rule 1).
     #[error("rule 1")]
     Short,
-    /// The sizes in the super-block aren't those of a volume: rule 2.
+    /// The sizes in the super-block are out of range (rule 2).
     #[error("rule 2")]
     Bounds,
 }
@@ -73,8 +73,8 @@ impl Geometry {
     }
 }
 
-/// True if a volume's data zone can be at these blocks: the i-list, from block 2 on, and the zone have at least one
-/// block each, and the edition's limits hold.
+/// True if `zone_start` and `zone_end` are valid: the i-list, which begins at block 2, and the data zone have at least one block each, and the sizes
+/// are within the edition's limits.
 fn is_bounded(edition: Edition, zone_start: u32, zone_end: u32) -> bool
     ensures { result ≡ (nat_le 3 zone_start && (nat_le zone_start ((constants edition).list_block_limit + 2)
         && (nat_lt zone_start zone_end && nat_le zone_end (constants edition).block_limit))) }

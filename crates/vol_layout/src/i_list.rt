@@ -1,4 +1,4 @@
-//! The i-list: reading and writing i-nodes in the image.
+//! The i-list: reading and writing the i-nodes of an image.
 ghost use Rattle.std.specs.Prelude.{◌≡◌, ◌+◌, ◌*◌, ◌-◌, ◌≤◌, length, ℕ, ◌<◌, slice_index};
 ghost use Rattle.pdp_words.specs.Words.{SameOutside, word, long, addr3};
 ghost use Rattle.vol_layout.specs.Edition.{constants};
@@ -27,7 +27,7 @@ use crate::i_node::Inode;
 use crate::mode::{Kind, Mode};
 use pdp_words::Image;
 
-/// The offsets of an i-node's fields from its first byte. The mode is at offset 0.
+/// The offsets of the fields of an i-node, in bytes. The mode is at offset 0.
 #[derive(Clone, Copy)]
 struct Offsets {
     links: usize,
@@ -35,8 +35,7 @@ struct Offsets {
     gid: usize,
     size: usize,
     addresses: usize,
-    /// The times of the file's last read, of its last write and, in the seventh edition, of the i-node's last change: a
-    /// long each.
+    /// The offset of the times, a long each: the file's last read, its last write and, in the seventh edition, the i-node's last change.
     times: usize,
 }
 
@@ -68,7 +67,7 @@ fn place_of(edition: Edition, i: u16) -> usize
     1024 + edition.constants().inode_bytes * (i as usize - 1)
 }
 
-/// Returns address `k`, of 13, of the i-node at byte `at`; the sixth edition has the first 8.
+/// Returns address `k` of the i-node at byte `at`. Of the 13 addresses, the sixth edition has the first 8.
 fn address_in(image: &Image, edition: Edition, at: usize, k: usize) -> u32
     requires room { at + (constants edition).inode_bytes ≤ length image.now }
     requires range { k < 13 }
@@ -99,8 +98,7 @@ fn addresses(image: &Image, edition: Edition, at: usize) -> [u32; 13]
     all
 }
 
-/// Returns the size in the i-node at byte `at`: 24 bits in the sixth edition, the high 8 first, and a long in the
-/// seventh.
+/// Returns the size in the i-node at byte `at`: 24 bits in the sixth edition, the high 8 bits first; a long in the seventh.
 fn size_in(image: &Image, edition: Edition, at: usize) -> u32
     requires { at + (constants edition).inode_bytes ≤ length image.now }
     ensures value { result ≡ size_at edition image.now at }
@@ -116,7 +114,7 @@ fn size_in(image: &Image, edition: Edition, at: usize) -> u32
     }
 }
 
-/// Writes the size of the i-node at byte `at`: below 2^24 in the sixth edition.
+/// Writes the size of the i-node at byte `at`. In the sixth edition the size must be below 2^24.
 fn put_size_in(image: &mut Image, edition: Edition, at: usize, size: u32)
     requires room { at + (constants edition).inode_bytes ≤ length image.old }
     requires range { edition ≡ Edition.V6 → size < 16777216 }
@@ -134,7 +132,7 @@ fn put_size_in(image: &mut Image, edition: Edition, at: usize, size: u32)
     }
 }
 
-/// Writes address `k` of the i-node at byte `at`: of 8 addresses in the sixth edition, of 13 in the seventh.
+/// Writes address `k` of the i-node at byte `at`. The sixth edition has 8 addresses, the seventh 13.
 fn put_address_in(image: &mut Image, edition: Edition, at: usize, k: usize, value: u32)
     requires room { at + (constants edition).inode_bytes ≤ length image.old }
     requires index { k < address_count edition }
@@ -167,7 +165,7 @@ fn put_addresses(image: &mut Image, edition: Edition, at: usize, addresses: &[u3
     }
 }
 
-/// Returns i-node `i` of a volume, from 1 to the last. [`put_inode`] can write it back, changed or not.
+/// Returns i-node `i`, an i-number of the volume. [`put_inode`] can write it back, changed or not.
 #[tactic(auto, unfolding(crate::specs::Inode::inode_at))]
 pub fn inode(image: &Image, geometry: &Geometry, i: u16) -> Inode
     requires fits { Fits geometry.now image.now }
@@ -208,7 +206,7 @@ pub fn inode(image: &Image, geometry: &Geometry, i: u16) -> Inode
     }
 }
 
-/// Returns the mode of i-node `i` of a volume, from 1 to the last.
+/// Returns the mode of i-node `i`, an i-number of the volume.
 pub fn mode(image: &Image, geometry: &Geometry, i: u16) -> Mode
     requires fits { Fits geometry.now image.now }
     requires first { 1 ≤ i }
@@ -220,7 +218,7 @@ pub fn mode(image: &Image, geometry: &Geometry, i: u16) -> Mode
     }
 }
 
-/// Returns the kind of i-node `i` of a volume, from 1 to the last, as its mode says.
+/// Returns the kind of i-node `i`, an i-number of the volume.
 pub fn kind(image: &Image, geometry: &Geometry, i: u16) -> Kind
     requires fits { Fits geometry.now image.now }
     requires first { 1 ≤ i }
@@ -230,7 +228,7 @@ pub fn kind(image: &Image, geometry: &Geometry, i: u16) -> Kind
     mode(image, geometry, i).kind(geometry.edition)
 }
 
-/// Returns the size of i-node `i` of a volume, from 1 to the last, in bytes.
+/// Returns the size of i-node `i`, an i-number of the volume, in bytes.
 pub fn size(image: &Image, geometry: &Geometry, i: u16) -> u32
     requires fits { Fits geometry.now image.now }
     requires first { 1 ≤ i }
@@ -240,7 +238,8 @@ pub fn size(image: &Image, geometry: &Geometry, i: u16) -> u32
     size_in(image, geometry.edition, place_of(geometry.edition, i))
 }
 
-/// Returns address `k`, of 13, of i-node `i` of a volume, from 1 to the last. The sixth edition has 8; the others are 0.
+/// Returns address `k` of i-node `i`, an i-number of the volume. `k` is below 13; the sixth edition has 8 addresses, and the others are returned as
+/// 0.
 pub fn address(image: &Image, geometry: &Geometry, i: u16, k: usize) -> u32
     requires fits { Fits geometry.now image.now }
     requires first { 1 ≤ i }
@@ -251,7 +250,7 @@ pub fn address(image: &Image, geometry: &Geometry, i: u16, k: usize) -> u32
     address_in(image, geometry.edition, place_of(geometry.edition, i), k)
 }
 
-/// Writes the fields before the addresses of a sixth edition i-node, its first 8 bytes.
+/// Writes the first 8 bytes of a sixth edition i-node: the fields before its addresses.
 fn put_head_v6(image: &mut Image, at: usize, node: &Inode)
     requires room { at + 32 ≤ length image.old }
     requires storable { IsStorable Edition.V6 node.now }
@@ -270,7 +269,7 @@ fn put_head_v6(image: &mut Image, at: usize, node: &Inode)
     put_size_in(image, Edition::V6, at, node.size);
 }
 
-/// Writes the fields before the addresses of a seventh edition i-node, its first 12 bytes.
+/// Writes the first 12 bytes of a seventh edition i-node: the fields before its addresses.
 fn put_head_v7(image: &mut Image, at: usize, node: &Inode)
     requires room { at + 64 ≤ length image.old }
     ensures mode { word image.new at ≡ node.now.mode.bits }
@@ -288,7 +287,7 @@ fn put_head_v7(image: &mut Image, at: usize, node: &Inode)
     put_size_in(image, Edition::V7, at, node.size);
 }
 
-/// Writes the times that both editions have, two longs from byte `at` on.
+/// Writes the two times that both editions have, as two longs at byte `at`.
 fn put_times(image: &mut Image, at: usize, node: &Inode)
     requires room { at + 8 ≤ length image.old }
     ensures accessed { long image.new at ≡ node.now.accessed }
@@ -328,8 +327,8 @@ fn put_v7(image: &mut Image, at: usize, node: &Inode)
     image.put_long(at + SEVENTH.times + 8, node.changed.unwrap_or(0));
 }
 
-/// Writes i-node `i` of a volume, from 1 to the last. Its values must fit the edition's fields; those that the edition
-/// lacks are zero or `None`. Byte 51 of a seventh edition i-node stays.
+/// Writes i-node `i`, an i-number of the volume. The values must fit the edition's fields, and fields that the edition lacks must be zero or `None`.
+/// Byte 51 of a seventh edition i-node is not changed.
 pub fn put_inode(image: &mut Image, geometry: &Geometry, i: u16, node: &Inode)
     requires fits { Fits geometry.now image.old }
     requires first { 1 ≤ i }
@@ -348,8 +347,7 @@ pub fn put_inode(image: &mut Image, geometry: &Geometry, i: u16, node: &Inode)
     }
 }
 
-/// Writes address `k` of i-node `i` of a volume, from 1 to the last: of 8 addresses in the sixth edition, of 13 in the
-/// seventh. No other byte changes.
+/// Writes address `k` of i-node `i`, an i-number of the volume. The sixth edition has 8 addresses, the seventh 13. No other byte changes.
 pub fn put_address(image: &mut Image, geometry: &Geometry, i: u16, k: usize, value: u32)
     requires fits { Fits geometry.now image.old }
     requires first { 1 ≤ i }
@@ -364,8 +362,7 @@ pub fn put_address(image: &mut Image, geometry: &Geometry, i: u16, k: usize, val
     put_address_in(image, geometry.edition, at, k, value);
 }
 
-/// Copies the eight addresses of sixth edition i-node `i`, from 1 to the last, to byte `to`. One copy
-/// of 16 bytes.
+/// Copies the eight addresses of the sixth edition i-node `i`, an i-number of the volume, to byte `to`, as one copy of 16 bytes.
 pub fn copy_addresses(image: &mut Image, geometry: &Geometry, i: u16, to: usize)
     requires edition { geometry.now.edition ≡ Edition.V6 }
     requires fits { Fits geometry.now image.old }
@@ -379,7 +376,7 @@ pub fn copy_addresses(image: &mut Image, geometry: &Geometry, i: u16, to: usize)
     image.copy_within(place_of(geometry.edition, i) + SIXTH.addresses, 16, to);
 }
 
-/// Clears the eight addresses of sixth edition i-node `i`, from 1 to the last.
+/// Clears the eight addresses of the sixth edition i-node `i`, an i-number of the volume.
 pub fn clear_addresses(image: &mut Image, geometry: &Geometry, i: u16)
     requires edition { geometry.now.edition ≡ Edition.V6 }
     requires fits { Fits geometry.now image.old }
@@ -393,8 +390,7 @@ pub fn clear_addresses(image: &mut Image, geometry: &Geometry, i: u16)
     image.clear(at + SIXTH.addresses, at + SIXTH.times);
 }
 
-/// Writes the size of i-node `i` of a volume, from 1 to the last, in bytes: below 2^24 in the sixth edition. No other
-/// byte changes.
+/// Writes the size of i-node `i`, an i-number of the volume, in bytes. In the sixth edition the size must be below 2^24. No other byte changes.
 pub fn put_size(image: &mut Image, geometry: &Geometry, i: u16, size: u32)
     requires fits { Fits geometry.now image.old }
     requires first { 1 ≤ i }
@@ -408,7 +404,7 @@ pub fn put_size(image: &mut Image, geometry: &Geometry, i: u16, size: u32)
     put_size_in(image, geometry.edition, at, size);
 }
 
-/// Writes the mode of i-node `i` of a volume, from 1 to the last. No other byte changes.
+/// Writes the mode of i-node `i`, an i-number of the volume. No other byte changes.
 pub fn put_mode(image: &mut Image, geometry: &Geometry, i: u16, mode: Mode)
     requires fits { Fits geometry.now image.old }
     requires first { 1 ≤ i }
@@ -420,7 +416,7 @@ pub fn put_mode(image: &mut Image, geometry: &Geometry, i: u16, mode: Mode)
     image.put_word(place_of(geometry.edition, i), mode.bits);
 }
 
-/// Clears all bytes of i-node `i`, from 1 to the last, which frees it.
+/// Frees i-node `i`, an i-number of the volume, by clearing all its bytes.
 pub fn clear_inode(image: &mut Image, geometry: &Geometry, i: u16)
     requires fits { Fits geometry.now image.old }
     requires first { 1 ≤ i }

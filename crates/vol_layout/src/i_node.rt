@@ -4,7 +4,7 @@ ghost use Rattle.std.specs.Prelude.{◌≡◌, ◌≤◌};
 use crate::edition::Edition;
 use crate::mode::Mode;
 
-/// The values of an i-node, in either layout.
+/// An i-node of either edition.
 #[derive(Clone, Copy)]
 pub struct Inode {
     /// The type and permissions.
@@ -15,9 +15,9 @@ pub struct Inode {
     pub uid: u16,
     /// The owner's group.
     pub gid: u16,
-    /// The size, in bytes.
+    /// The size in bytes.
     pub size: u32,
-    /// The addresses; the sixth edition has eight.
+    /// The addresses. The sixth edition has only the first eight.
     pub addresses: [u32; 13],
     /// The time of the file's last read, in seconds.
     pub accessed: u32,
@@ -30,7 +30,7 @@ pub struct Inode {
 impl Inode {
     ghost use Rattle.vol_layout.specs.Inode.{new_inode, raised_inode, IsStorable};
 
-    /// Returns the i-node of a new node: it has no bytes and no addresses, and all its times are `now`, in seconds.
+    /// Returns a new i-node: its size is 0, it has no addresses, and all its times are `now`, in seconds.
     pub fn new(edition: Edition, mode: Mode, links: u16, uid: u16, gid: u16, now: u32) -> Inode
         ensures { result ≡ new_inode edition mode links uid gid now }
     {
@@ -50,8 +50,8 @@ impl Inode {
         }
     }
 
-    /// Returns the seventh edition's form of this allocated i-node of the sixth, changed at `now` in seconds: without
-    /// addresses and without the large flag. The rest stays.
+    /// Converts this allocated i-node of the sixth edition to the seventh: removes the addresses, clears the large flag, and sets the time of the
+    /// last change to `now`, in seconds. The other fields stay.
     pub fn raised(self, now: u32) -> Inode
         requires allocated { 32768 ≤ self.mode.bits }
         ensures value { result ≡ raised_inode self now }

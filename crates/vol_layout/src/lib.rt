@@ -1,5 +1,4 @@
-//! The layout of a volume in both editions: its geometry, the super-block, i-nodes and directory slots, read from the
-//! image and written to it.
+//! The layout of a volume in both editions: reads and writes its geometry, super-block, i-nodes and directory slots.
 #![tactic(auto)]
 
 pub mod block_map;

@@ -14,27 +14,27 @@ pub enum Kind {
     Directory,
     /// A character or block special file, or in the seventh edition one of the two multiplexor types.
     Special,
-    /// The mode is not one of the edition's.
+    /// The mode is not a valid mode of the edition.
     Odd,
 }
 
 /// The mode word of an i-node.
 #[derive(Clone, Copy)]
 pub struct Mode {
-    /// The word as it is stored.
+    /// The mode word as stored.
     pub bits: u16,
 }
 
-/// The bit with which the sixth edition marks an i-node as allocated.
+/// The bit that marks an allocated i-node in the sixth edition.
 const ALLOCATED: u16 = 0o100000;
 
-/// The bit with which the sixth edition marks a large file.
+/// The bit that marks a large file in the sixth edition.
 const LARGE: u16 = 0o010000;
 
 /// The type bits of an allocated i-node in the sixth edition.
 const SIXTH_TYPE: u16 = 0o060000;
 
-/// The type bits in the seventh edition.
+/// The type bits of a mode in the seventh edition.
 const SEVENTH_TYPE: u16 = 0o170000;
 
 /// The permission bits, with set-uid, set-gid and sticky.
@@ -67,7 +67,7 @@ impl Mode {
         }
     }
 
-    /// Returns the permission bits, with set-uid, set-gid and sticky: those in octal 7777.
+    /// Returns the permission bits, octal 7777, which include set-uid, set-gid and sticky.
     pub fn permissions(self) -> u16
         ensures { result ≡ permissions_of self.bits }
     {
@@ -85,20 +85,20 @@ impl Mode {
         }
     }
 
-    /// Returns the mode of a new regular file with the permission bits in octal 7777.
+    /// Returns the mode of a new regular file with these permission bits (octal 7777).
     #[tactic(auto, unfolding(crate::specs::Inode::kind_of))]
     pub fn regular(edition: Edition, permissions: u16) -> Mode
         ensures kind { kind_of edition result.bits ≡ Kind.Regular }
         ensures permissions { permissions_of result.bits ≡ permissions % 4096 }
         ensures small { is_large edition result.bits ≡ false }
     {
-        // Both editions have 0100000 here: allocated in the sixth, a regular file in the seventh.
+        // Bit 0100000 means allocated in the sixth edition and regular file in the seventh.
         Mode {
             bits: 0o100000 | (permissions & PERMISSIONS),
         }
     }
 
-    /// Returns the mode of a new directory with the permission bits in octal 7777.
+    /// Returns the mode of a new directory with these permission bits (octal 7777).
     #[tactic(auto, unfolding(crate::specs::Inode::kind_of))]
     pub fn directory(edition: Edition, permissions: u16) -> Mode
         ensures kind { kind_of edition result.bits ≡ Kind.Directory }
@@ -114,7 +114,7 @@ impl Mode {
         }
     }
 
-    /// Returns this mode with other permission bits, those in octal 7777. The kind and the large flag stay.
+    /// Returns this mode with its permission bits (octal 7777) replaced. The kind and the large flag stay.
     #[tactic(auto, using(crate::proofs::BitLaws::permissions_put))]
     pub fn with_permissions(self, permissions: u16) -> Mode
         ensures { result.bits ≡ self.bits / 4096 * 4096 + permissions % 4096 }
@@ -124,7 +124,7 @@ impl Mode {
         }
     }
 
-    /// Returns this mode with or without the sixth edition's large flag. An allocated i-node's kind stays.
+    /// Returns this mode with the sixth edition's large flag set or cleared. The kind of an allocated i-node stays.
     #[tactic(auto, using(crate::proofs::BitLaws::large_set, crate::proofs::BitLaws::large_cleared), unfolding(crate::specs::Inode::kind_of))]
     pub fn with_large(self, large: bool) -> Mode
         ensures bits { result.bits ≡ with_large self.bits large }
@@ -141,8 +141,8 @@ impl Mode {
         }
     }
 
-    /// Returns the seventh edition's form of this allocated mode of the sixth: the kind, a special file's type and the
-    /// permission bits stay. The large flag is cleared.
+    /// Converts this mode of an allocated i-node from the sixth edition to the seventh: keeps the kind, the type of a special file and the permission
+    /// bits, and clears the large flag.
     pub fn raised(self) -> Mode
         requires allocated { 32768 ≤ self.bits }
         ensures bits { result.bits ≡ raised_mode self.bits }

@@ -1,5 +1,5 @@
-//! Arrays of block numbers: in the super-block, in the chain blocks of the free list, and in the indirect blocks of
-//! files. The numbers are words in the sixth edition, longs in the seventh.
+//! Arrays of block numbers: in the super-block, in the chain blocks of the free list, and in indirect blocks. The numbers are words in the sixth
+//! edition and longs in the seventh.
 ghost use Rattle.std.specs.Prelude.{◌≡◌, ◌+◌, ◌*◌, ◌<◌, ◌≤◌, length};
 ghost use Rattle.pdp_words.specs.Words.{SameOutside};
 ghost use Rattle.vol_layout.specs.Edition.{constants, number};
@@ -7,7 +7,7 @@ ghost use Rattle.vol_layout.specs.Edition.{constants, number};
 use crate::edition::Edition;
 use pdp_words::Image;
 
-/// Returns number `j` of the array that begins at byte `at`.
+/// Returns the block number with index `j` in the array at byte `at`.
 pub fn number(image: &Image, edition: Edition, at: usize, j: usize) -> u32
     requires { at + (constants edition).number_bytes * (j + 1) ≤ length image.now }
     ensures { result ≡ number edition image.now at j }
@@ -19,7 +19,7 @@ pub fn number(image: &Image, edition: Edition, at: usize, j: usize) -> u32
     }
 }
 
-/// Writes number `j` of the array that begins at byte `at`.
+/// Writes the block number with index `j` in the array at byte `at`.
 pub fn put_number(image: &mut Image, edition: Edition, at: usize, j: usize, value: u32)
     requires room { at + (constants edition).number_bytes * (j + 1) ≤ length image.old }
     requires range { edition ≡ Edition.V6 → value < 65536 }

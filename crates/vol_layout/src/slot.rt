@@ -9,22 +9,22 @@ use pdp_words::words;
 /// The number of bytes in a slot.
 pub const SLOT: usize = 16;
 
-/// The number of bytes in the name of a slot.
+/// The number of bytes of the name in a slot.
 pub const NAME: usize = 14;
 
-/// A slot of a directory: an i-number, 0 if the slot is empty, and 14 bytes of name.
+/// A directory slot: an i-number, which is 0 if the slot is empty, and 14 bytes of name.
 #[derive(Clone, Copy)]
 pub struct Slot {
-    /// The i-number that the entry names, or 0 if the slot is empty.
+    /// The i-number of the entry, or 0 if the slot is empty.
     pub inode: u16,
-    /// The name, followed by zero bytes if it is shorter.
+    /// The name, padded with zero bytes.
     pub name: [u8; NAME],
 }
 
 impl Slot {
     ghost use Rattle.vol_layout.specs.Slot.{slot_at, name_of};
 
-    /// Returns the slot in the 16 bytes from `at` on.
+    /// Reads the slot from the 16 bytes at index `at`.
     pub fn read(bytes: &[u8], at: usize) -> Slot
         requires { at + 16 ≤ length bytes.now }
         ensures { result ≡ slot_at bytes.now at }
@@ -37,7 +37,7 @@ impl Slot {
         }
     }
 
-    /// Writes the slot to the 16 bytes from `at` on.
+    /// Writes the slot to the 16 bytes at index `at`.
     pub fn put(&self, bytes: &mut [u8], at: usize)
         requires { at + 16 ≤ length bytes.old }
         ensures put { slot_at bytes.new at ≡ self.now }
@@ -58,7 +58,7 @@ impl Slot {
         bytes
     }
 
-    /// Returns a slot with a name of at most 14 bytes for an i-number.
+    /// Returns a slot with this i-number and this name, which has at most 14 bytes.
     pub fn new(inode: u16, name: &[u8]) -> Slot
         requires { length name.now ≤ 14 }
         ensures inode { result.inode ≡ inode }
@@ -80,7 +80,7 @@ impl Slot {
     }
 }
 
-/// Returns the position of the first zero byte, or the length if there is none.
+/// Returns the index of the first zero byte, or the length if there is none.
 #[tactic(auto, using(std::proofs::lemmas::List::Sums::position_or_len_is))]
 fn first_zero(bytes: &[u8]) -> usize
     ensures place { result ≡ position_or_len (λ c. c == 0) bytes.now }

@@ -7,7 +7,7 @@ use crate::edition::Edition;
 use crate::numbers::{number, put_number};
 use pdp_words::Image;
 
-/// A flag byte of the super-block, from when the volume was mounted by the system.
+/// A flag byte of the super-block, which the system used while the volume was mounted.
 #[derive(Clone, Copy)]
 pub enum Flag {
     /// `s_flock`: the free list was in use.
@@ -23,7 +23,7 @@ pub enum Flag {
 impl Flag {
     ghost use Rattle.vol_layout.specs.Super.{flag_offset};
 
-    /// Returns the offset of the byte from the first of the flags.
+    /// Returns the offset of the flag from the first flag byte.
     fn offset(self) -> usize
         ensures { result ≡ flag_offset self }
     {
@@ -36,18 +36,17 @@ impl Flag {
     }
 }
 
-/// The byte at which the super-block begins; it has 512 bytes.
+/// The byte at which the super-block begins. The super-block has 512 bytes.
 pub const SUPER: usize = 512;
 
-/// The number of bytes of a count and its array. The free list has one in the super-block and one in each chain block: 2
-/// bytes, and then 100 words in the sixth edition or 50 longs in the seventh.
+/// The size in bytes of a free list array with its count: 2 bytes for the count, and 100 words in the sixth edition or 50 longs in the seventh. The
+/// super-block has one such array, and so has each chain block.
 pub const HEAD_BYTES: usize = 202;
 
-/// The super-block of an image of some edition: each method reads or writes one field, in an image of at least 1024
-/// bytes.
+/// The super-block of an image. Each method reads or writes one field, in an image of at least 1024 bytes.
 #[derive(Clone, Copy)]
 pub struct Super {
-    /// The edition, which gives the super-block's layout.
+    /// The edition, which determines the layout.
     pub edition: Edition,
 }
 
@@ -55,7 +54,7 @@ impl Super {
     ghost use Rattle.vol_layout.specs.Geometry.{list_size, block_count};
     ghost use Rattle.vol_layout.specs.Super.{free_head, cache_head, flag_place, time_place};
 
-    /// Returns `s_isize`: the number of blocks of the i-list in the sixth edition, the first block after it in the seventh.
+    /// Returns `s_isize`: the number of blocks of the i-list in the sixth edition, the first block after the i-list in the seventh.
     pub fn list_size(self, image: &Image) -> u16
         requires { 1024 ≤ length image.now }
         ensures { result ≡ list_size image.now }
@@ -97,7 +96,7 @@ impl Super {
         }
     }
 
-    /// Returns the byte at which the free list begins: its count, and then its array. A chain block begins in the same way.
+    /// Returns the byte at which the free list begins: its count, followed by its array. A chain block has the same layout.
     pub fn free_head(self) -> usize
         ensures { result ≡ free_head self.edition }
     {
@@ -107,7 +106,7 @@ impl Super {
         }
     }
 
-    /// Returns `s_nfree`: the number of block numbers in use in the free array.
+    /// Returns `s_nfree`: the number of block numbers in use in the free list array.
     pub fn free_count(self, image: &Image) -> u16
         requires { 1024 ≤ length image.now }
         ensures { result ≡ word image.now (free_head self.edition) }
@@ -124,7 +123,7 @@ impl Super {
         image.put_word(self.free_head(), value);
     }
 
-    /// Returns number `j` of `s_free`, the free array, which has 100 in the sixth edition and 50 in the seventh.
+    /// Returns block number `j` of `s_free`, the free list array, which has 100 numbers in the sixth edition and 50 in the seventh.
     pub fn free(self, image: &Image, j: usize) -> u32
         requires room { 1024 ≤ length image.now }
         requires range { j < (constants self.edition).free_slots }
@@ -133,7 +132,7 @@ impl Super {
         number(image, self.edition, self.free_head() + 2, j)
     }
 
-    /// Writes number `j` of the free array: a word in the sixth edition, a long in the seventh.
+    /// Writes block number `j` of the free list array: a word in the sixth edition, a long in the seventh.
     pub fn put_free(self, image: &mut Image, j: usize, value: u32)
         requires room { 1024 ≤ length image.old }
         requires index { j < (constants self.edition).free_slots }
@@ -146,7 +145,7 @@ impl Super {
         put_number(image, self.edition, self.free_head() + 2, j, value);
     }
 
-    /// Returns the byte at which the i-number cache begins: its count, and then its array of 100 words.
+    /// Returns the byte at which the i-number cache begins: its count, followed by its array of 100 words.
     pub fn cache_head(self) -> usize
         ensures { result ≡ cache_head self.edition }
     {
@@ -193,7 +192,7 @@ impl Super {
         image.put_word(self.cache_head() + 2 + 2 * j, value);
     }
 
-    /// Returns a flag byte, as it is stored.
+    /// Returns a flag byte.
     pub fn flag(self, image: &Image, flag: Flag) -> u8
         requires { 1024 ≤ length image.now }
         ensures { result ≡ slice_index image.now (flag_place self.edition flag) }
@@ -211,7 +210,7 @@ impl Super {
         image.put_byte(self.flag_place(flag), value);
     }
 
-    /// Returns the position of a flag byte.
+    /// Returns the byte at which a flag is stored.
     fn flag_place(self, flag: Flag) -> usize
         ensures place { result ≡ flag_place self.edition flag }
         ensures within { result < 1024 }
@@ -239,7 +238,7 @@ impl Super {
         image.put_long(self.time_place(), value);
     }
 
-    /// Returns the position of the time.
+    /// Returns the byte at which the time is stored.
     fn time_place(self) -> usize
         ensures { result ≡ time_place self.edition }
     {

@@ -12,20 +12,20 @@ use Rattle.vol_volume.specs.declared.queries.Query.TheVariants as queries
 use Rattle.vol_volume.specs.declared.queries.Reply.{Reply}
 use Rattle.vol_listing.specs.Places.{names_in, names_under}
 
--- a result other than out of memory is the answer
+-- if a result isn't out of memory, it is the answer to the query
 answer_is : (tree : Tree) (query : Query) (result : Result Reply Refusal) → Answers tree query result → result ≢ Err refusals.NoMemory → result ≡ answer tree query
 answer_is tree query (Ok reply) answers other = answers
 answer_is tree query (Err refusals.NoMemory) answers other = absurd (other refl)
 answer_is tree query (Err _) answers other = answers
 
--- the names of the directory at a path
+-- the names in the answer to a List are the names of the directory at the path
 names_asked : (tree : Tree) (path asked : List ℕ) (result : Result Reply Refusal) → Answers tree (queries.List user asked) result → asked ≡ path
     → result ≢ Err refusals.NoMemory → names_in result ≡ names_under tree path
 unfolding names_under
 names_asked tree path asked result answers is other =
     ap names_in (answer_is tree (queries.List user asked) result answers other) ∙ ap (λ bytes. names_in (answer tree (queries.List user bytes))) is
 
--- so are those of a result that isn't out of memory
+-- if the result isn't out of memory, it has the names of the directory at the path
 pub names_found : {E : Type 0} (tree : Tree) (path asked : List ℕ) (reply : Result Reply Refusal) (result : Result (Vec (List ℕ × ℕ)) E)
     → Answers tree (queries.List user asked) reply → asked ≡ path → IfOk result (λ names. names.items ≡ names_in reply)
     → OnOk result (reply ≢ Err refusals.NoMemory) → IfOk result (λ names. names.items ≡ names_under tree path)

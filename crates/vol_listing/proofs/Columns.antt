@@ -2,7 +2,7 @@
 use Rattle.std.proofs.Common.{◌≡◌, ℕ, List, ◌++◌, ap, ◌∙◌}
 use Rattle.std.proofs.lemmas.List.{append_assoc}
 
--- one text, and then another
+-- appending one text and then another appends both texts together
 pub appended : (before between after one other : List ℕ) → between ≡ before ++ one → after ≡ between ++ other → after ≡ before ++ (one ++ other)
 appended before between after one other first second =
     second ∙ (ap (λ text. text ++ other) first ∙ append_assoc before one other)

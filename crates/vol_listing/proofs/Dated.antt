@@ -1,4 +1,4 @@
--- The date of a day is that of the calendar.
+-- The date that is found for a day is the one in the calendar.
 use Rattle.std.proofs.Common.{◌≡◌, ℕ, zero, suc, ◌+◌, ◌-◌, ◌*◌, ◌/◌, ◌%◌, ◌<◌, ◌≤◌, inl, inr, refl, arith, ℤ, pos}
 use Rattle.std.proofs.lemmas.Int.{by_lt_z}
 use Rattle.std.proofs.lemmas.Bool.{cases_lt, cases_order, lt-ltb, le-ltb}
@@ -8,14 +8,14 @@ use Rattle.jiff_core.proofs.CalendarLemmas.{day_count-next_year, days_in_year_bo
 use Rattle.vol_listing.specs.Dates.{year_days, month_days, pass_years, pass_months, date_of, moment_text, clock_text}
 use Rattle.vol_listing.specs.Laws.{IsDateAfter, DatesAreOfTheCalendar}
 
--- a year, and the number of its days before a day, from that day's count
+-- a year, and the number of its days before a day, for the day with this count
 record InYear (count : ℕ) (found : ℕ × ℕ) : Type 0 where
   counted : day_count (pos found.0) 1 1 + found.1 ≡ count
   within : found.1 < days_in_year (pos found.0)
   late : 1970 ≤ found.0
   soon : found.0 ≤ 1970 + 136
 
--- the year that is found is the day's
+-- the year that is found is the one of the day
 in_year : (count year days : ℕ) → 1970 ≤ year → year + count ≡ 1970 + 136 → days < 365 * count + 365
     → InYear (day_count (pos year) 1 1 + days) (pass_years count year days)
 unfolding pass_years
@@ -31,14 +31,14 @@ in_year (suc n) year days late end low =
           rw (le-ltb days (year_days year) more) (rw same at (in_year n (year + 1) (days - year_days year) (omega arith) (omega arith) (omega arith)))
     ]
 
--- a month, and the number of its days before a day, from the number of the year's days before it
+-- a month, and the number of its days before a day, for the day with this count in its year
 record InMonth (year : ℕ) (count : ℕ) (found : ℕ × ℕ) : Type 0 where
   counted : days_of_months (pos year) (found.0 - 1) + found.1 ≡ count
   within : found.1 < days_in_month (pos year) found.0
   low : 1 ≤ found.0
   high : found.0 ≤ 12
 
--- the month that is found is the day's
+-- the month that is found is the one of the day
 in_month : (count year month days : ℕ) → 1 ≤ month → month + count ≡ 12 → days_of_months (pos year) (month - 1) + days < days_in_year (pos year)
     → InMonth year (days_of_months (pos year) (month - 1) + days) (pass_months count year month days)
 unfolding pass_months
@@ -62,7 +62,7 @@ in_month (suc n) year month days low end less =
           (rw same at (in_month n year (month + 1) (days - month_days year month) (omega arith) (omega arith) (rw same less)))
     ]
 
--- two dates of one year and one count are the same
+-- two dates of one year with the same day count are the same
 same_day : (y : ℤ) (m d n e : ℕ) → IsCivilDate y m d → IsCivilDate y n e → day_count y m d ≡ day_count y n e → (m ≡ n) × (d ≡ e)
 same_day y m d n e here there same =
     elim (cases_order m n) [
@@ -71,7 +71,7 @@ same_day y m d n e here there same =
       | inr (inr more) ↦ absurd (omega (arith, same, day_count-lt_month y n e m d there here.2.0 more))
     ]
 
--- two dates of one count are the same
+-- two dates with the same day count are the same
 same_date : (y : ℤ) (m d : ℕ) (z : ℤ) (n e : ℕ) → IsCivilDate y m d → IsCivilDate z n e → day_count y m d ≡ day_count z n e
     → (y ≡ z) × (m ≡ n) × (d ≡ e)
 same_date y m d z n e here there same =
@@ -80,7 +80,7 @@ same_date y m d z n e here there same =
     (λ low. let year : y ≡ z = omega (arith, signed_arith) in
     let rest = same_day z m d n e (rw year at here) there (rw year at same) in (year, rest.0, rest.1)))
 
--- the date of a day is the calendar's
+-- the date of a day, up to day 49710, is the one in the calendar
 dated : (days : ℕ) → days ≤ 49710 → IsDateAfter days (date_of days)
 unfolding date_of
 dated days most =
@@ -101,7 +101,7 @@ dated days most =
       only = λ y n e there same. same_date y n e (pos found.0) m d there exists (omega (arith, signed_arith, days_from_civil-day_count y n e, same, count));
     }
 
--- so is a time as it is shown
+-- each time is shown as its date in the calendar and its time of day
 pub shown : DatesAreOfTheCalendar
 unfolding moment_text clock_text
 shown seconds low =

@@ -24,38 +24,38 @@ use Rattle.vol_listing.specs.declared.rows.Row.{Row}
 use Rattle.vol_listing.specs.declared.rows.Sort.{Sort}
 use Rattle.vol_listing.specs.declared.rows.Sort.TheVariants as sorts
 
--- one more byte of ASCII
+-- if all bytes of a text are ASCII, they still are with one more ASCII byte before them
 ascii_more : (b : ℕ) (bytes : List ℕ) → b < 128 → IsAscii bytes → (i : ℕ) → slice_index (b ∷ bytes) i < 128
 ascii_more b bytes low rest zero = low
 ascii_more b bytes low rest (suc i) = rest i
 
--- three octal digits after a backslash
+-- a backslash and three octal digits are ASCII
 digits_ascii : (b : ℕ) → b < 256 → IsAscii (92 ∷ (48 + b / 64) ∷ (48 + b / 8 % 8) ∷ (48 + b % 8) ∷ [])
 digits_ascii b byte =
     ascii_more 92 ((48 + b / 64) ∷ (48 + b / 8 % 8) ∷ (48 + b % 8) ∷ []) (omega arith)
     (ascii_more (48 + b / 64) ((48 + b / 8 % 8) ∷ (48 + b % 8) ∷ []) (omega arith)
     (ascii_more (48 + b / 8 % 8) ((48 + b % 8) ∷ []) (omega arith) (ascii_more (48 + b % 8) [] (omega arith) IsAscii-nil)))
 
--- a byte, escaped
+-- an escaped byte is ASCII
 byte_ascii : (backslash printable : Bool) (b : ℕ) → printable ≡ (nat_le 32 b && nat_lt b 127) → b < 256
     → IsAscii (if backslash then 92 ∷ 92 ∷ [] else if printable then b ∷ [] else 92 ∷ (48 + b / 64) ∷ (48 + b / 8 % 8) ∷ (48 + b % 8) ∷ [])
 byte_ascii true printable b is byte = ascii_more 92 (92 ∷ []) (omega arith) (ascii_more 92 [] (omega arith) IsAscii-nil)
 byte_ascii false true b is byte = let low : b < 128 = grind (arith, nat_tests) in ascii_more b [] low IsAscii-nil
 byte_ascii false false b is byte = digits_ascii b byte
 
--- bytes, escaped
+-- escaped bytes are ASCII
 bytes_ascii : (bytes : List ℕ) → ((i : ℕ) → slice_index bytes i < 256) → IsAscii (flat_map escaped_byte bytes)
 bytes_ascii [] bound = IsAscii-nil
 bytes_ascii (b ∷ bytes) bound =
     IsAscii-append (escaped_byte b) (flat_map escaped_byte bytes) (byte_ascii (b == 92) (nat_le 32 b && nat_lt b 127) b refl (bound 0))
     (bytes_ascii bytes (λ i. bound (suc i)))
 
--- so they are text
+-- escaped bytes are UTF-8
 pub escaped_utf8 : (bytes : List ℕ) → ((i : ℕ) → slice_index bytes i < 256) → IsUtf8 (escaped bytes)
 unfolding escaped
 escaped_utf8 bytes bound = IsUtf8-from_ascii (flat_map escaped_byte bytes) (bytes_ascii bytes bound)
 
--- the members of a device come after the links, and before the time
+-- in the object of a special file the members of its device come after the links and before the time
 device_in_order : (sort : Sort) (gid inode kind links modified path permissions size uid : Data)
     → with_device sort (member (codes "gid") gid (member (codes "inode") inode (member (codes "kind") kind (member (codes "links") links
     (member (codes "modified") modified (member (codes "path") path (member (codes "permissions") permissions (member (codes "size") size (member (codes "uid") uid no_members)))))))))
@@ -71,27 +71,27 @@ pub row_in_order : (path : List ℕ) (row : Row) → object (with_device row.sor
 unfolding row_data with_file with_numbers
 row_in_order path row = ap object (device_in_order row.sort _ _ _ _ _ _ _ _ _)
 
--- no number of a device is a fraction
+-- the members of a device have no fraction
 device_whole : (sort : Sort) (others : Members) → members_have_float others ≡ false → members_have_float (device_members sort others) ≡ false
 device_whole sorts.Regular others whole = whole
 device_whole sorts.Directory others whole = whole
 device_whole (sorts.Character device) others whole = whole
 device_whole (sorts.Block device) others whole = whole
 
--- nor of a row
+-- the object of a row has no fraction
 row_whole : (path : List ℕ) (row : Row) → has_float (row_data path row) ≡ false
 unfolding row_data
 row_whole path row = device_whole row.sort _ refl
 
--- none of these is, or has, a fraction
+-- none of these values has a fraction
 abbrev AreWhole : List Data → Type 0
 AreWhole ds = items_have_float (items_of ds) ≡ false
 
--- so of one more
+-- if a value and a list of values have no fraction, the list with the value before it has none
 whole_more : (d : Data) (ds : List Data) → has_float d ≡ false → AreWhole ds → AreWhole (d ∷ ds)
 whole_more d ds here rest = rw here rest
 
--- and of one list after another
+-- if two lists of values have no fraction, the lists joined have none
 whole_append : (ds es : List Data) → AreWhole ds → AreWhole es → AreWhole (ds ++ es)
 whole_append [] es whole rest = rest
 whole_append (d ∷ ds) es whole rest = both (has_float d) (items_have_float (items_of ds)) (items_have_float (items_of (ds ++ es))) whole (whole_append ds es)
@@ -100,7 +100,7 @@ whole_append (d ∷ ds) es whole rest = both (has_float d) (items_have_float (it
     both true tail all is goes = absurd (cc)
     both false tail all is goes = goes is rest
 
--- no number of the entries of a directory
+-- the objects of the entries of a directory have no fraction
 entries_whole : (tree : Tree) (place : ListedNode) → AreWhole (entries_data tree place)
 unfolding entries_data
 entries_whole tree place = names_whole (names_under tree place.path)
@@ -111,13 +111,13 @@ entries_whole tree place = names_whole (names_under tree place.path)
         whole_more (entry_data tree place.path entry) (map (entry_data tree place.path) names)
         (row_whole (joined place.path entry.0) (row_of entry.1 (node_at tree entry.1))) (names_whole names)
 
--- of several
+-- the objects of the entries of several directories have no fraction
 places_whole : (tree : Tree) (places : List ListedNode) → AreWhole (flat_map (entries_data tree) places)
 places_whole tree [] = refl
 places_whole tree (place ∷ places) =
     whole_append (entries_data tree place) (flat_map (entries_data tree) places) (entries_whole tree place) (places_whole tree places)
 
--- or of all
+-- the objects of a listing have no fraction
 pub all_whole : (tree : Tree) (depth : Depth) (place : ListedNode) (places : List ListedNode) → AreWhole (all_data tree depth place places)
 all_whole tree depth place places =
     elim (opens depth (node_at tree place.inode)) as (λ b. AreWhole (if b then entries_data tree place ++ flat_map (entries_data tree) places
@@ -126,7 +126,7 @@ all_whole tree depth place places =
       | false ↦ whole_more (row_data place.path (row_of place.inode (node_at tree place.inode))) [] (row_whole place.path (row_of place.inode (node_at tree place.inode))) refl
     ]
 
--- nor of a node with its sum
+-- the object of a node with its sum has no fraction
 summed_by : (sum : Option (List ℕ)) (sort : Sort) (path : List ℕ) (row : Row)
     → has_float (object (put (codes "sha256") (sum_data sum) (with_device sort (with_file path row (with_numbers row no_members))))) ≡ false
 unfolding with_file with_numbers
@@ -143,7 +143,7 @@ summed_whole : (sum : Option (List ℕ)) (row : Row) (path : List ℕ) → has_f
 unfolding summed_data
 summed_whole sum row path = summed_by sum row.sort path row
 
--- nor of a manifest
+-- the objects of a manifest have no fraction
 met_whole : (tree : Tree) (found : MetEntry) → AreWhole (met_data tree found)
 met_whole tree found =
     let node = summed_data (sum_at tree found.inode) (row_of found.inode (node_at tree found.inode)) found.path in

@@ -14,7 +14,7 @@ use Rattle.vol_listing.specs.Laws.{ListsNames}
 use Rattle.vol_listing.specs.Lines.{names_text, line_of}
 use Rattle.vol_listing.specs.Places.{names_in, names_under}
 
--- a reply to List has the names of the directory that the walk leads to
+-- if the answer to a List is a reply, it has the names of the directory that the walk leads to
 names_replied : (tree : Tree) (refusal : Option Refusal) (walked : Result ℕ Refusal) (reply : Reply)
     → refused_or refusal (reply_at walked (λ i. replies.Names (names_at tree i))) ≡ Ok reply
     → (i : ℕ) × (walked ≡ Ok i) × (replies.Names (names_at tree i) ≡ reply)
@@ -22,7 +22,7 @@ names_replied tree None (Ok i) reply e = (i, refl, cc)
 names_replied tree None (Err refusal) reply e = absurd (cc)
 names_replied tree (Some refusal) walked reply e = absurd (cc)
 
--- each name of the directory that the path leads to has its line
+-- a listing of the directory at a path has a line for each of its names
 pub lists_names : ListsNames
 unfolding reply_of names_text names_under
 lists_names style tree path reply e =

@@ -20,12 +20,12 @@ use Rattle.vol_listing.specs.Sums.{sum_at, sum_of}
 use Rattle.vol_listing.specs.declared.rows.Sort.{Sort}
 use Rattle.vol_listing.specs.declared.rows.Sort.TheVariants as sorts
 
--- the node of an i-number of the volume, by the kind of its i-node
+-- the node of an i-number of the volume, from the kind of its i-node
 abbrev node_by : Geometry → List ℕ → ℕ → Kind → Node
 node_by geometry image i kind = unwrap_or (option_map (node_with (inode_of geometry.edition image i)) (content_of geometry image i kind)) no_node
 
 module _ (geometry : Geometry) (image : List ℕ) (i : ℕ) where
-  -- another number has no node
+  -- an i-number outside the volume has no node
   node_outside : is_number geometry i ≡ false → node_at (tree geometry image) i ≡ no_node
   unfolding tree
   node_outside number = ap (λ b. unwrap_or (cond b (node_of geometry image i) None) no_node) number
@@ -41,11 +41,11 @@ module _ (geometry : Geometry) (image : List ℕ) (i : ℕ) where
       let last : i ≤ geometry.last_inode = grind (arith, nat_tests) in
       ap (λ n. unwrap_or n no_node) (node_inside geometry image i first last ∙ node_of_kind kind is)
 
-  -- the row of a number without a node
+  -- an i-number outside the volume has the row of an empty file without links
   pub row_outside : is_number geometry i ≡ false → row_of i no_node ≡ row_of i (node_at (tree geometry image) i)
   row_outside number = ap (row_of i) (sym (node_outside number))
 
-  -- rows of the kinds of i-nodes
+  -- the row of an i-node of each kind is the row of its node in the tree
   row_free : is_number geometry i ≡ true → kinds.Free ≡ kind_at geometry image i → row_of i no_node ≡ row_of i (node_at (tree geometry image) i)
   row_free number is = ap (row_of i) (sym (node_is kinds.Free number is))
 
@@ -76,7 +76,7 @@ module _ (geometry : Geometry) (image : List ℕ) (i : ℕ) where
       ∙ (ap (λ bits. row_with i (inode_of geometry.edition image i) (special_sort (bits / 4096) device)) mode
       ∙ ap (row_of i) (sym (node_is kinds.Special number is))))
 
-  -- true if a node is a directory
+  -- an i-number outside the volume is no directory
   pub directory_outside : is_number geometry i ≡ false → is_directory (node_at (tree geometry image) i) ≡ false
   directory_outside number = ap is_directory (node_outside number)
 
@@ -94,7 +94,7 @@ module _ (geometry : Geometry) (image : List ℕ) (i : ℕ) where
   directory_not number other =
       ap is_directory (node_is (kind_at geometry image i) number refl) ∙ no_directory (kind_at geometry image i) other
 
-  -- the sum of an i-node of some kind
+  -- the sum of an i-node of this kind
   abbrev sum_by : Kind → Option (List ℕ)
   sum_by kind =
       option_map_or (λ (n : Node). sum_of n.content) (option_map (node_with (inode_of geometry.edition image i)) (content_of geometry image i kind)) None
@@ -113,7 +113,7 @@ module _ (geometry : Geometry) (image : List ℕ) (i : ℕ) where
   no_sum kinds.Special other = refl
   no_sum kinds.Odd other = refl
 
-  -- only a regular file has a sum
+  -- the sum of a regular file is the SHA-256 of its body
   pub sum_regular : is_number geometry i ≡ true → kinds.Regular ≡ kind_at geometry image i → sum_at (tree geometry image) i ≡ Some (sha256 (body geometry image i))
   sum_regular number is = sum_is kinds.Regular number is
 

@@ -18,18 +18,20 @@ is_short month = (month == 4) || (month == 6) || (month == 9) || (month == 11)
 abbrev pub month_days : ℕ → ℕ → ℕ
 month_days year month = if month == 2 then (if is_leap year then 29 else 28) else if is_short month then 30 else 31
 
--- the year of the day that is `days` days after the beginning of `year`, and the number of days before it in its year: at most `count` years are passed (the Gregorian calendar)
+-- the year of the day that is `days` days after the beginning of `year`, and the number of days of that year before this day; advances by at most
+-- `count` years (the Gregorian calendar)
 unfoldable pub pass_years : ℕ → ℕ → ℕ → ℕ × ℕ
 pass_years zero year days = (year, days)
 pass_years (suc count) year days = if nat_lt days (year_days year) then (year, days) else pass_years count (year + 1) (days - year_days year)
 
--- the month of the day that is `days` days after the beginning of `month`, and the number of days before it in its month: at most `count` months are passed (the Gregorian calendar)
+-- the month of the day that is `days` days after the beginning of `month`, and the number of days of that month before this day; advances by at most
+-- `count` months (the Gregorian calendar)
 unfoldable pub pass_months : ℕ → ℕ → ℕ → ℕ → ℕ × ℕ
 pass_months zero year month days = (month, days)
 pass_months (suc count) year month days =
     if nat_lt days (month_days year month) then (month, days) else pass_months count year (month + 1) (days - month_days year month)
 
--- the date of the day of a year that has this many days before it (the Gregorian calendar)
+-- the date of the day of a year that has this many days of the year before it (the Gregorian calendar)
 abbrev pub date_in : ℕ × ℕ → Date
 date_in found = let month = pass_months 11 found.0 1 found.1 in record { year = found.0; month = month.0; day = month.1 + 1 }
 
@@ -37,7 +39,7 @@ date_in found = let month = pass_months 11 found.0 1 found.1 in record { year = 
 unfoldable pub date_of : ℕ → Date
 date_of days = date_in (pass_years 136 1970 days)
 
--- a digit of a number; weight 1 gives the last (this project)
+-- the digit of a number at a weight; weight 1 is for the last digit (this project)
 abbrev pub digit : ℕ → ℕ → ℕ
 digit weight n = 48 + n / weight % 10
 

@@ -15,7 +15,7 @@ use Rattle.vol_listing.specs.declared.options.Screen.{Screen}
 use Rattle.vol_listing.specs.declared.options.Screen.TheVariants as screens
 use Rattle.vol_listing.specs.declared.places.ListedNode.{ListedNode}
 
--- a name or a path as it is shown: escaped on a terminal, else byte for byte (this project)
+-- a name or a path as it is shown: escaped on a terminal, otherwise unchanged (this project)
 abbrev pub shown : Screen → List ℕ → List ℕ
 shown (screens.Terminal columns colours) name = escaped name
 shown screens.Stream name = name
@@ -39,11 +39,12 @@ names_text style tree path = flat_map (line_of style tree) (names_under tree pat
 unfoldable pub section_text : Style → Tree → ListedNode → List ℕ
 section_text style tree place = shown style.screen place.path ++ (codes ":\n" ++ names_text style tree place.path)
 
--- the same after an empty line (ls -R)
+-- a directory under its path, after an empty line (ls -R)
 abbrev pub other_text : Style → Tree → ListedNode → List ℕ
 other_text style tree place = 10 ∷ section_text style tree place
 
--- the lines of a directory's names and, if its subdirectories are to be listed too, theirs, each directory under its path and separated by an empty line; anything else has one line (ls)
+-- the lines of a directory's names and, if its subdirectories are to be listed too, the lines of their names, each directory under its path and after
+-- an empty line; anything else has one line (ls)
 abbrev pub lines_text : Style → Tree → Depth → ListedNode → List ListedNode → List ℕ
 lines_text style tree depth place places =
     if opens depth (node_at tree place.inode)

@@ -24,7 +24,7 @@ sort_word sorts.Directory = codes "directory"
 sort_word (sorts.Character device) = codes "character"
 sort_word (sorts.Block device) = codes "block"
 
--- the members of a special file's device, its number's high and low byte, put before others (stat.h)
+-- the members of an object, with the device of a special file added, as the high and low byte of its number (stat.h)
 abbrev pub device_members : Sort → Members → Members
 device_members sorts.Regular others = others
 device_members sorts.Directory others = others
@@ -53,7 +53,8 @@ entry_data tree path entry = row_data (joined path entry.0) (row_of entry.1 (nod
 unfoldable pub entries_data : Tree → ListedNode → List Data
 entries_data tree place = map (entry_data tree place.path) (names_under tree place.path)
 
--- the objects of a listing: those of a directory's entries and of the directories below it that are listed; anything else has one object (ls)
+-- the objects of a listing: the objects of a directory's entries, and of the entries of each directory below it that is listed; anything else has one
+-- object (ls)
 abbrev pub all_data : Tree → Depth → ListedNode → List ListedNode → List Data
 all_data tree depth place places =
     if opens depth (node_at tree place.inode)
@@ -64,7 +65,7 @@ all_data tree depth place places =
 abbrev pub json_text : Tree → Depth → ListedNode → List ListedNode → List ℕ
 json_text tree depth place places = compact_text (array (items_of (all_data tree depth place places))) ++ codes "\n"
 
--- members with the numbers that every node has (this project)
+-- the members of an object, with the numbers that every node has added (this project)
 unfoldable pub with_numbers : Row → Members → Members
 with_numbers row members =
     put (codes "uid") (count row.uid)
@@ -72,7 +73,7 @@ with_numbers row members =
     (put (codes "links") (count row.links)
     (put (codes "inode") (count row.number) members)))
 
--- members with the path and the file's kind, permissions, size and time of change (this project)
+-- the members of an object, with the path and the file's kind, permissions, size and time of change added (this project)
 unfoldable pub with_file : List ℕ → Row → Members → Members
 with_file path row members =
     put (codes "modified") (count row.modified)
@@ -81,7 +82,7 @@ with_file path row members =
     (put (codes "kind") (string (sort_word row.sort))
     (put (codes "path") (string (escaped path)) members))))
 
--- members with the device of a special file (this project)
+-- the members of an object, with the device of a special file added (this project)
 abbrev pub with_device : Sort → Members → Members
 with_device sorts.Regular members = members
 with_device sorts.Directory members = members

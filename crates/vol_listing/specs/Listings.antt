@@ -23,11 +23,11 @@ listing_text lines.Json depth screen tree place places = json_text tree depth pl
 abbrev pub shown_path : List ℕ → List ℕ
 shown_path path = if is_nil path then 47 ∷ [] else path
 
--- the place at the top of a listing (this project)
+-- the node at the top of a listing (this project)
 abbrev pub start_of : List ℕ → ℕ → ListedNode
 start_of path i = record { path = shown_path path; inode = i }
 
--- these are the directories below one, if they are to be listed; else there are none (ls -R)
+-- these are the directories below a directory, if they are to be listed; otherwise there are none (ls -R)
 abbrev pub IsBelow : Depth → Tree → ListedNode → List ListedNode → Type 0
 IsBelow depths.Itself tree place places = places ≡ []
 IsBelow depths.Names tree place places = places ≡ []

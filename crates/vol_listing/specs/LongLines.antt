@@ -66,7 +66,7 @@ owner_columns row =
     ++ (column (padded_number row.uid)
     ++ column (padded_number row.gid))))
 
--- the columns of a long line: those, then the size and the time of the last change of the contents, each followed by a space (ls -li)
+-- the columns of a long line: the owner columns, then the size and the time of the last change of the contents, each followed by a space (ls -li)
 unfoldable pub long_columns : Row → List ℕ
 long_columns row = owner_columns row ++ (column (size_text row.sort row.size) ++ column (moment_text row.modified))
 

@@ -16,7 +16,7 @@ use Rattle.vol_volume.specs.declared.queries.Reply.{Reply}
 use Rattle.vol_volume.specs.declared.queries.Reply.TheVariants as replies
 use Rattle.vol_listing.specs.declared.places.ListedNode.{ListedNode}
 
--- an image that can be listed: it is sound, and its geometry is this one (this project)
+-- an image can be listed: it is sound, and this is its geometry (this project)
 pub record IsVolume (geometry : Geometry) (image : List ℕ) : Type 0 where
   pub sound : IsSound geometry.edition image
   pub sizes : geometry ≡ geometry_of geometry.edition image
@@ -37,11 +37,11 @@ names_under tree path = names_in (answer tree (queries.List user path))
 abbrev pub ends_in_slash : List ℕ → Bool
 ends_in_slash path = slice_index path (length path - 1) == 47
 
--- the path of a name in the directory at a path, with a slash between (this project)
+-- the path of a name in the directory at a path, with a slash between the two (this project)
 abbrev pub joined : List ℕ → List ℕ → List ℕ
 joined path name = if ends_in_slash path then path ++ name else path ++ 47 ∷ name
 
--- the place of an entry of the directory at a path (this project)
+-- an entry of the directory at a path, as a listed node (this project)
 abbrev pub place_of : List ℕ → List ℕ × ℕ → ListedNode
 place_of path entry = record { path = joined path entry.0; inode = entry.1 }
 
@@ -49,19 +49,20 @@ place_of path entry = record { path = joined path entry.0; inode = entry.1 }
 abbrev pub is_below : Tree → List ℕ × ℕ → Bool
 is_below tree entry = not (is_dots entry.0) && is_directory (node_at tree entry.1)
 
--- the place of an entry of the directory at a path, if a listing descends into it (ls -R)
+-- an entry of the directory at a path, as a listed node, if a listing descends into it (ls -R)
 abbrev pub directory_below : Tree → List ℕ → List ℕ × ℕ → List ListedNode
 directory_below tree path entry = if is_below tree entry then place_of path entry ∷ [] else []
 
--- the directories in a directory, in ascending order of their names (ls -R)
+-- the subdirectories of a directory, in ascending order of their names (ls -R)
 unfoldable pub below : Tree → ListedNode → List ListedNode
 below tree place = flat_map (directory_below tree place.path) (names_under tree place.path)
 
--- descending into the pending directories gives all these: each in turn, and those in it before the next (ls -R)
+-- all directories that a listing reaches from the pending ones: each pending directory in turn, followed by everything below it before the next (ls
+-- -R)
 pub data Descends (tree : Tree) : List ListedNode → List ListedNode → Type 0 where
   ends : Descends tree [] []
   goes : (place : ListedNode) (pending all : List ListedNode) → Descends tree (below tree place ++ pending) all → Descends tree (place ∷ pending) (place ∷ all)
 
--- all directories below one (ls -R)
+-- all directories below a directory (ls -R)
 abbrev pub AllBelow : Tree → ListedNode → List ListedNode → Type 0
 AllBelow tree place all = Descends tree (below tree place) all

@@ -1,4 +1,4 @@
--- Manifests: the attributes of nodes, with the sum of each file.
+-- Manifests: the attributes of nodes, with the SHA-256 of each file.
 use Rattle.std.specs.Prelude.{ℕ, Bool, true, false, if◌then◌else◌, List, [], ◌∷◌, ◌++◌, codes, Option, None, Some}
 use Rattle.std.specs.List.{flat_map}
 use Rattle.std.specs.Option.{option_map_or}
@@ -30,7 +30,7 @@ sum_of (Device type addresses) = None
 unfoldable pub sum_at : Tree → ℕ → Option (List ℕ)
 sum_at tree i = option_map_or (λ (node : Node). sum_of node.content) (tree.nodes i) None
 
--- a sum in hexadecimal digits, or a dash for a node without one (sha256sum)
+-- a sum as hexadecimal digits, or a dash for a node without a sum (sha256sum)
 abbrev pub sum_text : Option (List ℕ) → List ℕ
 sum_text None = codes "-"
 sum_text (Some sum) = encode_lower sum
@@ -39,7 +39,7 @@ sum_text (Some sum) = encode_lower sum
 unfoldable pub mode_columns : Row → List ℕ
 mode_columns row = column (mode_text row.sort row.permissions) ++ (column (padded_number row.uid) ++ column (padded_number row.gid))
 
--- the same, and its size and the time of the last change of its contents (ls -l)
+-- the mode of a node, its owner, its group, its size and the time of the last change of its contents, each followed by a space (ls -l)
 unfoldable pub attribute_columns : Row → List ℕ
 attribute_columns row =
     mode_columns row ++ (column (size_text row.sort row.size) ++ column (moment_text row.modified))
@@ -48,7 +48,7 @@ attribute_columns row =
 unfoldable pub sum_line : Option (List ℕ) → Row → List ℕ → List ℕ
 sum_line sum row path = column (sum_text sum) ++ (attribute_columns row ++ (escaped path ++ 10 ∷ []))
 
--- true if an entry that was met is left out of an archive (this project)
+-- true if an entry with this role is left out of an archive (this project)
 abbrev pub is_left : Role → Bool
 is_left (roles.Left reason) = true
 is_left roles.File = false
@@ -56,34 +56,34 @@ is_left roles.Directory = false
 is_left roles.Special = false
 is_left (roles.Link k) = false
 
--- the line of an entry that was met, unless it is left out (this project)
+-- the line of an entry that the walk found, unless it is left out (this project)
 abbrev pub met_line : Tree → MetEntry → List ℕ
 met_line tree found =
     if is_left found.role then [] else sum_line (sum_at tree found.inode) (row_of found.inode (node_at tree found.inode)) found.path
 
--- the lines of the entries that were met (this project)
+-- the lines of the entries that the walk found (this project)
 abbrev pub sums_text : Tree → List MetEntry → List ℕ
 sums_text tree founds = flat_map (met_line tree) founds
 
--- a sum in hexadecimal digits, or null for a node without one (this project)
+-- a sum as hexadecimal digits, or null for a node without a sum (this project)
 abbrev pub sum_data : Option (List ℕ) → Data
 sum_data None = null
 sum_data (Some sum) = string (encode_lower sum)
 
--- the object of a node at a path: that of a listing, and its sum (this project)
+-- the object of a node at a path: the members that it has in a listing, and its sum (this project)
 unfoldable pub summed_data : Option (List ℕ) → Row → List ℕ → Data
 summed_data sum row path = object (put (codes "sha256") (sum_data sum) (with_device row.sort (with_file path row (with_numbers row no_members))))
 
--- the object of an entry that was met, unless it is left out (this project)
+-- the object of an entry that the walk found, unless it is left out (this project)
 abbrev pub met_data : Tree → MetEntry → List Data
 met_data tree found =
     if is_left found.role then []
     else summed_data (sum_at tree found.inode) (row_of found.inode (node_at tree found.inode)) found.path ∷ []
 
--- the objects of the entries that were met (this project)
+-- the objects of the entries that the walk found (this project)
 abbrev pub sums_data : Tree → List MetEntry → List Data
 sums_data tree founds = flat_map (met_data tree) founds
 
--- the same as one array, on one line (RFC 8259)
+-- the objects of the entries that the walk found, as one array on one line (RFC 8259)
 abbrev pub sums_json : Tree → List MetEntry → List ℕ
 sums_json tree founds = compact_text (array (items_of (sums_data tree founds))) ++ codes "\n"

@@ -9,16 +9,16 @@ use std::alloc::AllocError;
 pub(crate) struct Date {
     /// The year.
     pub(crate) year: u32,
-    /// The month, from 1 on.
+    /// The month, 1 to 12.
     pub(crate) month: u32,
-    /// The day of the month, from 1 on.
+    /// The day of the month, from 1.
     pub(crate) day: u32,
 }
 
 /// The number of seconds in a day.
 const DAY: u32 = 86_400;
 
-/// The number of years from 1970 on that 32-bit times can reach.
+/// The number of years that 32-bit times can reach after the beginning of 1970.
 const YEARS: u32 = 136;
 
 /// Appends a time, in seconds since the beginning of 1970, as `YYYY-MM-DD HH:MM:SS` in universal time.
@@ -47,8 +47,8 @@ fn date_of(days: u32) -> Date
     }
 }
 
-/// Returns the year of the day that is `days` days after the beginning of `year`, and the number of days before it in its year.
-/// Passes at most `count` years.
+/// Returns the year of the day that is `days` days after the beginning of `year`, and the number of days of that year before this day. Advances by at
+/// most `count` years.
 #[tactic(auto, using(crate::proofs::Calendar::years_none, crate::proofs::Calendar::years_within, crate::proofs::Calendar::years_on))]
 fn pass_years(count: u32, year: u32, days: u32) -> (u32, u32)
     requires { count + year < 10000 }
@@ -65,8 +65,8 @@ fn pass_years(count: u32, year: u32, days: u32) -> (u32, u32)
     pass_years(count - 1, year + 1, days - length)
 }
 
-/// Returns the month of the day that is `days` days after the beginning of `month`, and the number of days before it in its
-/// month. Passes at most `count` months.
+/// Returns the month of the day that is `days` days after the beginning of `month`, and the number of days of that month before this day. Advances by
+/// at most `count` months.
 #[tactic(auto, using(crate::proofs::Calendar::months_none, crate::proofs::Calendar::months_within, crate::proofs::Calendar::months_on))]
 fn pass_months(count: u32, year: u32, month: u32, days: u32) -> (u32, u32)
     requires { count + month < 100 }
@@ -109,7 +109,7 @@ fn month_days(year: u32, month: u32) -> u32
     }
 }
 
-/// Returns a digit of a number; weight 1 gives the last.
+/// Returns the digit of a number at a weight; weight 1 is for the last digit.
 fn digit(weight: u32, number: u32) -> u8
     requires { 0 < weight }
     ensures { result ≡ digit weight number }

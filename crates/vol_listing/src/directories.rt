@@ -25,7 +25,7 @@ pub(crate) fn is_directory(image: &Image, geometry: &Geometry, i: u16) -> bool
     is_number(geometry, i) && kind(image, geometry, i) == Kind::Directory
 }
 
-/// True if a listing shows the contents of node `i` rather than the node itself.
+/// True if a listing at this depth shows the contents of node `i` rather than the node itself.
 pub(crate) fn opens(image: &Image, geometry: &Geometry, depth: Depth, i: u16) -> bool
     requires { Fits geometry.now image.now }
     ensures { result ≡ opens depth (node_at (tree geometry.now image.now) i) }
@@ -36,8 +36,8 @@ pub(crate) fn opens(image: &Image, geometry: &Geometry, depth: Depth, i: u16) ->
     }
 }
 
-/// Returns the names in the directory at a path, with their i-numbers, in ascending order of their bytes; none if the path leads
-/// to no directory.
+/// Returns the names in the directory at a path, with their i-numbers, in ascending order of their bytes. Returns none if the path leads to no
+/// directory.
 ///
 /// Costs walking the path, reading each slot, and sorting the names.
 pub(crate) fn names(

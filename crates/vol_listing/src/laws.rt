@@ -6,8 +6,8 @@ pub fn listings_have_all_names()
     ensures { ListsNames }
 {}
 
-/// The date and the time of day on a long line are those of the Gregorian calendar, as `jiff` defines it: only this date is that
-/// many days after 1 January 1970.
+/// The date and the time of day on a long line follow the Gregorian calendar, as `jiff` defines it: only this date is that many days after 1 January
+/// 1970.
 pub fn dates_are_of_the_calendar()
     ensures { DatesAreOfTheCalendar }
 {}

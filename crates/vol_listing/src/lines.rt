@@ -28,8 +28,8 @@ pub(crate) struct Style {
     pub(crate) screen: Screen,
 }
 
-/// Returns the lines of a directory's names; if its subdirectories are to be listed too, also theirs, each directory under its
-/// path and separated by an empty line. Anything else, or a directory by itself, has one line.
+/// Returns the lines of a directory's names; if its subdirectories are to be listed too, also the lines of their names, each directory under its path
+/// and after an empty line. Anything else, or a directory that is listed itself, has one line.
 pub(crate) fn lines_text(
     alloc: Global,
     image: &Image,
@@ -127,7 +127,7 @@ fn push_names(
     Ok(())
 }
 
-/// Appends the lines of names, in their order.
+/// Appends the lines of names, in the same order.
 fn push_lines(
     image: &Image,
     geometry: &Geometry,
@@ -196,7 +196,7 @@ fn push_long_line(
     Ok(())
 }
 
-/// Appends a name or a path as it is shown: escaped on a terminal, else byte for byte.
+/// Appends a name or a path as it is shown: escaped on a terminal, otherwise unchanged.
 pub fn push_shown(screen: Screen, name: &[u8], text: &mut Vec<u8>) -> Result<(), AllocError>
     ensures { OnOk result (text.new.items ≡ text.old.items ++ shown screen name.now) }
 {

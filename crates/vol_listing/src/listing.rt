@@ -1,4 +1,4 @@
-//! ListOptions a file or directory of a volume.
+//! Lists a file or directory of a volume.
 ghost use Rattle.std.specs.Prelude.{◌≡◌, IfOk};
 ghost use Rattle.vol_dir.specs.Tree.{tree};
 ghost use Rattle.vol_listing.specs.Listings.{shown_path, start_of, IsBelow, IsListingOf};
@@ -13,13 +13,12 @@ use std::alloc::{AllocError, Global};
 use vol_layout::Geometry;
 use vol_volume::Bytes;
 
-/// Returns the listing of `inode`, to which `path` leads: the names in a directory, in ascending order of their bytes, each on a
-/// line with its i-number and, if `listing` says so, its i-node's attributes; then, if `listing` says so, the names of each
-/// directory below. A file has one line, and so has a directory that is listed by itself. Or the same as JSON, with names escaped
-/// as on a terminal.
+/// Returns the listing of `inode`, at `path`. A directory's names are listed in ascending order of their bytes, each on a line with its i-number and,
+/// if `listing` asks for them, its i-node's attributes; if `listing` asks for it, the names of each directory below follow. A file, or a directory
+/// that is listed itself, has one line. As JSON, the listing has the same contents, with names escaped as on a terminal.
 ///
-/// Costs reading each i-node whose attributes are shown, and for each directory walking its path and sorting its names. Takes
-/// memory for these and for the text.
+/// Costs reading each i-node whose attributes are shown, and, for each directory, walking its path and sorting its names. Takes memory for these and
+/// for the text.
 pub fn list(
     alloc: Global,
     image: &Image,
@@ -74,7 +73,7 @@ fn list_place(
     lines_text(alloc, image, geometry, style, depth, start, &places)
 }
 
-/// Returns the directories below one, if they are to be listed.
+/// Returns the directories below a directory, if they are to be listed.
 fn places_below(
     alloc: Global,
     image: &Image,

@@ -21,8 +21,8 @@ use std::alloc::{AllocError, Global};
 use vol_layout::Geometry;
 use vol_volume::Bytes;
 
-/// Returns one array on one line: an object for each entry of a directory and of the given directories below it. A file, or a
-/// directory by itself, has one object.
+/// Returns one array on one line: an object for each entry of a directory and of the given directories below it. A file, or a directory that is
+/// listed itself, has one object.
 pub(crate) fn json_text(
     alloc: Global,
     image: &Image,
@@ -38,7 +38,7 @@ pub(crate) fn json_text(
     line(alloc, &Value::Array(values))
 }
 
-/// Returns the objects of that array.
+/// Returns the objects of a listing's array.
 fn all_values(
     alloc: Global,
     image: &Image,
@@ -155,7 +155,7 @@ pub(crate) fn row_object(
     Ok(object)
 }
 
-/// Puts the numbers that every node has.
+/// Puts the numbers that every node has into an object.
 #[tactic(auto, unfolding(crate::specs::ListingJson::with_numbers))]
 fn put_numbers(alloc: Global, row: Row, object: &mut Map<String, Value>) -> Result<(), AllocError>
     ensures { OnOk result (members_view object.new.entries ≡ with_numbers row (members_view object.old.entries)) }
@@ -166,7 +166,7 @@ fn put_numbers(alloc: Global, row: Row, object: &mut Map<String, Value>) -> Resu
     put_count(alloc, object, "uid", u64::from(row.uid))
 }
 
-/// Puts the path and the file's kind, permissions, size and time of change.
+/// Puts the path and the file's kind, permissions, size and time of change into an object.
 #[tactic(auto, unfolding(crate::specs::ListingJson::with_file))]
 fn put_file(
     alloc: Global,
@@ -185,7 +185,7 @@ fn put_file(
     put_count(alloc, object, "modified", u64::from(row.modified))
 }
 
-/// Puts the device of a special file.
+/// Puts the device of a special file into an object.
 fn put_device(alloc: Global, sort: Sort, object: &mut Map<String, Value>) -> Result<(), AllocError>
     ensures { OnOk result (members_view object.new.entries ≡ with_device sort (members_view object.old.entries)) }
 {

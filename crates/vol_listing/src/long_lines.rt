@@ -73,7 +73,7 @@ fn letter_of(sort: Sort) -> u8
     }
 }
 
-/// True if permissions have a bit, which is given by its value.
+/// True if permissions have the bit with this value.
 fn has_bit(permissions: u16, value: u16) -> bool
     requires { 0 < value }
     ensures { result ≡ has_bit permissions value }

@@ -12,7 +12,7 @@ pub struct ListOptions {
 }
 
 impl ListOptions {
-    /// True if only the names in a directory with their i-numbers are listed. Only a directory has such a listing.
+    /// True if only the names in a directory, with their i-numbers, are listed. Only a directory can be listed like this.
     pub fn is_bare(self) -> bool
         ensures { result ≡ is_bare self }
     {
@@ -23,10 +23,10 @@ impl ListOptions {
     }
 }
 
-/// The depth of a listing. A file is listed by itself at every depth.
+/// The depth of a listing. A file itself is listed at every depth.
 #[derive(Clone, Copy)]
 pub enum Depth {
-    /// The directory is listed by itself.
+    /// The directory itself is listed.
     Itself,
     /// The names in the directory are listed.
     Names,

@@ -21,9 +21,9 @@ pub(crate) struct ListedNode {
     pub(crate) inode: u16,
 }
 
-/// Returns all directories below one, each before those in it, in ascending order of their names.
+/// Returns all directories below a directory, each before its own subdirectories, in ascending order of their names.
 ///
-/// Costs sorting the names of each directory, and memory for all paths.
+/// Costs sorting the names of each directory. Takes memory for all paths.
 pub(crate) fn all_below(
     alloc: Global,
     image: &Image,
@@ -43,7 +43,7 @@ pub(crate) fn all_below(
     Ok(places)
 }
 
-/// Pushes the directories in a directory on the stack of pending ones, the first of them on top.
+/// Pushes the subdirectories of a directory on the stack of pending directories, with the first one on top.
 fn push_below(
     alloc: Global,
     image: &Image,
@@ -61,7 +61,7 @@ fn push_below(
     Ok(())
 }
 
-/// Returns the directories in a directory, in ascending order of their names.
+/// Returns the subdirectories of a directory, in ascending order of their names.
 #[tactic(auto, unfolding(crate::specs::Places::below))]
 fn below(
     alloc: Global,
@@ -77,7 +77,7 @@ fn below(
     directories_among(alloc, image, geometry, path, &names)
 }
 
-/// Returns the directories among entries of the directory at a path, except `.` and `..`.
+/// Returns the directories among the entries of the directory at a path, except `.` and `..`.
 fn directories_among(
     alloc: Global,
     image: &Image,
@@ -96,7 +96,7 @@ fn directories_among(
     Ok(places)
 }
 
-/// Appends the place of an entry of the directory at a path if it is a directory and neither `.` nor `..`.
+/// Appends an entry of the directory at a path, as a listed node, if it is a directory and neither `.` nor `..`.
 fn push_directory(
     alloc: Global,
     image: &Image,
@@ -115,7 +115,7 @@ fn push_directory(
     Ok(())
 }
 
-/// Returns the place of an entry of the directory at a path.
+/// Returns an entry of the directory at a path as a listed node.
 fn place_of(alloc: Global, path: &[u8], name: &[u8], inode: u16) -> Result<ListedNode, AllocError>
     ensures { IfOk result (λ place. place ≡ place_of path.now (name.now, inode)) }
 {
@@ -125,7 +125,7 @@ fn place_of(alloc: Global, path: &[u8], name: &[u8], inode: u16) -> Result<Liste
     })
 }
 
-/// Returns the path of a name in the directory at a path, with a slash between.
+/// Returns the path of a name in the directory at a path, with a slash between the two.
 pub fn joined(alloc: Global, path: &[u8], name: &[u8]) -> Result<Vec<u8>, AllocError>
     ensures { IfOk result (λ bytes. bytes.items ≡ joined path.now name.now) }
 {

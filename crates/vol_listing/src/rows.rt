@@ -60,7 +60,7 @@ pub(crate) fn row_at(image: &Image, geometry: &Geometry, i: u16) -> Row
     }
 }
 
-/// True if an i-number is one of the volume's.
+/// True if the volume has an i-node with this number.
 pub(crate) fn is_number(geometry: &Geometry, i: u16) -> bool
     ensures { result ≡ is_number geometry.now i }
 {

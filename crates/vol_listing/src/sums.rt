@@ -29,8 +29,8 @@ type Sum = [u8; 32];
 /// The size in bytes of the buffer for a file's body.
 const BUFFER: usize = 64 * 1024;
 
-/// Returns a line for each of some entries that isn't left out of an archive: the SHA-256 of a regular file's bytes, or a dash;
-/// the mode, the owner, the group, the size and the time of the node, and the path with unprintable bytes escaped.
+/// Returns a line for each entry that isn't left out of an archive: the SHA-256 of a regular file's bytes, or a dash; the mode, the owner, the group,
+/// the size and the time of the node, and the path with unprintable bytes escaped.
 ///
 /// Costs the bytes of the files; each body is read through a buffer of 64 KiB. Takes memory for the text.
 pub fn sums_text(
@@ -49,7 +49,7 @@ pub fn sums_text(
     Ok(text)
 }
 
-/// Returns the same as one array of JSON objects, on one line.
+/// Returns the contents of [`sums_text`] as one array of JSON objects, on one line.
 ///
 /// Takes memory for the objects too.
 pub fn sums_json(
@@ -109,7 +109,7 @@ fn push_line(
     Ok(())
 }
 
-/// Appends a sum in hexadecimal digits, or a dash if there is none.
+/// Appends a sum as hexadecimal digits, or a dash if there is no sum.
 fn push_sum(alloc: Global, text: &mut Vec<u8>, sum: Option<Sum>) -> Result<(), AllocError>
     ensures { OnOk result (text.new.items ≡ text.old.items ++ column (sum_text sum)) }
 {
@@ -140,7 +140,7 @@ fn push_mode(text: &mut Vec<u8>, row: Row) -> Result<(), AllocError>
     Ok(())
 }
 
-/// Returns a sum in hexadecimal digits, or a dash if there is none.
+/// Returns a sum as hexadecimal digits, or a dash if there is no sum.
 fn sum_text(alloc: Global, sum: Option<Sum>) -> Result<String, AllocError>
     ensures { IfOk result (λ text. string_bytes text ≡ sum_text sum) }
 {
@@ -150,7 +150,7 @@ fn sum_text(alloc: Global, sum: Option<Sum>) -> Result<String, AllocError>
     }
 }
 
-/// Returns the objects of entries that aren't left out.
+/// Returns the objects of the entries that aren't left out.
 fn sum_values(
     alloc: Global,
     image: &Image,
@@ -199,7 +199,7 @@ fn summed_value(alloc: Global, sum: Option<Sum>, row: Row, path: &[u8]) -> Resul
     Ok(Value::Object(object))
 }
 
-/// Returns a sum in JSON, or null if there is none.
+/// Returns a sum as JSON, or null if there is no sum.
 fn sum_value(alloc: Global, sum: Option<Sum>) -> Result<Value, AllocError>
     ensures { IfOk result (λ value. view value ≡ sum_data sum) }
 {

@@ -1,4 +1,4 @@
--- The logical blocks of a file without its holes, and the places on their paths in the seventh edition.
+-- The stored logical blocks of a file, and the block-map positions on their paths in the seventh edition.
 use Rattle.std.proofs.Common.{◌≡◌, ◌∙◌, sym, ap, refl, ℕ, zero, suc, ◌+◌, ◌-◌, ◌<◌, ◌≤◌, true, false, cond, List, [], ◌∷◌, ◌++◌, filter, None, Some, inl, inr, arith}
 use Rattle.std.specs.Prelude.{◌||◌}
 use Rattle.std.specs.List.{list_any, count_by, sum_by, range_with_len}
@@ -31,12 +31,12 @@ use Rattle.vol_migrate.specs.Raised.{names_block, stored_blocks, raised_shape, s
 use Rattle.vol_migrate.specs.Refuse.{places_needed}
 use Rattle.vol_migrate.specs.Stages.{places_for, file_need, need_before}
 
--- a range of one more number
+-- a range of one more number ends with this number
 range_more : (a n : ℕ) → range_with_len a (suc n) ≡ range_with_len a n ++ ((a + n) ∷ [])
 range_more a zero = ap (λ x. x ∷ []) (let e : a ≡ a + 0 = omega arith in e)
 range_more a (suc n) = ap (λ rest. a ∷ rest) (range_more (a + 1) n ∙ ap (λ x. range_with_len (a + 1) n ++ (x ∷ [])) (let e : a + 1 + n ≡ a + suc n = omega arith in e))
 
--- one more logical block
+-- one more logical block is added if it is stored
 below_more : (shape : Shape) (n : ℕ) → stored_blocks shape (n + 1) ≡ stored_blocks shape n ++ filter (names_block shape) (n ∷ [])
 below_more shape n =
     let next : n + 1 ≡ suc n = omega arith in
@@ -46,16 +46,16 @@ below_more shape n =
     ∙ (filter-append (names_block shape) (range_with_len 0 n) ((0 + n) ∷ [])
     ∙ ap (λ x. filter (names_block shape) (range_with_len 0 n) ++ filter (names_block shape) (x ∷ [])) at))
 
--- one that is a hole
+-- a hole adds no stored block
 pub below_hole : (shape : Shape) (n : ℕ) → names_block shape n ≡ false → stored_blocks shape (n + 1) ≡ stored_blocks shape n
 below_hole shape n hole =
     below_more shape n ∙ (ap (λ t. stored_blocks shape n ++ cond t (n ∷ []) []) hole ∙ append-nil (stored_blocks shape n))
 
--- one that has a block
+-- a logical block with a data block is added to the stored blocks
 below_some : (shape : Shape) (n : ℕ) → names_block shape n ≡ true → stored_blocks shape (n + 1) ≡ stored_blocks shape n ++ (n ∷ [])
 below_some shape n some = below_more shape n ∙ ap (λ t. stored_blocks shape n ++ cond t (n ∷ []) []) some
 
--- holes one after another
+-- several holes add no stored block
 pub below_holes : (shape : Shape) (m n : ℕ) → m ≤ n → ((b : ℕ) → m ≤ b → b < n → names_block shape b ≡ false)
     → stored_blocks shape n ≡ stored_blocks shape m
 below_holes shape zero zero order holes = refl
@@ -68,25 +68,25 @@ below_holes shape m (suc n) order holes =
           ∙ (below_hole shape n (holes n high (omega arith)) ∙ below_holes shape m n high (λ b from to. holes b from (omega (arith, to))))
     ]
 
--- the places on the paths with one more block
+-- one more stored block adds the positions on its path
 pub on_more : (shape : Shape) (n : ℕ) (p : List ℕ) → names_block shape n ≡ true
     → is_on_ways Deep (stored_blocks shape (n + 1)) p ≡ (is_on_ways Deep (stored_blocks shape n) p || is_on_ways Deep (n ∷ []) p)
 on_more shape n p some =
     ap (λ blocks. is_on_ways Deep blocks p) (below_some shape n some)
     ∙ list_any-append (λ b. list_any (bytes_eq p) (way Deep b)) (stored_blocks shape n) (n ∷ [])
 
--- at first there are none
+-- no blocks need no positions
 pub none_below : (shape : Shape) → places_for shape 0 ≡ 0
 unfolding places_for
 none_below shape = count_none (is_on_ways Deep []) (places Deep) (λ q. refl)
 
--- a hole adds no place
+-- holes need no positions
 pub count_holes : (shape : Shape) (m n : ℕ) → m ≤ n → ((b : ℕ) → m ≤ b → b < n → names_block shape b ≡ false)
     → places_for shape n ≡ places_for shape m
 unfolding places_for
 count_holes shape m n order holes = ap (λ blocks. count_by (is_on_ways Deep blocks) (places Deep)) (below_holes shape m n order holes)
 
--- a block adds the places that are missing on its path
+-- a stored block needs the positions on its path that aren't on an earlier path
 pub count_more : (shape : Shape) (n : ℕ) → names_block shape n ≡ true
     → places_for shape (n + 1) ≡ places_for shape n + need_of Deep (is_on_ways Deep (stored_blocks shape n)) (n ∷ [])
 unfolding places_for place_count
@@ -95,7 +95,7 @@ count_more shape n some =
     (λ p. on_more shape n p some)
     ∙ stored_count V7 (record { names = is_on_ways Deep (stored_blocks shape n); large = false; slots = [] }) (n ∷ [])
 
--- more blocks have no fewer places
+-- more blocks don't need fewer positions
 pub count_grows : (shape : Shape) (m n : ℕ) → m ≤ n → places_for shape m ≤ places_for shape n
 count_grows shape zero zero order = omega arith
 count_grows shape (suc m) zero order = absurd (omega (arith, order))
@@ -113,20 +113,20 @@ count_grows shape m (suc n) order =
           ]
     ]
 
--- a file without a shape stores no block
+-- the empty shape stores no block
 no_block : (b : ℕ) → names_block no_shape b ≡ false
 no_block b = elim (last_place Small b) as (λ o. option_map_or (λ (p : List ℕ). false) o false ≡ false) [ None ↦ refl | Some p ↦ refl ]
 
--- and needs no places
+-- the empty shape needs no positions
 pub none_needed : (n : ℕ) → places_for no_shape n ≡ 0
 none_needed n = count_holes no_shape 0 n (omega arith) (λ b from to. no_block b) ∙ none_below no_shape
 
--- a file needs as many places as its raised shape has
+-- a file needs as many positions as its raised shape has
 pub shape_need : (size : ℕ) (shape : Shape) → place_count V7 (raised_shape size shape) ≡ places_for shape (whole_blocks size)
 unfolding place_count places_for
 shape_need size shape = refl
 
--- the need of an i-node of some kind
+-- the positions that an i-node of this kind needs
 need_by : (geometry : Geometry) (image : List ℕ) (i : ℕ) (kind : Kind) → kind_at geometry image i ≡ kind
     → places_for (shape_of geometry image i kind)
     (whole_blocks (size_in (option_map (node_with (inode_of geometry.edition image i)) (content_of geometry image i kind))))
@@ -140,7 +140,7 @@ need_by geometry image i kinds.Regular is =
 need_by geometry image i kinds.Directory is =
     ap (λ n. places_for (shape_of geometry image i kinds.Directory) (whole_blocks n)) (inode_size geometry.edition image (inode_place geometry.edition i))
 
--- the need of each i-node, by the tree
+-- the positions of each i-node's raised shape are those that the i-node needs
 need_here : (geometry : Geometry) (image : List ℕ) (i : ℕ) → 1 ≤ i → i ≤ geometry.last_inode
     → place_count V7 (raised_shape (size_in ((tree geometry image).nodes i)) (shapes geometry image i)) ≡ file_need geometry image i
 unfolding node_of
@@ -151,7 +151,7 @@ need_here geometry image i first last =
     ∙ (need_by geometry image i (kind_at geometry image i) refl
     ∙ sym (ap (λ shape. places_for shape (whole_blocks (size_of geometry image i))) (shape_here geometry image i first last)))))
 
--- all files need as many places as their raised shapes have
+-- all files need as many positions as their raised shapes have
 pub need_all : (geometry : Geometry) (image : List ℕ) → places_needed (state geometry image) ≡ need_before geometry image (geometry.last_inode + 1)
 unfolding places_needed tree
 need_all geometry image =
@@ -160,7 +160,7 @@ need_all geometry image =
     (λ i low high. need_here geometry image i low (omega (arith, high)))
     ∙ ap (λ n. sum_by (file_need geometry image) (range_with_len 1 n)) (sym count)
 
--- the need of one more file
+-- the need of the files below `i` + 1 is the need of those below `i` plus that of file `i`
 pub before_more : (geometry : Geometry) (image : List ℕ) (i : ℕ) → 1 ≤ i
     → need_before geometry image (i + 1) ≡ need_before geometry image i + file_need geometry image i
 before_more geometry image i first =
@@ -172,7 +172,7 @@ before_more geometry image i first =
     ap (λ n. sum_by (file_need geometry image) (range_with_len 1 n)) count
     ∙ (split ∙ ap (λ n. need_before geometry image i + n) (one ∙ ap (file_need geometry image) at))
 
--- the files before an i-number need no more than all
+-- the files below a lower i-number don't need more positions
 pub before_within : (geometry : Geometry) (image : List ℕ) (i n : ℕ) → 1 ≤ i → i ≤ n → need_before geometry image i ≤ need_before geometry image n
 before_within geometry image i n first order =
     let count : i - 1 + (n - i) ≡ n - 1 = omega (arith, first, order) in

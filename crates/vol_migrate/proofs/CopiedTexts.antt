@@ -33,7 +33,7 @@ use Rattle.vol_migrate.proofs.FileShapes.{names_some}
 use Rattle.vol_migrate.proofs.StageSteps.{progress_self}
 use Rattle.vol_migrate.proofs.StageLaws.{old_rules, file_is_used, carried_file, need_is, need_room, stage_written}
 
--- a number that is stored is that of a data block
+-- a number stored for a logical block is the number of a data block
 pub stored_zone : (geometry : Geometry) (image : List ℕ) (i b : ℕ) → IsZoned geometry image → IsFile geometry image i
     → stored geometry image i (form_at geometry image i) b ≢ 0 → in_zone geometry (stored geometry image i (form_at geometry image i) b) ≡ true
 stored_zone geometry image i b zoned file some =
@@ -55,7 +55,7 @@ pub record HoldsBlock (from : Geometry) (old : List ℕ) (i b m len : ℕ) : Typ
   pub within : 512 * b + len ≤ size_of from old i
   pub greatest : size_of from old i ≤ (constants from.edition).greatest
 
--- each of its bytes is one of the body
+-- each byte copied from the block is a byte of the body
 pub text_byte : (from : Geometry) (old : List ℕ) (i b m len r : ℕ) → HoldsBlock from old i b m len → r < len
     → get_or (take len (block_of old m)) r 0 ≡ get_or (body from old i) (512 * b + r) 0
 text_byte from old i b m len r holds low =
@@ -68,7 +68,7 @@ text_byte from old i b m len r holds low =
     ∙ (sym (ap (λ k. zone_byte from old k r) holds.is)
     ∙ (sym (body_byte_at from old i b r (omega (arith, few, low))) ∙ sym (get_or-body from old i (512 * b + r) (omega (arith, within, greatest, low)))))))
 
--- each of its slots is one of the body
+-- each slot copied from the block is a slot of the body
 pub text_slot : (from : Geometry) (old text : List ℕ) (i b m len s : ℕ) → HoldsBlock from old i b m len → text ≡ take len (block_of old m)
     → length text ≡ len → 16 * s + 16 ≤ len → slot_at text (16 * s) ≡ slot_at (body from old i) (512 * b + 16 * s)
 text_slot from old text i b m len s holds is size low =
@@ -84,7 +84,7 @@ text_slot from old text i b m len s holds is size low =
     })
     (omega (arith, long, within, greatest, low)) (omega (arith, size, low))
 
--- each of its raised bytes is one of the raised body
+-- each raised byte of the copied slots is a raised byte of the body
 pub text_raised : (from : Geometry) (old text : List ℕ) (i b m len r : ℕ) → HoldsBlock from old i b m len → text ≡ take len (block_of old m)
     → length text ≡ len → len % 16 ≡ 0 → r < len → raised_byte text r ≡ raised_byte (body from old i) (512 * b + r)
 unfolding raised_byte
@@ -95,13 +95,13 @@ text_raised from old text i b m len r holds is size whole low =
     ap (λ (s : Slot). get_or (bytes_of_slot (raised_slot s)) (r % 16) 0) (slot ∙ ap (slot_at (body from old i)) at)
     ∙ ap (λ k. get_or (bytes_of_slot (raised_slot (slot_at (body from old i) (16 * ((512 * b + r) / 16))))) k 0) rest
 
--- the sizes of a volume that can be made, by its edition
+-- a volume of the seventh edition with a permitted size has an i-list of at most 8,191 blocks
 size_seventh : (edition : Edition) (end blocks : ℕ) → edition ≡ V7 → is_size edition end blocks ≡ true → blocks ≤ 8191
 size_seventh edition end blocks seventh is =
     let of_seventh : is_size V7 end blocks ≡ true = ap (λ e. is_size e end blocks) (sym seventh) ∙ is in
     leb-true blocks 8191 (and_parts _ _ (and_parts _ _ of_seventh).1).0
 
--- the new volume's i-numbers are few
+-- the greatest i-number of the new volume is at most 65,528
 pub few_numbers : (to : Geometry) → to.edition ≡ V7 → IsMakeable to → to.last_inode ≤ 65528
 few_numbers to seventh makeable =
     let blocks = size_seventh to.edition to.zone_end (to.zone_start - 2) seventh makeable.size in
@@ -109,7 +109,7 @@ few_numbers to seventh makeable =
     let inodes : to.last_inode ≡ 8 * (to.zone_start - 2) = makeable.inodes ∙ ap (λ n. n * (to.zone_start - 2)) count in
     omega (arith, blocks, inodes)
 
--- an entry's i-number can be raised
+-- an i-number in an entry of the old volume is below 65,535, so that it can be raised
 pub text_number : (from to : Geometry) (old text : List ℕ) (i b m len s : ℕ) → MayMigrate old from to → HoldsBlock from old i b m len
     → IsDirectory from old i → text ≡ take len (block_of old m) → length text ≡ len → 16 * s + 16 ≤ len → word text (16 * s) < 65535
 text_number from to old text i b m len s may holds directory is size low =
@@ -141,7 +141,7 @@ pub record WritesBlock (from to : Geometry) (old image : List ℕ) (i b m len : 
   pub whole : (x : ℕ) → x < size_of from old i → x / 512 ≡ b → x < 512 * b + len
   pub some : stored from old i (form_at from old i) b ≢ 0
 
--- it is known of a logical block within the size
+-- `WritesBlock` holds for each stored logical block within the size
 pub writes_block : (from to : Geometry) (old image : List ℕ) (i b m len : ℕ) → MayMigrate old from to → HasStage from to old image i b → IsFile from old i
     → stored from old i (form_at from old i) b ≢ 0 → stored from old i (form_at from old i) b ≡ m → 512 * b < size_of from old i
     → len ≡ min (size_of from old i - 512 * b) 512 → WritesBlock from to old image i b m len
@@ -164,20 +164,20 @@ writes_block from to old image i b m len may stage file some is within size =
       some = some;
     }
 
--- the number of the new i-node is one
+-- the new i-number is at most 65,528
 pub write_number : (from to : Geometry) (old image : List ℕ) (i b m len : ℕ) → WritesBlock from to old image i b m len → i + 1 ≤ 65528
 write_number from to old image i b m len w =
     let number = w.may.numbers i (file_is_used old from i w.file) in
     let few = few_numbers to w.may.seventh w.may.makeable in
     omega (arith, number, few)
 
--- the file to be written is one
+-- the new i-node is a file
 pub write_file : (from to : Geometry) (old image : List ℕ) (i b m len : ℕ) → WritesBlock from to old image i b m len → IsFile to image (i + 1)
 write_file from to old image i b m len w =
     let used = file_is_used old from i w.file in
     carried_file old from to w.stage.now image i (progress from old i b i) w.may used (w.stage.stage.carried i used)
 
--- the text ends within the greatest size
+-- the bytes to be written end within the greatest size
 pub write_greatest : (from to : Geometry) (old image : List ℕ) (i b m len : ℕ) → WritesBlock from to old image i b m len
     → 512 * b + len ≤ (constants to.edition).greatest
 write_greatest from to old image i b m len w =
@@ -187,7 +187,7 @@ write_greatest from to old image i b m len w =
     let seventh : (constants to.edition).greatest ≡ 1082201088 = ap (λ e. (constants e).greatest) w.may.seventh in
     omega (arith, within, greatest, sixth, seventh)
 
--- there is room for it
+-- there are enough free blocks for the write
 pub write_room : (from to : Geometry) (old image blocks : List ℕ) (i b m len : ℕ) → WritesBlock from to old image i b m len
     → Rules3To7With to image blocks → need to image (i + 1) (512 * b) len ≤ length blocks
 write_room from to old image blocks i b m len w rules =
@@ -202,7 +202,7 @@ write_room from to old image blocks i b m len w rules =
     let same : length blocks ≡ length stage.blocks = ap length (IsFree_unique (omega (arith, behind)) rules.free stage.sound.free) in
     omega (arith, need, room, same)
 
--- once it is written one more block is carried
+-- after the write one more block is copied
 pub write_carries : (from to : Geometry) (old image new text : List ℕ) (i b m len : ℕ) → WritesBlock from to old image i b m len
     → ((blocks : List ℕ) → Rules3To7With to image blocks → Writes to image new (i + 1) (512 * b) text blocks) → length text ≡ len
     → ((r : ℕ) → r < len → get_or text r 0 ≡ carried_byte (kind_at from old i) (body from old i) (512 * b + r))
@@ -216,7 +216,7 @@ write_carries from to old image new text i b m len w written size bytes = λ now
     (λ x low at. let whole = w.whole x low at in omega (arith, whole, size))
     (λ r low. bytes r (omega (arith, low, size)))
 
--- a file that isn't a directory keeps its bytes
+-- a file that isn't a directory is copied unchanged
 pub carried_plain : (kind : Kind) (bytes : List ℕ) (x : ℕ) → kind ≢ kinds.Directory → carried_byte kind bytes x ≡ get_or bytes x 0
 carried_plain kinds.Free bytes x other = refl
 carried_plain kinds.Regular bytes x other = refl
@@ -224,11 +224,11 @@ carried_plain kinds.Special bytes x other = refl
 carried_plain kinds.Odd bytes x other = refl
 carried_plain kinds.Directory bytes x other = absurd (other refl)
 
--- a directory has its slots raised
+-- a directory is copied with raised slots
 pub carried_slots : (kind : Kind) (bytes : List ℕ) (x : ℕ) → kind ≡ kinds.Directory → carried_byte kind bytes x ≡ raised_byte bytes x
 carried_slots kind bytes x is = ap (λ k. carried_byte k bytes x) is
 
--- a text of a directory is whole slots
+-- the bytes of a directory's block are complete slots
 pub whole_slots : (from to : Geometry) (old image : List ℕ) (i b m len : ℕ) → WritesBlock from to old image i b m len → IsDirectory from old i
     → len ≡ min (size_of from old i - 512 * b) 512 → len % 16 ≡ 0
 whole_slots from to old image i b m len w directory size =
@@ -236,7 +236,7 @@ whole_slots from to old image i b m len w directory size =
     let within = w.holds.within in
     omega (arith, slots, size, within)
 
--- the bytes of the block are carried, if its file isn't a directory
+-- writing the bytes of the block copies it, if its file isn't a directory
 pub plain_carries : (from to : Geometry) (old image new text : List ℕ) (i b m len : ℕ) → WritesBlock from to old image i b m len
     → kind_at from old i ≢ kinds.Directory → text ≡ take len (block_of old m) → length text ≡ len
     → ((blocks : List ℕ) → Rules3To7With to image blocks → Writes to image new (i + 1) (512 * b) text blocks)
@@ -247,7 +247,7 @@ plain_carries from to old image new text i b m len w plain is size written =
     ap (λ xs. get_or xs r 0) is
     ∙ (text_byte from old i b m len r w.holds low ∙ sym (carried_plain (kind_at from old i) (body from old i) (512 * b + r) plain)))
 
--- if it is one, the raised slots are carried
+-- writing the raised slots of the block copies it, if its file is a directory
 pub slots_carry : (from to : Geometry) (old image new text raised : List ℕ) (i b m len : ℕ) → WritesBlock from to old image i b m len
     → IsDirectory from old i → text ≡ take len (block_of old m) → length text ≡ len → len ≡ min (size_of from old i - 512 * b) 512
     → ((x : ℕ) → 16 * (x / 16) + 16 ≤ length text → get_or raised x 0 ≡ raised_byte text x) → length (take len raised) ≡ len

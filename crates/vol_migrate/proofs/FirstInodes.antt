@@ -1,4 +1,4 @@
--- Putting the i-nodes of a volume into an i-list of zeros.
+-- Writing the i-nodes of a volume to an i-list of zeros.
 use Rattle.std.proofs.Common.{◌≡◌, ◌∙◌, sym, ap, subst, ℕ, ◌+◌, ◌*◌, ◌<◌, ◌≤◌, List, get_or, slice_index, inl, inr, arith}
 use Rattle.std.proofs.lemmas.Bool.{cases_eq}
 use Rattle.pdp_words.specs.Words.{SameOutside}
@@ -11,7 +11,7 @@ use Rattle.vol_layout.proofs.InodeLaws.{KeepsInode, inode_apart, inode_of_kept, 
 use Rattle.vol_file.specs.Rules.{kind_at}
 use Rattle.vol_migrate.specs.Stages.{IsUsed, HasInodesBelow}
 
--- no i-node is put into an i-list of zeros yet
+-- an i-list of zeros has the i-nodes below 1
 pub inodes_none : (from to : Geometry) (old image : List ℕ) (now : ℕ) → Fits to image
     → ((k : ℕ) → 1024 ≤ k → k < 512 * to.zone_start → get_or image k 0 ≡ 0) → HasInodesBelow from to old now image 1
 inodes_none from to old image now fits zeros = record {
@@ -22,7 +22,7 @@ inodes_none from to old image now fits zeros = record {
       zeros (inode_place to.edition k + r) (omega (arith, from_list)) (omega (arith, room, low));
 }
 
--- a free i-node is passed
+-- passing a free i-node adds no i-node
 pub inodes_pass : (from to : Geometry) (old image : List ℕ) (now i : ℕ) → kind_at from old i ≡ kinds.Free → HasInodesBelow from to old now image i
     → HasInodesBelow from to old now image (i + 1)
 inodes_pass from to old image now i free has = record {
@@ -38,7 +38,7 @@ inodes_pass from to old image now i free has = record {
       ];
 }
 
--- the unused byte stays, by another name of it
+-- the unused byte of an i-node is unchanged, with variables equal to its position
 pub byte_kept : (to : Geometry) (image new : List ℕ) (k j r : ℕ) → k ≡ j → r ≡ 51
     → slice_index new (inode_place to.edition j + 51) ≡ slice_index image (inode_place to.edition j + 51)
     → slice_index new (inode_place to.edition k + r) ≡ slice_index image (inode_place to.edition k + r)
@@ -46,7 +46,7 @@ byte_kept to image new k j r is byte stays =
     let P : ℕ → ℕ → Type 0 = λ i s. slice_index new (inode_place to.edition i + s) ≡ slice_index image (inode_place to.edition i + s) in
     subst (λ i. P i r) (sym is) (subst (P j) (sym byte) stays)
 
--- one more i-node is put
+-- writing i-node `i` adds it
 pub inodes_more : (from to : Geometry) (old image new : List ℕ) (now i : ℕ) → IsUsed from old i
     → SameOutside image new (inode_place to.edition (i + 1)) (inode_place to.edition (i + 1) + (constants to.edition).inode_bytes)
     → inode_of to.edition new (i + 1) ≡ raised_inode (inode_of from.edition old i) now
@@ -76,7 +76,7 @@ inodes_more from to old image new now i used same put stays has = record {
       ];
 }
 
--- a write of one i-node is one of the i-list's bytes
+-- a write of one i-node changes only bytes of the i-list
 pub list_write : (to : Geometry) (first image new : List ℕ) (k : ℕ) → Fits to image → 1 ≤ k → k ≤ to.last_inode
     → SameOutside first image 1024 (512 * to.zone_start)
     → SameOutside image new (inode_place to.edition k) (inode_place to.edition k + (constants to.edition).inode_bytes)
@@ -90,7 +90,7 @@ list_write to first image new k fits low high before same =
       above = λ x h. same.above x (omega (arith, h, room)) ∙ before.above x h;
     }
 
--- two writes within the same bytes
+-- two writes within the same bytes change only these bytes
 pub same_then : {first image new : List ℕ} {from to : ℕ} → SameOutside first image from to → SameOutside image new from to → SameOutside first new from to
 same_then before after = record {
   len = after.len ∙ before.len;

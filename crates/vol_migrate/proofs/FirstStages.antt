@@ -1,4 +1,4 @@
--- The volume before any block is carried.
+-- The volume before any block is copied.
 use Rattle.std.proofs.Common.{◌≡◌, ◌≢◌, ◌∙◌, sym, ap, subst, refl, ℕ, zero, suc, ◌+◌, ◌-◌, ◌*◌, ◌/◌, ◌<◌, ◌≤◌, not, Bool, false, List, [], ◌∷◌, None, Some, length, get_or, slice_index, replicate, ◌⊎◌, inl, inr, arith}
 use Rattle.std.proofs.lemmas.Bool.{cases_eq, cases_lt, eq-eqb, true≢false}
 use Rattle.std.proofs.lemmas.Grind.{common_steps}
@@ -33,7 +33,7 @@ use Rattle.vol_migrate.proofs.CarriedBlocks.{none_below}
 use Rattle.vol_migrate.proofs.StageSteps.{carried_kind, carried_size, form_seventh, progress_self, progress_after, super_stays}
 use Rattle.vol_migrate.proofs.StageLaws.{old_rules, used_is_file, hole_byte}
 
--- a kind is that of a free i-node, or not
+-- a kind is `Free` or another kind
 pub free_or : (kind : Kind) → (kind ≡ kinds.Free) ⊎ (kind ≢ kinds.Free)
 free_or kinds.Free = inl refl
 free_or kinds.Regular = inr (λ e. cc)
@@ -41,7 +41,7 @@ free_or kinds.Directory = inr (λ e. cc)
 free_or kinds.Special = inr (λ e. cc)
 free_or kinds.Odd = inr (λ e. cc)
 
--- each i-number of the new volume has an i-node to carry, or none
+-- each i-number of the new volume gets an i-node of the old one, or is vacant
 pub vacant_or : (from : Geometry) (old : List ℕ) (k : ℕ) → IsVacant from old k ⊎ ((i : ℕ) × (k ≡ i + 1) × IsUsed from old i)
 vacant_or from old k =
     elim (cases_lt k 2) [
@@ -68,13 +68,13 @@ zero_mode to image k zeros =
     ap (λ x. get_or image x 0) (let e : inode_place to.edition k ≡ inode_place to.edition k + 0 = omega arith in e) in
     omega (arith, low, high, at)
 
--- and so has one that isn't carried
+-- a vacant i-node of the new volume has mode 0
 mode_zero : (from to : Geometry) (old image : List ℕ) (now k : ℕ) → HasInodes from to old now image → 1 ≤ k → k ≤ to.last_inode
     → IsVacant from old k → mode_of to image k ≡ 0
 mode_zero from to old image now k has first last vacant =
     zero_mode to image k (λ r low. has.rest k r first last (inr (inl vacant)) low)
 
--- a place names nothing if all addresses are 0
+-- a block-map position is 0 if all addresses are 0
 named_zero : (geometry : Geometry) (image : List ℕ) (k : ℕ) (form : BlockMap) (p : List ℕ) → Fits geometry image
     → (inode_of geometry.edition image k).addresses ≡ replicate 13 0 → first_count form ≤ 13 → IsPlace form p → named geometry image k p ≡ 0
 named_zero geometry image k form [] fits zeros few place = refl
@@ -85,13 +85,13 @@ named_zero geometry image k form (j ∷ (a ∷ p)) fits zeros few place =
     ap (λ m. pointer_in geometry image m j) (named_zero geometry image k form (a ∷ p) fits zeros few place.2)
     ∙ entry_out geometry image 0 j (zero_out geometry image fits)
 
--- the addresses of an i-node that was put are 0
+-- the addresses of each new i-node are 0
 zeros_put : (from to : Geometry) (old image : List ℕ) (now i : ℕ) → HasInodes from to old now image → IsUsed from old i
     → (inode_of to.edition image (i + 1)).addresses ≡ replicate 13 0
 zeros_put from to old image now i has used =
     let last = used.last in ap (λ (node : Inode). node.addresses) (has.done i (omega (arith, last)) used)
 
--- no number is stored for a logical block of it
+-- no number is stored for a logical block of a new i-node
 stored_zero : (from to : Geometry) (old image : List ℕ) (now i b : ℕ) → HasInodes from to old now image → Fits to image → IsUsed from old i
     → stored to image (i + 1) (form_at to image (i + 1)) b ≡ 0
 stored_zero from to old image now i b has fits used =
@@ -104,7 +104,7 @@ stored_zero from to old image now i b has fits used =
           (addresses_of to.edition (mode_of to image (i + 1))) (last_leaf (form_at to image (i + 1)) b p e).place
     ] refl
 
--- an i-node that was put is carried, with no block
+-- each new i-node is copied, with no blocks yet
 first_carried : (from to : Geometry) (old image : List ℕ) (now i : ℕ) → HasInodes from to old now image → Fits to image → IsUsed from old i
     → IsCarried from to old now image i 0
 first_carried from to old image now i has fits used =
@@ -120,7 +120,7 @@ first_carried from to old image now i has fits used =
           (named_zero to image (i + 1) Deep p fits (zeros_put from to old image now i has used) (omega arith) place));
     }
 
--- a place of a file of the new volume names nothing
+-- each block-map position of a file of the new volume is 0
 names_none : (from to : Geometry) (old image : List ℕ) (now k : ℕ) (p : List ℕ) → HasInodes from to old now image → Fits to image
     → IsPlaceOf to image k p → named to image k p ≡ 0
 names_none from to old image now k p has fits place =
@@ -136,7 +136,7 @@ names_none from to old image now k p has fits place =
           named_zero to image k (form_at to image k) p fits zeros (addresses_of to.edition (mode_of to image k)) place.place
     ]
 
--- the kind of each i-node of the new volume
+-- each i-node of the new volume is free, or has the kind of an i-node of the old one
 kind_cases : (from to : Geometry) (old image : List ℕ) (now k : ℕ) → MayMigrate old from to → HasInodes from to old now image → Fits to image
     → 1 ≤ k → k ≤ to.last_inode
     → (kind_at to image k ≡ kinds.Free) ⊎ ((i : ℕ) × (k ≡ i + 1) × IsUsed from old i × (kind_at to image k ≡ kind_at from old i))
@@ -155,7 +155,7 @@ kind_cases from to old image now k may has fits first last =
           )
     ]
 
--- rule 3 holds of the new volume
+-- rule 3 holds for the new volume
 first_kinds : (from to : Geometry) (old image : List ℕ) (now : ℕ) → MayMigrate old from to → HasInodes from to old now image → Fits to image → HasKinds to image
 first_kinds from to old image now may has fits =
     let rules = old_rules old from to may in
@@ -183,7 +183,7 @@ first_kinds from to old image now may has fits =
           ∙ kind_zero to.edition);
     }
 
--- and rule 4
+-- rule 4 holds for the new volume
 first_sizes : (from to : Geometry) (old image : List ℕ) (now : ℕ) → MayMigrate old from to → HasInodes from to old now image → Fits to image → HasSizes to image
 first_sizes from to old image now may has fits =
     let rules = old_rules old from to may in
@@ -215,7 +215,7 @@ first_sizes from to old image now may has fits =
           ];
     }
 
--- each block without a mark is one of all
+-- if no block has a mark, all blocks at or after `b` are unused
 length_unused : (geometry : Geometry) (used : List Bool) (n b : ℕ) → b + n ≡ geometry.zone_end → ((k : ℕ) → get_or used k false ≡ false)
     → length (unused_from geometry used b) ≡ n
 length_unused geometry used zero b end none = ap length (unused_end geometry used b (omega (arith, end)))
@@ -223,11 +223,11 @@ length_unused geometry used (suc n) b end none =
     ap length (unused_given geometry used b (b + 1) refl (omega (arith, end)) (none b))
     ∙ ap suc (length_unused geometry used n (b + 1) (omega (arith, end)) none)
 
--- a list of no marks has none
+-- an element of a list of false is false
 no_mark : (n k : ℕ) → get_or (replicate n false) k false ≡ false
 no_mark n k = elim (cases_lt k n) [ inl low ↦ get_or-replicate n k false false low | inr past ↦ grind (arith, common_steps) ]
 
--- the i-nodes stay if the free list alone is made
+-- i-nodes are unchanged if only the free list is built
 inodes_stay : (from to : Geometry) (old image new : List ℕ) (now : ℕ) (used : List Bool) → Fits to image → KeepsUsed to used image new
     → ((i : ℕ) → IsUsed from old i → i + 1 ≤ to.last_inode) → HasInodes from to old now image → HasInodes from to old now new
 inodes_stay from to old image new now used fits keeps numbers has =
@@ -241,7 +241,7 @@ inodes_stay from to old image new now used fits keeps numbers has =
       rest = λ k r first last which low. (kept k first last).bytes r low ∙ has.rest k r first last which low;
     }
 
--- before any block is carried
+-- with all i-nodes and the free list, the volume is at its first stage
 pub first_stage : (from to : Geometry) (old made put image : List ℕ) (now : ℕ) → MayMigrate old from to → Fits to put → Fits to image
     → HasSuper to now made → SameOutside made put 1024 (512 * to.zone_start) → HasInodes from to old now put
     → KeepsUsed to (replicate to.zone_end false) put image → IsFree to image (unused to (replicate to.zone_end false))

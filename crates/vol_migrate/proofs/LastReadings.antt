@@ -1,4 +1,4 @@
--- The state that the volume reads as once all files are carried.
+-- The state that the volume reads as when all files are copied.
 use Rattle.std.proofs.Common.{◌≡◌, ◌≢◌, ◌∙◌, sym, ap, refl, ℕ, ◌+◌, ◌-◌, Bool, true, false, List, [], Option, None, Some, inl, inr, arith}
 use Rattle.std.specs.Prelude.{◌&&◌}
 use Rattle.std.specs.Option.{option_map}
@@ -30,7 +30,7 @@ use Rattle.vol_migrate.proofs.StageSteps.{carried_kind, form_seventh}
 use Rattle.vol_migrate.proofs.StageLaws.{old_rules, carried_file}
 use Rattle.vol_migrate.proofs.LastStages.{IsLast, all_carried, regular_body, slots_carried, used_or, free_node, free_shape, old_free, new_free}
 
--- the content of a carried i-node of some kind
+-- the content of a copied i-node of this kind is the old one, raised
 content_carried : (from to : Geometry) (old image : List ℕ) (now i : ℕ) (kind : Kind) → MayMigrate old from to → IsLast from to old now image → IsUsed from old i
     → kind_at from old i ≡ kind → kind ≢ kinds.Special
     → content_of to image (i + 1) kind ≡ option_map raised_content (content_of from old i kind)
@@ -41,7 +41,7 @@ content_carried from to old image now i kinds.Free may stage used is plain = ref
 content_carried from to old image now i kinds.Odd may stage used is plain = refl
 content_carried from to old image now i kinds.Special may stage used is plain = absurd (plain refl)
 
--- the node of an i-node that is another's, raised
+-- a node made from a raised i-node is the raised node
 node_raised : (node old : Inode) (now : ℕ) (content : Option Content) → node ≡ record (raised_inode old now) { addresses = node.addresses }
     → option_map (node_with node) (option_map raised_content content) ≡ option_map (raised_node now) (option_map (node_with old) content)
 node_raised node old now None is = refl
@@ -60,7 +60,7 @@ node_raised node old now (Some content) is =
       changed = Some now;
     }))
 
--- each node
+-- each node of the new volume is the old one, raised
 node_carried : (from to : Geometry) (old image : List ℕ) (now k : ℕ) → MayMigrate old from to → IsLast from to old now image
     → (tree to image).nodes k ≡ option_map (raised_node now) ((tree from old).nodes (k - 1))
 unfolding node_of
@@ -82,13 +82,13 @@ node_carried from to old image now k may stage =
           ∙ sym (ap (option_map (raised_node now)) (node_inside from old i used.1.first used.1.last))))))
     ]
 
--- a place on the paths of blocks is one, and no other is named
+-- if `name` implies `test`, their conjunction is `name`
 names_places : (test name : Bool) → (name ≡ true → test ≡ true) → (test && name) ≡ name
 names_places true name place = refl
 names_places false true place = place refl
 names_places false false place = refl
 
--- the names of a carried file
+-- the positions of a copied file that point to blocks are those on the paths of its stored blocks
 names_carried : (from to : Geometry) (old image : List ℕ) (now i : ℕ) (p : List ℕ) → MayMigrate old from to → IsLast from to old now image → IsUsed from old i
     → is_named_place to image (i + 1) p ≡ is_on_ways Deep (stored_blocks (shapes from old i) (whole_blocks (size_of from old i))) p
 names_carried from to old image now i p may stage used =
@@ -99,7 +99,7 @@ names_carried from to old image now i p may stage used =
     ∙ (guarded (is_place Deep p) (is_named to image (i + 1) p) (is_on_ways Deep blocks p) (λ passes. carried.names p (place_passed Deep p passes))
     ∙ names_places (is_place Deep p) (is_on_ways Deep blocks p) (λ on. place_test Deep p (ways_place Deep blocks p on)))
 
--- the size of a node
+-- the size of a node is that of its i-node
 size_here : (from : Geometry) (old : List ℕ) (i : ℕ) (kind : Kind) → kind ≢ kinds.Free → kind ≢ kinds.Odd
     → size_in (option_map (node_with (inode_of from.edition old i)) (content_of from old i kind)) ≡ size_of from old i
 size_here from old i kinds.Free some known = absurd (some refl)
@@ -108,7 +108,7 @@ size_here from old i kinds.Regular some known = inode_size from.edition old (ino
 size_here from old i kinds.Directory some known = inode_size from.edition old (inode_place from.edition i)
 size_here from old i kinds.Special some known = inode_size from.edition old (inode_place from.edition i)
 
--- the shape of a carried i-node of some kind
+-- the shape of a copied i-node of this kind is the old one, raised
 shape_by : (from to : Geometry) (old image : List ℕ) (now i : ℕ) (kind : Kind) → MayMigrate old from to → IsLast from to old now image → IsUsed from old i
     → kind_at from old i ≡ kind → kind ≢ kinds.Special
     → shape_of to image (i + 1) kind ≡ record {
@@ -128,7 +128,7 @@ shape_by from to old image now i kinds.Free may stage used is plain = absurd (us
 shape_by from to old image now i kinds.Odd may stage used is plain = absurd ((old_rules old from to may).sound.kinds.known i used.first used.last is)
 shape_by from to old image now i kinds.Special may stage used is plain = absurd (plain refl)
 
--- each shape
+-- each shape of the new volume is the old one, raised
 shape_carried : (from to : Geometry) (old image : List ℕ) (now k : ℕ) → MayMigrate old from to → IsLast from to old now image
     → shapes to image k ≡ raised_shape (size_in ((tree from old).nodes (k - 1))) (shapes from old (k - 1))
 unfolding node_of
@@ -157,7 +157,7 @@ shape_carried from to old image now k may stage =
           ∙ sym (ap (λ n. raised_shape n (shapes from old i)) size)))))
     ]
 
--- the volume reads as the old one, raised
+-- the new volume reads as the old state, raised
 pub state_raised : (from to : Geometry) (old image : List ℕ) (now blocks list_blocks : ℕ) → MayMigrate old from to → IsLast from to old now image
     → to ≡ volume_of V7 blocks list_blocks → state to image ≡ raised (state from old) blocks list_blocks now
 unfolding tree

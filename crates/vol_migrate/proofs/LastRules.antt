@@ -1,4 +1,4 @@
--- The rules that hold once all files are carried: all that are checked, which are those not about the free list.
+-- The rules that hold when all files are copied: all those that aren't about the free list.
 use Rattle.std.proofs.Common.{◌≡◌, ◌∙◌, sym, ap, subst, refl, ℕ, ◌+◌, Bool, true, false, List, Result, Ok, Err, None, inr, arith}
 use Rattle.std.specs.Prelude.{if◌then◌else◌}
 use Rattle.vol_layout.specs.Edition.{constants}
@@ -20,7 +20,7 @@ use Rattle.vol_migrate.specs.Stages.{MayMigrate}
 use Rattle.vol_migrate.proofs.RaisedGraphs.{raised_sound}
 use Rattle.vol_migrate.proofs.LastStages.{IsLast, graph_raised}
 
--- a geometry that is read is whole and bounded
+-- a geometry that was read satisfies rules 1 and 2
 read_whole : (edition : Edition) (image : List ℕ) (geometry : Geometry) → geometry_read edition image ≡ Ok geometry
     → (is_whole edition image ≡ true) × (is_bounded edition image ≡ true)
 unfolding geometry_read
@@ -36,7 +36,7 @@ read_whole edition image geometry read = go (is_whole edition image) (is_bounded
   go true false e f r = let clash : false ≡ true = ap is_ok r in cc
   go false bounded e f r = let clash : false ≡ true = ap is_ok r in cc
 
--- the rules of directories
+-- the rules about directories hold
 last_graph : (from to : Geometry) (old image : List ℕ) (now : ℕ) → MayMigrate old from to → IsLast from to old now image
     → HasEntries to image × HasDots to image × IsTree to image × HasLinks to image
 last_graph from to old image now may stage =
@@ -48,7 +48,7 @@ last_graph from to old image now may stage =
     rules_from_graph to image stage.sound.sizes
     (subst (λ root. IsGraphSound (graph_of to image) root to.last_inode) (sym new_root) sound)
 
--- all rules that are checked
+-- all rules that aren't about the free list hold
 pub last_rules : (from to : Geometry) (old image : List ℕ) (now : ℕ) → MayMigrate old from to → IsLast from to old now image → KeepsRules false to.edition image
 last_rules from to old image now may stage =
     let super_block = stage.super_block in

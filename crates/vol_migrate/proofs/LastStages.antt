@@ -1,4 +1,4 @@
--- The volume once all files are carried: its directories make the same graph with each i-number one higher.
+-- The volume when all files are copied: its directories make the same graph with each i-number one higher.
 use Rattle.std.proofs.Common.{◌≡◌, ◌≢◌, ◌∙◌, sym, ap, subst, refl, ℕ, zero, suc, ◌+◌, ◌-◌, ◌*◌, ◌<◌, ◌≤◌, false, if◌then◌else◌, List, ◌∷◌, map, get_or, Option, None, ◌⊎◌, inl, inr, arith}
 use Rattle.std.specs.List.{range_with_len}
 use Rattle.std.specs.Option.{option_map}
@@ -31,18 +31,18 @@ use Rattle.vol_migrate.proofs.StageSteps.{carried_kind, carried_size, progress_b
 use Rattle.vol_migrate.proofs.StageLaws.{old_rules, used_is_file}
 use Rattle.vol_migrate.proofs.FirstStages.{free_or, vacant_or, zero_mode}
 
--- all files are carried
+-- all files are copied
 abbrev pub IsLast : Geometry → Geometry → List ℕ → ℕ → List ℕ → Type 0
 IsLast from to old now image = IsStage from to old now image (from.last_inode + 1) 0
 
--- each with all its blocks
+-- each file is copied with all its blocks
 pub all_carried : (from to : Geometry) (old image : List ℕ) (now i : ℕ) → IsLast from to old now image → IsUsed from old i
     → IsCarried from to old now image i (whole_blocks (size_of from old i))
 all_carried from to old image now i stage used =
     let last = used.last in
     subst (IsCarried from to old now image i) (progress_before from old (from.last_inode + 1) 0 i (omega (arith, last))) (stage.carried i used)
 
--- the sizes of its body in both volumes
+-- both bodies of a file have the file's size
 sizes_same : (from to : Geometry) (old image : List ℕ) (now i : ℕ) → MayMigrate old from to → IsLast from to old now image → IsUsed from old i
     → (body_size from old i ≡ size_of from old i) × (body_size to image (i + 1) ≡ size_of from old i)
 sizes_same from to old image now i may stage used =
@@ -52,13 +52,13 @@ sizes_same from to old image now i may stage used =
     let seven : (constants to.edition).greatest ≡ 1082201088 = ap (λ e. (constants e).greatest) may.seventh in
     (omega (arith, greatest), omega (arith, greatest, size, six, seven))
 
--- each byte of its body
+-- each byte of a file's body is copied
 pub body_carried : (from to : Geometry) (old image : List ℕ) (now i x : ℕ) → MayMigrate old from to → IsLast from to old now image → IsUsed from old i
     → x < size_of from old i → get_or (body to image (i + 1)) x 0 ≡ carried_byte (kind_at from old i) (body from old i) x
 body_carried from to old image now i x may stage used low =
     (all_carried from to old image now i stage used).done x low (omega (arith, low))
 
--- the body of a regular file stays
+-- the body of a regular file is unchanged
 pub regular_body : (from to : Geometry) (old image : List ℕ) (now i : ℕ) → MayMigrate old from to → IsLast from to old now image → IsUsed from old i
     → kind_at from old i ≡ kinds.Regular → body to image (i + 1) ≡ body from old i
 regular_body from to old image now i may stage used regular =
@@ -91,7 +91,7 @@ entry_carried from to old image now i s may stage used directory =
           entry_at_past to image (i + 1) s (omega (arith, past, sizes.0, sizes.1)) ∙ sym (ap raised_entry (entry_at_past from old i s past))
     ]
 
--- its slots
+-- if each entry is raised, so is the list of entries
 map_each : (f g : ℕ → Option (List ℕ × ℕ)) (a n : ℕ) → ((s : ℕ) → f s ≡ raised_entry (g s))
     → map f (range_with_len a n) ≡ map raised_entry (map g (range_with_len a n))
 map_each f g a zero same = refl
@@ -107,7 +107,7 @@ slots_carried from to old image now i may stage used directory =
     ∙ map_each (entry_at to image (i + 1)) (entry_at from old i) 0 (slot_count from old i)
     (λ s. entry_carried from to old image now i s may stage used directory)
 
--- an i-node isn't used, or it is
+-- an i-node is used or not
 pub used_or : (from : Geometry) (old : List ℕ) (k : ℕ) → (IsUsed from old (k - 1) → ⊥) ⊎ ((k ≡ k - 1 + 1) × IsUsed from old (k - 1))
 used_or from old k =
     elim (vacant_or from old k) [
@@ -117,7 +117,7 @@ used_or from old k =
           inr ((let e : k ≡ k - 1 + 1 = omega (arith, used.1) in e), subst (IsUsed from old) at used.2)
     ]
 
--- a number that isn't one of the volume's
+-- a number is one of the volume's i-numbers or not
 outside_or : (geometry : Geometry) (k : ℕ) → (is_number geometry k ≡ false) ⊎ ((1 ≤ k) × (k ≤ geometry.last_inode))
 outside_or geometry k =
     elim (cases_Bool (is_number geometry k)) [
@@ -125,7 +125,7 @@ outside_or geometry k =
       | inr out ↦ inl out
     ]
 
--- the node of a number whose i-node, if there is one, is free
+-- an i-number has the kind of a free i-node if it is outside the volume or its i-node is free
 free_kind : (geometry : Geometry) (image : List ℕ) (k : ℕ) → (1 ≤ k → k ≤ geometry.last_inode → kind_at geometry image k ≡ kinds.Free)
     → kind_in geometry image k ≡ kinds.Free
 free_kind geometry image k free =
@@ -162,11 +162,11 @@ old_free from old i unused first last =
       | inr some ↦ absurd (unused (record { first = first; last = last; some = some }))
     ]
 
--- the next one of the new volume has nothing to carry
+-- if an i-node of the old volume isn't used, the next i-number of the new one is vacant
 pub unused_vacant : (from : Geometry) (old : List ℕ) (k : ℕ) → (IsUsed from old (k - 1) → ⊥) → IsVacant from old k
 unused_vacant from old k unused = λ i e used. unused (subst (IsUsed from old) (let at : i ≡ k - 1 = omega (arith, e) in at) used)
 
--- and so it is free
+-- a vacant i-node of the new volume is free
 pub new_free : (from to : Geometry) (old image : List ℕ) (now k : ℕ) → IsLast from to old now image → (IsUsed from old (k - 1) → ⊥)
     → 1 ≤ k → k ≤ to.last_inode → kind_at to image k ≡ kinds.Free
 new_free from to old image now k stage unused first last =
@@ -174,7 +174,7 @@ new_free from to old image now k stage unused first last =
     (zero_mode to image k (λ r low. stage.zeros k r first last (inl (unused_vacant from old k unused)) low))
     ∙ kind_zero to.edition
 
--- the entries of an i-node of some kind
+-- the entries of an i-node of this kind are the old ones, raised
 entries_by : (from to : Geometry) (old image : List ℕ) (now i s : ℕ) (kind : Kind) → MayMigrate old from to → IsLast from to old now image → IsUsed from old i
     → kind_at from old i ≡ kind → entry_by kind to image (i + 1) s ≡ raised_entry (entry_by kind from old i s)
 entries_by from to old image now i s kinds.Directory may stage used is = entry_carried from to old image now i s may stage used is
@@ -183,7 +183,7 @@ entries_by from to old image now i s kinds.Regular may stage used is = refl
 entries_by from to old image now i s kinds.Special may stage used is = refl
 entries_by from to old image now i s kinds.Odd may stage used is = refl
 
--- the kind of each i-number in the graph
+-- each i-number of the new graph has the kind of the one before it in the old graph
 graph_kind : (from to : Geometry) (old image : List ℕ) (now k : ℕ) → MayMigrate old from to → IsLast from to old now image
     → kind_in to image k ≡ kind_in from old (k - 1)
 graph_kind from to old image now k may stage =
@@ -199,7 +199,7 @@ graph_kind from to old image now k may stage =
           ∙ sym (kind_inside from old (k - 1) used.1.first used.1.last)))
     ]
 
--- an i-number whose kind isn't free is used
+-- an i-number whose kind isn't `Free` is used
 graph_used : (from : Geometry) (old : List ℕ) (k : ℕ) → kind_in from old (k - 1) ≢ kinds.Free → (k ≡ k - 1 + 1) × IsUsed from old (k - 1)
 graph_used from old k some =
     elim (used_or from old k) [

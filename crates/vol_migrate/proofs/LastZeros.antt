@@ -1,4 +1,4 @@
--- The bytes that rebuilding the free list keeps, once all files are carried: zeros, and the slots of directories.
+-- The bytes that rebuilding the free list keeps when all files are copied: zeros, and the slots of directories.
 use Rattle.std.proofs.Common.{◌≡◌, ◌∙◌, sym, ap, ℕ, ◌+◌, ◌-◌, Bool, List, get_or, inl, inr, refl, arith}
 use Rattle.vol_layout.specs.Body.{body}
 use Rattle.vol_layout.specs.Edition.{constants}
@@ -18,7 +18,7 @@ use Rattle.vol_migrate.proofs.StageSteps.{carried_kind, super_stays}
 use Rattle.vol_migrate.proofs.StageLaws.{old_rules, carried_file}
 use Rattle.vol_migrate.proofs.LastStages.{IsLast, all_carried, body_carried, used_or, unused_vacant}
 
--- zeros stay when the free list is rebuilt
+-- zeros are unchanged when the free list is rebuilt
 pub last_zeros : (from to : Geometry) (old made new : List ℕ) (now : ℕ) (used : List Bool) → MayMigrate old from to → IsLast from to old now made
     → KeepsUsed to used made new → HasZeros to new
 last_zeros from to old made new now used may stage keeps =
@@ -42,7 +42,7 @@ last_zeros from to old made new now used may stage keeps =
           ∙ stage.zeros k 51 first last (inr refl) (omega (arith, size));
     }
 
--- and so do the slots of directories
+-- the slots of directories are unchanged when the free list is rebuilt
 pub last_slots : (from to : Geometry) (old made new : List ℕ) (now : ℕ) (used : List Bool) → MayMigrate old from to → IsLast from to old now made
     → KeepsUsed to used made new → AreNamed to made used → HasRaisedSlots from to old new
 last_slots from to old made new now used may stage keeps named = λ i x is low.

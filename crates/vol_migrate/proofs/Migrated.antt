@@ -1,4 +1,4 @@
--- The volume that was made is the old one as the seventh edition has it.
+-- The new volume is the old one, migrated.
 use Rattle.std.proofs.Common.{◌≡◌, ◌∙◌, sym, ap, subst, refl, ℕ, ◌+◌, ◌-◌, ◌*◌, ◌≤◌, Bool, true, false, ltb, if◌then◌else◌, List, length, get_or, replicate, Ok, None, Some, arith}
 use Rattle.std.proofs.lemmas.List.{length-replicate}
 use Rattle.std.proofs.lemmas.Bool.{ltb-false}
@@ -33,7 +33,7 @@ use Rattle.vol_migrate.proofs.LastZeros.{last_zeros, last_slots}
 use Rattle.vol_migrate.proofs.LastStages.{IsLast}
 use Rattle.vol_migrate.proofs.Refused.{plain_all, number_all}
 
--- a sound image's geometry is read
+-- the geometry of a sound image can be read
 pub sound_read : (image : List ℕ) → IsSound V6 image → geometry_read V6 image ≡ Ok (geometry_of V6 image)
 unfolding geometry_read Rule
 sound_read image rules =
@@ -41,7 +41,7 @@ sound_read image rules =
     let bounded : is_bounded V6 image ≡ true = rules 2 in
     rw (whole, bounded) refl
 
--- clearing the free list's head and then rebuilding the list keeps what rebuilding keeps
+-- clearing the free list's head and then rebuilding the list keeps the bytes that rebuilding keeps
 pub keeps_cleared : (geometry : Geometry) (used : List Bool) (old mid new : List ℕ) → Fits geometry old
     → SameOutside old mid (free_head geometry.edition) (free_head geometry.edition + 202) → KeepsUsed geometry used mid new → KeepsUsed geometry used old new
 keeps_cleared geometry used old mid new fits same keeps =
@@ -94,7 +94,7 @@ may_migrate old from blocks list_blocks sound is fits makeable device above spac
       space = space;
     }
 
--- the volume that was made
+-- the volume with all files copied and its free list rebuilt satisfies `IsMigrated`
 pub migrated : (old made new : List ℕ) (from to : Geometry) (now blocks list_blocks : ℕ) → MayMigrate old from to → IsLast from to old now made
     → IsRelisted to made new → to ≡ volume_of V7 blocks list_blocks → IsMigrated old blocks list_blocks now new
 migrated old made new from to now blocks list_blocks may stage listed is =
@@ -120,19 +120,19 @@ migrated old made new from to now blocks list_blocks may stage listed is =
           (subst (λ g. AreNamed g made salvage.used) own salvage.named)));
     }
 
--- rule 4 of a sound image
+-- rule 4 holds for a sound image
 pub sound_sizes : (image : List ℕ) (geometry : Geometry) → geometry ≡ geometry_of V6 image → IsSound V6 image → HasSizes geometry image
 unfolding Rule
 sound_sizes image geometry is rules = subst (λ g. HasSizes g image) (sym is) (rules 4)
 
--- the facts if no check of migrating a volume fails
+-- the facts if all checks of a migration pass
 pub record IsAllowed (state : State) (blocks list_blocks : ℕ) : Type 0 where
   pub size : is_size V7 blocks list_blocks ≡ true
   pub device : has_device state.tree ≡ false
   pub above : has_above state.tree (8 * list_blocks) ≡ false
   pub space : places_needed state ≤ blocks - (list_blocks + 2)
 
--- it is so if there is no refusal
+-- `IsAllowed` holds if there is no refusal
 pub allowed : (state : State) (blocks list_blocks : ℕ) → refusal V6 state blocks list_blocks ≡ None → IsAllowed state blocks list_blocks
 allowed state blocks list_blocks none =
     go (is_size V7 blocks list_blocks) (has_device state.tree) (has_above state.tree (8 * list_blocks))
@@ -149,7 +149,7 @@ allowed state blocks list_blocks none =
       go true true above full s d a f e = absurd (cc)
       go false device above full s d a f e = absurd (cc)
 
--- the first stage of the volume, made of zeros
+-- the volume made of zeros, with super-block, i-nodes and free list, is at its first stage
 pub made_first : (old zeros made put image : List ℕ) (from to : Geometry) (now : ℕ) → MayMigrate old from to → zeros ≡ replicate (512 * to.zone_end) 0
     → geometry_of to.edition made ≡ to → long made (time_place to.edition) ≡ now
     → ((k : ℕ) → IsNoneOf 512 (sizes_bytes to.edition) k → IsNoneOf (time_place to.edition) 4 k → get_or made k 0 ≡ get_or zeros k 0)
@@ -166,6 +166,6 @@ made_first old zeros made put image from to now may is sizes time rest first lis
     first_stage from to old made put image now may
     (fits_len to made put listed.len (fits_makeable to made may.makeable super.len)) fits super listed inodes keeps free
 
--- the i-list of a volume made of zeros
+-- writing the super-block to a volume of zeros leaves the bytes after it zero
 pub made_zeros : (zeros made : List ℕ) (n k : ℕ) → zeros ≡ replicate n 0 → SameOutside zeros made 512 1024 → 1024 ≤ k → get_or made k 0 ≡ 0
 made_zeros zeros made n k is first from = first.above k from ∙ (ap (λ xs. get_or xs k 0) is ∙ zeros_at n k)

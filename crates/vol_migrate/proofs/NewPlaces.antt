@@ -1,4 +1,4 @@
--- The number of places on the block path of a logical block that are on no earlier path.
+-- The number of block-map positions on the path of a logical block that are on no earlier path.
 use Rattle.std.proofs.Common.{◌≡◌, ◌∙◌, sym, ap, refl, ℕ, zero, suc, ◌+◌, ◌-◌, ◌*◌, ◌/◌, ◌%◌, ◌<◌, ◌≤◌, Bool, true, false, cond, not, leb, List, [], ◌∷◌, filter, reverse, length, None, Some, inl, inr, arith}
 use Rattle.std.specs.Prelude.{◌||◌}
 use Rattle.std.specs.List.{list_any, count_by}
@@ -25,7 +25,7 @@ use Rattle.vol_migrate.specs.Raised.{names_block, stored_blocks}
 use Rattle.vol_migrate.specs.Stages.{ComesAfter, is_new}
 use Rattle.vol_migrate.proofs.CarriedBlocks.{below_hole, below_holes, on_more}
 
--- a list found among the fronts of a place is a place
+-- a list found among the fronts of a position is one of its fronts
 front_passed : (p q : List ℕ) → list_any (bytes_eq p) (fronts q) ≡ true → IsFront p q
 front_passed p [] h = true≢false (sym h)
 front_passed p (j ∷ q) h = elim (cases_Bool (bytes_eq p (j ∷ q))) [
@@ -33,7 +33,7 @@ front_passed p (j ∷ q) h = elim (cases_Bool (bytes_eq p (j ∷ q))) [
   | inr other ↦ inr (front_passed p q (sym (ap (λ t. t || list_any (bytes_eq p) (fronts q)) other) ∙ h))
 ]
 
--- a place on the path of a logical block has no later first block
+-- the first logical block below a position on the path of block `c` is at most `c`
 on_from : (c a : ℕ) (p : List ℕ) → list_any (bytes_eq (a ∷ p)) (way Deep c) ≡ true → first_block Deep (a ∷ p) ≤ c
 on_from c a p on =
     elim (last_place Deep c) as (λ o. last_place Deep c ≡ o → first_block Deep (a ∷ p) ≤ c) [
@@ -49,7 +49,7 @@ on_from c a p on =
           omega (arith, later, is)
     ] refl
 
--- a place whose first block is later isn't on the path
+-- a position whose first logical block is after `c` isn't on the path of `c`
 off_before : (c a : ℕ) (p : List ℕ) → c < first_block Deep (a ∷ p) → list_any (bytes_eq (a ∷ p)) (way Deep c) ≡ false
 off_before c a p later =
     elim (cases_Bool (list_any (bytes_eq (a ∷ p)) (way Deep c))) [
@@ -57,7 +57,7 @@ off_before c a p later =
       | inr off ↦ off
     ]
 
--- nor on the paths of blocks if it is on the path of none of them
+-- a position that is on the path of no block below `n` isn't on their paths together
 none_on : (shape : Shape) (p : List ℕ) (n : ℕ) → ((c : ℕ) → c < n → list_any (bytes_eq p) (way Deep c) ≡ false)
     → is_on_ways Deep (stored_blocks shape n) p ≡ false
 none_on shape p zero off = refl
@@ -72,7 +72,7 @@ none_on shape p (suc n) off =
       | inr hole ↦ ap (λ blocks. is_on_ways Deep blocks p) (below_hole shape n hole) ∙ rest
     ]
 
--- a place is on an earlier path if its first block is before the end of the last stored one
+-- a position is on an earlier path if and only if its first logical block is before `passed`
 pub named_before : (shape : Shape) (b passed a : ℕ) (p : List ℕ) → ComesAfter shape b passed
     → ((c : ℕ) → first_block Deep (a ∷ p) ≤ c → c < b → list_any (bytes_eq (a ∷ p)) (way Deep c) ≡ true)
     → not (is_on_ways Deep (stored_blocks shape b) (a ∷ p)) ≡ leb passed (first_block Deep (a ∷ p))
@@ -96,7 +96,7 @@ named_before shape b passed a p after convex =
           ap not unnamed ∙ sym (le-leb passed (first_block Deep (a ∷ p)) later)
     ]
 
--- the same as a number
+-- `is_new` of a position's first logical block is 1 if the position is on no earlier path, else 0
 missing_one : (shape : Shape) (b passed start a : ℕ) (p : List ℕ) → ComesAfter shape b passed → first_block Deep (a ∷ p) ≡ start
     → ((c : ℕ) → start ≤ c → c < b → list_any (bytes_eq (a ∷ p)) (way Deep c) ≡ true)
     → ◌≡◌ {A = ℕ} (cond (not (is_on_ways Deep (stored_blocks shape b) (a ∷ p))) 1 0) (is_new passed start)
@@ -104,14 +104,14 @@ missing_one shape b passed start a p after is convex =
     ap (λ t. cond t 1 0)
     (named_before shape b passed a p after (λ c from low. convex c (omega (arith, is, from)) low) ∙ ap (leb passed) is)
 
--- the block itself is on no path before
+-- the position of the block itself is on no earlier path
 missing_self : (shape : Shape) (b passed a : ℕ) (p : List ℕ) → ComesAfter shape b passed → first_block Deep (a ∷ p) ≡ b
     → ◌≡◌ {A = ℕ} (cond (not (is_on_ways Deep (stored_blocks shape b) (a ∷ p))) 1 0) 1
 missing_self shape b passed a p after is =
     missing_one shape b passed b a p after is (λ c from low. absurd (omega (arith, from, low)))
     ∙ ap (λ t. cond t 1 0) (le-leb passed b after.order)
 
--- a block needs the places of its path that are missing
+-- a block needs the positions on its path that don't point to a block yet
 need_way : (names : List ℕ → Bool) (b : ℕ) (q : List ℕ) → last_place Deep b ≡ Some q
     → need_of Deep names (b ∷ []) ≡ count_by (λ p. not (names p)) (reverse (fronts q))
 unfolding missing_places
@@ -121,18 +121,18 @@ need_way names b q e =
     ∙ (length-filter (λ p. not (names p)) (reverse (way Deep b))
     ∙ ap (λ w. count_by (λ p. not (names p)) (reverse w)) (way_is Deep b q e)))
 
--- counts of a few places
+-- a first position adds 1 to a count if it passes the test
 count_more : (t : List ℕ → Bool) (p : List ℕ) (ps : List (List ℕ)) → count_by t (p ∷ ps) ≡ cond (t p) 1 0 + count_by t ps
 count_more t p ps = sum_by-cons (λ q. cond (t q) 1 0) p ps
 
 count_one : (t : List ℕ → Bool) (p : List ℕ) → count_by t (p ∷ []) ≡ cond (t p) 1 0
 count_one t p = let cons = count_more t p [] in omega (arith, cons)
 
--- a place is on the path of its block
+-- a front of a block's last position is on the block's path
 on_way : (c : ℕ) (p q : List ℕ) → last_place Deep c ≡ Some q → IsFront p q → list_any (bytes_eq p) (way Deep c) ≡ true
 on_way c p q e front = ap (list_any (bytes_eq p)) (way_is Deep c q e) ∙ front_true q p front
 
--- a block without an indirect block
+-- a block at an address of the i-node needs 1 position
 pub need_direct : (shape : Shape) (b passed : ℕ) → ComesAfter shape b passed → b < 10
     → need_of Deep (is_on_ways Deep (stored_blocks shape b)) (b ∷ []) ≡ 1
 need_direct shape b passed after low =
@@ -141,7 +141,7 @@ need_direct shape b passed after low =
     need_way (is_on_ways Deep (stored_blocks shape b)) b (b ∷ []) (last_direct b low)
     ∙ (count_one (λ p. not (is_on_ways Deep (stored_blocks shape b) p)) (b ∷ []) ∙ missing_self shape b passed b [] after is)
 
--- a block by the indirect block
+-- a block below the singly indirect block needs 1 position, and 1 more if the indirect block is new
 pub need_single : (shape : Shape) (b passed : ℕ) → ComesAfter shape b passed → 10 ≤ b → b < 138
     → need_of Deep (is_on_ways Deep (stored_blocks shape b)) (b ∷ []) ≡ 1 + is_new passed 10
 need_single shape b passed after low high =
@@ -157,7 +157,7 @@ need_single shape b passed after low high =
     let one = count_one t q in
     need_way (is_on_ways Deep (stored_blocks shape b)) b q last ∙ omega (arith, cons, one, first, self)
 
--- a block by the doubly indirect block
+-- a block below the doubly indirect block needs 1 position, and 1 more for each of the two indirect blocks that is new
 pub need_double : (shape : Shape) (b passed : ℕ) → ComesAfter shape b passed → 138 ≤ b → b < 16522
     → need_of Deep (is_on_ways Deep (stored_blocks shape b)) (b ∷ [])
     ≡ 1 + is_new passed 138 + is_new passed (138 + (b - 138) / 128 * 128)
@@ -183,7 +183,7 @@ need_double shape b passed after low high =
     let one = count_one t q in
     need_way (is_on_ways Deep (stored_blocks shape b)) b q last ∙ omega (arith, cons, next, one, first, second, self)
 
--- a block by the triply indirect block
+-- a block below the triply indirect block needs 1 position, and 1 more for each of the three indirect blocks that is new
 pub need_triple : (shape : Shape) (b passed : ℕ) → ComesAfter shape b passed → 16522 ≤ b → b < 2113674
     → need_of Deep (is_on_ways Deep (stored_blocks shape b)) (b ∷ [])
     ≡ 1 + is_new passed 16522 + is_new passed (16522 + (b - 16522) / 16384 * 16384) + is_new passed (16522 + (b - 16522) / 128 * 128)

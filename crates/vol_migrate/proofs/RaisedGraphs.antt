@@ -1,4 +1,4 @@
--- The graph of directories once each i-number is one higher: it keeps the rules.
+-- A graph of directories with each i-number one higher keeps the rules.
 use Rattle.std.proofs.Common.{◌≡◌, ◌≢◌, ◌∙◌, sym, ap, refl, ℕ, zero, suc, ◌+◌, ◌-◌, ◌/◌, ◌<◌, ◌≤◌, max, cond, List, [], Option, None, Some, subst, inl, inr, arith}
 use Rattle.std.specs.List.{sum_by, range_with_len}
 use Rattle.std.specs.Option.{option_map}
@@ -16,14 +16,14 @@ use Rattle.vol_layout.specs.declared.mode.Kind.TheVariants as kinds
 abbrev pub raised_entry : Option (List ℕ × ℕ) → Option (List ℕ × ℕ)
 raised_entry slot = option_map (λ (entry : List ℕ × ℕ). (entry.0, entry.1 + 1)) slot
 
--- each i-number of a graph is one higher in another
+-- the graph `new` is `old` with each i-number one higher
 pub record RaisesGraph (old new : Graph) : Type 0 where
   pub kind : (k : ℕ) → new.kind k ≡ old.kind (k - 1)
   pub links : (k : ℕ) → old.kind (k - 1) ≢ kinds.Free → new.links k ≡ old.links (k - 1)
   pub size : (k : ℕ) → old.kind (k - 1) ≡ kinds.Directory → new.size k ≡ old.size (k - 1)
   pub entry : (k s : ℕ) → new.entry k s ≡ raised_entry (old.entry (k - 1) s)
 
--- the entry from which one with the next i-number was made
+-- a raised entry for `i` was made from an entry for `i` - 1
 from_raised : (slot : Option (List ℕ × ℕ)) (name : List ℕ) (i : ℕ) → raised_entry slot ≡ Some (name, i)
     → (j : ℕ) × (slot ≡ Some (name, j)) × (i ≡ j + 1)
 from_raised None name i e = absurd (cc)
@@ -31,7 +31,7 @@ from_raised (Some entry) name i e =
     let parts = entry_parts entry.0 name (entry.1 + 1) i e in
     (entry.1, ap (λ n. Some (n, entry.1)) parts.0, sym parts.1)
 
--- an entry of the other graph
+-- an entry of the new graph was made from one of the old graph
 entry_back : (old new : Graph) (k s i : ℕ) (name : List ℕ) → RaisesGraph old new → new.entry k s ≡ Some (name, i)
     → (old.entry (k - 1) s ≡ Some (name, i - 1)) × (1 ≤ i)
 entry_back old new k s i name raises e =
@@ -39,27 +39,27 @@ entry_back old new k s i name raises e =
     let less : from.0 ≡ i - 1 = omega (arith, from.2) in
     (from.1 ∙ ap (λ j. Some (name, j)) less, omega (arith, from.2))
 
--- and an entry there
+-- an entry of the old graph makes one of the new graph
 entry_on : (old new : Graph) (d s j k i : ℕ) (name : List ℕ) → RaisesGraph old new → k - 1 ≡ d → j + 1 ≡ i → old.entry d s ≡ Some (name, j)
     → new.entry k s ≡ Some (name, i)
 entry_on old new d s j k i name raises at is e =
     raises.entry k s ∙ (ap (λ x. raised_entry (old.entry x s)) at ∙ (ap raised_entry e ∙ ap (λ x. Some (name, x)) is))
 
--- an entry that leads on there
+-- an entry that leads from one directory to another in the old graph does so in the new one
 leads_on : (old new : Graph) (d s j k i : ℕ) → RaisesGraph old new → k - 1 ≡ d → j + 1 ≡ i → Leads old d s j → Leads new k s i
 leads_on old new d s j k i raises at is leads = (leads.0, entry_on old new d s j k i leads.0 raises at is leads.1, leads.2)
 
--- an entry that leads on in the other graph
+-- an entry that leads from one directory to another in the new graph does so in the old one
 leads_back : (old new : Graph) (k s i : ℕ) → RaisesGraph old new → Leads new k s i → Leads old (k - 1) s (i - 1)
 leads_back old new k s i raises leads = (leads.0, (entry_back old new k s i leads.0 raises leads.1).0, leads.2)
 
--- a node below the root stays there
+-- a node below the root in the old graph is below the root in the new one
 below_on : (old new : Graph) (root i : ℕ) → RaisesGraph old new → IsBelow old root i → IsBelow new (root + 1) (i + 1)
 below_on old new root _ raises at_root = at_root
 below_on old new root _ raises (below d s i above leads) =
     below (d + 1) s (i + 1) (below_on old new root d raises above) (leads_on old new d s i (d + 1) (i + 1) raises (omega arith) refl leads)
 
--- an entry for an i-number counts as one for the next
+-- a raised entry counts for `i` if the old one counts for `i` - 1
 one_raised : (slot : Option (List ℕ × ℕ)) (i : ℕ) → 1 ≤ i → one_for i (raised_entry slot) ≡ one_for (i - 1) slot
 one_raised None i some = refl
 one_raised (Some entry) i some =
@@ -71,7 +71,7 @@ one_raised (Some entry) i some =
           ap (λ b. cond b 1 0) (ne_eqb (entry.1 + 1) i (λ e. other (omega (arith, e)))) ∙ sym (ap (λ b. cond b 1 0) (ne_eqb entry.1 (i - 1) other))
     ]
 
--- each directory counts as the one before it
+-- directory `k` of the new graph has as many entries for `i` as directory `k` - 1 of the old one has for `i` - 1
 counted_raised : (old new : Graph) (last top i k : ℕ) → IsGraphWithin old last → IsGraphWithin new top → RaisesGraph old new → 1 ≤ i
     → counted_in new i k ≡ counted_in old (i - 1) (k - 1)
 counted_raised old new last top i k before after raises some =
@@ -81,7 +81,7 @@ counted_raised old new last top i k before after raises some =
     (λ s low high. ap (one_for i) (raises.entry k s) ∙ one_raised (old.entry (k - 1) s) i some)
     ∙ sym (counted_to old last (i - 1) (k - 1) n before (omega arith)))
 
--- a sum of terms one later
+-- a sum over a range shifted by one, of weights shifted by one, is the sum over the range
 sum_later : (f : ℕ → ℕ) (a n : ℕ) → sum_by (λ k. f (k - 1)) (range_with_len (a + 1) n) ≡ sum_by f (range_with_len a n)
 sum_later f a zero = refl
 sum_later f a (suc n) =
@@ -91,7 +91,7 @@ sum_later f a (suc n) =
     let here : f (a + 1 - 1) ≡ f a = ap f (omega arith) in
     omega (arith, rest, left, right, here)
 
--- a sum that continues with zeros
+-- a sum continued with zeros is unchanged
 sum_past : (f : ℕ → ℕ) (m n : ℕ) → m ≤ n → ((d : ℕ) → m < d → f d ≡ 0) → sum_by f (range_with_len 1 n) ≡ sum_by f (range_with_len 1 m)
 sum_past f m n more none =
     let count : m + (n - m) ≡ n = omega arith in
@@ -99,7 +99,7 @@ sum_past f m n more none =
     let rest : sum_by f (range_with_len (1 + m) (n - m)) ≡ 0 = sum_none f (1 + m) (n - m) (λ d low high. none d (omega (arith, low))) in
     ap (λ k. sum_by f (range_with_len 1 k)) (sym count) ∙ omega (arith, split, rest)
 
--- sums up to different ends, after each of which are zeros
+-- sums with different ends are equal if only zeros come after both
 sum_ends : (f : ℕ → ℕ) (m n : ℕ) → ((d : ℕ) → m < d → f d ≡ 0) → ((d : ℕ) → n < d → f d ≡ 0)
     → sum_by f (range_with_len 1 n) ≡ sum_by f (range_with_len 1 m)
 sum_ends f m n left right =
@@ -108,12 +108,12 @@ sum_ends f m n left right =
       | inr more ↦ sym (sum_past f n m more right)
     ]
 
--- an entry that has no next has none
+-- a slot whose raised entry is `None` has no entry
 none_raised : (slot : Option (List ℕ × ℕ)) → raised_entry slot ≡ None → slot ≡ None
 none_raised None e = refl
 none_raised (Some entry) e = absurd (cc)
 
--- a directory without entries counts none
+-- a directory without entries has no entry for `i`
 none_counts : (graph : Graph) (i d : ℕ) → ((s : ℕ) → graph.entry d s ≡ None) → counted_in graph i d ≡ 0
 none_counts graph i d none =
     slots_none graph i d (λ t name e. let n : graph.entry d t ≡ None = none t in let both : None ≡ Some (name, i) = sym n ∙ e in absurd (cc))
@@ -122,12 +122,12 @@ none_counts graph i d none =
 free_none : (graph : Graph) (last d s : ℕ) → IsGraphWithin graph last → graph.kind d ≡ kinds.Free → graph.entry d s ≡ None
 free_none graph last d s within free = within.directories d s (λ e. let both : kinds.Directory ≡ kinds.Free = sym e ∙ free in absurd (cc))
 
--- past the last i-number there are none
+-- i-numbers past the last have no entries
 past_none : (graph : Graph) (last d s : ℕ) → IsGraphWithin graph last → last < d → graph.entry d s ≡ None
 past_none graph last d s within past =
     within.directories d s (λ e. let in_range = within.numbers d (not_free (graph.kind d) e) in absurd (omega (arith, in_range.1, past)))
 
--- each i-number has as many entries as the one before it had
+-- each i-number of the new graph has as many entries as the one before it in the old graph
 all_raised : (old new : Graph) (last top i : ℕ) → IsGraphWithin old last → IsGraphWithin new top → RaisesGraph old new → old.kind 0 ≡ kinds.Free → 1 ≤ i
     → 1 ≤ top → counted new top i ≡ counted old last (i - 1)
 unfolding counted
@@ -150,7 +150,7 @@ all_raised old new last top i before after raises none some room =
     ∙ (sym (raises.entry (d + 1) s) ∙ past_none new top (d + 1) s after (omega (arith, past)))))) in
     each ∙ (later ∙ (ap (λ n. sum_by f (range_with_len 0 n)) (sym count) ∙ (omega (arith, split, first) ∙ ends)))
 
--- a graph in which each i-number is one higher stays sound, with the root one higher
+-- a sound graph with each i-number one higher is sound, with the root one higher
 pub raised_sound : (old new : Graph) (root last top : ℕ) → IsGraphWithin old last → IsGraphWithin new top → RaisesGraph old new → 1 ≤ top
     → IsGraphSound old root last → old.kind 0 ≡ kinds.Free → IsGraphSound new (root + 1) top
 raised_sound old new root last top before after raises room sound none =

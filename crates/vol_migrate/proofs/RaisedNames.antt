@@ -1,4 +1,4 @@
--- The map of a directory once each i-number is one higher.
+-- The map of a directory with each i-number one higher.
 use Rattle.std.proofs.Common.{◌≡◌, ◌∙◌, ap, refl, ℕ, ◌+◌, List, [], ◌∷◌, map, Option, None, Some}
 use Rattle.std.specs.Ordering.{nat_cmp}
 use Rattle.std.specs.declared.cmp.Ordering.TheVariants.{Less, Equal, Greater}
@@ -8,7 +8,7 @@ use Rattle.vol_dir.specs.Names.{Names, insert, names_of, names_in}
 use Rattle.vol_migrate.specs.Raised.{raised_names}
 use Rattle.vol_migrate.proofs.RaisedGraphs.{raised_entry}
 
--- an entry put in the map
+-- inserting the raised number into the raised map is inserting and then raising
 insert_raised : (names : Names) (name : List ℕ) (i : ℕ) → insert (raised_names names) name (i + 1) ≡ raised_names (insert names name i)
 insert_raised [] name i = refl
 insert_raised (entry ∷ names) name i =
@@ -21,14 +21,14 @@ insert_raised (entry ∷ names) name i =
       | Greater ↦ ap (λ rest. (entry.0, entry.1 + 1) ∷ rest) (insert_raised names name i)
     ]
 
--- the map of raised entries
+-- the map of raised entries is the raised map of the entries
 pub names_raised : (slots : List (Option (List ℕ × ℕ))) → names_of (map raised_entry slots) ≡ raised_names (names_of slots)
 names_raised [] = refl
 names_raised (None ∷ slots) = names_raised slots
 names_raised (Some entry ∷ slots) =
     ap (λ names. insert names entry.0 (entry.1 + 1)) (names_raised slots) ∙ insert_raised (names_of slots) entry.0 entry.1
 
--- each slot keeps its name
+-- raising the entries of slots doesn't change their names
 pub names_in_raised : (slots : List (Option (List ℕ × ℕ))) → names_in (map raised_entry slots) ≡ names_in slots
 names_in_raised [] = refl
 names_in_raised (None ∷ slots) = ap (λ rest. None ∷ rest) (names_in_raised slots)

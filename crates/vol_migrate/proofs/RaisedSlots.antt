@@ -13,7 +13,7 @@ use Rattle.vol_migrate.specs.Raised.{raised_slot}
 use Rattle.vol_migrate.specs.Stages.{raised_byte, bytes_of_slot}
 use Rattle.vol_migrate.proofs.RaisedGraphs.{raised_entry}
 
--- byte r of slot s, raised
+-- byte `r` of slot `s` after raising is byte `r` of the raised slot
 pub byte_of_slot : (bytes : List ℕ) (s r x : ℕ) → r < 16 → 16 * s + r ≡ x → raised_byte bytes x ≡ get_or (bytes_of_slot (raised_slot (slot_at bytes (16 * s)))) r 0
 unfolding raised_byte
 byte_of_slot bytes s r x low at =
@@ -22,7 +22,7 @@ byte_of_slot bytes s r x low at =
     ap (λ n. get_or (bytes_of_slot (raised_slot (slot_at bytes (16 * n)))) (x % 16) 0) slot
     ∙ ap (λ k. get_or (bytes_of_slot (raised_slot (slot_at bytes (16 * s)))) k 0) rest
 
--- one more slot is put
+-- writing one more raised slot raises its bytes
 pub slot_put : (text old new bytes : List ℕ) (s : ℕ) → bytes ≡ bytes_of_slot (raised_slot (slot_at text (16 * s))) → length bytes ≡ 16
     → slice_range new (16 * s) (16 * s + length bytes) ≡ bytes → SameOutside old new (16 * s) (16 * s + length bytes)
     → ((x : ℕ) → x < 16 * s → get_or old x 0 ≡ raised_byte text x) → (x : ℕ) → x < 16 * (s + 1) → get_or new x 0 ≡ raised_byte text x
@@ -38,23 +38,23 @@ slot_put text old new bytes s is size put others before x low =
           ∙ (ap (λ xs. get_or xs r 0) (put ∙ is) ∙ sym (byte_of_slot text s r x few at)))
     ]
 
--- a name is no longer than its field
+-- a name isn't longer than the field that it is read from
 name_short : (xs : List ℕ) → length (name_of xs) ≤ length xs
 name_short xs = grind (arith, common_steps)
 
--- an empty slot
+-- an empty slot is raised to one with an empty name
 pub raised_none : (slot : Slot) → slot.inode ≡ 0 → raised_slot slot ≡ record { inode = 0; name = replicate 14 0 }
 raised_none slot none =
     ap (λ t. cond {A = Slot} t (record { inode = 0; name = replicate 14 0 }) (record { inode = slot.inode + 1; name = padded_name (name_of slot.name) }))
     (eq-eqb slot.inode 0 none)
 
--- a slot with an entry
+-- a slot with an entry is raised to one with the next i-number and zeros after its name
 raised_some : (slot : Slot) → slot.inode ≢ 0 → raised_slot slot ≡ record { inode = slot.inode + 1; name = padded_name (name_of slot.name) }
 raised_some slot some =
     ap (λ t. cond {A = Slot} t (record { inode = 0; name = replicate 14 0 }) (record { inode = slot.inode + 1; name = padded_name (name_of slot.name) }))
     (ne_eqb slot.inode 0 some)
 
--- the name of a raised slot has 14 bytes
+-- the name field of a raised slot has 14 bytes
 raised_length : (slot : Slot) → length slot.name ≡ 14 → length (raised_slot slot).name ≡ 14
 raised_length slot size =
     elim (cases_eq slot.inode 0) [
@@ -66,18 +66,18 @@ raised_length slot size =
           ∙ omega (arith, length-replicate {A = ℕ}, short, size))
     ]
 
--- the name in a slot has 14 bytes
+-- the name field of a slot has 14 bytes
 slot_length : (bytes : List ℕ) (at : ℕ) → at + 16 ≤ length bytes → length (slot_at bytes at).name ≡ 14
 slot_length bytes at room =
     let end : at + 16 ≡ at + 2 + 14 = omega arith in
     ap (λ n. length (slice_range bytes (at + 2) n)) end ∙ length-slice_range bytes (at + 2) 14 (omega (arith, room))
 
--- the bytes of a raised slot are 16
+-- a raised slot has 16 bytes
 pub bytes_length : (bytes : List ℕ) (at : ℕ) → at + 16 ≤ length bytes → length (bytes_of_slot (raised_slot (slot_at bytes at))) ≡ 16
 bytes_length bytes at room =
     let name = raised_length (slot_at bytes at) (slot_length bytes at room) in omega (arith, name)
 
--- if the 16 bytes of a slot are raised the slot is
+-- if the 16 bytes of a slot are raised, the slot is raised
 pub slot_raised : (bytes raised : List ℕ) (s : ℕ) → 16 * s + 16 ≤ length bytes → 16 * s + 16 ≤ length raised
     → ((x : ℕ) → 16 * s ≤ x → x < 16 * s + 16 → get_or raised x 0 ≡ raised_byte bytes x)
     → slot_at raised (16 * s) ≡ raised_slot (slot_at bytes (16 * s))
@@ -100,7 +100,7 @@ slot_raised bytes raised s room size each =
     ∙ byte_of_slot bytes s (suc (suc r)) (16 * s + 2 + r) (omega (arith, h, short)) (omega arith)))) in
     λ i. record { inode = number i; name = name i }
 
--- the entry of a raised slot
+-- the entry of a raised slot is the raised entry
 pub entry_raised : (slot : Slot) → entry_in (raised_slot slot) ≡ raised_entry (entry_in slot)
 entry_raised slot =
     elim (cases_eq slot.inode 0) [

@@ -1,4 +1,4 @@
--- The reasons of the tree not to migrate a volume are those of its i-nodes.
+-- The reasons not to migrate a volume, from the kinds of its i-nodes.
 use Rattle.std.proofs.Common.{◌≡◌, ◌≢◌, ◌∙◌, sym, ap, refl, ℕ, zero, suc, ◌+◌, ◌-◌, ◌<◌, ◌≤◌, ltb, Bool, true, false, List, inl, inr, arith}
 use Rattle.std.specs.Prelude.{◌||◌, ◌&&◌}
 use Rattle.std.specs.List.{list_any, range_with_len}
@@ -18,14 +18,14 @@ use Rattle.vol_volume.specs.Verdict.{is_device}
 use Rattle.vol_migrate.specs.Refuse.{has_device, has_above, is_device_at, is_node_at, is_above_at}
 use Rattle.vol_migrate.specs.Stages.{IsUsed}
 
--- a range of one more number
+-- a number of a longer range passes a test if one of the range does or the last one does
 range_more : (a n : ℕ) (f : ℕ → Bool) → list_any f (range_with_len a (suc n)) ≡ (list_any f (range_with_len a n) || f (a + n))
 range_more a zero f = or-false (f a) ∙ ap f (let e : a ≡ a + 0 = omega arith in e)
 range_more a (suc n) f =
     ap (λ t. f a || t) (range_more (a + 1) n f ∙ ap (λ x. list_any f (range_with_len (a + 1) n) || f x) (let e : a + 1 + n ≡ a + suc n = omega arith in e))
     ∙ sym (or_assoc (f a) (list_any f (range_with_len (a + 1) n)) (f (a + suc n)))
 
--- a test that no number up to i passes
+-- if no number below `i` passes a test and `i` doesn't, no number up to `i` does
 pub none_more : (f : ℕ → Bool) (i : ℕ) → 1 ≤ i → list_any f (range_with_len 1 (i - 1)) ≡ false → f i ≡ false
     → list_any f (range_with_len 1 (i + 1 - 1)) ≡ false
 none_more f i first none off =
@@ -34,19 +34,19 @@ none_more f i first none off =
     ap (λ n. list_any f (range_with_len 1 n)) count
     ∙ (range_more 1 (i - 1) f ∙ (ap (λ t. t || f (1 + (i - 1))) none ∙ (ap f at ∙ off)))
 
--- a number of a range that passes is found
+-- if a number of a range passes a test, `list_any` is true
 any_at : (f : ℕ → Bool) (a n d : ℕ) → d < n → f (a + d) ≡ true → list_any f (range_with_len a n) ≡ true
 any_at f a zero d low on = absurd (omega (arith, low))
 any_at f a (suc n) zero low on = ap (λ t. t || list_any f (range_with_len (a + 1) n)) (ap f (let e : a ≡ a + 0 = omega arith in e) ∙ on)
 any_at f a (suc n) (suc d) low on =
     ap (λ t. f a || t) (any_at f (a + 1) n d (omega (arith, low)) (ap f (let e : a + 1 + d ≡ a + suc d = omega arith in e) ∙ on)) ∙ or_true (f a)
 
--- the same of the numbers from 1 on
+-- if a number from 1 to `last` passes a test, `list_any` is true
 pub any_from : (f : ℕ → Bool) (last i : ℕ) → 1 ≤ i → i ≤ last → f i ≡ true → list_any f (range_with_len 1 last) ≡ true
 any_from f last i first within on =
     any_at f 1 last (i - 1) (omega (arith, first, within)) (ap f (let e : 1 + (i - 1) ≡ i = omega (arith, first) in e) ∙ on)
 
--- if none is found, none passes
+-- if `list_any` is false for the numbers from 1 to `last`, none of them passes
 pub none_from : (f : ℕ → Bool) (last i : ℕ) → list_any f (range_with_len 1 last) ≡ false → 1 ≤ i → i ≤ last → f i ≡ false
 none_from f last i none first within =
     elim (cases_Bool (f i)) [
@@ -54,7 +54,7 @@ none_from f last i none first within =
       | inr off ↦ off
     ]
 
--- true if a kind is that of special files
+-- true if a kind is `Special`
 abbrev pub is_special : Kind → Bool
 is_special kinds.Special = true
 is_special kinds.Free = false
@@ -70,7 +70,7 @@ is_node kinds.Special = true
 is_node kinds.Regular = true
 is_node kinds.Directory = true
 
--- the node of each kind
+-- the node of an i-node is a special file if and only if the i-node's kind is `Special`
 device_by : (geometry : Geometry) (image : List ℕ) (i : ℕ) (kind : Kind)
     → option_map_or (λ (node : Node). is_device node.content) (option_map (node_with (inode_of geometry.edition image i)) (content_of geometry image i kind)) false
     ≡ is_special kind
@@ -88,7 +88,7 @@ node_by geometry image i kinds.Directory = refl
 node_by geometry image i kinds.Special = refl
 node_by geometry image i kinds.Odd = refl
 
--- a node of the tree is a special file or not
+-- the node of an i-number is a special file if and only if the i-node's kind is `Special`
 pub device_here : (geometry : Geometry) (image : List ℕ) (i : ℕ) → 1 ≤ i → i ≤ geometry.last_inode
     → option_map_or (λ (node : Node). is_device node.content) ((tree geometry image).nodes i) false ≡ is_special (kind_at geometry image i)
 unfolding node_of
@@ -96,14 +96,14 @@ device_here geometry image i first last =
     ap (λ o. option_map_or (λ (node : Node). is_device node.content) o false) (node_inside geometry image i first last)
     ∙ device_by geometry image i (kind_at geometry image i)
 
--- a node exists or not
+-- an i-number has a node if and only if its kind has one
 pub node_here : (geometry : Geometry) (image : List ℕ) (i : ℕ) → 1 ≤ i → i ≤ geometry.last_inode
     → option_map_or (λ (node : Node). true) ((tree geometry image).nodes i) false ≡ is_node (kind_at geometry image i)
 unfolding node_of
 node_here geometry image i first last =
     ap (λ o. option_map_or (λ (node : Node). true) o false) (node_inside geometry image i first last) ∙ node_by geometry image i (kind_at geometry image i)
 
--- a kind other than that of special files
+-- a kind other than `Special` fails the test
 pub not_special : (kind : Kind) → kind ≢ kinds.Special → is_special kind ≡ false
 not_special kinds.Free other = refl
 not_special kinds.Regular other = refl
@@ -111,11 +111,11 @@ not_special kinds.Directory other = refl
 not_special kinds.Odd other = refl
 not_special kinds.Special other = absurd (other refl)
 
--- a kind that is one
+-- a kind that fails the test isn't `Special`
 pub special_not : (kind : Kind) → is_special kind ≡ false → kind ≢ kinds.Special
 special_not kind none is = true≢false (sym (ap is_special is) ∙ none)
 
--- a kind that is used and known has a node
+-- a kind that is neither free nor odd has a node
 pub used_node : (kind : Kind) → kind ≢ kinds.Free → kind ≢ kinds.Odd → is_node kind ≡ true
 used_node kinds.Free some known = absurd (some refl)
 used_node kinds.Odd some known = absurd (known refl)
@@ -123,19 +123,19 @@ used_node kinds.Regular some known = refl
 used_node kinds.Directory some known = refl
 used_node kinds.Special some known = refl
 
--- a node with such an i-number
+-- a node whose i-number is at least `last` passes the test
 pub above_is : (tree : Tree) (last i : ℕ) → last ≤ i → is_node_at tree i ≡ true → is_above_at tree last i ≡ true
 above_is tree last i above node = ap (λ t. t && is_node_at tree i) (lt-ltb last (i + 1) (omega (arith, above))) ∙ node
 
--- a low i-number
+-- an i-number below `last` fails the test
 pub above_low : (tree : Tree) (last i : ℕ) → i < last → is_above_at tree last i ≡ false
 above_low tree last i low = ap (λ t. t && is_node_at tree i) (le-ltb last (i + 1) (omega (arith, low)))
 
--- no node
+-- an i-number without a node fails the test
 pub above_none : (tree : Tree) (last i : ℕ) → is_node_at tree i ≡ false → is_above_at tree last i ≡ false
 above_none tree last i none = ap (λ t. ltb last (i + 1) && t) none ∙ none_passes (ltb last (i + 1))
 
--- a volume without a special file has none
+-- no i-node of a volume without special files is one
 pub plain_all : (geometry : Geometry) (image : List ℕ) (i : ℕ) → has_device (tree geometry image) ≡ false → 1 ≤ i → i ≤ geometry.last_inode
     → kind_at geometry image i ≢ kinds.Special
 unfolding tree
@@ -144,7 +144,7 @@ plain_all geometry image i none first last =
     (sym (device_here geometry image i first last)
     ∙ none_from (is_device_at (tree geometry image)) geometry.last_inode i none first last)
 
--- each node of a volume that has room in an i-list has it
+-- if no node's i-number plus one is above `last`, each used i-node has room
 pub number_all : (geometry : Geometry) (image : List ℕ) (last i : ℕ) → has_above (tree geometry image) last ≡ false → IsUsed geometry image i
     → kind_at geometry image i ≢ kinds.Odd → i + 1 ≤ last
 unfolding tree

@@ -1,4 +1,4 @@
--- Carrying the files of a volume one after another.
+-- Copying the files of a volume one after another.
 use Rattle.std.proofs.Common.{◌≡◌, ◌≢◌, ◌∙◌, sym, ap, subst, refl, ℕ, zero, suc, ◌+◌, ◌*◌, ◌/◌, ◌%◌, ◌<◌, ◌≤◌, eqb, true, false, not, List, [], ◌∷◌, length, get_or, replicate, length-append, inl, inr, arith}
 use Rattle.std.proofs.lemmas.Bool.{cases_eq, cases_lt, cases_Bool, eqb-true, true≢false}
 use Rattle.std.proofs.lemmas.List.{get_or_past}
@@ -36,11 +36,11 @@ use Rattle.vol_migrate.proofs.FileShapes.{bare_need, names_stored}
 use Rattle.vol_migrate.proofs.RaisedSlots.{raised_none}
 use Rattle.vol_migrate.proofs.StageSteps.{carried_kind, form_seventh, touched_one, progress_self, progress_other, progress_before, progress_after, super_stays, other_stays, self_carried}
 
--- the rules of the old volume
+-- rules 3 to 8 hold for a volume that may be migrated
 pub old_rules : (old : List ℕ) (from to : Geometry) → MayMigrate old from to → Rules3To8 from old
 old_rules old from to may = ready_whole from old may.ready
 
--- a file of the old volume is used
+-- a file is used
 pub file_is_used : (old : List ℕ) (from : Geometry) (i : ℕ) → IsFile from old i → IsUsed from old i
 file_is_used old from i file = record {
   first = file.first;
@@ -48,7 +48,7 @@ file_is_used old from i file = record {
   some = λ free. let none : has_places (kind_at from old i) ≡ false = ap has_places free in absurd (true≢false (sym file.kind ∙ none));
 }
 
--- a kind that is used, known and plain has places
+-- a kind that is neither free, odd nor special has a block map
 places_by : (kind : Kind) → kind ≢ kinds.Free → kind ≢ kinds.Odd → kind ≢ kinds.Special → has_places kind ≡ true
 places_by kinds.Regular some known plain = refl
 places_by kinds.Directory some known plain = refl
@@ -56,7 +56,7 @@ places_by kinds.Free some known plain = absurd (some refl)
 places_by kinds.Odd some known plain = absurd (known refl)
 places_by kinds.Special some known plain = absurd (plain refl)
 
--- an i-node of the old volume that is used is a file
+-- a used i-node of a volume that may be migrated is a file
 pub used_is_file : (old : List ℕ) (from to : Geometry) (i : ℕ) → MayMigrate old from to → IsUsed from old i → IsFile from old i
 used_is_file old from to i may used = record {
   first = used.first;
@@ -64,7 +64,7 @@ used_is_file old from to i may used = record {
   kind = places_by (kind_at from old i) used.some ((old_rules old from to may).sound.kinds.known i used.first used.last) (may.plain i used.first used.last);
 }
 
--- its i-node in the new volume is a file too
+-- the new i-node of a copied file is a file
 pub carried_file : (old : List ℕ) (from to : Geometry) (now : ℕ) (image : List ℕ) (i n : ℕ) → MayMigrate old from to → IsUsed from old i
     → IsCarried from to old now image i n → IsFile to image (i + 1)
 carried_file old from to now image i n may used carried = record {
@@ -74,7 +74,7 @@ carried_file old from to now image i n may used carried = record {
       ∙ (used_is_file old from to i may used).kind;
 }
 
--- the next block of a file needs as many places as are counted for it
+-- writing the next block of a file needs as many blocks as are counted for it
 pub need_is : (old : List ℕ) (from to : Geometry) (now : ℕ) (image : List ℕ) (i b len : ℕ) → MayMigrate old from to → IsUsed from old i
     → IsCarried from to old now image i b → 1 ≤ len → len ≤ 512
     → need to image (i + 1) (512 * b) len ≡ need_of Deep (is_on_ways Deep (stored_blocks (shapes from old i) b)) (b ∷ [])
@@ -90,7 +90,7 @@ need_is old from to now image i b len may used carried some few =
     ∙ (ap (λ names. need_of Deep names (b ∷ [])) places
     ∙ need_places Deep (is_on_ways Deep (stored_blocks (shapes from old i) b)) (b ∷ []))))
 
--- there are free blocks enough for it
+-- there are enough free blocks for the next block of a file
 pub need_room : (old : List ℕ) (from to : Geometry) (now : ℕ) (image : List ℕ) (i b : ℕ) (stage : IsStage from to old now image i b) → MayMigrate old from to
     → IsUsed from old i → names_block (shapes from old i) b ≡ true → b < whole_blocks (size_of from old i)
     → need_of Deep (is_on_ways Deep (stored_blocks (shapes from old i) b)) (b ∷ []) ≤ length stage.blocks
@@ -104,7 +104,7 @@ need_room old from to now image i b stage may used some within =
     let room = stage.room in
     omega (arith, more, grows, next, all, total, space, room)
 
--- one more block is carried
+-- after the write of a block, one more block is copied
 pub stage_written : (old : List ℕ) (from to : Geometry) (now : ℕ) (image new text : List ℕ) (i b : ℕ) → MayMigrate old from to
     → (stage : IsStage from to old now image i b) → IsUsed from old i → names_block (shapes from old i) b ≡ true
     → Writes to image new (i + 1) (512 * b) text stage.blocks
@@ -172,13 +172,13 @@ hole_byte from old i x fits none =
       | inr past ↦ let long = length-body from old i in get_or_past (body from old i) x 0 (omega (arith, long, past))
     ]
 
--- an empty slot has no bytes
+-- an empty slot consists of zeros
 empty_bytes : (r : ℕ) → r < 16 → get_or (bytes_of_slot (record { inode = 0; name = replicate 14 0 })) r 0 ≡ 0
 empty_bytes zero low = refl
 empty_bytes (suc zero) low = refl
 empty_bytes (suc (suc r)) low = zeros_at 14 r
 
--- so is a byte of the new one
+-- a byte copied from a hole is 0
 carried_hole : (from : Geometry) (old : List ℕ) (i x : ℕ) (kind : Kind) → Fits from old → stored from old i (form_at from old i) (x / 512) ≡ 0
     → carried_byte kind (body from old i) x ≡ 0
 unfolding raised_byte
@@ -195,7 +195,7 @@ carried_hole from old i x kinds.Directory fits none =
     let number : word (body from old i) at ≡ 0 = omega (arith, low, high) in
     ap (λ slot. get_or (bytes_of_slot slot) (x % 16) 0) (raised_none (slot_at (body from old i) at) number) ∙ empty_bytes (x % 16) (omega arith)
 
--- if nothing is named no number is stored
+-- if a shape doesn't have a logical block, no number is stored for it
 stored_hole : (from : Geometry) (old : List ℕ) (i b : ℕ) → from.edition ≡ V6 → IsFile from old i → names_block (shapes from old i) b ≡ false
     → stored from old i (form_at from old i) b ≡ 0
 stored_hole from old i b sixth file hole =
@@ -204,7 +204,7 @@ stored_hole from old i b sixth file hole =
       | inr some ↦ absurd (true≢false (sym (names_stored from old i b sixth file ∙ ap not some) ∙ hole))
     ]
 
--- holes are carried as they are
+-- passing holes leaves the stage as if they were copied
 pub stage_holes : (old : List ℕ) (from to : Geometry) (now : ℕ) (image : List ℕ) (i m n : ℕ) → MayMigrate old from to → IsStage from to old now image i m
     → IsUsed from old i → m ≤ n → ((b : ℕ) → m ≤ b → b < n → names_block (shapes from old i) b ≡ false) → IsStage from to old now image i n
 stage_holes old from to now image i m n may stage used order holes =
@@ -242,7 +242,7 @@ stage_holes old from to now image i m n may stage used order holes =
       zeros = stage.zeros;
     }
 
--- the progress of each i-node once i-node i is done
+-- when i-node `i` is done, all its blocks are copied, and none of the next
 progress_next : (from : Geometry) (old : List ℕ) (i n j : ℕ) → (j ≡ i → n ≡ whole_blocks (size_of from old i))
     → progress from old i n j ≡ progress from old (i + 1) 0 j
 progress_next from old i n j end =
@@ -262,7 +262,7 @@ progress_next from old i n j end =
           ]
     ]
 
--- the next file begins
+-- after the last block of file `i`, the stage is at the start of the next i-node
 pub stage_next : (old : List ℕ) (from to : Geometry) (now : ℕ) (image : List ℕ) (i : ℕ) → 1 ≤ i
     → IsStage from to old now image i (whole_blocks (size_of from old i)) → IsStage from to old now image (i + 1) 0
 stage_next old from to now image i first stage =
@@ -279,7 +279,7 @@ stage_next old from to now image i first stage =
       zeros = stage.zeros;
     }
 
--- an i-node that isn't a file is passed
+-- passing an i-node that isn't a file leads to the next i-node
 pub stage_pass : (old : List ℕ) (from to : Geometry) (now : ℕ) (image : List ℕ) (i : ℕ) → MayMigrate old from to → 1 ≤ i → i ≤ from.last_inode
     → has_places (kind_at from old i) ≡ false → IsStage from to old now image i 0 → IsStage from to old now image (i + 1) 0
 stage_pass old from to now image i may first last bare stage =

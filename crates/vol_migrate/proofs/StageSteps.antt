@@ -1,4 +1,4 @@
--- One more logical block is carried.
+-- Copying one more logical block.
 use Rattle.std.proofs.Common.{◌≡◌, ◌≢◌, ◌∙◌, sym, ap, subst, refl, ℕ, zero, suc, ◌+◌, ◌-◌, ◌*◌, ◌/◌, ◌%◌, ◌<◌, ◌≤◌, eqb, ltb, true, cond, if◌then◌else◌, not, List, [], ◌∷◌, length, get_or, inl, inr, arith}
 use Rattle.std.specs.Prelude.{◌||◌}
 use Rattle.std.specs.List.{range_with_len}
@@ -34,7 +34,7 @@ use Rattle.vol_migrate.specs.Raised.{names_block}
 use Rattle.vol_migrate.specs.Stages.{IsUsed, IsCarried, HasSuper, progress, carried_byte}
 use Rattle.vol_migrate.proofs.CarriedBlocks.{on_more}
 
--- the i-node of a carried one is that of the old volume, field by field
+-- a copied i-node has the raised mode of the old one
 carried_mode : (from to : Geometry) (old image : List ℕ) (now i n : ℕ) → IsCarried from to old now image i n
     → mode_of to image (i + 1) ≡ raised_mode (mode_of from old i)
 carried_mode from to old image now i n carried =
@@ -47,7 +47,7 @@ carried_size from to old image now i n carried =
     sym (inode_size to.edition image (inode_place to.edition (i + 1)))
     ∙ (ap (λ (node : Inode). node.size) carried.inode ∙ inode_size from.edition old (inode_place from.edition i))
 
--- an i-node of the sixth edition that is used is marked as allocated
+-- a used i-node of the sixth edition is marked as allocated
 pub used_allocated : (from : Geometry) (old : List ℕ) (i : ℕ) → from.edition ≡ V6 → HasKinds from old → IsUsed from old i → 32768 ≤ mode_of from old i
 used_allocated from old i sixth known used =
     elim (cases_lt (mode_of from old i) 32768) [
@@ -58,7 +58,7 @@ used_allocated from old i sixth known used =
       | inr high ↦ high
     ]
 
--- a carried i-node has its kind
+-- a copied i-node has the kind of the old one
 pub carried_kind : (from to : Geometry) (old image : List ℕ) (now i n : ℕ) → from.edition ≡ V6 → to.edition ≡ V7 → HasKinds from old → IsUsed from old i
     → IsCarried from to old now image i n → kind_at to image (i + 1) ≡ kind_at from old i
 carried_kind from to old image now i n sixth seventh known used carried =
@@ -67,12 +67,12 @@ carried_kind from to old image now i n sixth seventh known used carried =
     ∙ (raised_kind (mode_of from old i) (used_allocated from old i sixth known used)
     ∙ sym (ap (λ e. kind_of e (mode_of from old i)) sixth)))
 
--- a file of the seventh edition is deep
+-- a file of the seventh edition has a block map with three levels of indirect blocks
 pub form_seventh : (to : Geometry) (image : List ℕ) (k : ℕ) → to.edition ≡ V7 → IsFile to image k → form_at to image k ≡ Deep
 form_seventh to image k seventh file =
     form_file to.edition (mode_of to image k) file.kind ∙ ap (λ e. file_form e (mode_of to image k)) seventh
 
--- the bytes of a logical block touch it alone
+-- writing bytes within one logical block touches only this block
 pub touched_one : (b len : ℕ) → 1 ≤ len → len ≤ 512 → touched (512 * b) len ≡ b ∷ []
 touched_one b zero some few = absurd (omega (arith, some))
 touched_one b (suc n) some few =
@@ -80,29 +80,29 @@ touched_one b (suc n) some few =
     let last : (512 * b + n) / 512 - 512 * b / 512 + 1 ≡ 1 = omega (arith, few) in
     ap (λ x. range_with_len x ((512 * b + n) / 512 - 512 * b / 512 + 1)) first ∙ ap (range_with_len b) last
 
--- the number of blocks carried of another i-node stays
+-- the number of copied blocks of another i-node doesn't depend on `n`
 pub progress_other : (from : Geometry) (old : List ℕ) (i m n j : ℕ) → j ≢ i → progress from old i m j ≡ progress from old i n j
 progress_other from old i m n j other =
     ap (λ t. cond (ltb j i) (whole_blocks (size_of from old j)) (cond t m 0)) (ne_eqb j i other)
     ∙ sym (ap (λ t. cond (ltb j i) (whole_blocks (size_of from old j)) (cond t n 0)) (ne_eqb j i other))
 
--- the number of those of i-node i itself
+-- the number of copied blocks of i-node `i` itself is `n`
 pub progress_self : (from : Geometry) (old : List ℕ) (i n : ℕ) → progress from old i n i ≡ n
 progress_self from old i n =
     ap (λ t. cond t (whole_blocks (size_of from old i)) (cond (eqb i i) n 0)) (le-ltb i i (omega arith)) ∙ ap (λ t. cond t n 0) (eq-eqb i i refl)
 
--- of an earlier one all are
+-- all blocks of an earlier i-node are copied
 pub progress_before : (from : Geometry) (old : List ℕ) (i n j : ℕ) → j < i → progress from old i n j ≡ whole_blocks (size_of from old j)
 progress_before from old i n j low =
     ap (λ t. cond t (whole_blocks (size_of from old j)) (cond (eqb j i) n 0)) (lt-ltb j i low)
 
--- of a later one none are
+-- no block of a later i-node is copied
 pub progress_after : (from : Geometry) (old : List ℕ) (i n j : ℕ) → i < j → progress from old i n j ≡ 0
 progress_after from old i n j high =
     ap (λ t. cond t (whole_blocks (size_of from old j)) (cond (eqb j i) n 0)) (le-ltb j i (omega (arith, high)))
     ∙ ap (λ t. cond t n 0) (ne_eqb j i (λ e. omega (arith, e, high)))
 
--- the bytes outside the free list and the data zone stay
+-- the bytes outside the free list and the data zone are unchanged
 pub super_stays : (to : Geometry) (now : ℕ) (old new : List ℕ) → HasSuper to now old → length new ≡ length old
     → ((k : ℕ) → k < free_head to.edition → get_or new k 0 ≡ get_or old k 0)
     → ((k : ℕ) → free_head to.edition + 202 ≤ k → k < 1024 → get_or new k 0 ≡ get_or old k 0) → HasSuper to now new
@@ -135,7 +135,7 @@ super_stays to now old new has len below behind =
           ];
     }
 
--- another carried i-node stays if the write of a file leaves all others
+-- another copied i-node is unchanged by a write that changes only one file
 pub other_stays : (from to : Geometry) (old image new : List ℕ) (now k j n : ℕ) → Fits to image → ChangesFileAlone to image new k → 1 ≤ k → j + 1 ≢ k
     → j + 1 ≤ to.last_inode → to.edition ≡ V7 → (has_places (kind_at to image (j + 1)) ≡ true) → IsCarried from to old now image j n → IsCarried from to old now new j n
 other_stays from to old image new now k j n fits alone first other last seventh is carried =
@@ -155,7 +155,7 @@ other_stays from to old image new now k j n fits alone first other last seventh 
           ∙ carried.names p place;
     }
 
--- the file itself has one more block
+-- a write of block `b` copies one more block of the file
 pub self_carried : (from to : Geometry) (old image new text free : List ℕ) (now i b : ℕ) → from.edition ≡ V6 → to.edition ≡ V7
     → IsFile to image (i + 1) → size_of from old i ≤ 16777215
     → names_block (shapes from old i) b ≡ true

@@ -13,17 +13,17 @@ use Rattle.vol_dir.specs.Names.{Names}
 use Rattle.vol_dir.specs.Tree.{Body, Directory, Device, Content, Node, Shape, State, form_in}
 use Rattle.vol_mkfs.specs.Mkfs.{volume_of}
 
--- the map of a directory, with each i-number one higher: the seventh edition keeps i-number 1 for bad blocks (this project)
+-- the map of a directory, with each i-number one higher: the seventh edition reserves i-number 1 for bad blocks (this project)
 abbrev pub raised_names : Names → Names
 raised_names names = map (λ (entry : List ℕ × ℕ). (entry.0, entry.1 + 1)) names
 
--- the content of a node: bytes stay, and so does a special file, though a volume that is migrated has none (this project)
+-- the content of a node: bytes are unchanged, and so is a special file, though a volume that is migrated has none (this project)
 abbrev pub raised_content : Content → Content
 raised_content (Body bytes) = Body bytes
 raised_content (Directory names) = Directory (raised_names names)
 raised_content (Device type addresses) = Device type addresses
 
--- a node: its i-node was last changed now, and the rest stays (this project)
+-- a node: its i-node was last changed at the given time, and the rest is unchanged (this project)
 abbrev pub raised_node : ℕ → Node → Node
 raised_node now node = record node { content = raised_content node.content; changed = Some now }
 
@@ -31,15 +31,16 @@ raised_node now node = record node { content = raised_content node.content; chan
 abbrev pub size_in : Option Node → ℕ
 size_in node = option_map_or (λ (some : Node). some.size) node 0
 
--- true if a file of some shape stores logical block b in the sixth edition (Lions on bmap)
+-- true if a file of this shape stores logical block `b` in the sixth edition (Lions on bmap)
 abbrev pub names_block : Shape → ℕ → Bool
 names_block shape b = option_map_or shape.names (last_place (form_in V6 shape.large) b) false
 
--- the first n logical blocks of a file, without its holes (Lions on bmap)
+-- the stored blocks among the first `n` logical blocks of a file (Lions on bmap)
 abbrev pub stored_blocks : Shape → ℕ → List ℕ
 stored_blocks shape n = filter (names_block shape) (range_with_len 0 n)
 
--- the shape of a file: in the seventh edition exactly the places on the paths of the stored logical blocks within its size name blocks; the slots keep their names (this project)
+-- the shape of a file in the seventh edition: exactly the block-map positions on the paths of the stored logical blocks within its size point to
+-- blocks; the slots keep their names (this project)
 abbrev pub raised_shape : ℕ → Shape → Shape
 raised_shape size shape = record {
   names = is_on_ways Deep (stored_blocks shape (whole_blocks size));
@@ -47,7 +48,7 @@ raised_shape size shape = record {
   slots = shape.slots;
 }
 
--- a tree with its shapes: each node has the next i-number, and i-number 1 is free (this project)
+-- a tree with its shapes, raised: each node is under the next i-number, and i-number 1 is free (this project)
 abbrev pub raised : State → ℕ → ℕ → ℕ → State
 raised state blocks list_blocks now = record {
   tree = record {
@@ -58,7 +59,7 @@ raised state blocks list_blocks now = record {
   shapes = λ i. raised_shape (size_in (state.tree.nodes (i - 1))) (state.shapes (i - 1));
 }
 
--- a slot: an empty one gets an empty name, any other gets the next i-number and zeros after its name (this project)
+-- a slot, raised: an empty slot gets an empty name, any other gets the next i-number and zeros after its name (this project)
 abbrev pub raised_slot : Slot → Slot
 raised_slot slot =
     if slot.inode == 0 then record { inode = 0; name = replicate 14 0 }

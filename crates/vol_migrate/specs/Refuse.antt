@@ -11,7 +11,7 @@ use Rattle.vol_migrate.specs.Raised.{raised_shape, size_in}
 use Rattle.vol_migrate.specs.declared.fault.MigrateFault.{MigrateFault}
 use Rattle.vol_migrate.specs.declared.fault.MigrateFault.TheVariants as faults
 
--- true if node i of a tree exists and is a special file (manual section 5, file system)
+-- true if node `i` of a tree exists and is a special file (manual section 5, file system)
 abbrev pub is_device_at : Tree → ℕ → Bool
 is_device_at tree i = option_map_or (λ (node : Node). is_device node.content) (tree.nodes i) false
 
@@ -19,24 +19,24 @@ is_device_at tree i = option_map_or (λ (node : Node). is_device node.content) (
 abbrev pub has_device : Tree → Bool
 has_device tree = list_any (is_device_at tree) (range_with_len 1 tree.geometry.last_inode)
 
--- true if a tree has a node i (manual section 5, file system)
+-- true if a tree has a node `i` (manual section 5, file system)
 abbrev pub is_node_at : Tree → ℕ → Bool
 is_node_at tree i = option_map_or (λ (node : Node). true) (tree.nodes i) false
 
--- true if a tree has a node i, and i + 1 is above `last` (this project)
+-- true if a tree has a node `i`, and `i` + 1 is above `last` (this project)
 abbrev pub is_above_at : Tree → ℕ → ℕ → Bool
 is_above_at tree last i = nat_lt last (i + 1) && is_node_at tree i
 
--- true if there is such a node (this project)
+-- true if a tree has a node whose i-number plus one is above `last` (this project)
 abbrev pub has_above : Tree → ℕ → Bool
 has_above tree last = list_any (is_above_at tree last) (range_with_len 1 tree.geometry.last_inode)
 
--- the number of places of all files that name blocks once they are those of the seventh edition (icheck)
+-- the number of block-map positions of all files that point to blocks once the files are in the seventh edition (icheck)
 unfoldable pub places_needed : State → ℕ
 places_needed state =
     sum_by (λ i. place_count V7 (raised_shape (size_in (state.tree.nodes i)) (state.shapes i))) (range_with_len 1 state.tree.geometry.last_inode)
 
--- the first reason not to migrate a volume of some edition to one of these sizes, if there is one (this project)
+-- the first reason not to migrate a volume of this edition to a volume of these sizes, if there is one (this project)
 abbrev pub refusal : Edition → State → ℕ → ℕ → Option MigrateFault
 refusal V7 state blocks list_blocks = Some faults.Invalid
 refusal V6 state blocks list_blocks =

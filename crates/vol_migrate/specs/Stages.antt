@@ -1,4 +1,4 @@
--- The stages of migrating a volume: the part of its files that is carried to the new one.
+-- The stages of migrating a volume: the part of its files that is copied to the new one so far.
 use Rattle.std.specs.Prelude.{◌≡◌, ◌≢◌, ℕ, ◌+◌, ◌-◌, ◌*◌, ◌/◌, ◌%◌, ◌<◌, ◌≤◌, ◌==◌, ◌⊎◌, true, false, nat_lt, nat_le, if◌then◌else◌, List, ◌∷◌, length, slice_index}
 use Rattle.std.specs.List.{count_by, sum_by, range_with_len}
 use Rattle.pdp_words.specs.Words.{long}
@@ -24,13 +24,14 @@ use Rattle.vol_mkfs.specs.Mkfs.{sizes_bytes, IsMakeable, IsNoneOf}
 use Rattle.vol_migrate.specs.Raised.{names_block, stored_blocks, raised_slot}
 use Rattle.vol_migrate.specs.Refuse.{places_needed}
 
--- i-node i isn't free (manual section 5, file system)
+-- i-node `i` isn't free (manual section 5, file system)
 pub record IsUsed (geometry : Geometry) (image : List ℕ) (i : ℕ) : Type 0 where
   pub first : 1 ≤ i
   pub last : i ≤ geometry.last_inode
   pub some : kind_at geometry image i ≢ kinds.Free
 
--- a sound volume of the sixth edition may become one of the seventh: it has no special file, its nodes fit the i-list, and its files fit the data zone (this project)
+-- a sound volume of the sixth edition may be migrated to the seventh: it has no special file, its nodes fit the i-list, and its files fit the data
+-- zone (this project)
 pub record MayMigrate (old : List ℕ) (from to : Geometry) : Type 0 where
   pub sixth : from.edition ≡ V6
   pub seventh : to.edition ≡ V7
@@ -40,25 +41,26 @@ pub record MayMigrate (old : List ℕ) (from to : Geometry) : Type 0 where
   pub numbers : (i : ℕ) → IsUsed from old i → i + 1 ≤ to.last_inode
   pub space : places_needed (state from old) ≤ to.zone_end - to.zone_start
 
--- the number of places in the seventh edition on the paths of the first n logical blocks of a file, without its holes (Lions on bmap)
+-- the number of block-map positions in the seventh edition on the paths of the stored blocks among the first `n` logical blocks of a file (Lions on
+-- bmap)
 unfoldable pub places_for : Shape → ℕ → ℕ
 places_for shape n = count_by (is_on_ways Deep (stored_blocks shape n)) (places Deep)
 
--- logical block b follows the first `passed`, the last of which is stored, and only holes are between them (Lions on bmap)
+-- logical block `b` comes after the first `passed` blocks, the last of which is stored, and only holes are between (Lions on bmap)
 pub record ComesAfter (shape : Shape) (b passed : ℕ) : Type 0 where
   pub order : passed ≤ b
   pub last : 1 ≤ passed → names_block shape (passed - 1) ≡ true
   pub holes : (c : ℕ) → passed ≤ c → c < b → names_block shape c ≡ false
 
--- 1 for a place whose first logical block is not before `passed`, else 0 (Lions on bmap)
+-- 1 for a block-map position whose first logical block is not before `passed`, else 0 (Lions on bmap)
 abbrev pub is_new : ℕ → ℕ → ℕ
 is_new passed start = if nat_le passed start then 1 else 0
 
--- the number of places that file i needs (Lions on bmap)
+-- the number of block-map positions that file `i` needs (Lions on bmap)
 abbrev pub file_need : Geometry → List ℕ → ℕ → ℕ
 file_need from old i = places_for (shapes from old i) (whole_blocks (size_of from old i))
 
--- the number of places that the files below i-number i need (Lions on bmap)
+-- the number of block-map positions that the files below i-number `i` need (Lions on bmap)
 abbrev pub need_before : Geometry → List ℕ → ℕ → ℕ
 need_before from old i = sum_by (file_need from old) (range_with_len 1 (i - 1))
 
@@ -66,11 +68,11 @@ need_before from old i = sum_by (file_need from old) (range_with_len 1 (i - 1))
 abbrev pub bytes_of_slot : Slot → List ℕ
 bytes_of_slot slot = (slot.inode % 256) ∷ (slot.inode / 256) ∷ slot.name
 
--- byte x of a directory's slots, raised (this project)
+-- byte `x` of a directory's slots, raised (this project)
 unfoldable pub raised_byte : List ℕ → ℕ → ℕ
 raised_byte bytes x = slice_index (bytes_of_slot (raised_slot (slot_at bytes (16 * (x / 16))))) (x % 16)
 
--- byte x of a file of some kind, converted for the seventh edition (this project)
+-- byte `x` of a file of this kind, converted for the seventh edition (this project)
 abbrev pub carried_byte : Kind → List ℕ → ℕ → ℕ
 carried_byte kinds.Directory bytes x = raised_byte bytes x
 carried_byte kinds.Regular bytes x = slice_index bytes x
@@ -78,7 +80,8 @@ carried_byte kinds.Free bytes x = slice_index bytes x
 carried_byte kinds.Special bytes x = slice_index bytes x
 carried_byte kinds.Odd bytes x = slice_index bytes x
 
--- i-node i + 1 of the new volume is i-node i of the old one, and its first n logical blocks have the same bytes; the others are holes (this project)
+-- i-node `i` + 1 of the new volume is i-node `i` of the old one, and its first `n` logical blocks have the same bytes; the others are holes (this
+-- project)
 pub record IsCarried (from to : Geometry) (old : List ℕ) (now : ℕ) (image : List ℕ) (i n : ℕ) : Type 0 where
   pub inode : inode_of to.edition image (i + 1)
       ≡ record (raised_inode (inode_of from.edition old i) now) { addresses = (inode_of to.edition image (i + 1)).addresses }
@@ -87,11 +90,12 @@ pub record IsCarried (from to : Geometry) (old : List ℕ) (now : ℕ) (image : 
   pub rest : (x : ℕ) → x < size_of from old i → n ≤ x / 512 → slice_index (body to image (i + 1)) x ≡ 0
   pub names : (p : List ℕ) → IsPlace Deep p → is_named to image (i + 1) p ≡ is_on_ways Deep (stored_blocks (shapes from old i) n) p
 
--- the number of logical blocks of i-node j that are carried when n of i-node i are, and all of those before (this project)
+-- the number of logical blocks of i-node `j` that are copied when `n` blocks of i-node `i` are, and all blocks of the i-nodes before it (this
+-- project)
 abbrev pub progress : Geometry → List ℕ → ℕ → ℕ → ℕ → ℕ
 progress from old i n j = if nat_lt j i then whole_blocks (size_of from old j) else if j == i then n else 0
 
--- the bytes outside the i-list and the data zone: the sizes of the volume, the time, and zeros besides the free list (filsys.h)
+-- the bytes outside the i-list and the data zone: the sizes of the volume, the time, the free list, and zeros (filsys.h)
 pub record HasSuper (to : Geometry) (now : ℕ) (image : List ℕ) : Type 0 where
   pub len : length image ≡ 512 * to.zone_end
   pub sizes : geometry_of to.edition image ≡ to
@@ -99,15 +103,16 @@ pub record HasSuper (to : Geometry) (now : ℕ) (image : List ℕ) : Type 0 wher
   pub rest : (k : ℕ) → k < 1024 → IsNoneOf 512 (sizes_bytes to.edition) k → IsNoneOf (free_head to.edition) 202 k
       → IsNoneOf (time_place to.edition) 4 k → slice_index image k ≡ 0
 
--- i-number k of the new volume has no i-node to carry (this project)
+-- i-number `k` of the new volume gets no i-node of the old one (this project)
 abbrev pub IsVacant : Geometry → List ℕ → ℕ → Type 0
 IsVacant from old k = (i : ℕ) → k ≡ i + 1 → IsUsed from old i → ⊥
 
--- byte r of i-node k of the new volume is unused: k has no i-node to carry, or the seventh edition doesn't use the byte (ino.h)
+-- byte `r` of i-node `k` of the new volume is unused: `k` gets no i-node of the old volume, or the seventh edition doesn't use the byte (ino.h)
 abbrev pub IsIdle : Geometry → List ℕ → ℕ → ℕ → Type 0
 IsIdle from old k r = IsVacant from old k ⊎ (r ≡ 51)
 
--- rules 3 to 7 hold for the new volume, in which n blocks of i-node i and all of those before are carried, and the free blocks are as many as these leave of the data zone (this project)
+-- rules 3 to 7 hold for the new volume when `n` blocks of i-node `i` and all blocks of the i-nodes before it are copied, and the number of free
+-- blocks is the number of data blocks minus the blocks needed so far (this project)
 pub record IsStage (from to : Geometry) (old : List ℕ) (now : ℕ) (image : List ℕ) (i n : ℕ) : Type 0 where
   pub blocks : List ℕ
   pub sound : Rules3To7With to image blocks
@@ -117,16 +122,16 @@ pub record IsStage (from to : Geometry) (old : List ℕ) (now : ℕ) (image : Li
   pub zeros : (k r : ℕ) → 1 ≤ k → k ≤ to.last_inode → IsIdle from old k r → r < (constants to.edition).inode_bytes
       → slice_index image (inode_place to.edition k + r) ≡ 0
 
--- the volume is at this stage, for some time (this project)
+-- the volume is at this stage, for some time `now` (this project)
 pub record HasStage (from to : Geometry) (old image : List ℕ) (i n : ℕ) : Type 0 where
   pub now : ℕ
   pub stage : IsStage from to old now image i n
 
--- a step carries some more blocks (this project)
+-- a step copies some more blocks (this project)
 abbrev pub CarriesTo : Geometry → Geometry → List ℕ → List ℕ → ℕ → ℕ → List ℕ → ℕ → ℕ → Type 0
 CarriesTo from to old image i n new j m = (now : ℕ) → IsStage from to old now image i n → IsStage from to old now new j m
 
--- the i-list of the new volume has the i-nodes below i of the old one, and zeros elsewhere (this project)
+-- the i-list of the new volume has the i-nodes below `i` of the old one, and zeros elsewhere (this project)
 pub record HasInodesBelow (from to : Geometry) (old : List ℕ) (now : ℕ) (image : List ℕ) (i : ℕ) : Type 0 where
   pub done : (j : ℕ) → j < i → IsUsed from old j → inode_of to.edition image (j + 1) ≡ raised_inode (inode_of from.edition old j) now
   pub rest : (k r : ℕ) → 1 ≤ k → k ≤ to.last_inode → (i + 1 ≤ k) ⊎ IsIdle from old k r → r < (constants to.edition).inode_bytes

@@ -1,4 +1,4 @@
-//! Copying the blocks of files from a volume of the sixth edition to one of the seventh.
+//! Copies the blocks of files from a volume of the sixth edition to one of the seventh.
 ghost use Rattle.std.specs.Prelude.{◌≡◌, ◌≢◌, ◌+◌, ◌*◌, ◌<◌};
 ghost use Rattle.vol_layout.specs.BlockPointers.{IsFile, form_at, stored};
 ghost use Rattle.vol_file.specs.Rules.{size_of};
@@ -40,8 +40,7 @@ fn copy_file(image: &mut Image, to: &Geometry, old: &Image, from: &Geometry, i: 
     }
 }
 
-/// Copies logical block `b` of file `i`, which is stored, up to the file's size. In a directory the i-numbers are raised by
-/// one.
+/// Copies logical block `b` of file `i`, which is stored, up to the file's size. In a directory the i-numbers are raised by one.
 fn copy_block(image: &mut Image, to: &Geometry, old: &Image, from: &Geometry, i: u16, b: u32)
     requires may { MayMigrate old.now from.now to.now }
     requires stage { HasStage from.now to.now old.now image.old i b }

@@ -38,7 +38,7 @@ pub(crate) fn places_needed(old: &Image, from: &Geometry) -> u64
     needed
 }
 
-/// Returns the number of blocks that i-node `i` needs: 0 if it is not a file.
+/// Returns the number of blocks that i-node `i` needs: 0 if it isn't a file.
 fn places_of(old: &Image, from: &Geometry, i: u16) -> u32
     requires fits { Fits from.now old.now }
     requires sixth { from.now.edition ≡ Edition.V6 }
@@ -55,7 +55,7 @@ fn places_of(old: &Image, from: &Geometry, i: u16) -> u32
     }
 }
 
-/// True if i-node `i` is that of a regular file or a directory.
+/// True if i-node `i` is a regular file or a directory.
 pub(crate) fn is_file(image: &Image, geometry: &Geometry, i: u16) -> bool
     requires fits { Fits geometry.now image.now }
     requires first { 1 ≤ i }
@@ -88,8 +88,8 @@ fn places_of_file(old: &Image, from: &Geometry, i: u16) -> u32
     places
 }
 
-/// Returns the number of places on the path of logical block `b` in the seventh edition that are on the path of no earlier
-/// stored logical block. The last of these is the one before `passed`; if `passed` is 0, there are none.
+/// Returns the number of block-map positions on the path of logical block `b` in the seventh edition that are on the path of no earlier stored
+/// logical block. The last earlier stored one is block `passed` - 1; if `passed` is 0, there is none.
 fn new_places(b: u32, passed: u32) -> u32
     requires { b < 2113674 }
     ensures exact { (shape : Shape) → ComesAfter shape b passed
@@ -108,7 +108,7 @@ fn new_places(b: u32, passed: u32) -> u32
     }
 }
 
-/// Returns 1 if `start`, the first logical block of a place, is not before `passed`, else 0.
+/// Returns 1 if `start`, the first logical block below a block-map position, is not before `passed`, else 0.
 fn is_new(passed: u32, start: u32) -> u32
     ensures exact { result ≡ is_new passed start }
     ensures bound { result ≤ 1 }

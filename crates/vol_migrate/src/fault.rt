@@ -4,10 +4,10 @@ use thiserror::Error;
 /// The reason why a volume wasn't migrated.
 #[derive(Clone, Copy, Debug, Error)]
 pub enum MigrateFault {
-    /// The volume is not one of the sixth edition.
+    /// The volume isn't one of the sixth edition.
     #[error("22 Invalid")]
     Invalid,
-    /// The sizes are not those of a volume of the seventh edition.
+    /// A volume of the seventh edition can't have these sizes.
     #[error("bounds")]
     Bounds,
     /// The volume has a special file.

@@ -1,4 +1,4 @@
-//! A volume of the seventh edition with the i-nodes of one of the sixth, before any has a block.
+//! A volume of the seventh edition with the i-nodes of a volume of the sixth, before any of them has a block.
 ghost use Rattle.std.specs.Prelude.{◌≡◌, ◌≢◌, ℕ, ◌+◌, ◌*◌, ◌<◌, ◌≤◌, true, false, IfOk, length, replicate, slice_index};
 ghost use Rattle.pdp_words.specs.Words.{SameOutside, long};
 ghost use Rattle.vol_layout.specs.Geometry.{Fits, geometry_of};
@@ -34,7 +34,7 @@ pub(crate) fn put_super(image: &mut Image, to: &Geometry, now: u32)
     super_block.put_time(image, now);
 }
 
-/// Writes each i-node that isn't free to an i-list of zeros, with the next i-number.
+/// Writes each i-node that isn't free to an i-list of zeros, under the next i-number.
 pub(crate) fn put_inodes(image: &mut Image, to: &Geometry, old: &Image, from: &Geometry, now: u32)
     requires may { MayMigrate old.now from.now to.now }
     requires fits { Fits to.now image.old }
@@ -47,7 +47,7 @@ pub(crate) fn put_inodes(image: &mut Image, to: &Geometry, old: &Image, from: &G
     }
 }
 
-/// Writes i-node `i`, if it isn't free, with the next i-number.
+/// Writes i-node `i`, if it isn't free, under the next i-number.
 fn put_next(image: &mut Image, to: &Geometry, old: &Image, from: &Geometry, i: u16, now: u32)
     requires may { MayMigrate old.now from.now to.now }
     requires fits { Fits to.now image.old }

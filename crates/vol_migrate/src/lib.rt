@@ -1,4 +1,4 @@
-//! Migrating a volume of the sixth edition to the seventh.
+//! Migrates a volume of the sixth edition to the seventh.
 #![tactic(auto)]
 
 mod copy;

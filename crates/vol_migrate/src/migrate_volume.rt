@@ -1,4 +1,4 @@
-//! Migrating a volume.
+//! Migrates a volume.
 ghost use Rattle.std.specs.Prelude.{◌≡◌, ℕ, true, false, IfOk, IfErr, OnOk, None, unwrap_or};
 ghost use Rattle.vol_layout.specs.Geometry.{Fits, geometry_of};
 ghost use Rattle.vol_free.specs.Stack.{IsFree};
@@ -24,19 +24,18 @@ use vol_layout::super_block::HEAD_BYTES;
 use vol_layout::{Edition, Geometry, Super};
 use vol_volume::Volume;
 
-/// Makes a volume of the seventh edition from one of the sixth, with `blocks` blocks of 512 bytes, of which `list_blocks` are
-/// the i-list, and returns its bytes. Each node gets the next i-number, in all entries too; i-number 1 is free. These also
-/// change: each i-node was last changed at `now`, in seconds since the beginning of 1970, which is also the
-/// super-block's time; places past a file's size name nothing; and all unused bytes of the volume are zero: those past a size,
-/// in an empty slot, and after a name. Blocks are taken from the first data block on, by ascending i-number, and for each
-/// logical block in turn along its path from the i-node down; the others are free.
+/// Makes a volume of the seventh edition from one of the sixth, with `blocks` blocks of 512 bytes, of which `list_blocks` are the i-list, and returns
+/// its bytes. Each node gets the next i-number, in all entries too; i-number 1 is free. There are three more changes: each i-node was last changed at
+/// `now`, in seconds since the beginning of 1970, which is also the super-block's time; block-map positions past a file's size are 0; and all unused
+/// bytes of the volume are zero, namely bytes past a size, in an empty slot, and after a name. Blocks are allocated starting with the first data
+/// block, by ascending i-number, and for each logical block in order along its path down from the i-node; all other blocks are free.
 ///
-/// The refusals are checked in this order. Invalid: the volume is not one of the sixth edition. Bounds: a volume of the seventh
-/// can't have these sizes. HasDevice: it has a special file. NoInode: its highest i-number doesn't fit the i-list. NoSpace: the
-/// files need more blocks than there are data blocks. NoMemory comes last, and only if memory runs out.
+/// The refusals are checked in this order. Invalid: the volume isn't one of the sixth edition. Bounds: a volume of the seventh can't have these
+/// sizes. HasDevice: it has a special file. NoInode: its highest i-number doesn't fit the i-list. NoSpace: the files need more blocks than there are
+/// data blocks. NoMemory comes last, and only if memory runs out.
 ///
-/// Takes memory for the bytes, once, and for a while two bytes for each block. Costs a copy of each stored block within a size,
-/// with a block-map lookup in both volumes, a read of each i-node, and building the free list twice.
+/// Takes memory once for the bytes, and for a while two bytes for each block. Copies each stored block within a size, with a block-map lookup in both
+/// volumes, reads each i-node, and builds the free list twice.
 pub fn migrate(
     alloc: Global,
     volume: &Volume,
@@ -117,7 +116,7 @@ fn check(old: &Image, from: &Geometry, blocks: u32, list_blocks: u16) -> Option<
     None
 }
 
-/// Returns the geometry of a volume of the seventh edition with this number of blocks, and of blocks of the i-list.
+/// Returns the geometry of a volume of the seventh edition with this number of blocks and of i-list blocks.
 fn new_geometry(blocks: u32, list_blocks: u16) -> Geometry
     requires { is_size Edition.V7 blocks list_blocks ≡ true }
     ensures value { result ≡ volume_of Edition.V7 blocks list_blocks }
@@ -131,7 +130,7 @@ fn new_geometry(blocks: u32, list_blocks: u16) -> Geometry
     }
 }
 
-/// Makes the volume.
+/// Makes the new volume.
 fn make(
     alloc: Global,
     old: &Image,
@@ -153,7 +152,7 @@ fn make(
     Ok(image.into_bytes())
 }
 
-/// Rebuilds the free list from the data blocks that no file has, as in a new volume: old numbers in its array are cleared.
+/// Rebuilds the free list from the data blocks that belong to no file, as in a new volume: old numbers in its array are cleared.
 fn relist(image: &mut Image, to: &Geometry, alloc: Global) -> Result<(), AllocError>
     requires seventh { to.now.edition ≡ Edition.V7 }
     requires sizes { geometry_of Edition.V7 image.old ≡ to.now }

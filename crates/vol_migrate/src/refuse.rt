@@ -9,7 +9,7 @@ use pdp_words::Image;
 use vol_layout::i_list::kind;
 use vol_layout::{Edition, Geometry, Kind};
 
-/// True if a volume of the seventh edition can have this number of blocks, and of blocks of the i-list.
+/// True if a volume of the seventh edition can have this number of blocks and of i-list blocks.
 pub(crate) fn is_size(blocks: u32, list_blocks: u16) -> bool
     ensures { result ≡ is_size Edition.V7 blocks list_blocks }
 {
@@ -33,7 +33,7 @@ pub(crate) fn has_device(image: &Image, geometry: &Geometry) -> bool
     false
 }
 
-/// True if i-node `i` is that of a special file.
+/// True if i-node `i` is a special file.
 fn is_device(image: &Image, geometry: &Geometry, i: u16) -> bool
     requires fits { Fits geometry.now image.now }
     requires first { 1 ≤ i }
@@ -49,7 +49,7 @@ fn is_device(image: &Image, geometry: &Geometry, i: u16) -> bool
     }
 }
 
-/// True if a node's i-number plus one is above `last`.
+/// True if the i-number of a node, plus one, is above `last`.
 pub(crate) fn has_above(image: &Image, geometry: &Geometry, last: u16) -> bool
     requires { Fits geometry.now image.now }
     ensures { result ≡ has_above (tree geometry.now image.now) last }
@@ -62,7 +62,7 @@ pub(crate) fn has_above(image: &Image, geometry: &Geometry, last: u16) -> bool
     false
 }
 
-/// True if i-node `i` is that of a node of the tree.
+/// True if i-node `i` is a node of the tree.
 fn is_node(image: &Image, geometry: &Geometry, i: u16) -> bool
     requires fits { Fits geometry.now image.now }
     requires first { 1 ≤ i }

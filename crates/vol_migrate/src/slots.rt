@@ -23,7 +23,7 @@ fn raised_slot(slot: &Slot) -> Slot
     Slot::new(slot.inode + 1, slot.name())
 }
 
-/// Returns whole slots of a directory, at most those of a block, converted for the seventh edition and followed by zeros.
+/// Returns complete slots of a directory, at most a block of them, converted for the seventh edition and followed by zeros.
 pub(crate) fn raised_slots(text: &[u8]) -> [u8; BLOCK]
     requires few { length text.now ≤ 512 }
     requires numbers { (s : ℕ) → 16 * s + 16 ≤ length text.now → word text.now (16 * s) < 65535 }

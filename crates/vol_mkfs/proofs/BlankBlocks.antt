@@ -1,4 +1,4 @@
--- Putting a block of a new volume into a buffer.
+-- Writing a block of a new volume to a buffer.
 use Rattle.std.specs.Prelude.{slice_range}
 use Rattle.std.proofs.Common.{◌≡◌, ◌≢◌, ℕ, ◌+◌, ◌-◌, ◌*◌, ◌/◌, ◌%◌, ◌<◌, ◌≤◌, ◌&&◌, List, length, sym, ap, subst, ◌∙◌, arith, inl, inr, get_or, true, false, nat_lt}
 use Rattle.std.proofs.lemmas.Bool.{cases_lt}
@@ -13,14 +13,14 @@ use Rattle.vol_mkfs.proofs.BlankVolumes.{block_early, block_root, block_chain, b
 use Rattle.vol_mkfs.specs.Blank.{HasHead, block_byte, volume_byte}
 use Rattle.vol_mkfs.specs.Mkfs.{is_chain}
 
--- as many blocks as an array has numbers follow a chain block, and if more follow, as many again
+-- at least as many blocks as an array has entries remain after a chain block b, and twice as many if a further chain block follows
 room_by : (edition : Edition) (b end : ℕ) → b < end → (end - b) % (constants edition).free_slots ≡ 0
     → (b + (constants edition).free_slots ≤ end)
     × (b + (constants edition).free_slots < end → b + (constants edition).free_slots + (constants edition).free_slots ≤ end)
 room_by V6 b end h e = (omega arith, λ more. omega arith)
 room_by V7 b end h e = (omega arith, λ more. omega arith)
 
--- the same of a geometry
+-- the same law for the chain blocks of a geometry
 pub chain_room : (geometry : Geometry) (b : ℕ) → is_chain geometry b ≡ true
     → (b + (constants geometry.edition).free_slots ≤ geometry.zone_end)
     × (b + (constants geometry.edition).free_slots < geometry.zone_end
@@ -31,7 +31,7 @@ chain_room geometry b chain =
     let left : (geometry.zone_end - b) % (constants geometry.edition).free_slots ≡ 0 = grind (arith, nat_tests) in
     room_by geometry.edition b geometry.zone_end low left
 
--- a block of the image that was put has its bytes
+-- a block of an image that was written to a buffer has the same bytes there
 put_of : (first piece new : List ℕ) (at n r : ℕ) → r < 512 → piece ≡ block_of first n → length piece ≡ 512
     → slice_range new at (at + length piece) ≡ piece → get_or new (at + r) 0 ≡ get_or first (512 * n + r) 0
 put_of first piece new at n r h is len put =
@@ -39,14 +39,14 @@ put_of first piece new at n r h is len put =
     sym (get_or-slice_range new at 512 r h)
     ∙ (ap (λ xs. get_or xs r 0) (whole ∙ is) ∙ get_or-slice_range first (512 * n) 512 r h)
 
--- one of the first three blocks
+-- blocks 0, 1 and 2 are written as `block_byte` defines
 pub early_put : (geometry : Geometry) (first piece new : List ℕ) (at b : ℕ) → b < 3 → piece ≡ block_of first b → length piece ≡ 512
     → slice_range new at (at + length piece) ≡ piece
     → (r : ℕ) → r < 512 → get_or new (at + r) 0 ≡ block_byte geometry first b r
 early_put geometry first piece new at b low is len put r h =
     put_of first piece new at b r h is len put ∙ sym (block_early geometry first b r low)
 
--- the root's block
+-- the root's block is written as `block_byte` defines
 pub root_put : (geometry : Geometry) (first piece new : List ℕ) (at b : ℕ) → 3 ≤ geometry.zone_start → b ≡ geometry.zone_start
     → piece ≡ block_of first 3 → length piece ≡ 512 → slice_range new at (at + length piece) ≡ piece
     → (r : ℕ) → r < 512 → get_or new (at + r) 0 ≡ block_byte geometry first b r
@@ -54,7 +54,7 @@ root_put geometry first piece new at b start same is len put r h =
     put_of first piece new at 3 r h is len put
     ∙ (sym (block_root geometry first r start) ∙ ap (λ n. block_byte geometry first n r) (sym same))
 
--- a chain block
+-- a chain block is written as `block_byte` defines
 pub chain_put : (geometry : Geometry) (first new : List ℕ) (at b top count : ℕ) → 3 ≤ geometry.zone_start → is_chain geometry b ≡ true
     → top ≡ b + (constants geometry.edition).free_slots → count ≡ (constants geometry.edition).free_slots
     → HasHead geometry new at top count → ((r : ℕ) → 202 ≤ r → r < 512 → get_or new (at + r) 0 ≡ 0)
@@ -75,14 +75,14 @@ chain_put geometry first new at b top count start chain is_top is_count head zer
           zeros r high h ∙ sym (block_rest geometry first b r (omega arith) differ none)
     ]
 
--- any other block
+-- any other block is written as `block_byte` defines
 pub zero_put : (geometry : Geometry) (first new : List ℕ) (at b : ℕ) → 3 ≤ b → b ≢ geometry.zone_start → is_chain geometry b ≡ false
     → ((k : ℕ) → at ≤ k → k < at + 512 → get_or new k 0 ≡ 0)
     → (r : ℕ) → r < 512 → get_or new (at + r) 0 ≡ block_byte geometry first b r
 zero_put geometry first new at b high differ none zeros r h =
     zeros (at + r) (omega arith) (omega arith) ∙ sym (block_rest geometry first b r high differ (rw none))
 
--- the blocks that were gathered, and then one more
+-- after the blocks before b and then block b are gathered, the blocks up to b are
 pub gathered_more : (geometry : Geometry) (first old new : List ℕ) (from b : ℕ) → from ≤ b
     → ((k : ℕ) → k < 512 * (b - from) → get_or old k 0 ≡ volume_byte geometry first (512 * from + k))
     → ((k : ℕ) → k < (b - from) * 512 → get_or new k 0 ≡ get_or old k 0)

@@ -1,4 +1,4 @@
--- The heads of the free list of a new volume, word by word and number by number.
+-- The heads of the free list of a new volume (a count and an array), word by word and entry by entry.
 use Rattle.std.proofs.Common.{◌≡◌, ℕ, zero, suc, ◌+◌, ◌-◌, ◌*◌, ◌/◌, ◌%◌, ◌<◌, ◌==◌, List, sym, ap, ◌∙◌, arith, inl, inr, get_or, true, false, nat_lt}
 use Rattle.std.proofs.lemmas.Bool.{cases_eq}
 use Rattle.std.proofs.lemmas.Bool.Decides.{nat_tests}
@@ -9,7 +9,7 @@ use Rattle.vol_layout.specs.declared.edition.Edition.TheVariants.{V6, V7}
 use Rattle.vol_layout.specs.declared.geometry.Geometry.{Geometry}
 use Rattle.vol_mkfs.specs.Blank.{listed, array_word, head_word, head_byte, HasHead}
 
--- the low byte of a word
+-- an even byte of a head is the low byte of a word
 byte_even : (geometry : Geometry) (top count w : ℕ) → head_byte geometry top count (2 * w) ≡ head_word geometry top count w % 256
 unfolding head_byte
 byte_even geometry top count w =
@@ -17,7 +17,7 @@ byte_even geometry top count w =
     let half : 2 * w / 2 ≡ w = omega arith in
     rw (even, half)
 
--- the high byte of a word
+-- an odd byte of a head is the high byte of a word
 byte_odd : (geometry : Geometry) (top count w : ℕ) → head_byte geometry top count (2 * w + 1) ≡ head_word geometry top count w / 256
 unfolding head_byte
 byte_odd geometry top count w =
@@ -25,7 +25,7 @@ byte_odd geometry top count w =
     let half : (2 * w + 1) / 2 ≡ w = omega arith in
     rw (odd, half)
 
--- a word of a head
+-- if a head is at byte `at` of an image, word w of the head is there
 pub word_is : (geometry : Geometry) (image : List ℕ) (at top count w : ℕ) → HasHead geometry image at top count → w < 101
     → word image (at + 2 * w) ≡ head_word geometry top count w
 word_is geometry image at top count w head h =
@@ -35,7 +35,7 @@ word_is geometry image at top count w head h =
     ap (λ k. get_or image k 0) place ∙ (head.bytes (2 * w + 1) (omega arith) ∙ byte_odd geometry top count w) in
     omega arith
 
--- the count of a head
+-- the first word of a head is its count
 pub head_count : (geometry : Geometry) (image : List ℕ) (at top count : ℕ) → HasHead geometry image at top count → word image at ≡ count
 unfolding head_word
 head_count geometry image at top count head =
@@ -67,7 +67,7 @@ low_word numbers j =
     let half : (2 * j + 1) / 2 ≡ j = omega arith in
     rw (odd, half)
 
--- a number of the array of the sixth edition is a word
+-- entry j of the array of a head is `listed`, in the sixth edition
 number_v6 : (start end last : ℕ) (image : List ℕ) (at top count j : ℕ)
     → HasHead (record { edition = V6; zone_start = start; zone_end = end; last_inode = last }) image at top count → j < 100
     → number V6 image (at + 2) j ≡ listed (record { edition = V6; zone_start = start; zone_end = end; last_inode = last }) top count j
@@ -77,7 +77,7 @@ number_v6 start end last image at top count j head h =
     let place : at + 2 + 2 * j ≡ at + 2 * (j + 1) = omega arith in
     ap (word image) place ∙ (word_is geometry image at top count (j + 1) head (omega arith) ∙ word_after geometry top count j)
 
--- a number of the array of the seventh edition is a long
+-- entry j of the array of a head is `listed`, in the seventh edition
 number_v7 : (start end last : ℕ) (image : List ℕ) (at top count j : ℕ)
     → HasHead (record { edition = V7; zone_start = start; zone_end = end; last_inode = last }) image at top count → j < 50
     → number V7 image (at + 2) j ≡ listed (record { edition = V7; zone_start = start; zone_end = end; last_inode = last }) top count j
@@ -93,7 +93,7 @@ number_v7 start end last image at top count j head h =
     ∙ (word_after geometry top count (2 * j + 1) ∙ low_word (listed geometry top count) j)) in
     omega (arith, high, low)
 
--- the same of either edition
+-- entry j of the array of a head is `listed`, in either edition
 number_by : (edition : Edition) (start end last : ℕ) (image : List ℕ) (at top count j : ℕ)
     → HasHead (record { edition = edition; zone_start = start; zone_end = end; last_inode = last }) image at top count
     → j < (constants edition).free_slots
@@ -101,25 +101,25 @@ number_by : (edition : Edition) (start end last : ℕ) (image : List ℕ) (at to
 number_by V6 start end last image at top count j head h = number_v6 start end last image at top count j head h
 number_by V7 start end last image at top count j head h = number_v7 start end last image at top count j head h
 
--- a number of a head
+-- entry j of the array of a head is `listed`
 pub head_number : (geometry : Geometry) (image : List ℕ) (at top count j : ℕ) → HasHead geometry image at top count
     → j < (constants geometry.edition).free_slots → number geometry.edition image (at + 2) j ≡ listed geometry top count j
 head_number geometry image at top count j head h =
     number_by geometry.edition geometry.zone_start geometry.zone_end geometry.last_inode image at top count j head h
 
--- number 0 of a head whose array ends before the volume does is the next chain block
+-- entry 0 of an array is the next chain block, if there is one
 pub listed_chain : (geometry : Geometry) (top count : ℕ) → top < geometry.zone_end → listed geometry top count 0 ≡ top
 unfolding listed
 listed_chain geometry top count h =
     let other : (top == geometry.zone_end) ≡ false = grind (arith, nat_tests) in rw other
 
--- number 0 of the last head is 0
+-- entry 0 of the last array is 0
 pub listed_last : (geometry : Geometry) (top count : ℕ) → top ≡ geometry.zone_end → listed geometry top count 0 ≡ 0
 unfolding listed
 listed_last geometry top count e =
     let same : (top == geometry.zone_end) ≡ true = grind (arith, nat_tests) in rw same
 
--- the other numbers of a head descend from the chain block
+-- the other entries below the count are the blocks before the chain block, in descending order
 pub listed_below : (geometry : Geometry) (top count j : ℕ) → 0 < j → j < count → listed geometry top count j ≡ top - j
 unfolding listed
 listed_below geometry top count j some few =
@@ -129,7 +129,7 @@ listed_below geometry top count j some few =
 
 module _ (geometry : Geometry) (head : List ℕ) (at top count : ℕ) (small : (k : ℕ) → get_or head k 0 < 256) (counted : word head at ≡ count)
     (numbers : (j : ℕ) → j < (constants geometry.edition).free_slots → number geometry.edition head (at + 2) j ≡ listed geometry top count j) where
-  -- the words after the count, of either edition
+  -- if all entries of an array are right, so are all its words
   array_is : (edition : Edition) (number_at : ℕ → ℕ)
       → ((j : ℕ) → j < (constants edition).free_slots → number edition head (at + 2) j ≡ number_at j) → (w : ℕ) → w < 100
       → word head (at + 2 * (w + 1)) ≡ array_word edition number_at w
@@ -154,7 +154,7 @@ module _ (geometry : Geometry) (head : List ℕ) (at top count : ℕ) (small : (
             ap (word head) place ∙ (low ∙ sym (rw other))
       ]
 
-  -- all its words
+  -- if the count and the array are right, so are all words of the head
   words_are : (w : ℕ) → w < 101 → word head (at + 2 * w) ≡ head_word geometry top count w
   unfolding head_word
   words_are zero h =
@@ -166,7 +166,7 @@ module _ (geometry : Geometry) (head : List ℕ) (at top count : ℕ) (small : (
       ∙ (array_is geometry.edition (listed geometry top count) numbers w (omega arith)
       ∙ (sym (word_after geometry top count w) ∙ ap (head_word geometry top count) (sym next)))
 
-  -- and so all its bytes
+  -- if all words of a head are right, so are all its bytes
   pub head_stands : HasHead geometry head at top count
   head_stands = record {
     bytes = λ r h.

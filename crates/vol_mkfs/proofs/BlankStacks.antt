@@ -1,4 +1,4 @@
--- The free list of a new volume: its heads, one after another, have the numbers of all data blocks except the root's.
+-- The free list of a new volume: its heads, one after another, list all data blocks except the root's.
 use Rattle.std.proofs.Common.{◌≡◌, ℕ, zero, suc, ◌+◌, ◌-◌, ◌*◌, ◌/◌, ◌%◌, ◌<◌, ◌≤◌, List, refl, sym, subst, ◌∙◌, arith, inl, inr, true, nat_lt}
 use Rattle.std.specs.List.{range_with_len}
 use Rattle.std.proofs.lemmas.Bool.{cases_lt}
@@ -18,23 +18,23 @@ use Rattle.vol_mkfs.proofs.BlankHeads.{head_count, head_number, listed_chain, li
 use Rattle.vol_mkfs.specs.Blank.{HasHead, first_chain}
 use Rattle.vol_mkfs.specs.Mkfs.{is_chain}
 
--- an array has 50 numbers at least
+-- an array has at least 50 entries
 pub slots_some : (edition : Edition) → 50 ≤ (constants edition).free_slots
 slots_some V6 = omega arith
 slots_some V7 = omega arith
 
--- and 100 at most
+-- an array has at most 100 entries
 pub slots_few : (edition : Edition) → (constants edition).free_slots ≤ 100
 slots_few V6 = omega arith
 slots_few V7 = omega arith
 
--- if the blocks to the volume's end fill some arrays, none is left over
+-- if the distance to the volume's end is a multiple of an array's entries, the remainder is 0
 rest_none : (edition : Edition) (k top end : ℕ) → top + (constants edition).free_slots * (k + 1) ≡ end
     → (end - top) % (constants edition).free_slots ≡ 0
 rest_none V6 k top end e = omega arith
 rest_none V7 k top end e = omega arith
 
--- the blocks past the first chain block fill arrays
+-- the distance from the first chain block to the volume's end is a multiple of an array's entries
 chain_fills : (edition : Edition) (start end : ℕ) → start < end
     → start + (end - start - 1) % (constants edition).free_slots + 1
     + (constants edition).free_slots * ((end - start - 1) / (constants edition).free_slots) ≡ end
@@ -46,41 +46,41 @@ rest_below : (edition : Edition) (n : ℕ) → n % (constants edition).free_slot
 rest_below V6 n = omega arith
 rest_below V7 n = omega arith
 
--- the first chain block, and how many arrays there are from it on
+-- the first chain block is a whole number of arrays before the volume's end
 pub chain_first : (geometry : Geometry) → geometry.zone_start < geometry.zone_end
     → first_chain geometry + (constants geometry.edition).free_slots
     * ((geometry.zone_end - geometry.zone_start - 1) / (constants geometry.edition).free_slots) ≡ geometry.zone_end
 unfolding first_chain
 chain_first geometry h = chain_fills geometry.edition geometry.zone_start geometry.zone_end h
 
--- it is after the root's block
+-- the first chain block is after the root's block
 pub chain_after : (geometry : Geometry) → geometry.zone_start + 1 ≤ first_chain geometry
 unfolding first_chain
 chain_after geometry = omega arith
 
--- no more blocks than an array has numbers are before it
+-- the first chain block is after the first data block by at most the number of entries in an array
 pub chain_near : (geometry : Geometry) → first_chain geometry ≤ geometry.zone_start + (constants geometry.edition).free_slots
 unfolding first_chain
 chain_near geometry =
     let below = rest_below geometry.edition (geometry.zone_end - geometry.zone_start - 1) in omega (arith, below)
 
--- it is within the volume, or is its end
+-- the first chain block is at most the volume's end
 chain_by : (edition : Edition) (start end : ℕ) → start < end → start + (end - start - 1) % (constants edition).free_slots + 1 ≤ end
 chain_by V6 start end h = omega arith
 chain_by V7 start end h = omega arith
 
--- the same of a geometry
+-- the same law for a geometry
 pub chain_within : (geometry : Geometry) → geometry.zone_start < geometry.zone_end
     → geometry.zone_start + (geometry.zone_end - geometry.zone_start - 1) % (constants geometry.edition).free_slots + 1 ≤ geometry.zone_end
 chain_within geometry h = chain_by geometry.edition geometry.zone_start geometry.zone_end h
 
--- if it isn't the volume's end, a full array's number of blocks follows it at least
+-- if the first chain block isn't the volume's end, at least as many blocks as an array has entries remain after it
 chain_more : (edition : Edition) (start end : ℕ) → start < end → start + (end - start - 1) % (constants edition).free_slots + 1 < end
     → start + (end - start - 1) % (constants edition).free_slots + 1 + (constants edition).free_slots ≤ end
 chain_more V6 start end h more = omega arith
 chain_more V7 start end h more = omega arith
 
--- the requirements of writing the super-block's head on the first chain block
+-- the conditions for writing the super-block's head hold for the first chain block
 pub chain_fits : (geometry : Geometry) (top : ℕ) → geometry.zone_start < geometry.zone_end → top ≡ first_chain geometry
     → (geometry.zone_start ≤ top) × (top ≤ geometry.zone_end) × (top - geometry.zone_start ≤ 100)
     × (top < geometry.zone_end → top + (constants geometry.edition).free_slots ≤ geometry.zone_end)
@@ -95,7 +95,7 @@ chain_fits geometry top some is =
       λ more. omega (arith, chain_more geometry.edition geometry.zone_start geometry.zone_end some (omega arith)),
     )
 
--- a block that full arrays follow is a chain block
+-- a block whose distance to the volume's end is a multiple of an array's entries is a chain block
 chain_here : (geometry : Geometry) (b : ℕ) → geometry.zone_start < b → b < geometry.zone_end
     → (geometry.zone_end - b) % (constants geometry.edition).free_slots ≡ 0 → is_chain geometry b ≡ true
 unfolding is_chain
@@ -104,7 +104,7 @@ chain_here geometry b low high left =
     let before : nat_lt b geometry.zone_end ≡ true = grind (arith, nat_tests) in
     rw (after, before, left)
 
--- ascending numbers differ
+-- no number occurs twice in a range
 once_range : (a n : ℕ) → Once (range_with_len a n)
 unfolding Once
 once_range a zero = tt
@@ -114,7 +114,7 @@ once_range a (suc n) =
 module _ (geometry : Geometry) (image : List ℕ)
     (chains : (c : ℕ) → is_chain geometry c ≡ true
     → HasHead geometry image (512 * c) (c + (constants geometry.edition).free_slots) (constants geometry.edition).free_slots) where
-  -- a head with one more number
+  -- a head with one more entry counted describes a stack with one more block
   grow : (at top count n : ℕ) → HasHead geometry image at top count → count ≤ (constants geometry.edition).free_slots
       → top ≤ geometry.zone_end → geometry.zone_start + count ≤ top → n < count
       → IsStack geometry image at 1 (range_with_len top (geometry.zone_end - top))
@@ -133,7 +133,7 @@ module _ (geometry : Geometry) (image : List ℕ)
       subst (IsStack geometry image at (suc n + 1)) (sym (range_before (top - n) b geometry.zone_end next (omega arith)))
       (stack_above geometry image at (n + 1) (suc n + 1) b _ (omega arith) (omega arith) is zone rest)
 
-  -- the blocks from number 0 of a head on
+  -- the blocks from entry 0 of a head up are a stack with one entry counted
   base : (k at top count : ℕ) → HasHead geometry image at top count → geometry.zone_start < top
       → top + (constants geometry.edition).free_slots * k ≡ geometry.zone_end
       → IsStack geometry image at 1 (range_with_len top (geometry.zone_end - top))

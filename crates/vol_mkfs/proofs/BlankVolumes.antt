@@ -1,4 +1,4 @@
--- The bytes of a new volume, block by block, are those that making one requires.
+-- The bytes of a new volume, block by block, are the bytes that `IsNewVolume` requires.
 use Rattle.std.proofs.Common.{◌≡◌, ◌≢◌, ℕ, ◌+◌, ◌-◌, ◌*◌, ◌/◌, ◌%◌, ◌<◌, ◌≤◌, ◌==◌, ◌&&◌, List, length, refl, sym, ap, subst, ◌∙◌, arith, inl, inr, get_or, true, false, nat_lt}
 use Rattle.std.proofs.lemmas.Bool.{cases_lt, cases_eq, le-ltb}
 use Rattle.std.proofs.lemmas.Bool.Decides.{nat_tests}
@@ -37,12 +37,12 @@ chain_none : (geometry : Geometry) (b : ℕ) → b < geometry.zone_start → is_
 unfolding is_chain
 chain_none geometry b low = let before : nat_lt geometry.zone_start b ≡ false = grind (arith, nat_tests) in rw before
 
--- the first three blocks
+-- the bytes of blocks 0, 1 and 2 are the bytes of `first`
 pub block_early : (geometry : Geometry) (first : List ℕ) (b r : ℕ) → b < 3 → block_byte geometry first b r ≡ get_or first (512 * b + r) 0
 unfolding block_byte
 block_early geometry first b r h = let low : nat_lt b 3 ≡ true = grind (arith, nat_tests) in rw low
 
--- the root's block
+-- the bytes of the root's block are the last 512 bytes of `first`
 pub block_root : (geometry : Geometry) (first : List ℕ) (r : ℕ) → 3 ≤ geometry.zone_start
     → block_byte geometry first geometry.zone_start r ≡ get_or first (1536 + r) 0
 unfolding block_byte
@@ -51,7 +51,7 @@ block_root geometry first r h =
     let same : (geometry.zone_start == geometry.zone_start) ≡ true = grind (arith, nat_tests) in
     rw (high, same)
 
--- the other blocks of the i-list
+-- the other blocks of the i-list are zero
 block_list : (geometry : Geometry) (first : List ℕ) (b r : ℕ) → 3 ≤ b → b < geometry.zone_start → block_byte geometry first b r ≡ 0
 unfolding block_byte
 block_list geometry first b r h low =
@@ -60,7 +60,7 @@ block_list geometry first b r h low =
     let none : is_chain geometry b ≡ false = chain_none geometry b low in
     rw (high, other, none)
 
--- the chain blocks
+-- the first 202 bytes of a chain block are its head
 pub block_chain : (geometry : Geometry) (first : List ℕ) (b r : ℕ) → 3 ≤ geometry.zone_start → is_chain geometry b ≡ true → r < 202
     → block_byte geometry first b r
     ≡ head_byte geometry (b + (constants geometry.edition).free_slots) (constants geometry.edition).free_slots r
@@ -73,7 +73,7 @@ block_chain geometry first b r start chain h =
     let within : nat_lt r 202 ≡ true = grind (arith, nat_tests) in
     rw (high, other, chain, within)
 
--- the other bytes of a block are zero
+-- a byte of any other block, or past the head of a chain block, is zero
 pub block_rest : (geometry : Geometry) (first : List ℕ) (b r : ℕ) → 3 ≤ b → b ≢ geometry.zone_start
     → (is_chain geometry b && nat_lt r 202) ≡ false → block_byte geometry first b r ≡ 0
 unfolding block_byte
@@ -82,12 +82,12 @@ block_rest geometry first b r h differ none =
     let other : (b == geometry.zone_start) ≡ false = grind (arith, nat_tests, differ) in
     rw (high, other, none)
 
--- a volume has all its blocks
+-- the number of bytes of a volume is 512 times its number of blocks
 pub volume_len : (geometry : Geometry) (first : List ℕ) → length (volume_bytes geometry first) ≡ 512 * geometry.zone_end
 unfolding volume_bytes
 volume_len geometry first = length-map-range_with_len (volume_byte geometry first) 0 (512 * geometry.zone_end)
 
--- a byte of a volume is one of the block that it is in
+-- byte 512 * b + r of a volume is byte r of block b
 pub volume_at : (geometry : Geometry) (first : List ℕ) (k b r : ℕ) → b < geometry.zone_end → r < 512 → k ≡ 512 * b + r
     → get_or (volume_bytes geometry first) k 0 ≡ block_byte geometry first b r
 unfolding volume_bytes volume_byte
@@ -97,22 +97,22 @@ volume_at geometry first k b r within small place =
     let low : k < 512 * geometry.zone_end = omega arith in
     get_or-map-range_with_len (volume_byte geometry first) 0 (512 * geometry.zone_end) k k 0 low (omega arith) ∙ rw (block, offset)
 
--- the parts of the super-block end within it
+-- the sizes, the free list's head and the time are within the super-block
 order_end : (edition : Edition) → (512 + sizes_bytes edition ≤ 1024) × (free_head edition + 202 ≤ 1024) × (time_place edition + 4 ≤ 1024)
 order_end V6 = (omega arith, omega arith, omega arith)
 order_end V7 = (omega arith, omega arith, omega arith)
 
--- a byte of a chain block outside its head
+-- a byte of a chain block outside its head is byte 202 or later
 outside_chain : (b r k : ℕ) → k ≡ 512 * b + r → IsNoneOf (512 * b) 202 k → 202 ≤ r
 outside_chain b r k place apart = elim (cases_lt r 202) [ inl low ↦ absurd (apart (omega arith) (omega arith)) | inr high ↦ high ]
 
 module _ (geometry : Geometry) (uid gid now : ℕ) (first : List ℕ) (makeable : IsMakeable geometry) (is : IsBlankFirst geometry uid gid now first)
     (some : geometry.zone_start < geometry.zone_end) where
-  -- all bytes
+  -- all bytes of the volume
   bytes : List ℕ
   bytes = volume_bytes geometry first
 
-  -- the first three blocks
+  -- blocks 0, 1 and 2 are copied
   early : (k : ℕ) → k < 1536 → get_or bytes k 0 ≡ get_or first k 0
   unfolding bytes
   early k h =
@@ -122,20 +122,20 @@ module _ (geometry : Geometry) (uid gid now : ℕ) (first : List ℕ) (makeable 
       volume_at geometry first k (k / 512) (k % 512) (omega arith) (omega arith) place
       ∙ (block_early geometry first (k / 512) (k % 512) low ∙ ap (λ n. get_or first n 0) (sym place))
 
-  -- the other blocks of the i-list
+  -- the other blocks of the i-list are zero
   zeros : (k : ℕ) → 1536 ≤ k → k < 512 * geometry.zone_start → get_or bytes k 0 ≡ 0
   unfolding bytes
   zeros k from to =
       volume_at geometry first k (k / 512) (k % 512) (omega arith) (omega arith) (omega arith)
       ∙ block_list geometry first (k / 512) (k % 512) (omega arith) (omega arith)
 
-  -- the root's block
+  -- the root's block is copied
   rooted : (r : ℕ) → r < 512 → get_or bytes (512 * geometry.zone_start + r) 0 ≡ get_or first (1536 + r) 0
   unfolding bytes
   rooted r h =
       volume_at geometry first (512 * geometry.zone_start + r) geometry.zone_start r some h refl ∙ block_root geometry first r makeable.start
 
-  -- the chain blocks
+  -- the chain blocks have their heads
   chains : (c : ℕ) → is_chain geometry c ≡ true
       → HasHead geometry bytes (512 * c) (c + (constants geometry.edition).free_slots) (constants geometry.edition).free_slots
   unfolding bytes
@@ -145,7 +145,7 @@ module _ (geometry : Geometry) (uid gid now : ℕ) (first : List ℕ) (makeable 
         bytes = λ r h. volume_at geometry first (512 * c + r) c r zone.1 (omega arith) refl ∙ block_chain geometry first c r makeable.start chain h;
       }
 
-  -- a byte of another i-node than the root's is zero
+  -- the i-nodes other than the root's are zero
   others : (i k : ℕ) → 1 ≤ i → i ≤ geometry.last_inode → i ≢ (constants geometry.edition).root
       → k < (constants geometry.edition).inode_bytes → get_or bytes (inode_place geometry.edition i + k) 0 ≡ 0
   unfolding bytes
@@ -211,7 +211,7 @@ module _ (geometry : Geometry) (uid gid now : ℕ) (first : List ℕ) (makeable 
         ]
       ]
 
-  -- they are those of a new volume
+  -- the bytes are those of a new volume
   pub blank_new : IsNewVolume geometry uid gid now (volume_bytes geometry first)
   unfolding bytes
   blank_new =
@@ -252,11 +252,11 @@ module _ (geometry : Geometry) (uid gid now : ℕ) (first : List ℕ) (makeable 
         rest = rest;
       }
 
-  -- and the volume is sound
+  -- the bytes are those of a new volume, and keep all twelve rules
   pub blank_made : IsMade (record { geometry = geometry; uid = uid; gid = gid; now = now }) (volume_bytes geometry first)
   blank_made = record { new = blank_new; sound = new_sound geometry uid gid now (volume_bytes geometry first) makeable blank_new }
 
--- blocks that describe a volume are the blocks of that volume
+-- first blocks with the right sizes, owner and time satisfy the invariant of every new volume
 pub blank_stands : (geometry : Geometry) (uid gid now : ℕ) (first : List ℕ) → IsMakeable geometry → IsBlankFirst geometry uid gid now first
     → IsBlank geometry first
 blank_stands geometry uid gid now first makeable is =
@@ -270,12 +270,12 @@ blank_stands geometry uid gid now first makeable is =
           (subst (λ n. IsBlankFirst geometry blank.uid n now first) group (subst (λ n. IsBlankFirst geometry n gid now first) user is));
     }
 
--- the data zone of a volume that can be made has a block
+-- the data zone of a volume that can be created has at least one block
 zone_by : (edition : Edition) (start end : ℕ) → is_size edition end (start - 2) ≡ true → 3 ≤ start → start < end
 zone_by V6 start end size low = grind (arith, nat_tests)
 zone_by V7 start end size low = grind (arith, nat_tests)
 
--- the invariant of every new volume implies that it is made as described
+-- a new volume that satisfies the invariant has the bytes that `IsMade` requires
 pub blank_is : (geometry : Geometry) (first : List ℕ) → IsBlank geometry first → IsMade (blank_in geometry first) (volume_bytes geometry first)
 blank_is geometry first blank =
     let makeable = blank.makeable in

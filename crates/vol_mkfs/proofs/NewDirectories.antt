@@ -1,4 +1,4 @@
--- The directories of a new volume: the root alone, with the entries `.` and `..`.
+-- The directories of a new volume: only the root, with the entries `.` and `..`.
 use Rattle.std.specs.Prelude.{nat_lt, ◌==◌}
 use Rattle.std.proofs.Common.{◌≡◌, ◌≢◌, ℕ, zero, suc, ◌+◌, ◌*◌, ◌/◌, ◌%◌, ◌<◌, ◌≤◌, List, [], ◌∷◌, refl, sym, ap, subst, ◌∙◌, arith, ◌⊎◌, inl, inr, get_or, true, false, length, map, Option, Some, None}
 use Rattle.std.specs.Option.{is_some}
@@ -32,19 +32,19 @@ use Rattle.vol_file.proofs.PlaceLists.{sum_none}
 use Rattle.vol_layout.proofs.EditionLaws.{dots_fit}
 use Rattle.vol_mkfs.proofs.NewFiles
 
--- the place of the root's first logical block is its first address
+-- the root's first logical block is at its first address
 root_last : (edition : Edition) → last_place (form_of edition (root_mode edition)) 0 ≡ Some (0 ∷ [])
 unfolding kind_of last_place
 root_last V6 = refl
 root_last V7 = refl
 
--- the entry in a slot of the root's i-number
+-- a slot with the root's i-number has an entry for the root
 entry_root : (edition : Edition) (slot : Slot) (name : List ℕ) → slot ≡ record { inode = (constants edition).root; name = name }
     → entry_in slot ≡ Some (name_of name, (constants edition).root)
 entry_root V6 slot name e = ap entry_in e
 entry_root V7 slot name e = ap entry_in e
 
--- a sum whose terms are all 0 except at one number
+-- a sum whose terms are all 0 except one is that term
 sum_one : (f : ℕ → ℕ) (a n at : ℕ) → a ≤ at → at < a + n → ((k : ℕ) → a ≤ k → k < a + n → k ≢ at → f k ≡ 0) → sum_by f (range_with_len a n) ≡ f at
 sum_one f a zero at from to none = absurd (omega arith)
 sum_one f a (suc n) at from to none =
@@ -82,7 +82,7 @@ module _ (geometry : Geometry) (uid gid now : ℕ) (image : List ℕ) (new : IsN
       let above : root < geometry.last_inode = fits.root in
       record { first = root_first geometry.edition; last = omega arith; kind = kind_root }
 
-  -- its body has 32 bytes, which are two slots
+  -- the root's body has 32 bytes
   size_root : body_size geometry image root ≡ 32
   size_root =
       let size : size_of geometry image root ≡ 32 = NewFiles.size_root geometry uid gid now image new fits start in
@@ -91,14 +91,14 @@ module _ (geometry : Geometry) (uid gid now : ℕ) (image : List ℕ) (new : IsN
   count_root : slot_count geometry image root ≡ 2
   count_root = ap (λ n. n / 16) size_root
 
-  -- its first logical block is the first data block
+  -- the root's first logical block is the first data block
   stored_root : stored geometry image root (form_at geometry image root) 0 ≡ geometry.zone_start
   stored_root =
       stored_is geometry image root (form_at geometry image root) 0 (0 ∷ [])
       (ap (λ form. last_place form 0) (NewFiles.form_root geometry uid gid now image new fits start) ∙ root_last geometry.edition)
       ∙ NewFiles.named_root geometry uid gid now image new fits start
 
-  -- so a slot of it is at its place in that block
+  -- slot s of the root is slot s of the first data block
   slot_root : (s : ℕ) → s < 2 → slot_at (body geometry image root) (16 * s) ≡ slot_at image (512 * geometry.zone_start + 16 * s)
   slot_root s low =
       let zone : in_zone geometry geometry.zone_start ≡ true = NewFiles.zone_first geometry uid gid now image new fits start in
@@ -118,7 +118,7 @@ module _ (geometry : Geometry) (uid gid now : ℕ) (image : List ℕ) (new : IsN
       })
       (omega arith) (omega arith)
 
-  -- an entry of the root is in the slot with its number
+  -- entry s of the root is the entry in its slot s
   entry_root_at : (s : ℕ) → s < 2 → entry_at geometry image root s ≡ entry_in (slot_at (body geometry image root) (16 * s))
   unfolding entry_at
   entry_root_at s low =
@@ -131,7 +131,7 @@ module _ (geometry : Geometry) (uid gid now : ℕ) (image : List ℕ) (new : IsN
       let count : slot_count geometry image root ≡ 2 = count_root in
       let outside : nat_lt s (slot_count geometry image root) ≡ false = grind (arith, nat_tests) in rw outside
 
-  -- slot 0 holds `.` and slot 1 `..`, both for the root
+  -- the root's slot 0 holds `.` and slot 1 `..`, both for the root
   entry_dot : entry_at geometry image root 0 ≡ Some (dot, root)
   entry_dot =
       let there : 512 * geometry.zone_start + 16 * 0 ≡ 512 * geometry.zone_start = omega arith in
@@ -146,7 +146,7 @@ module _ (geometry : Geometry) (uid gid now : ℕ) (image : List ℕ) (new : IsN
       ∙ entry_root geometry.edition (slot_at (body geometry image root) (16 * 1)) (padded_name dot_dot)
       (slot_root 1 (omega arith) ∙ (ap (slot_at image) there ∙ new.dot_dot))
 
-  -- there is no other entry
+  -- the root's two entries are the only ones
   only_entry : (d s i : ℕ) (name : List ℕ) → HasEntry geometry image d s name i
       → (d ≡ root) × (i ≡ root) × (((s ≡ 0) × (name ≡ dot)) ⊎ ((s ≡ 1) × (name ≡ dot_dot)))
   only_entry d s i name entry =
@@ -175,7 +175,7 @@ module _ (geometry : Geometry) (uid gid now : ℕ) (image : List ℕ) (new : IsN
         second None = 0
         second (Some entry) = entry.1
 
-  -- each entry is one of the dots
+  -- the name of each entry is `.` or `..`
   all_dots : (d s i : ℕ) (name : List ℕ) → HasEntry geometry image d s name i → is_dots name ≡ true
   all_dots d s i name entry =
       elim (only_entry d s i name entry).2 [ inl is ↦ ap is_dots is.1 | inr is ↦ ap is_dots is.1 ]
@@ -183,7 +183,7 @@ module _ (geometry : Geometry) (uid gid now : ℕ) (image : List ℕ) (new : IsN
   none_enters : (d s i : ℕ) → Enters geometry image d s i → ⊥
   none_enters d s i enters = let clash : false ≡ true = sym enters.2 ∙ all_dots d s i enters.0 enters.1 in false≢true clash
 
-  -- rule 9
+  -- a new volume keeps rule 9
   pub new_entries : HasEntries geometry image
   new_entries = record {
     whole = λ d directory.
@@ -210,7 +210,7 @@ module _ (geometry : Geometry) (uid gid now : ℕ) (image : List ℕ) (new : IsN
     ];
   }
 
-  -- rule 10
+  -- a new volume keeps rule 10
   pub new_dots : HasDots geometry image
   new_dots = record {
     itself = λ d directory.
@@ -220,7 +220,7 @@ module _ (geometry : Geometry) (uid gid now : ℕ) (image : List ℕ) (new : IsN
     parent = λ d directory other. absurd (other (only_directory d directory));
   }
 
-  -- rule 11
+  -- a new volume keeps rule 11
   pub new_tree : IsTree geometry image
   new_tree = record {
     reached = λ d directory. subst (IsReached geometry image) (sym (only_directory d directory)) at_root;
@@ -228,7 +228,7 @@ module _ (geometry : Geometry) (uid gid now : ℕ) (image : List ℕ) (new : IsN
     root_none = λ e s enters. none_enters e s root enters;
   }
 
-  -- the entries of the root are two for it
+  -- the root has two entries for itself
   count_two : count_by (is_for root) (slots geometry image root) ≡ 2
   unfolding slots
   count_two =
@@ -237,7 +237,7 @@ module _ (geometry : Geometry) (uid gid now : ℕ) (image : List ℕ) (new : IsN
       let same : (root == root) ≡ true = grind (arith, nat_tests) in
       ap (count_by (is_for root)) all ∙ rw same
 
-  -- rule 12
+  -- a new volume keeps rule 12
   pub new_links : HasLinks geometry image
   unfolding entry_count
   new_links = record {

@@ -1,4 +1,4 @@
--- The i-nodes and places of a new volume: only the root has any, and it names one block.
+-- The i-nodes of a new volume and their addresses: only the root has an address, the number of one block.
 use Rattle.std.proofs.Common.{◌≡◌, ◌≢◌, ℕ, zero, suc, ◌+◌, ◌-◌, ◌<◌, ◌≤◌, List, [], ◌∷◌, refl, sym, ap, subst, ◌∙◌, arith, ◌⊎◌, inl, inr, get_or, true, false, replicate}
 use Rattle.std.specs.List.{range_with_len}
 use Rattle.std.proofs.lemmas.Bool.{cases_eq, false≢true}
@@ -24,13 +24,13 @@ use Rattle.vol_file.proofs.StoredNames.{root_first}
 use Rattle.vol_layout.proofs.EditionLaws.{mode_room, few_links, dots_fit}
 use Rattle.vol_mkfs.proofs.NewVolumes.{addresses_above, none_below}
 
--- the root's mode is that of a directory, and of a file that isn't large
+-- the root's mode is the mode of a directory that isn't a large file
 root_kind : (edition : Edition) → kind_of edition (root_mode edition) ≡ kinds.Directory
 unfolding kind_of
 root_kind V6 = refl
 root_kind V7 = refl
 
--- no place is below the first address of the root
+-- no level of indirect blocks is below the root's first address
 root_leaf : (edition : Edition) → levels_below (form_of edition (root_mode edition)) (0 ∷ []) ≡ 0
 unfolding kind_of
 root_leaf V6 = refl
@@ -41,13 +41,13 @@ unfolding kind_of
 root_addresses V6 = omega arith
 root_addresses V7 = omega arith
 
--- the root has an address
+-- the root's block map has an address
 root_some : (edition : Edition) → 0 < first_count (form_of edition (root_mode edition))
 unfolding kind_of
 root_some V6 = omega arith
 root_some V7 = omega arith
 
--- a number from a up to n more is one of them
+-- a number from a to below a + n is in the range
 pub in_range : (x a n : ℕ) → a ≤ x → x < a + n → IsIn x (range_with_len a n)
 unfolding IsIn
 in_range x a zero from to = absurd (omega arith)
@@ -62,7 +62,7 @@ module _ (geometry : Geometry) (uid gid now : ℕ) (image : List ℕ) (new : IsN
   abbrev pub root : ℕ
   root = (constants geometry.edition).root
 
-  -- the root's mode
+  -- the mode of the root's i-node is `root_mode`
   pub mode_root : mode_of geometry image root ≡ root_mode geometry.edition
   mode_root = sym (inode_mode geometry.edition image (inode_place geometry.edition root)) ∙ ap (λ node. node.mode.bits) new.root
 
@@ -70,7 +70,7 @@ module _ (geometry : Geometry) (uid gid now : ℕ) (image : List ℕ) (new : IsN
   pub kind_root : kind_at geometry image root ≡ kinds.Directory
   kind_root = ap (kind_of geometry.edition) mode_root ∙ root_kind geometry.edition
 
-  -- the root's size
+  -- the root's size is 32
   pub size_root : size_of geometry image root ≡ 32
   size_root = sym (inode_size geometry.edition image (inode_place geometry.edition root)) ∙ ap (λ node. node.size) new.root
 
@@ -85,30 +85,30 @@ module _ (geometry : Geometry) (uid gid now : ℕ) (image : List ℕ) (new : IsN
       let none : mode_of geometry image i ≡ 0 = omega (arith, first_byte, high) in
       ap (kind_of geometry.edition) none ∙ kind_zero geometry.edition
 
-  -- so an i-node that is not free is the root
+  -- an i-node that isn't free is the root
   pub only_root : (i : ℕ) → 1 ≤ i → i ≤ geometry.last_inode → kind_at geometry image i ≢ kinds.Free → i ≡ root
   only_root i first last some = elim (cases_eq i root) [ inl e ↦ e | inr other ↦ absurd (some (kind_other i first last other)) ]
 
-  -- and so is one with places
+  -- an i-node with a block map is the root
   pub only_file : (i : ℕ) → IsFile geometry image i → i ≡ root
   only_file i file =
       only_root i file.first file.last (λ none.
       let clash : false ≡ true = sym (ap has_places none) ∙ file.kind in absurd (false≢true clash))
 
-  -- address k of the root
+  -- address k of the root is the first data block for k = 0, else 0
   address_root : (k : ℕ) → k < 13 → address_at geometry.edition image (inode_place geometry.edition root) k ≡ get_or (geometry.zone_start ∷ replicate 12 0) k 0
   address_root k low =
       sym (inode_address geometry.edition image (inode_place geometry.edition root) k low) ∙ ap (λ node. get_or node.addresses k 0) new.root
 
-  -- the root's block map
+  -- the root's block map is the block map of `root_mode`
   pub form_root : form_at geometry image root ≡ form_of geometry.edition (root_mode geometry.edition)
   form_root = ap (form_of geometry.edition) mode_root
 
-  -- the root's first address names the first data block
+  -- the root's first address points to the first data block
   pub named_root : named geometry image root (0 ∷ []) ≡ geometry.zone_start
   named_root = address_root 0 (omega arith)
 
-  -- and no other place of the root names anything
+  -- all other addresses of the root are 0
   pub named_others : (p : List ℕ) → IsPlace (form_at geometry image root) p → (p ≡ 0 ∷ []) ⊎ (named geometry image root p ≡ 0)
   named_others [] place = absurd place
   named_others (k ∷ []) place = elim (cases_eq k 0) [
@@ -125,7 +125,7 @@ module _ (geometry : Geometry) (uid gid now : ℕ) (image : List ℕ) (new : IsN
     | inr none ↦ inr (named_stops geometry image root j a p (ap (in_zone geometry) none ∙ zero_out geometry image fits))
   ]
 
-  -- the name of a place is the first data block, and its place is the root's first address
+  -- the only address other than 0 is the root's first, which points to the first data block
   pub only_place : (i : ℕ) (p : List ℕ) → IsPlaceOf geometry image i p → named geometry image i p ≢ 0
       → (i ≡ root) × (p ≡ 0 ∷ []) × (named geometry image i p ≡ geometry.zone_start)
   only_place i p place some =
@@ -136,11 +136,11 @@ module _ (geometry : Geometry) (uid gid now : ℕ) (image : List ℕ) (new : IsN
         | inr none ↦ absurd (some (ap (λ j. named geometry image j p) is ∙ none))
       ]
 
-  -- the first data block lies in the zone
+  -- the first data block is in the data zone
   pub zone_first : in_zone geometry geometry.zone_start ≡ true
   zone_first = let zone : geometry.zone_start < geometry.zone_end = fits.zone in grind (arith, nat_tests)
 
-  -- rule 3
+  -- a new volume keeps rule 3
   pub new_kinds : HasKinds geometry image
   new_kinds = record {
     known = λ i first last odd. elim (cases_eq i root) [
@@ -154,7 +154,7 @@ module _ (geometry : Geometry) (uid gid now : ℕ) (image : List ℕ) (new : IsN
         inl (kind_other 1 (omega arith) (omega arith) (λ same. let f : 1 ≡ root = same in omega arith));
   }
 
-  -- rule 4
+  -- a new volume keeps rule 4
   pub new_sizes : HasSizes geometry image
   new_sizes = record {
     greatest = λ i file.
@@ -167,18 +167,18 @@ module _ (geometry : Geometry) (uid gid now : ℕ) (image : List ℕ) (new : IsN
         let most : 2 ≤ (constants geometry.edition).link_limit = few_links geometry.edition in omega arith;
   }
 
-  -- rule 5
+  -- a new volume keeps rule 5
   pub new_zoned : IsZoned geometry image
   new_zoned i p place some = ap (in_zone geometry) (only_place i p place some).2 ∙ zone_first
 
-  -- rule 7, of files
+  -- a new volume keeps rule 7 for files
   pub new_apart : IsApart geometry image
   new_apart i j p q place other some same =
       let one = only_place i p place some in
       let two = only_place j q other (λ none. some (same ∙ none)) in
       (one.0 ∙ sym two.0, one.1 ∙ sym two.1)
 
-  -- rule 7, of the free blocks
+  -- a new volume keeps rule 7 for the free blocks
   pub new_outside : (blocks : List ℕ) → IsFree geometry image blocks → IsOutside geometry image blocks
   new_outside blocks free i p place inside = elim (cases_eq (named geometry image i p) 0) [
     | inl none ↦
@@ -189,7 +189,7 @@ module _ (geometry : Geometry) (uid gid now : ℕ) (image : List ℕ) (new : IsN
         (omega (arith, one.2)) new.free blocks free inside
   ]
 
-  -- rule 8
+  -- a new volume keeps rule 8
   pub new_covered : (blocks : List ℕ) → IsFree geometry image blocks → IsCovered geometry image blocks
   new_covered blocks free k zone =
       let from : geometry.zone_start ≤ k = zone_from geometry k zone in

@@ -18,13 +18,13 @@ use Rattle.vol_mkfs.proofs.NewSizes.{fits_makeable}
 use Rattle.vol_mkfs.proofs.NewFiles
 use Rattle.vol_mkfs.proofs.NewDirectories
 
--- a geometry that was read is the one that the image states, which is whole and within bounds
+-- the geometry that was read is the image's own, and rules 1 and 2 hold
 pub record IsRead (edition : Edition) (image : List ℕ) (geometry : Geometry) : Type 0 where
   pub whole : is_whole edition image ≡ true
   pub bounded : is_bounded edition image ≡ true
   pub same : geometry_of edition image ≡ geometry
 
--- reading gives it only there
+-- if reading the geometry succeeds, it is the image's own, and rules 1 and 2 hold
 read_whole : (edition : Edition) (image : List ℕ) (geometry : Geometry) → geometry_read edition image ≡ Ok geometry → IsRead edition image geometry
 unfolding geometry_read
 read_whole edition image geometry read = go (is_whole edition image) (is_bounded edition image) refl refl read where

@@ -1,4 +1,4 @@
--- The mode of a new volume's root: that of a directory, with all permissions.
+-- The mode of a new volume's root: a directory with all permissions.
 use Rattle.std.proofs.Common.{◌≡◌, ◌≢◌, ℕ, ◌<◌, ◌≤◌, ◌/◌, ◌%◌, ◌==◌, refl, Bool, true, false, nat_lt, if◌then◌else◌, arith}
 use Rattle.std.proofs.lemmas.Bool.Decides.{nat_tests}
 use Rattle.vol_layout.specs.Inode.{kind_of, kind_of_type_v7, is_large, permissions_of}
@@ -8,7 +8,7 @@ use Rattle.vol_layout.specs.declared.mode.Kind.{Kind}
 use Rattle.vol_layout.specs.declared.mode.Kind.TheVariants as kinds
 use Rattle.vol_mkfs.specs.Mkfs.{root_mode}
 
--- a choice that isn't its first value had its test fail
+-- if a choice gives directory, and its first value isn't directory, the test is false and the other value is directory
 left : (test : Bool) (first rest : Kind) → first ≢ kinds.Directory → (if test then first else rest) ≡ kinds.Directory
     → (test ≡ false) × (rest ≡ kinds.Directory)
 left true first rest other is = absurd (other is)
@@ -26,12 +26,12 @@ regular_other e = cc
 special_other : kinds.Special ≢ kinds.Directory
 special_other e = cc
 
--- if a test chose directory, and the other choice is another kind, the test holds
+-- if a choice gives directory, and its other value isn't directory, the test is true
 chosen : (test : Bool) (rest : Kind) → rest ≢ kinds.Directory → (if test then kinds.Directory else rest) ≡ kinds.Directory → test ≡ true
 chosen true rest other is = refl
 chosen false rest other is = absurd (other is)
 
--- the type bits of a directory
+-- in the sixth edition, the mode of a directory is at least 32768 and has the type bits 2
 type_v6 : (mode : ℕ) → kind_of V6 mode ≡ kinds.Directory → (32768 ≤ mode) × (mode / 8192 % 4 ≡ 2)
 unfolding kind_of
 type_v6 mode is =
@@ -55,7 +55,7 @@ type_v7 : (mode : ℕ) → kind_of V7 mode ≡ kinds.Directory → mode / 4096 �
 unfolding kind_of
 type_v7 mode is = rest_v7 (mode / 4096) (left (mode == 0) kinds.Free _ free_other is).1
 
--- a mode of 16 bits that is a directory's, with all permissions and not large, is the root's
+-- a 16-bit mode of a directory with all permissions that isn't large is the root's mode
 pub root_bits : (edition : Edition) (mode : ℕ) → mode < 65536 → kind_of edition mode ≡ kinds.Directory → permissions_of mode ≡ 511
     → is_large edition mode ≡ false → mode ≡ root_mode edition
 root_bits V6 mode low kind permissions small =

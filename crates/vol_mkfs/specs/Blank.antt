@@ -16,14 +16,14 @@ use Rattle.vol_layout.specs.declared.edition.Edition.TheVariants.{V6, V7}
 use Rattle.vol_layout.specs.declared.geometry.Geometry.{Geometry}
 use Rattle.vol_mkfs.specs.declared.blank.NewVolume.{NewVolume}
 
--- a new volume as contracts see it: its sizes, the root's user and group, and the time at which it is made (this project)
+-- a new volume as contracts see it: its geometry, the root's user and group, and the time of its creation (this project)
 pub record Blank : Type 0 where
   pub geometry : Geometry
   pub uid : ℕ
   pub gid : ℕ
   pub now : ℕ
 
--- the volume that some parameters describe (this project)
+-- the volume with the given parameters (this project)
 abbrev pub blank_of : NewVolume → Blank
 blank_of volume = record {
   geometry = volume_of volume.edition volume.blocks volume.list_blocks;
@@ -32,45 +32,46 @@ blank_of volume = record {
   now = volume.now;
 }
 
--- bytes are those of a new volume, which keeps all twelve rules (mkfs)
+-- the bytes are those of the new volume, and keep all twelve rules (mkfs)
 pub record IsMade (blank : Blank) (bytes : List ℕ) : Type 0 where
   pub new : IsNewVolume blank.geometry blank.uid blank.gid blank.now bytes
   pub sound : IsSound blank.geometry.edition bytes
 
--- the known bytes grew by those of a new volume (std::io::Write)
+-- the bytes of the new volume are appended to the known bytes (std::io::Write)
 pub record WritesVolume (blank : Blank) (old new : Option (List ℕ)) : Type 0 where
   pub bytes : List ℕ
   pub made : IsMade blank bytes
   pub written : Appends old new bytes
 
--- the known bytes grew by the first `count` of those of a new volume (std::io::Write)
+-- the first `count` bytes of the new volume are appended to the known bytes (std::io::Write)
 pub record WritesFront (blank : Blank) (old new : Option (List ℕ)) (count : ℕ) : Type 0 where
   pub bytes : List ℕ
   pub made : IsMade blank bytes
   pub written : AppendsFront old new bytes count
 
--- number j of an array whose number 0 is chain block `top`, or 0 if the volume ends there: the numbers before the count are the blocks before that one, downwards, and those past the count are what the array before this one has left (free of both editions)
+-- entry j of a free-list array whose entry 0 is the chain block `top`, or 0 if that is the volume's end: entries below the count are the blocks
+-- before `top`, in descending order; entries past the count are left over from the array before this one (free of both editions)
 unfoldable pub listed : Geometry → ℕ → ℕ → ℕ → ℕ
 listed geometry top count j =
     if nat_lt 0 j && nat_lt j count then top - j else if top == geometry.zone_end then 0
     else if j == 0 then top else top + (constants geometry.edition).free_slots - j
 
--- word w of an array of numbers: each is a word in the sixth edition, and a long, the high word first, in the seventh (filsys.h, fblk.h)
+-- word w of an array of numbers; each number is a word in the sixth edition, and a long, with the high word first, in the seventh (filsys.h, fblk.h)
 unfoldable pub array_word : Edition → (ℕ → ℕ) → ℕ → ℕ
 array_word V6 numbers w = numbers w
 array_word V7 numbers w = if w % 2 == 0 then numbers (w / 2) / 65536 else numbers (w / 2) % 65536
 
--- word w of a count and such an array (filsys.h, fblk.h)
+-- word w of a count followed by a free-list array (filsys.h, fblk.h)
 unfoldable pub head_word : Geometry → ℕ → ℕ → ℕ → ℕ
 head_word geometry top count w =
     if w == 0 then count else array_word geometry.edition (listed geometry top count) (w - 1)
 
--- byte r of a count and such an array (PDP-11)
+-- byte r of a count followed by a free-list array (PDP-11)
 unfoldable pub head_byte : Geometry → ℕ → ℕ → ℕ → ℕ
 head_byte geometry top count r =
     if r % 2 == 0 then head_word geometry top count (r / 2) % 256 else head_word geometry top count (r / 2) / 256
 
--- a count and such an array are at byte `at` (filsys.h, fblk.h)
+-- a count followed by a free-list array begins at byte `at` (filsys.h, fblk.h)
 pub record HasHead (geometry : Geometry) (image : List ℕ) (at top count : ℕ) : Type 0 where
   pub bytes : (r : ℕ) → r < 202 → slice_index image (at + r) ≡ head_byte geometry top count r
 
@@ -79,7 +80,7 @@ unfoldable pub first_chain : Geometry → ℕ
 first_chain geometry =
     geometry.zone_start + (geometry.zone_end - geometry.zone_start - 1) % (constants geometry.edition).free_slots + 1
 
--- byte r of block b, where `first` has the volume's blocks 0, 1 and 2, and then the root's (mkfs)
+-- byte r of block b; `first` has blocks 0, 1 and 2, followed by the root's block (mkfs)
 unfoldable pub block_byte : Geometry → List ℕ → ℕ → ℕ → ℕ
 block_byte geometry first b r =
     if nat_lt b 3 then slice_index first (512 * b + r) else if b == geometry.zone_start then slice_index first (1536 + r)
@@ -94,7 +95,8 @@ volume_byte geometry first k = block_byte geometry first (k / 512) (k % 512)
 unfoldable pub volume_bytes : Geometry → List ℕ → List ℕ
 volume_bytes geometry first = map (volume_byte geometry first) (range_with_len 0 (512 * geometry.zone_end))
 
--- the blocks 0, 1 and 2 of a new volume, and then the root's: the super-block has the sizes, the time and the free list, the root has its i-node and its two slots, and all other bytes are zeros (mkfs)
+-- blocks 0, 1 and 2 of a new volume, followed by the root's block: the super-block has the sizes, the time and the free list, the root has its i-node
+-- and its two slots, and all other bytes are zero (mkfs)
 pub record IsBlankFirst (geometry : Geometry) (uid gid now : ℕ) (first : List ℕ) : Type 0 where
   pub len : length first ≡ 2048
   pub start : first_data_block geometry.edition first ≡ geometry.zone_start
@@ -112,13 +114,13 @@ pub record IsBlankFirst (geometry : Geometry) (uid gid now : ℕ) (first : List 
   pub head : geometry.zone_start + 1 < geometry.zone_end
       → HasHead geometry first (free_head geometry.edition) (first_chain geometry) (first_chain geometry - geometry.zone_start)
 
--- the volume whose blocks these are, as its super-block and the root's i-node say (this project)
+-- the new volume with these first blocks: the time is read from the super-block, and the user and group from the root's i-node (this project)
 abbrev pub blank_in : Geometry → List ℕ → Blank
 blank_in geometry first =
     let root = inode_of geometry.edition first (constants geometry.edition).root in
     record { geometry = geometry; uid = root.uid; gid = root.gid; now = long first (time_place geometry.edition) }
 
--- the invariant of every new volume: its sizes are those of a volume, and its blocks are those of the new volume (this project)
+-- the invariant of every new volume: its sizes are in range, and its first blocks are those of a new volume (this project)
 pub record IsBlank (geometry : Geometry) (first : List ℕ) : Type 0 where
   pub makeable : IsMakeable geometry
   pub stands : IsBlankFirst geometry (blank_in geometry first).uid (blank_in geometry first).gid (blank_in geometry first).now first

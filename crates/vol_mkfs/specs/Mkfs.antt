@@ -1,4 +1,4 @@
--- The volume that `mkfs` makes, with only the root. (mkfs of the seventh edition, without its prototype file.)
+-- The volume that `mkfs` creates, with only the root. (mkfs of the seventh edition, without its prototype file.)
 use Rattle.std.specs.Prelude.{◌≡◌, ◌≢◌, ℕ, ◌+◌, ◌-◌, ◌*◌, ◌%◌, ◌<◌, ◌≤◌, ◌==◌, ◌&&◌, Bool, true, nat_lt, nat_le, List, [], ◌∷◌, length, replicate, slice_index, Ok}
 use Rattle.std.specs.List.{range_with_len}
 use Rattle.pdp_words.specs.Words.{long}
@@ -13,13 +13,14 @@ use Rattle.vol_layout.specs.declared.edition.Edition.TheVariants.{V6, V7}
 use Rattle.vol_layout.specs.declared.geometry.Geometry.{Geometry}
 use Rattle.vol_layout.specs.declared.i_node.Inode.{Inode}
 
--- true if a volume can have this number of blocks, and of blocks of the i-list: rule 2 holds, and the number of blocks fits the sixth edition's word (filsys.h)
+-- true if a volume can have this number of blocks and this number of i-list blocks: rule 2 holds, and the number of blocks fits the sixth edition's
+-- word (filsys.h)
 abbrev pub is_size : Edition → ℕ → ℕ → Bool
 is_size edition blocks list_blocks =
     nat_le 1 list_blocks && (nat_le list_blocks (constants edition).list_block_limit
     && (nat_lt (list_blocks + 2) blocks && nat_le blocks (constants edition).block_limit))
 
--- the geometry of a volume with this number of blocks, and of blocks of the i-list (filsys.h)
+-- the geometry of a volume with this number of blocks and this number of i-list blocks (filsys.h)
 abbrev pub volume_of : Edition → ℕ → ℕ → Geometry
 volume_of edition blocks list_blocks = record {
   edition = edition;
@@ -33,32 +34,34 @@ abbrev pub root_mode : Edition → ℕ
 root_mode V6 = 0xC1FF
 root_mode V7 = 0x41FF
 
--- the root's i-node: a directory with two links and two slots, whose body is in one block (mkfs)
+-- the root's i-node: a directory with two links and two slots, stored in one block (mkfs)
 abbrev pub root_inode : Edition → ℕ → ℕ → ℕ → ℕ → Inode
 root_inode edition block uid gid now =
     record (new_inode edition (record { bits = root_mode edition }) 2 uid gid now) { size = 32; addresses = block ∷ replicate 12 0 }
 
--- a geometry is that of a volume that can be made (rule 2)
+-- a volume with this geometry can be created (rule 2)
 pub record IsMakeable (geometry : Geometry) : Type 0 where
   pub size : is_size geometry.edition geometry.zone_end (geometry.zone_start - 2) ≡ true
   pub start : 3 ≤ geometry.zone_start
   pub inodes : geometry.last_inode ≡ (constants geometry.edition).inodes_per_block * (geometry.zone_start - 2)
 
--- true if a block is a chain block of the free list: they are as many blocks apart as a full array has numbers, and the last is that far from the volume's end (free of both editions)
+-- true if block b is a chain block of the free list: the distance between chain blocks, and from the last one to the volume's end, is the number of
+-- entries in an array (free of both editions)
 unfoldable pub is_chain : Geometry → ℕ → Bool
 is_chain geometry b =
     nat_lt geometry.zone_start b && (nat_lt b geometry.zone_end && ((geometry.zone_end - b) % (constants geometry.edition).free_slots == 0))
 
--- byte k is not among `count` bytes from byte `at` on (a frame)
+-- byte k is not one of the `count` bytes that start at byte `at` (a frame)
 abbrev pub IsNoneOf : ℕ → ℕ → ℕ → Type 0
 IsNoneOf at count k = at ≤ k → k < at + count → ⊥
 
--- the number of bytes of the two sizes at the front of the super-block: two words in the sixth edition, a word and a long in the seventh (filsys.h)
+-- the number of bytes of the two sizes at the beginning of the super-block: two words in the sixth edition, a word and a long in the seventh
+-- (filsys.h)
 abbrev pub sizes_bytes : Edition → ℕ
 sizes_bytes V6 = 4
 sizes_bytes V7 = 6
 
--- byte k of a new volume is not in the sizes, the free list's head, the time, the root's i-node, or the root's two slots at byte `slots` (mkfs)
+-- byte k of a new volume is not part of the sizes, the free list's head, the time, the root's i-node, or the root's two slots at byte `slots` (mkfs)
 pub record IsUnused (edition : Edition) (slots k : ℕ) : Type 0 where
   pub sizes : IsNoneOf 512 (sizes_bytes edition) k
   pub free : IsNoneOf (free_head edition) 202 k
@@ -66,7 +69,9 @@ pub record IsUnused (edition : Edition) (slots k : ℕ) : Type 0 where
   pub root : IsNoneOf (inode_place edition (constants edition).root) (constants edition).inode_bytes k
   pub names : IsNoneOf slots 32 k
 
--- an image is that of a new volume: its geometry is the given one and it has no more bytes, its time is `now`, the root has its i-node and its two slots, both of which name it, each other i-node is all zeros, the free blocks are all data blocks except the root's, in ascending order, and all other bytes are zero (mkfs)
+-- an image is a new volume: it has the given geometry and no bytes past its last block, its time is `now`, the root has its i-node and its two slots,
+-- both for the root itself, all other i-nodes are zero, the free blocks are all data blocks except the root's, in ascending order, and all other
+-- bytes are zero (mkfs)
 pub record IsNewVolume (geometry : Geometry) (uid gid now : ℕ) (image : List ℕ) : Type 0 where
   pub len : length image ≡ 512 * geometry.zone_end
   pub sizes : geometry_read geometry.edition image ≡ Ok geometry

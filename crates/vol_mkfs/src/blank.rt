@@ -16,7 +16,7 @@ use std::marker::Model;
 use thiserror::Error;
 use vol_layout::{Edition, Geometry, is_bad_id};
 
-/// The number of blocks of a volume up to the first of the i-list.
+/// The number of blocks up to and including the first block of the i-list: the boot block, the super-block and that block.
 const FIRST_BLOCKS: u32 = 3;
 
 /// The parameters of a new volume: its sizes, in blocks of 512 bytes, the root's user and group, and the time, in seconds
@@ -29,19 +29,18 @@ pub struct NewVolume {
     pub blocks: u32,
     /// The number of blocks of the i-list.
     pub list_blocks: u16,
-    /// The root's user.
+    /// The user that owns the root.
     pub uid: u16,
-    /// The root's group.
+    /// The group that owns the root.
     pub gid: u16,
     /// The time of the super-block and the root.
     pub now: u32,
 }
 
-/// The reason why no volume was made.
+/// The reason why no volume was created.
 #[derive(Clone, Copy, Debug, PartialEq, Eq, Error)]
 pub enum MkfsFault {
-    /// The sizes are not those of a volume: rule 2 would fail, or a sixth edition volume would have more than 65,535
-    /// blocks.
+    /// The sizes are out of range: rule 2 would fail, or a sixth edition volume would have more than 65,535 blocks.
     #[error("bounds")]
     Bounds,
     /// The user or group number is above 255 in the sixth edition, or 32,767 in the seventh.
@@ -52,8 +51,8 @@ pub enum MkfsFault {
     NoMemory,
 }
 
-/// A new volume whose bytes aren't in memory: it has only the root, and all other data blocks are free. Only blocks 0, 1
-/// and 2 and the root's block are stored; all others follow from the sizes.
+/// A new volume whose bytes aren't in memory. It has only the root, and all other data blocks are free. Only blocks 0, 1 and 2 and the root's block
+/// are stored; all others are computed from the sizes.
 #[derive(Drop)]
 pub struct BlankVolume {
     geometry: Geometry,
@@ -71,8 +70,7 @@ impl Model for BlankVolume {
 }
 
 impl BlankVolume {
-    /// Returns the new volume, whose root has permissions 0777. `Bounds` is checked before `BadId`, and `NoMemory` comes
-    /// last.
+    /// Returns the new volume, whose root has permissions 0777. `Bounds` is checked before `BadId`; `NoMemory` is reported last.
     ///
     /// Takes memory for four blocks.
     pub fn new(alloc: Global, volume: NewVolume) -> Result<BlankVolume, MkfsFault>
@@ -108,7 +106,7 @@ impl BlankVolume {
 
     /// Returns all bytes of the volume.
     ///
-    /// Takes memory for them, once.
+    /// Takes memory for these bytes, once.
     pub fn to_bytes(&self, alloc: Global) -> Result<Vec<u8>, AllocError>
         ensures { IfOk result (λ bytes. IsMade self.now bytes.items) }
     {
@@ -123,8 +121,7 @@ impl BlankVolume {
         Ok(bytes)
     }
 
-    /// Writes the volume to `sink`, in the order of its bytes. Fails only if the sink fails, and then the sink took exactly
-    /// the first `written` bytes.
+    /// Writes the volume to `sink`, from its first byte to its last. Fails only if the sink fails, after taking exactly the first `written` bytes.
     ///
     /// Takes no memory: the bytes are written through a buffer of 64 KiB.
     pub fn write_to<W: Sink>(&self, sink: &mut W) -> Result<(), SaveFault>

@@ -1,4 +1,4 @@
-//! New volumes: their bytes, made in memory or written to a sink.
+//! Creates new volumes, in memory or written to a sink.
 #![tactic(auto)]
 
 pub mod blank;

@@ -1,4 +1,4 @@
-//! Making a volume.
+//! Creating a volume.
 ghost use Rattle.std.specs.Prelude.{◌≡◌, ◌↔◌, true, false, IfOk, OnOk, IsErrOf};
 ghost use Rattle.vol_judge.specs.Sound.{IsSound};
 ghost use Rattle.vol_mkfs.specs.Mkfs.{is_size, volume_of, IsNewVolume};
@@ -8,11 +8,11 @@ use crate::blank::{BlankVolume, MkfsFault, NewVolume};
 use std::alloc::Global;
 use vol_layout::Edition;
 
-/// Makes a volume of `blocks` blocks of 512 bytes, with an i-list of `list_blocks` of them, and returns its bytes. The
-/// root, a directory with permissions 0777, belongs to `uid` and `gid`; all times are `now`, in seconds since the beginning
-/// of 1970. `Bounds` is checked before `BadId`; `NoMemory` comes last.
+/// Creates a volume of `blocks` blocks of 512 bytes, with an i-list of `list_blocks` blocks, and returns its bytes. The root, a directory with
+/// permissions 0777, belongs to `uid` and `gid`. All times are `now`, in seconds since the beginning of 1970. `Bounds` is checked before `BadId`;
+/// `NoMemory` is reported last.
 ///
-/// Takes memory for the bytes, once, and for four blocks. [`BlankVolume`] writes a volume without memory for its bytes.
+/// Takes memory for the bytes, once, and for four blocks. [`BlankVolume`] writes a volume without keeping its bytes in memory.
 pub fn mkfs(
     alloc: Global,
     edition: Edition,

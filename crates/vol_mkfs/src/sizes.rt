@@ -4,7 +4,7 @@ ghost use Rattle.vol_mkfs.specs.Mkfs.{is_size, volume_of, IsMakeable};
 
 use vol_layout::{Edition, Geometry};
 
-/// Returns the geometry of a volume with this number of blocks, and of blocks of the i-list.
+/// Returns the geometry of a volume with `blocks` blocks, of which `list_blocks` are the i-list.
 pub(crate) fn volume_of(edition: Edition, blocks: u32, list_blocks: u16) -> Geometry
     requires { is_size edition blocks list_blocks ≡ true }
     ensures value { result ≡ volume_of edition blocks list_blocks }
@@ -18,7 +18,7 @@ pub(crate) fn volume_of(edition: Edition, blocks: u32, list_blocks: u16) -> Geom
     }
 }
 
-/// True if a volume can have this number of blocks, and of blocks of the i-list.
+/// True if a volume can have `blocks` blocks, of which `list_blocks` are the i-list.
 pub(crate) fn is_size(edition: Edition, blocks: u32, list_blocks: u16) -> bool
     ensures { result ≡ is_size edition blocks list_blocks }
 {

@@ -9,7 +9,7 @@ use Rattle.vol_mounted.specs.Turns.{IsAnswered, planned, put_by}
 use Rattle.vol_mounted.specs.declared.refusal.MountedRefusal.{MountedRefusal}
 use Rattle.vol_mounted.specs.declared.server.MountedServer.{MountedServer}
 
--- the calls were made, and the reply is put, or there is none
+-- if the calls were made and the reply was put, or it was refused, the operation was answered
 pub answered_by : (old new : MountedServer) (now : ℕ) (header : Header) (operation : Operation) (result : Result (Unit {0}) MountedRefusal) (reply : List ℕ)
     → Made old.volume (planned old now header operation) new.volume → Puts (reply_of (sight_at new now) header operation) result reply
     → IsAnswered old new now header operation (put_by result reply)

@@ -6,7 +6,7 @@ use Rattle.vol_volume.specs.Verdict.{verdict}
 use Rattle.vol_volume.specs.declared.calls.Call.{Call}
 use Rattle.vol_mounted.specs.Plans.{first_refused, or_refused}
 
--- to check the calls from one on is to check that one, and then those after it
+-- the first refusal of the calls that start at index `i` is call `i`'s, or else the first refusal of the calls after it
 pub next_asked : (state : State) (tests : List Call) (i : ℕ) (call : Call) → i < length tests → call ≡ get_or tests i call
     → first_refused state (drop i tests) ≡ or_refused (verdict state call) (first_refused state (drop (i + 1) tests))
 next_asked state tests i call within is =

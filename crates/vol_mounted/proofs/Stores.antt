@@ -1,4 +1,4 @@
--- The image that the file has, from turn to turn.
+-- The image in the file, from turn to turn: by `Stores` it is the server's, unless the server's is marked as changed.
 use Rattle.std.proofs.Common.{◌≡◌, ◌∙◌, refl, sym, ap, subst, true≢false, ℕ, List, [], ◌∷◌, ◌++◌, length, Option, None, Some, Result, Ok, Err, inl, inr}
 use Rattle.std.proofs.lemmas.List.{append-nil}
 use Rattle.std.proofs.lemmas.List.Sums.{fold-append}
@@ -17,7 +17,7 @@ use Rattle.vol_mounted.specs.Turns.{Turn, Turns, Answers, HasOutcome, IsCut, IsS
 use Rattle.vol_mounted.specs.declared.refusal.MountedRefusal.{MountedRefusal}
 use Rattle.vol_mounted.specs.declared.server.MountedServer.{MountedServer}
 
--- no image was saved
+-- if no image was saved, the file still has the server's image, or the image is marked as changed
 none_saved : (file : List ℕ) (saved saved' : Option (List (List ℕ))) (server : MountedServer) → Grows saved saved' [] → Stores file saved server → Stores file saved' server
 none_saved file None saved' server grows (images, is, last) = absurd (none-some images is)
 none_saved file (Some before) saved' server grows (images, is, last) =
@@ -26,12 +26,12 @@ none_saved file (Some before) saved' server grows (images, is, last) =
     same : (xs ys : List (List ℕ)) → Some xs ≡ Some ys → ys ≡ xs
     same xs ys equal = ap (λ (known : Option (List (List ℕ))). unwrap_or known []) (sym equal)
 
--- a change is noted, or there is none
+-- if the image was changed and is marked as changed, or wasn't changed, `Stores` still holds
 noted : (file : List ℕ) (saved : Option (List (List ℕ))) (old new : MountedServer) → IsNoted old new → Stores file saved old → Stores file saved new
 noted file saved old new (inl (same, flag)) (images, is, last) = (images, is, λ unchanged. same ∙ last (sym flag ∙ unchanged))
 noted file saved old new (inr changed) (images, is, last) = (images, is, λ unchanged. absurd (true≢false (sym changed ∙ unchanged)))
 
--- the image was saved, if a change was noted, or it couldn't be saved
+-- `Stores` still holds after a save, whether it succeeded or not
 pub saved_keeps : (file : List ℕ) (saved saved' : Option (List (List ℕ))) (old new : MountedServer) (images : List (List ℕ)) (done : Bool)
     → Grows saved saved' images → IsSaved old new images done → Stores file saved old → Stores file saved' new
 saved_keeps file saved saved' old new images true grows (inl (flag, same, none)) stores =
@@ -46,7 +46,7 @@ saved_keeps file (Some before) saved' old new images true grows (inr (same, one)
 saved_keeps file saved saved' old new images false grows (same, none) stores =
     subst (λ (server : MountedServer). Stores file saved' server) (sym same) (none_saved file saved saved' old (subst (Grows saved saved') none grows) stores)
 
--- the image was saved, if a change was noted
+-- after a save that succeeded, the file has the server's image
 pub stored : (file : List ℕ) (saved saved' : Option (List (List ℕ))) (old new : MountedServer) (images : List (List ℕ))
     → Grows saved saved' images → IsSaved old new images true → Stores file saved old → IsStored file saved' new.volume.image
 stored file saved saved' old new images grows is stores =
@@ -56,7 +56,7 @@ stored file saved saved' old new images grows is stores =
     unnoted (inl (flag, same, none)) = ap (λ (server : MountedServer). server.is_changed) same ∙ flag
     unnoted (inr (same, one)) = ap (λ (server : MountedServer). server.is_changed) same
 
--- an operation was answered; FSYNC and FSYNCDIR save the image first
+-- `Stores` still holds after an operation was answered, where FSYNC and FSYNCDIR save the image first
 outcome_keeps : (file : List ℕ) (saved saved' : Option (List (List ℕ))) (old new : MountedServer) (now : ℕ) (header : Header) (operation : Operation)
     (outcome : Result (List ℕ) MountedRefusal) (images : List (List ℕ)) → Grows saved saved' images → HasOutcome old new now header operation outcome images
     → Stores file saved old → Stores file saved' new
@@ -70,12 +70,12 @@ outcome_keeps file saved saved' old new now header operation outcome images grow
     by false (served, none) =
         none_saved file saved saved' new (subst (Grows saved saved') none grows) (noted file saved old new served.0.noted stores)
 
--- nothing changed
+-- `Stores` still holds if nothing changed
 stays_keeps : (file : List ℕ) (saved saved' : Option (List (List ℕ))) (old new : MountedServer) (images : List (List ℕ)) → Grows saved saved' images
     → Stays old new images → Stores file saved old → Stores file saved' new
 stays_keeps file saved saved' old new images grows stays stores = saved_keeps file saved saved' old new images false grows stays stores
 
--- a request was answered
+-- `Stores` still holds after a request was answered
 answers_keeps : (file : List ℕ) (saved saved' : Option (List (List ℕ))) (old new : MountedServer) (now : ℕ) (asked : Result Request RequestFault)
     (reply : Option (List ℕ)) (images : List (List ℕ)) → Grows saved saved' images → Answers old new now asked reply images
     → Stores file saved old → Stores file saved' new
@@ -92,7 +92,7 @@ answers_keeps file saved saved' old new now (Err faults.NoHeader) reply images g
 answers_keeps file saved saved' old new now (Err (faults.Length header)) reply images grows answers stores = stays_keeps file saved saved' old new images grows answers.0 stores
 answers_keeps file saved saved' old new now (Err (faults.Body header)) reply images grows answers stores = stays_keeps file saved saved' old new images grows answers.0 stores
 
--- the journal was cut, or it wasn't
+-- cutting the journal, or not, doesn't change the image or its mark
 cut_noted : (old new : MountedServer) (count : ℕ) → IsCut old new count → IsNoted old new
 cut_noted old new count cut = by cut
   where
@@ -104,7 +104,7 @@ cut_noted old new count cut = by cut
     by (inr (heavy, inl same)) = like _ same refl refl
     by (inr (heavy, inr (full, same))) = like _ same refl refl
 
--- a turn
+-- `Stores` still holds after a turn
 pub turn_keeps : (file : List ℕ) (saved saved' : Option (List (List ℕ))) (old new : MountedServer) (turn : Turn) → Grows saved saved' turn.images
     → Turns old new turn → Stores file saved old → Stores file saved' new
 turn_keeps file saved saved' old new turn grows turned stores =

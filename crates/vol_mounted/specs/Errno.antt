@@ -24,7 +24,8 @@ call_errno refusals.NotRegular = 6
 call_errno refusals.NoInode = 28
 call_errno refusals.BadId = 22
 
--- the number of the error: those of a volume served read-only, those of calls, EPERM, EXDEV, EINVAL, EIO (Linux, errno.h)
+-- the error number of a refusal: the same as for a volume served read-only, the same as for a refused call, EPERM, EXDEV, EINVAL, EIO (Linux,
+-- errno.h)
 abbrev pub errno : MountedRefusal → ℕ
 errno (Request refusal) = request_errno refusal
 errno (Call refusal) = call_errno refusal

@@ -19,7 +19,7 @@ use Rattle.vol_mounted.specs.declared.loss.Loss.{Loss}
 use Rattle.vol_mounted.specs.declared.refusal.MountedRefusal.{MountedRefusal}
 use Rattle.vol_mounted.specs.declared.refusal.MountedRefusal.TheVariants.{Call}
 
--- no room (errno.h: ENOSPC)
+-- the refusal if there is no room (errno.h: ENOSPC)
 abbrev pub no_space : MountedRefusal
 no_space = Call refusals.NoSpace
 
@@ -27,39 +27,41 @@ no_space = Call refusals.NoSpace
 abbrev pub opened_at : List KnownNode → ℕ → ℕ
 opened_at nodes i = option_map_or (λ (known : KnownNode). known.opened) (slice_get nodes i) 0
 
--- the bytes of a node that are kept when it loses a name: all those of an open regular file that has no other name (unlink; stat.h: S_IFREG)
+-- the number of bytes that are kept of a node that loses a name: all of them, if it is an open regular file without another name (unlink; stat.h:
+-- S_IFREG)
 abbrev pub kept_size : ℕ → Result Attributes NodeFault → ℕ
 kept_size opened (Ok attributes) =
     if opened == 0 then 0 else if attributes.links == 1 then if attributes.mode / 4096 == 8 then attributes.size else 0 else 0
 kept_size opened (Err fault) = 0
 
--- the bytes of the node that a name leads to that are kept when the name is removed (unlink)
+-- the number of bytes that are kept of the node that a name leads to, when the name is removed (unlink)
 abbrev pub kept_at : Sight → Result ℕ NodeFault → ℕ
 kept_at sight (Ok i) = kept_size (opened_at sight.nodes i) (attributes_in (tree sight.geometry sight.image) i)
 kept_at sight (Err fault) = 0
 
--- the bytes that are kept when a name is removed from a directory, if there is one (unlink)
+-- the number of bytes that are kept when a name is removed from a directory, if there is such a directory (unlink)
 abbrev pub kept_in : Sight → Option ℕ → List ℕ → ℕ
 kept_in sight None name = 0
 kept_in sight (Some d) name = kept_at sight (look_up (tree sight.geometry sight.image) d name)
 
--- the bytes that are kept when a name is removed from the directory with a number (unlink)
+-- the number of bytes that are kept when a name is removed from the directory with this node number (unlink)
 abbrev pub kept_bytes : Sight → ℕ → List ℕ → ℕ
 kept_bytes sight node name = kept_in sight (i_number sight.geometry.edition sight.nodes node) name
 
--- the bytes that are kept of the file that loses a name by an operation: UNLINK's, or the one that a rename replaces (unlink; rename)
+-- the number of bytes that are kept of the file that loses a name through an operation: the file of UNLINK, or the one that a rename replaces
+-- (unlink; rename)
 unfoldable pub lost_bytes : Sight → Header → Operation → ℕ
 lost_bytes sight header (operations.Unlink name) = kept_bytes sight header.node name
 lost_bytes sight header (operations.Rename directory name new_name) = kept_bytes sight directory new_name
 lost_bytes sight header (operations.Rename2 directory flags name new_name) = kept_bytes sight directory new_name
 lost_bytes sight header operation = 0
 
--- the bytes that are kept of a file that loses a name, if there is one (this project)
+-- the number of bytes that are kept of a file that loses a name, if there is one (this project)
 abbrev pub loss_size : Option Loss → ℕ
 loss_size None = 0
 loss_size (Some loss) = size_if loss.orphan
 
--- `count` bytes are kept, since there is room for them; or there isn't, or memory ran out (errno.h: ENOSPC)
+-- `count` bytes are kept, and there is room for them; or there isn't room, or memory ran out (errno.h: ENOSPC)
 abbrev pub Keeps : {X : Type 0} → (X → ℕ) → ℕ → ℕ → Result X MountedRefusal → Type 0
 Keeps size spare count (Ok kept) = (size kept ≡ count) × (count ≤ spare)
 Keeps size spare count (Err refusal) = refusal ≢ no_memory → (refusal ≡ no_space) × (spare < count)

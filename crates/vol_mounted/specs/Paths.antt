@@ -21,12 +21,12 @@ abbrev pub place_of : Option KnownNode → Option (ℕ × List ℕ)
 place_of None = None
 place_of (Some known) = if known.slot.inode == 0 then None else Some (known.directory, name_of known.slot.name)
 
--- the result of a function of a directory and a name, if they are known (this project)
+-- a function's result for a directory and a name, if they are known (this project)
 abbrev pub at_place : {X : Type 0} → Option (ℕ × List ℕ) → (ℕ → List ℕ → Option X) → Option X
 at_place None next = None
 at_place (Some place) next = next place.0 place.1
 
--- the path from the root to node i, followed by `rest`, found by walking up a limited number of directories (this project)
+-- the path from the root to node i, followed by `rest`; it is found by walking up a limited number of directories (this project)
 unfoldable pub climb : List KnownNode → ℕ → ℕ → ℕ → List ℕ → Option (List ℕ)
 climb nodes root zero i rest = None
 climb nodes root (suc steps) i rest =
@@ -38,17 +38,17 @@ abbrev pub leads_to : Result ℕ Refusal → ℕ → Bool
 leads_to (Ok found) i = found == i
 leads_to (Err refusal) i = false
 
--- a path, if a walk over it leads to node i, as user 0 walks it (Lions on namei)
+-- a path, if a walk along it leads to node i, for user 0 (Lions on namei)
 abbrev pub if_leading : Geometry → List ℕ → ℕ → Option (List ℕ) → Option (List ℕ)
 if_leading geometry image i None = None
 if_leading geometry image i (Some path) = if leads_to (walk (tree geometry image) user path) i then Some path else None
 
--- the path of node i by the last known names, if they lead there (this project)
+-- the path of node i by the last known names, if these lead to it (this project)
 abbrev pub path_in : Geometry → List ℕ → List KnownNode → ℕ → Option (List ℕ)
 path_in geometry image nodes i =
     if_leading geometry image i (climb nodes (constants geometry.edition).root (length nodes) i [])
 
--- the path of node i, or Stale: the kernel has to look it up again (errno.h: ESTALE)
+-- the path of node i, or Stale if the kernel has to look the node up again (errno.h: ESTALE)
 abbrev pub path_to : Geometry → List ℕ → List KnownNode → ℕ → Result (List ℕ) MountedRefusal
 path_to geometry image nodes i = ok_or (path_in geometry image nodes i) (no_node faults.Stale)
 

@@ -30,7 +30,8 @@ use Rattle.vol_mounted.specs.declared.owner.Owner.{Owner}
 use Rattle.vol_mounted.specs.declared.refusal.MountedRefusal.{MountedRefusal}
 use Rattle.vol_mounted.specs.declared.refusal.MountedRefusal.TheVariants as mounted
 
--- the input of a plan: the volume's geometry and image, the records of the i-numbers, the user that all nodes are shown as, if any, and the current time (this project)
+-- the values that the calls of a request depend on: the volume's geometry and image, the records of the i-numbers, the user that all nodes are shown
+-- as, if any, and the current time (this project)
 pub record Sight : Type 0 where
   pub geometry : Geometry
   pub image : List ℕ
@@ -38,15 +39,15 @@ pub record Sight : Type 0 where
   pub owner : Option Owner
   pub now : ℕ
 
--- the path of node i in a sight (this project)
+-- the path of node i (this project)
 abbrev pub path_at : Sight → ℕ → Result (List ℕ) MountedRefusal
 path_at sight i = path_to sight.geometry sight.image sight.nodes i
 
--- the path of a name in directory d of a sight (this project)
+-- the path of a name in directory d (this project)
 abbrev pub name_at : Sight → ℕ → List ℕ → Result (List ℕ) MountedRefusal
 name_at sight d name = path_of_name sight.geometry sight.image sight.nodes d name
 
--- a user and a group that the edition's i-nodes can hold (manual section 5, file system)
+-- a user and a group, or BadId if the edition's i-nodes can't hold them (manual section 5, file system)
 abbrev pub cred_of : Edition → ℕ → ℕ → Result Cred MountedRefusal
 cred_of edition uid gid = if is_bad_id edition uid gid then Err (mounted.Call refusals.BadId) else Ok (record { uid = uid; gid = gid })
 
@@ -55,7 +56,7 @@ abbrev pub owner_of : Edition → Option Owner → Header → Result Cred Mounte
 owner_of edition (Some owner) header = Ok user
 owner_of edition None header = cred_of edition header.uid header.gid
 
--- the call that gives a new node to its owner; none for user 0 of group 0, who has it already (this project)
+-- the call that changes the owner of a new node; none for user 0 of group 0, who owns it already (this project)
 abbrev pub given_to : Cred → ℕ → List ℕ → List Call
 given_to owner now path =
     if owner.uid == 0 && owner.gid == 0 then []
@@ -93,7 +94,7 @@ link_calls sight i d name =
     and_then (path_at sight i) (λ source.
     and_then (name_at sight d name) (λ target. Ok (calls.Link user sight.now source target ∷ [])))
 
--- a number of 32 bits, or TooBig (errno.h: EFBIG)
+-- a number, or TooBig if it has more than 32 bits (errno.h: EFBIG)
 abbrev pub short_number : ℕ → Result ℕ MountedRefusal
 short_number n = if nat_lt n (2 ^ 32) then Ok n else Err (mounted.Call refusals.TooBig)
 
@@ -103,7 +104,7 @@ write_calls sight i offset bytes =
     and_then (short_number offset) (λ offset.
     and_then (path_at sight i) (λ path. Ok (calls.Write user sight.now path offset bytes ∷ [])))
 
--- a refusal, or else another (this project)
+-- the first refusal, if there is one, else the second (this project)
 abbrev pub or_refused : Option Refusal → Option Refusal → Option Refusal
 or_refused (Some refusal) other = Some refusal
 or_refused None other = other
@@ -113,12 +114,12 @@ abbrev pub first_refused : State → List Call → Option Refusal
 first_refused state [] = None
 first_refused state (call ∷ calls) = or_refused (verdict state call) (first_refused state calls)
 
--- calls, unless there is a refusal (this project)
+-- these calls, or the refusal if there is one (this project)
 abbrev pub unless_refused : Option Refusal → List Call → Result (List Call) MountedRefusal
 unless_refused (Some refusal) calls = Err (mounted.Call refusal)
 unless_refused None calls = Ok calls
 
--- calls, unless a check of some on the unchanged volume finds a refusal; then the first one (this project)
+-- these calls; or, if a check of other calls on the unchanged volume finds a refusal, the first one (this project)
 abbrev pub asked : Sight → List Call → List Call → Result (List Call) MountedRefusal
 asked sight tests calls = unless_refused (first_refused (state sight.geometry sight.image) tests) calls
 
@@ -131,12 +132,13 @@ abbrev pub is_directory : Kind → Bool
 is_directory kinds.Directory = true
 is_directory kind = false
 
--- the calls of a rename to a name that doesn't exist: both are checked first (rename)
+-- the calls of a rename to a name that doesn't exist; both calls are checked first (rename)
 abbrev pub move_calls : Sight → List ℕ → List ℕ → Result (List Call) MountedRefusal
 move_calls sight source target =
     let moves = calls.Link user sight.now source target ∷ calls.Unlink user sight.now source ∷ [] in asked sight moves moves
 
--- the calls of a rename to the name of another node; both removals are checked first, and that the file may have one more name for a moment; its slot is free then (rename)
+-- the calls of a rename to the name of another node. The removal of both names is checked first, and that the file may have one more link for a
+-- moment; the slot of the new name is free then (rename)
 abbrev pub replace_calls : Sight → Stat → Stat → List ℕ → List ℕ → Result (List Call) MountedRefusal
 replace_calls sight stat there source target =
     if is_directory there.kind then Err (mounted.Call refusals.IsDirectory)
@@ -144,7 +146,7 @@ replace_calls sight stat there source target =
     else asked sight (calls.Unlink user sight.now target ∷ calls.Unlink user sight.now source ∷ [])
     (calls.Unlink user sight.now target ∷ calls.Link user sight.now source target ∷ calls.Unlink user sight.now source ∷ [])
 
--- the calls of a rename to an existing name, if it may be replaced; two names of one node stay (rename)
+-- the calls of a rename to an existing name, if it may be replaced; if both names are of one node, there are no calls (rename)
 abbrev pub over_calls : Sight → ℕ → Stat → ℕ → List ℕ → List ℕ → Result (List Call) MountedRefusal
 over_calls sight flags stat j source target =
     if flags == 1 then Err (mounted.Call refusals.Exists)
@@ -172,7 +174,7 @@ rename_calls sight flags d name e new_name =
     and_then (stat_at sight i) (λ stat.
     node_calls sight flags stat source target (look_up (tree sight.geometry sight.image) e new_name)))))
 
--- the call that changes a file's size: it is cut, or gets a zero at its end (truncate)
+-- the call that changes a file's size: it truncates the file, or writes a zero byte at the new end (truncate)
 abbrev pub size_call : ℕ → Stat → List ℕ → Option ℕ → Result (Option Call) MountedRefusal
 size_call now stat path None = Ok None
 size_call now stat path (Some size) =
@@ -184,7 +186,8 @@ abbrev pub mode_call : ℕ → List ℕ → Option ℕ → Option Call
 mode_call now path None = None
 mode_call now path (Some mode) = Some (calls.Chmod user now path (mode % 4096))
 
--- the call that changes a node's user and group; if all nodes are shown as one user's, it stays that user's (chown)
+-- the call that changes a node's user and group; if all nodes are shown as one user's, there is no call, and any other user or group is refused
+-- (chown)
 abbrev pub given_call : Sight → Stat → List ℕ → Option ℕ → Option ℕ → Option Owner → Result (Option Call) MountedRefusal
 given_call sight stat path uid gid None =
     and_then (cred_of sight.geometry.edition (unwrap_or uid stat.uid) (unwrap_or gid stat.gid)) (λ cred.
@@ -192,26 +195,26 @@ given_call sight stat path uid gid None =
 given_call sight stat path uid gid (Some owner) =
     if (unwrap_or uid owner.uid == owner.uid) && (unwrap_or gid owner.gid == owner.gid) then Ok None else Err mounted.NotPermitted
 
--- the call that changes a node's user and group, if one is given (chown)
+-- the call that changes a node's user and group, if a user or a group is given (chown)
 abbrev pub owner_call : Sight → Stat → List ℕ → Option ℕ → Option ℕ → Result (Option Call) MountedRefusal
 owner_call sight stat path uid gid =
     if is_none uid && is_none gid then Ok None else given_call sight stat path uid gid sight.owner
 
--- a time in seconds, a signed number of 64 bits, limited to what an i-node can hold (Linux, timestamp_truncate)
+-- a time in seconds, a signed number of 64 bits, limited to the times that an i-node can hold (Linux, timestamp_truncate)
 abbrev pub inode_time : ℕ → ℕ
 inode_time seconds = if nat_le (2 ^ 63) seconds then 0 else min (2 ^ 32 - 1) seconds
 
--- a new time: the current time, or the one that is given (utimensat)
+-- a new time: the current time, or the given one (utimensat)
 abbrev pub time_of : ℕ → NewTime → ℕ
 time_of now times.Now = now
 time_of now (times.At seconds) = inode_time seconds
 
--- the time that a node gets: a new one, if it is given; else the one that it has (utimensat)
+-- the time to set: the new one, if it is given; else the node's present time (utimensat)
 abbrev pub set_time : ℕ → ℕ → Option NewTime → ℕ
 set_time now present None = present
 set_time now present (Some time) = time_of now time
 
--- the call that sets a node's times, if one is given; the other stays (utimensat)
+-- the call that sets a node's times, if a time is given; a time that isn't given stays the same (utimensat)
 abbrev pub times_call : ℕ → Stat → List ℕ → Option NewTime → Option NewTime → Option Call
 times_call now stat path accessed modified =
     if is_none accessed && is_none modified then None

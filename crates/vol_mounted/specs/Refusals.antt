@@ -8,20 +8,20 @@ use Rattle.vol_serve.specs.declared.errno.RequestRefusal.TheVariants as requests
 use Rattle.vol_mounted.specs.declared.refusal.MountedRefusal.{MountedRefusal}
 use Rattle.vol_mounted.specs.declared.refusal.MountedRefusal.TheVariants.{Request, Call}
 
--- the refusal for a fault of the nodes (this project)
+-- the refusal for a fault in finding a node (this project)
 abbrev pub no_node : NodeFault → MountedRefusal
 no_node fault = Request (requests.Node fault)
 
--- out of memory (errno.h: ENOMEM)
+-- the refusal if memory ran out (errno.h: ENOMEM)
 abbrev pub no_memory : MountedRefusal
 no_memory = Call refusals.NoMemory
 
--- a next step after an Ok; a refusal is passed on (this project)
+-- the next step, if the first one succeeded; otherwise the refusal (this project)
 abbrev pub and_then : {X Y : Type 0} → Result X MountedRefusal → (X → Result Y MountedRefusal) → Result Y MountedRefusal
 and_then (Ok x) next = next x
 and_then (Err refusal) next = Err refusal
 
--- a result of the nodes (this project)
+-- a result whose fault is turned into a refusal (this project)
 abbrev pub of_nodes : {X : Type 0} → Result X NodeFault → Result X MountedRefusal
 of_nodes (Ok x) = Ok x
 of_nodes (Err fault) = Err (no_node fault)
@@ -31,7 +31,7 @@ abbrev pub Gives : {X : Type 0} → Result X MountedRefusal → Result X Mounted
 Gives wanted (Ok x) = wanted ≡ Ok x
 Gives wanted (Err refusal) = refusal ≢ no_memory → wanted ≡ Err refusal
 
--- a reply is the expected one, or there is none for the expected reason, or memory ran out (this project)
+-- a reply is the expected one; or the refusal is the expected one, or memory ran out (this project)
 abbrev pub Puts : {X : Type 0} → Result (List ℕ) MountedRefusal → Result X MountedRefusal → List ℕ → Type 0
 Puts wanted (Ok done) reply = wanted ≡ Ok reply
 Puts wanted (Err refusal) reply = refusal ≢ no_memory → wanted ≡ Err refusal

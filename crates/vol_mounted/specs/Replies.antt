@@ -26,7 +26,7 @@ use Rattle.vol_mounted.specs.declared.owner.Owner.{Owner}
 use Rattle.vol_mounted.specs.declared.refusal.MountedRefusal.{MountedRefusal}
 use Rattle.vol_mounted.specs.declared.refusal.MountedRefusal.TheVariants as mounted
 
--- the i-number of the node that a request names (this project)
+-- the i-number of the node with the number that a request names (this project)
 abbrev pub number_at : Sight → ℕ → Result ℕ MountedRefusal
 number_at sight node = ok_or (i_number sight.geometry.edition sight.nodes node) (no_node faults.Stale)
 
@@ -36,7 +36,7 @@ renamed sight header directory flags name new_name =
     and_then (number_at sight header.node) (λ d.
     and_then (number_at sight directory) (λ e. rename_calls sight flags d name e new_name))
 
--- the calls that an operation makes; none if it changes nothing (fuse_opcode)
+-- the calls that an operation makes; no calls if it changes nothing (fuse_opcode)
 unfoldable pub calls_of : Sight → Header → Operation → Result (List Call) MountedRefusal
 calls_of sight header (operations.MkNod mode device name) = and_then (number_at sight header.node) (λ d. file_calls sight header d name mode)
 calls_of sight header (operations.MkDir mode name) = and_then (number_at sight header.node) (λ d. directory_calls sight header d name mode)
@@ -50,7 +50,7 @@ calls_of sight header (operations.Write handle offset bytes) = and_then (number_
 calls_of sight header (operations.SetAttr changes) = and_then (number_at sight header.node) (λ i. attribute_calls sight i changes)
 calls_of sight header operation = Ok []
 
--- attributes as they are shown: if all nodes are shown as one user's, with that user's numbers (this project)
+-- attributes as they are shown: if all nodes are shown as one user's, with that user and group (this project)
 abbrev pub shown : Option Owner → Attributes → Attributes
 shown None attributes = attributes
 shown (Some owner) attributes = record attributes { uid = owner.uid; gid = owner.gid }
@@ -79,22 +79,23 @@ entry_reply sight unique d name =
 abbrev pub attributes_reply : Sight → ℕ → ℕ → Result (List ℕ) MountedRefusal
 attributes_reply sight unique i = and_then (shown_at sight i) (λ attributes. Ok (attributes_message unique 3600 attributes))
 
--- a result of a volume served read-only (this project)
+-- a result whose refusal is one of a volume served read-only (this project)
 abbrev pub of_request : {X : Type 0} → Result X RequestRefusal → Result X MountedRefusal
 of_request (Ok x) = Ok x
 of_request (Err refusal) = Err (mounted.Request refusal)
 
--- the reply to OPEN of a node of some kind: only a regular file; the kernel may keep the bytes that it has (FOPEN_KEEP_CACHE)
+-- the reply to OPEN of a node of some kind: only a regular file can be opened; the kernel may keep the bytes that it has cached (FOPEN_KEEP_CACHE)
 abbrev pub open_by : Kind → ℕ → Result (List ℕ) MountedRefusal
 open_by kinds.Regular unique = Ok (open_message unique 0 2)
 open_by kind unique = Err (no_node faults.NotRegular)
 
--- the reply to OPENDIR of a node of some kind: only a directory; the kernel may keep its entries (FOPEN_KEEP_CACHE, FOPEN_CACHE_DIR)
+-- the reply to OPENDIR of a node of some kind: only a directory can be opened; the kernel may keep its entries (FOPEN_KEEP_CACHE, FOPEN_CACHE_DIR)
 abbrev pub open_directory_by : Kind → ℕ → Result (List ℕ) MountedRefusal
 open_directory_by kinds.Directory unique = Ok (open_message unique 0 10)
 open_directory_by kind unique = Err (no_node faults.NotDirectory)
 
--- the server's settings, limited to the kernel's: reading ahead, 128 KiB at once, also in a write, times of whole seconds (fuse_init_out; FUSE_ASYNC_READ, FUSE_BIG_WRITES)
+-- the server's settings, limited to the kernel's: reading ahead, 128 KiB at once, also in a write, and times of whole seconds (fuse_init_out;
+-- FUSE_ASYNC_READ, FUSE_BIG_WRITES)
 abbrev pub settings_of : ℕ → ℕ → Settings
 settings_of max_readahead flags = record {
   max_readahead = max_readahead;
@@ -106,7 +107,7 @@ settings_of max_readahead flags = record {
   max_pages = 0;
 }
 
--- the reply to INIT: a kernel below version 7 is refused, and one above sends INIT again (fuse.h)
+-- the reply to INIT: a kernel below version 7 is refused, and one above version 7 sends INIT again (fuse.h)
 abbrev pub init_reply : ℕ → ℕ → ℕ → ℕ → Result (List ℕ) MountedRefusal
 init_reply unique major max_readahead flags =
     if nat_lt major 7 then Err (mounted.Request requests.Version) else Ok (init_message unique (settings_of max_readahead flags))
@@ -115,7 +116,7 @@ init_reply unique major max_readahead flags =
 abbrev pub refusal_of : ℕ → MountedRefusal
 refusal_of opcode = if opcode == 6 then mounted.NotPermitted else mounted.Request requests.Unserved
 
--- the number of some bytes, as a reply has it; no request has 2^32 bytes (fuse_write_out)
+-- the number of some bytes in a reply; no request has 2^32 bytes (fuse_write_out)
 abbrev pub count_of : List ℕ → ℕ
 count_of bytes = if nat_lt (length bytes) (2 ^ 32) then length bytes else 2 ^ 32 - 1
 
@@ -138,7 +139,7 @@ node_reply sight unique i (operations.Rename directory name new_name) = Ok (stat
 node_reply sight unique i (operations.Rename2 directory flags name new_name) = Ok (status_message unique 0)
 node_reply sight unique i operation = Err (mounted.Request requests.Unserved)
 
--- the reply to an operation, after its calls; FLUSH among others isn't served (fuse_opcode)
+-- the reply to an operation, after its calls; FLUSH, for one, isn't served (fuse_opcode)
 unfoldable pub reply_of : Sight → Header → Operation → Result (List ℕ) MountedRefusal
 reply_of sight header (operations.Init major minor max_readahead flags) = init_reply header.unique major max_readahead flags
 reply_of sight header operations.StatFs = Ok (statfs_message header.unique (statistics_of sight.geometry sight.image))

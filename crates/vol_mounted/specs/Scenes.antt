@@ -1,8 +1,8 @@
--- The sight of a scene.
+-- The values of a scene that calls and replies depend on.
 use Rattle.vol_mounted.specs.Plans.{Sight}
 use Rattle.vol_mounted.specs.declared.scene.Scene.{Scene}
 
--- the sight of a scene (this project)
+-- the values of a scene that calls and replies depend on (this project)
 abbrev pub sight_of : Scene → Sight
 sight_of scene = record {
   geometry = scene.geometry.now;

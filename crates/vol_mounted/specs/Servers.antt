@@ -29,22 +29,22 @@ held_in server = held_by server.orphans.files.items
 abbrev pub IsBounded : MountedServer → Type 0
 IsBounded server = held_in server ≤ length server.volume.image
 
--- the number of bytes that such files can still take (this project)
+-- the number of further bytes that files without a name can take (this project)
 abbrev pub spare_in : MountedServer → ℕ
 spare_in server = length server.volume.image - held_in server
 
--- a change of the image is noted, if there is one; else what was noted stays (this project)
+-- the image and the mark that it was changed are as before, or the image is marked as changed (this project)
 abbrev pub IsNoted : MountedServer → MountedServer → Type 0
 IsNoted old new = ((new.volume.image ≡ old.volume.image) × (new.is_changed ≡ old.is_changed)) ⊎ (new.is_changed ≡ true)
 
--- what an operation keeps, whether it is refused or not (this project)
+-- the properties of a server that every operation preserves, whether it is refused or not (this project)
 pub record Kept (old new : MountedServer) : Type 0 where
   pub owner : new.owner ≡ old.owner
   pub weight : new.weight ≡ old.weight
   pub noted : IsNoted old new
   pub bounded : IsBounded old → IsBounded new
 
--- the sight of a server at a given time (this project)
+-- the values of a server that calls and replies depend on, at a given time (this project)
 abbrev pub sight_at : MountedServer → ℕ → Sight
 sight_at server now = record {
   geometry = geometry_of server.volume.edition server.volume.image;
@@ -54,7 +54,7 @@ sight_at server now = record {
   now = now;
 }
 
--- the first of some calls were accepted, and the next one got this refusal (this project)
+-- some calls were accepted in order, and the next one was refused with this refusal (this project)
 abbrev pub IsStopped : Mounted → List Call → Mounted → MountedRefusal → Type 0
 IsStopped old calls new refusal =
     (why : Refusal) × (stopped : Call) × (refusal ≡ mounted.Call why) × AreStopped old calls new why stopped
@@ -63,7 +63,8 @@ IsStopped old calls new refusal =
 abbrev pub Made : Mounted → Result (List Call) MountedRefusal → Mounted → Type 0
 Made old planned new = (calls : List Call) × (planned ≡ Ok calls) × AreMade old calls new
 
--- the volume is unchanged, since the plan failed for this reason or memory ran out; or some calls were made, and the next one got this refusal (this project)
+-- the volume is unchanged, since the plan failed for this reason or memory ran out; or some calls were made, and the next one was refused with this
+-- refusal (this project)
 abbrev pub Unmade : Mounted → Result (List Call) MountedRefusal → Mounted → MountedRefusal → Type 0
 Unmade old planned new refusal =
     ((new ≡ old) × (refusal ≢ no_memory → planned ≡ Err refusal))

@@ -21,7 +21,8 @@ replies_of turns = filter_map (λ (turn : Turn). turn.reply) turns
 abbrev pub images_of : List Turn → List (List ℕ)
 images_of turns = flat_map (λ (turn : Turn). turn.images) turns
 
--- the replies sent in a run with this end: those of its turns, in order. If memory ran out, there were no turns; if sending failed, the last reply is missing; a run also ends after 2^64 - 1 requests (this project)
+-- the replies sent in a run with this end are the replies of its turns, in order. If memory ran out, there were no turns; if sending failed, the last
+-- reply is missing; a run also ends after 2^64 - 1 requests (this project)
 abbrev pub AreSent : {X : Type 0} → List Turn → List (List ℕ) → Result X ServeFault → Type 0
 AreSent turns sent (Ok done) = sent ≡ replies_of turns
 AreSent turns sent (Err NoMemory) = (turns ≡ []) × (sent ≡ [])
@@ -29,14 +30,14 @@ AreSent turns sent (Err Send) =
     (before : List Turn) × (last : Turn) × (turns ≡ before ++ last ∷ []) × (last.reply ≢ None) × (sent ≡ replies_of before)
 AreSent turns sent (Err Requests) = (sent ≡ replies_of turns) × (length turns ≡ 2 ^ 64 - 1)
 
--- a run: the requests taken, the replies sent and the images saved are those of some turns, which lead from one server to the other (this project)
+-- a run: the requests taken, the replies sent and the images saved belong to some turns, which turn one server into the other (this project)
 abbrev pub Runs : {X : Type 0} → MountedServer → MountedServer → Option (List (List ℕ)) → Option (List (List ℕ)) → Option (List (List ℕ))
     → Option (List (List ℕ)) → Option (List (List ℕ)) → Option (List (List ℕ)) → Result X ServeFault → Type 0
 Runs old new taken taken' sent sent' saved saved' result =
     (turns : List Turn) × (replies : List (List ℕ)) × Grows taken taken' (requests_of turns) × Grows sent sent' replies
     × Grows saved saved' (images_of turns) × AreSent turns replies result × Follow old turns new
 
--- the end of a run, and whether the image was saved after it (this project)
+-- the end of a run, and whether the image could be saved after it (this project)
 abbrev pub IsEnd : {X : Type 0} → Result X ServeFault → Bool → Result X MountedFault → Type 0
 IsEnd ended saved (Ok done) = (saved ≡ true) × (ended ≡ Ok done)
 IsEnd ended saved (Err (mounted.Serve fault)) = (saved ≡ true) × (ended ≡ Err fault)
@@ -50,15 +51,15 @@ Serves {X = X} old new taken taken' sent sent' saved saved' result =
     × Runs old between taken taken' sent sent' saved before ended × Grows before saved' images × IsSaved between new images is_saved
     × IsEnd ended is_saved result
 
--- the image that a file has: the last of those that were saved, or else the one before them (this project)
+-- the image in the file: the last one that was saved, or else the one that was in the file before (this project)
 abbrev pub last_of : List ℕ → List (List ℕ) → List ℕ
 last_of file images = fold (λ (before image : List ℕ). image) file images
 
--- the images that were saved are known, and with them the file has this image (this project)
+-- the images that were saved are known, and this one is in the file after them (this project)
 abbrev pub IsStored : List ℕ → Option (List (List ℕ)) → List ℕ → Type 0
 IsStored file saved image = (images : List (List ℕ)) × (saved ≡ Some images) × (image ≡ last_of file images)
 
--- the images that were saved are known, and the file has the server's image, unless a change is noted (this project)
+-- the images that were saved are known, and the server's image is in the file, unless it is marked as changed (this project)
 abbrev pub Stores : List ℕ → Option (List (List ℕ)) → MountedServer → Type 0
 Stores file saved server =
     (images : List (List ℕ)) × (saved ≡ Some images) × (server.is_changed ≡ false → server.volume.image ≡ last_of file images)

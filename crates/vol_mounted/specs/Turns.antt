@@ -22,18 +22,19 @@ use Rattle.vol_mounted.specs.declared.refusal.MountedRefusal.{MountedRefusal}
 use Rattle.vol_mounted.specs.declared.refusal.MountedRefusal.TheVariants as mounted
 use Rattle.vol_mounted.specs.declared.server.MountedServer.{MountedServer}
 
--- the reply that a function put, or its refusal (this project)
+-- the reply that was made, or the refusal (this project)
 abbrev pub put_by : {X : Type 0} → Result X MountedRefusal → List ℕ → Result (List ℕ) MountedRefusal
 put_by (Ok done) reply = Ok reply
 put_by (Err refusal) reply = Err refusal
 
--- the calls of an operation, if there is room for the bytes of a file that loses its last name by it (this project)
+-- the calls of an operation, if there is room for the bytes of a file that loses its last name through it (this project)
 abbrev pub planned : MountedServer → ℕ → Header → Operation → Result (List Call) MountedRefusal
 planned server now header operation =
     and_then (calls_of (sight_at server now) header operation) (λ calls.
     if nat_lt (spare_in server) (lost_bytes (sight_at server now) header operation) then Err no_space else Ok calls)
 
--- an operation was answered: its calls were made, and the reply shows the tree after them; or it was refused: its calls weren't made, or that tree has no reply, or memory ran out for it (this project)
+-- an operation was answered: its calls were made, and the reply shows the tree after them; or it was refused: its calls weren't made, or there is no
+-- reply from that tree, or memory ran out for the reply (this project)
 abbrev pub IsAnswered : MountedServer → MountedServer → ℕ → Header → Operation → Result (List ℕ) MountedRefusal → Type 0
 IsAnswered old new now header operation (Ok reply) =
     Made old.volume (planned old now header operation) new.volume × (reply_of (sight_at new now) header operation ≡ Ok reply)
@@ -42,11 +43,11 @@ IsAnswered old new now header operation (Err refusal) =
     ⊎ (Made old.volume (planned old now header operation) new.volume
     × (refusal ≢ no_memory → reply_of (sight_at new now) header operation ≡ Err refusal))
 
--- true if a number is that of a file without a name that is still open (this project)
+-- true if a file without a name that is still open has this node number (this project)
 abbrev pub is_orphan : MountedServer → ℕ → Bool
 is_orphan server node = list_any (λ (file : Orphan). file.node == node) server.orphans.files.items
 
--- an operation on a file without a name leaves the volume as it is; any other is answered (this project)
+-- an operation on a file without a name doesn't change the volume; any other is answered (this project)
 abbrev pub IsServed : MountedServer → MountedServer → ℕ → Header → Operation → Result (List ℕ) MountedRefusal → Type 0
 IsServed old new now header operation outcome =
     Kept old new
@@ -77,7 +78,7 @@ HasOutcome old new now header operation outcome images =
     MatchBool (is_sync operation) (IsSynced old new now header operation outcome images)
     (IsServed old new now header operation outcome × (images ≡ []))
 
--- a reply, or the message of an error by its number (fuse_out_header)
+-- a reply, or the message with a refusal's error number (fuse_out_header)
 abbrev pub message_of : ℕ → Result (List ℕ) MountedRefusal → List ℕ
 message_of unique (Ok reply) = reply
 message_of unique (Err refusal) = status_message unique (errno refusal)

@@ -45,7 +45,7 @@ impl MountedServer {
         }
     }
 
-    /// Puts the reply to a complete request into `room`; returns false if the kernel waits for none.
+    /// Puts the reply to a well-formed request into `room`; returns false if the kernel waits for none.
     fn answer_request<H: Host>(
         &mut self,
         alloc: Global,
@@ -162,7 +162,7 @@ impl MountedServer {
         made
     }
 
-    /// Returns the calls of an operation, and the file that loses a name by it.
+    /// Returns the calls of an operation, and the file that loses a name through them.
     fn plan(
         &self,
         alloc: Global,
@@ -181,7 +181,7 @@ impl MountedServer {
         Ok((calls, loss))
     }
 
-    /// Records the effects of an operation, after its calls were made, or some of them.
+    /// Records the effects of an operation after all or some of its calls were made.
     fn settle(
         &mut self,
         header: &Header,
@@ -212,7 +212,7 @@ fn refuse(header: &Header, refusal: MountedRefusal, room: &mut Room)
     room.reply.put_status(header.unique, errno(refusal));
 }
 
-/// Puts the reply to a request that isn't one into `room`; returns false if the kernel waits for none.
+/// Puts the reply to a malformed request into `room`; returns false if the kernel waits for none.
 fn refuse_malformed(header: &Header, room: &mut Room) -> bool
     ensures { (if result then Some room.new.reply else None) ≡ malformed_reply header.now }
 {

@@ -17,7 +17,7 @@ impl Scene<'_> {
     ghost use Rattle.vol_mounted.specs.Refusals.{Gives};
     ghost use Rattle.vol_mounted.specs.Scenes.{sight_of};
 
-    /// Returns the calls of SETATTR of node `i`. All are checked first.
+    /// Returns the calls of SETATTR of node `i`. All calls are checked first.
     pub(crate) fn set_attributes(
         &self,
         i: u16,
@@ -38,7 +38,7 @@ impl Scene<'_> {
         Ok(calls)
     }
 
-    /// Returns the call that changes a file's size: it is cut, or gets a zero at its end.
+    /// Returns the call that changes a file's size: it truncates the file, or writes a zero byte at the new end.
     fn size_call(
         &self,
         stat: &Stat,
@@ -85,7 +85,7 @@ impl Scene<'_> {
         }))
     }
 
-    /// Returns the call that changes a node's user and group, if one is given.
+    /// Returns the call that changes a node's user and group, if a user or a group is given.
     fn owner_call(
         &self,
         stat: &Stat,
@@ -118,7 +118,7 @@ impl Scene<'_> {
             gid: cred.gid,
         }))
     }
-    /// Returns the call that sets a node's times, if one is given. The other stays.
+    /// Returns the call that sets a node's times, if a time is given. A time that isn't given stays the same.
     fn times_call(
         &self,
         stat: &Stat,
@@ -141,7 +141,7 @@ impl Scene<'_> {
     }
 }
 
-/// Returns the time that a node gets: a new one, if it is given; else the one that it has.
+/// Returns the time to set: the new one, if it is given; else the node's present time.
 fn set_time(now: u32, present: u32, time: Option<NewTime>) -> u32
     ensures { result ≡ set_time now present time }
 {
@@ -151,7 +151,7 @@ fn set_time(now: u32, present: u32, time: Option<NewTime>) -> u32
     }
 }
 
-/// Returns a new time: the current time, or the one that is given, limited to what an i-node can hold.
+/// Returns a new time: the current time, or the given one, limited to the times that an i-node can hold.
 pub(crate) fn time_of(now: u32, time: NewTime) -> u32
     ensures { result ≡ time_of now time }
 {

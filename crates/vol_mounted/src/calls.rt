@@ -1,9 +1,9 @@
-//! The calls of a request.
+//! A list of the calls of one request.
 use std::alloc::{AllocError, Global};
 use std::marker::Model;
 use vol_volume::Call;
 
-/// The calls of a request, in their order. A contract sees them as a list.
+/// The calls of a request, in order. Contracts see it as a list.
 #[derive(Drop)]
 pub struct Calls {
     calls: Vec<Call>,
@@ -22,7 +22,7 @@ impl Calls {
     ghost use Rattle.std.specs.Prelude.{◌≡◌, ◌∷◌, ◌++◌, [], IfOk, OnOk};
     ghost use Rattle.std.specs.Option.{option_to_list};
 
-    /// Returns no calls. Takes no memory.
+    /// Returns an empty list. Takes no memory.
     pub(crate) fn none(alloc: Global) -> Calls
         ensures { result ≡ [] }
     {
@@ -31,7 +31,7 @@ impl Calls {
         }
     }
 
-    /// Returns one call.
+    /// Returns a list of one call.
     pub(crate) fn one(alloc: Global, call: Call) -> Result<Calls, AllocError>
         ensures { IfOk result (λ calls. calls ≡ call ∷ []) }
     {
@@ -58,7 +58,7 @@ impl Calls {
         }
     }
 
-    /// Returns the calls.
+    /// Returns the calls as a slice.
     pub(crate) fn as_slice(&self) -> &[Call]
         ensures { result.now ≡ self.now }
     {

@@ -7,9 +7,9 @@ use vol_layout::slot::NAME;
 pub struct KnownNode {
     /// The directory in which its node was last found.
     pub directory: u16,
-    /// The slot that it was found in; an empty one if it was never found.
+    /// The slot in which its node was last found; an empty slot if it was never found.
     pub slot: Slot,
-    /// The number of times that the i-number was allocated, as far as the server knows: 1 at first.
+    /// The number of times that the i-number was allocated, counted by this server; 1 at first.
     pub birth: u32,
     /// The number of times that its file is open.
     pub opened: u32,

@@ -16,7 +16,7 @@ use vol_serve::attributes::node_attributes;
 pub(crate) struct Loss {
     /// Its i-number.
     pub(crate) i: u16,
-    /// Its orphan, if the name is its last and the file is open.
+    /// The file as it will be kept in memory, if this is its last name and the file is open.
     pub(crate) orphan: Option<Orphan>,
 }
 
@@ -27,8 +27,8 @@ impl Scene<'_> {
     ghost use Rattle.vol_mounted.specs.Orphans.{size_if};
     ghost use Rattle.vol_mounted.specs.Scenes.{sight_of};
 
-    /// Returns the file that loses a name by an operation, if any: that of UNLINK, or the one that a rename replaces. Takes memory for its
-    /// bytes if it is open, `spare` at most.
+    /// Returns the file that loses a name through an operation, if any: the file of UNLINK, or the one that a rename replaces. If the file is open,
+    /// takes memory for its bytes, at most `spare`.
     #[tactic(auto, unfolding(crate::specs::Losses::lost_bytes))]
     pub(crate) fn loss(
         &self,
@@ -75,7 +75,7 @@ impl Scene<'_> {
         }
     }
 
-    /// Returns the orphan of file `i`, if it is open and loses its last name.
+    /// Returns file `i` as it will be kept in memory, if it is open and loses its last name.
     fn orphan(&self, i: u16, spare: usize) -> Result<Option<Orphan>, MountedRefusal>
         ensures { Keeps size_if spare (kept_size (opened_at self.now.nodes.now i) (attributes_in (tree self.now.geometry.now self.now.volume.now.image) i)) result }
     {

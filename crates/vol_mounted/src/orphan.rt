@@ -8,10 +8,10 @@ use vol_dir::Refusal;
 /// The type bits of a mode.
 const TYPE_BITS: u32 = 0o170000;
 
-/// A file that lost its last name while it was open. It is no longer in the volume.
+/// A file that lost its last name while it was open. It is no longer in the volume, but kept in memory.
 #[derive(Drop)]
 pub struct Orphan {
-    /// Its node number in the kernel.
+    /// The number that the kernel has for its node.
     pub(crate) node: u64,
     /// Its attributes; its link count is 0.
     pub(crate) attributes: Attributes,
@@ -32,7 +32,7 @@ pub struct Orphans {
 pub(crate) struct Limits {
     /// The greatest size of a file in the edition.
     pub(crate) greatest: u32,
-    /// The number of bytes that such files can take together, besides those that they have.
+    /// The number of further bytes that the files without a name can take together.
     pub(crate) spare: usize,
 }
 
@@ -50,7 +50,7 @@ impl Orphan {
         }
     }
 
-    /// Returns its bytes from byte `offset` on, at most `size`.
+    /// Returns at most `size` bytes of the file, starting at byte `offset`.
     pub(crate) fn read(&self, offset: u64, size: usize) -> &[u8]
         ensures { result.now ≡ take size (drop offset self.now.content.items) }
     {
@@ -61,7 +61,7 @@ impl Orphan {
         &content[start..end]
     }
 
-    /// Changes its size: it is cut, or gets zeros at its end.
+    /// Changes the file's size: cuts it, or appends zeros.
     pub(crate) fn resize(&mut self, size: u64, limits: Limits) -> Result<(), MountedRefusal>
         ensures { size_of self.new ≤ size_of self.old + limits.spare }
     {
@@ -70,7 +70,7 @@ impl Orphan {
         Ok(())
     }
 
-    /// Writes bytes into it from byte `offset` on; the bytes between its end and the offset become zeros.
+    /// Writes bytes into the file at byte `offset`; the bytes between its end and the offset become zeros.
     pub(crate) fn write(
         &mut self,
         offset: u64,
@@ -88,7 +88,8 @@ impl Orphan {
         Ok(())
     }
 
-    /// Appends zeros up to a size, if it has fewer bytes. Returns the size; or TooBig if no file has that many, NoSpace if there is no room.
+    /// Appends zeros up to a size, if the file has fewer bytes. Returns the size. Returns TooBig if no file can have this size, or NoSpace if there
+    /// is no room.
     fn reach(&mut self, size: u64, limits: Limits) -> Result<usize, MountedRefusal>
         ensures reached { IfOk result (λ end. (end ≡ size) × (end ≤ size_of self.new)) }
         ensures bounded { size_of self.new ≤ size_of self.old + limits.spare }
@@ -107,7 +108,7 @@ impl Orphan {
         Ok(size)
     }
 
-    /// Sets those of its permissions, owner, group and times that are given.
+    /// Sets each of the file's permissions, owner, group and times that `changes` has.
     pub(crate) fn set(&mut self, now: u32, changes: &AttributeChanges)
         ensures { self.new.content ≡ self.old.content }
     {
@@ -135,26 +136,26 @@ impl Orphans {
     ghost use Rattle.std.specs.List.{list_any};
     ghost use Rattle.vol_mounted.specs.Orphans.{held_by, size_of};
 
-    /// Returns no files.
+    /// Returns an empty list.
     pub(crate) fn new(alloc: Global) -> Orphans {
         Orphans {
             files: Vec::new(alloc),
         }
     }
 
-    /// True if a file has this number.
+    /// True if one of the files has this node number.
     pub(crate) fn has(&self, node: u64) -> bool
         ensures { result ≡ list_any (λ file. file.node == node) self.now.files.items }
     {
         self.files.iter().any(|file| file.node == node)
     }
 
-    /// Returns the index of the file with a number.
+    /// Returns the index of the file with this node number.
     pub(crate) fn place(&self, node: u64) -> Option<usize> {
         self.files.iter().position(|file| file.node == node)
     }
 
-    /// Returns the number of bytes that are left of `most`.
+    /// Returns the number of further bytes that the files can take, if they can take `most` in all.
     #[tactic(auto, using(crate::proofs::Held::next_held))]
     pub(crate) fn spare(&self, most: usize) -> usize
         ensures { result ≡ most - held_by self.now.files.items }
@@ -184,7 +185,7 @@ impl Orphans {
         let _ = self.files.push(file);
     }
 
-    /// Closes a file once; the last close frees it.
+    /// Closes a file once; the last time frees it.
     pub(crate) fn close(&mut self, node: u64)
         ensures { held_by self.new.files.items ≤ held_by self.old.files.items }
     {

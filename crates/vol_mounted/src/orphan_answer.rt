@@ -1,4 +1,4 @@
-//! Answers about files without a name that are still open.
+//! Replies to operations on files without a name that are still open.
 use crate::orphan::{Limits, Orphan, Orphans};
 use crate::refusal::MountedRefusal;
 use crate::reply::count_of;
@@ -117,7 +117,7 @@ impl Orphan {
     }
 }
 
-/// Returns the reason why an operation on a file without a name is refused.
+/// Returns the reason for refusing an operation on a file without a name.
 fn unserved(operation: &Operation<'_>) -> MountedRefusal {
     match operation {
         Operation::Link { .. } => MountedRefusal::from(NodeFault::NoEntry),

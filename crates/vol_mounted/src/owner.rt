@@ -1,6 +1,6 @@
-//! The user that all nodes are shown as.
+//! The user that owns all nodes, as the kernel sees them.
 
-/// The user and the group that all nodes are shown as.
+/// The user and the group that own all nodes, as the kernel sees them.
 #[derive(Clone, Copy)]
 pub struct Owner {
     /// The user.

@@ -1,4 +1,4 @@
-//! The calls that requests make.
+//! The calls for new nodes, removed names, new links and writes; and their checks.
 ghost use Rattle.std.specs.Prelude.{◌≡◌, ◌%◌};
 ghost use Rattle.vol_mounted.specs.Plans.{cred_of, is_regular, owner_of, short_number};
 
@@ -25,7 +25,7 @@ impl Scene<'_> {
     ghost use Rattle.vol_mounted.specs.Refusals.{Gives};
     ghost use Rattle.vol_mounted.specs.Scenes.{sight_of};
 
-    /// Returns the calls of MKNOD. Only regular files are made.
+    /// Returns the calls of MKNOD. Only regular files can be made.
     pub(crate) fn make_file(
         &self,
         header: &Header,
@@ -72,7 +72,7 @@ impl Scene<'_> {
         Ok(self.make_for(owner, call, again)?)
     }
 
-    /// Returns a call that makes a node with a path, and the one that gives it to its owner, unless that is user 0 of group 0.
+    /// Returns the call that makes the node at a path, and the call that changes its owner, unless the owner is user 0 of group 0.
     fn make_for(&self, owner: Cred, call: Call, path: Bytes) -> Result<Calls, AllocError>
         ensures { IfOk result (λ calls. calls ≡ call ∷ given_to owner self.now.moment path) }
     {
@@ -146,7 +146,7 @@ impl Scene<'_> {
         }
     }
 
-    /// Returns the call that gives a node other than a directory another name.
+    /// Returns the call that adds another name to a node other than a directory.
     pub(crate) fn call_link(&self, source: Bytes, target: Bytes) -> Call
         ensures { result ≡ calls.Link user self.now.moment source target }
     {
@@ -159,7 +159,7 @@ impl Scene<'_> {
     }
 
     #[tactic(auto, using(crate::proofs::Asked::next_asked))]
-    /// Checks some calls, each on the unchanged volume; returns the first refusal.
+    /// Checks some calls, each on the unchanged volume, and returns the first refusal.
     pub(crate) fn ask(&self, tests: &[Call]) -> Result<(), MountedRefusal>
         ensures { MatchResult result
             (λ _. first_refused (state self.now.geometry.now self.now.volume.now.image) tests.now ≡ None)
@@ -173,7 +173,7 @@ impl Scene<'_> {
         Ok(())
     }
 
-    /// Returns the refusal that a call would get on the unchanged volume, except for memory.
+    /// Returns the refusal of a call on the unchanged volume, if it would be refused for a reason other than memory.
     fn refusal(&self, call: &Call) -> Option<Refusal>
         ensures { result ≡ verdict (state self.now.geometry.now self.now.volume.now.image) call.now }
     {
@@ -181,7 +181,7 @@ impl Scene<'_> {
     }
 }
 
-/// True if a mode's type bits are a regular file's, or none.
+/// True if a mode has the type bits of a regular file, or no type bits.
 fn is_regular(mode: u32) -> bool
     ensures { result ≡ is_regular mode }
 {

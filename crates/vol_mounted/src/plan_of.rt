@@ -1,4 +1,4 @@
-//! The calls of a request.
+//! Chooses the calls for an operation by its kind.
 use crate::calls::Calls;
 use crate::refusal::MountedRefusal;
 use crate::rename::Renaming;
@@ -10,7 +10,7 @@ impl Scene<'_> {
     ghost use Rattle.vol_mounted.specs.Replies.{calls_of, renamed};
     ghost use Rattle.vol_mounted.specs.Scenes.{sight_of};
 
-    /// Returns the calls that an operation makes; none if it changes nothing.
+    /// Returns the calls that an operation makes; no calls if it changes nothing.
     #[tactic(auto, unfolding(crate::specs::Replies::calls_of))]
     pub(crate) fn plan(
         &self,

@@ -10,13 +10,13 @@ use vol_serve::errno::RequestRefusal;
 /// The reason why a request is refused.
 #[derive(Clone, Copy)]
 pub enum MountedRefusal {
-    /// The refusal that a volume served read-only gives too.
+    /// A refusal that a volume served read-only may also return.
     Request(RequestRefusal),
     /// The volume refuses a call.
     Call(Refusal),
-    /// Only regular files and directories can be made. If all nodes are shown as one user's, none can be given to another.
+    /// Only regular files and directories can be made. If all nodes are shown as one user's, their owner can't be changed.
     NotPermitted,
-    /// A directory can't be renamed. The caller copies it.
+    /// A directory can't be renamed. A program that wants to move it copies it instead.
     IsDirectory,
     /// A rename has flags that aren't served.
     Flags,
@@ -75,7 +75,7 @@ impl From<AllocError> for MountedRefusal {
     }
 }
 
-/// Returns the number of a refused call's error, of Linux (errno.h).
+/// Returns Linux's error number for a refused call (errno.h).
 fn call_errno(refusal: Refusal) -> u32
     ensures number { result ≡ call_errno refusal }
     ensures bound { result < 512 }
@@ -89,7 +89,7 @@ fn call_errno(refusal: Refusal) -> u32
         Refusal::NoInode => 28,
         // EINVAL
         Refusal::BadId => 22,
-        // the numbers of the others are Linux's
+        // The numbers of the others are the same as Linux's.
         Refusal::NotOwner => 1,
         Refusal::NoEntry => 2,
         Refusal::NoMemory => 12,
@@ -104,7 +104,7 @@ fn call_errno(refusal: Refusal) -> u32
     }
 }
 
-/// Returns the number of the error, of Linux (errno.h).
+/// Returns Linux's error number for a refusal (errno.h).
 pub fn errno(refusal: MountedRefusal) -> u32
     ensures number { result ≡ errno refusal }
     ensures bound { result < 512 }

@@ -32,8 +32,7 @@ impl Scene<'_> {
     ghost use Rattle.vol_mounted.specs.Refusals.{Gives};
     ghost use Rattle.vol_mounted.specs.Scenes.{sight_of};
 
-    /// Returns the calls of RENAME and RENAME2. They are checked first, so that after the first call only running out of memory can
-    /// stop the others.
+    /// Returns the calls of RENAME and RENAME2. The calls are checked first: once the first one is made, the others can fail only if memory runs out.
     pub(crate) fn rename(&self, renaming: &Renaming<'_>) -> Result<Calls, MountedRefusal>
         ensures { Gives (rename_calls (sight_of self.now) renaming.now.flags renaming.now.dir renaming.now.name.now renaming.now.new_dir renaming.now.new_name.now) result }
     {
@@ -70,7 +69,7 @@ impl Scene<'_> {
         Ok(calls)
     }
 
-    /// Returns the calls of a rename to a name that leads to node `j`.
+    /// Returns the calls of a rename to an existing name, which is node `j`'s.
     fn rename_over(
         &self,
         flags: u32,
@@ -123,7 +122,7 @@ impl Scene<'_> {
         Ok(calls)
     }
 
-    /// Returns the calls that give a node the name of another.
+    /// Returns the calls that replace one node's name by another's.
     fn three_calls(&self, source: Bytes, target: Bytes) -> Result<Calls, AllocError>
         ensures { IfOk result (λ all. all ≡ calls.Unlink user self.now.moment target ∷ calls.Link user self.now.moment source target ∷ calls.Unlink user self.now.moment source ∷ []) }
     {

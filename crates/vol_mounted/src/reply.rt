@@ -160,7 +160,7 @@ impl Scene<'_> {
     }
 }
 
-/// Returns attributes as they are shown: if all nodes are shown as one user's, with that user's numbers.
+/// Returns attributes as they are shown: if all nodes are shown as one user's, with that user and group.
 fn shown(owner: Option<Owner>, attributes: Attributes) -> Attributes
     ensures { result ≡ shown owner attributes }
 {
@@ -237,7 +237,7 @@ fn unserved(opcode: u32) -> MountedRefusal
     }
 }
 
-/// Returns the number of some bytes, as a reply to WRITE has it.
+/// Returns the number of bytes that were written, for the reply to WRITE.
 pub(crate) fn count_of(bytes: &[u8]) -> u32
     ensures { result ≡ count_of bytes.now }
 {

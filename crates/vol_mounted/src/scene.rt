@@ -15,14 +15,14 @@ use vol_nodes::{NodeFault, look_up, stat};
 use vol_serve::errno::RequestRefusal;
 use vol_volume::{Stat, Volume};
 
-/// The volume and the nodes that the kernel knows, at a given time. Calls are planned and replies made from it.
+/// The volume and the nodes that the kernel knows, at a given time. The calls and the reply of a request are made from this.
 #[derive(Drop)]
 pub(crate) struct Scene<'a> {
     /// The allocator.
     pub(crate) alloc: Global,
     /// The present volume.
     pub(crate) volume: &'a Volume,
-    /// Its geometry.
+    /// The volume's geometry.
     pub(crate) geometry: &'a Geometry,
     /// The nodes that the kernel knows.
     pub(crate) nodes: &'a NodeTable,
@@ -42,7 +42,7 @@ impl Scene<'_> {
     ghost use Rattle.vol_mounted.specs.Replies.{number_at};
     ghost use Rattle.vol_mounted.specs.Scenes.{sight_of};
 
-    /// Returns the i-number of the node with a number, or Stale if no node has it now.
+    /// Returns the i-number of the node with this number, or Stale if no node has this number now.
     pub(crate) fn number(&self, node: u64) -> Result<u16, MountedRefusal>
         ensures { result ≡ number_at (sight_of self.now) node }
     {
@@ -52,7 +52,7 @@ impl Scene<'_> {
         }
     }
 
-    /// Returns the path of node `i`, or Stale if the last known names no longer lead to it.
+    /// Returns the path of node `i`, or Stale if its last known names no longer lead to it.
     pub(crate) fn path(&self, i: u16) -> Result<Bytes, MountedRefusal>
         ensures { Gives (path_at (sight_of self.now) i) result }
     {

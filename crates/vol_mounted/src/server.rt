@@ -75,14 +75,14 @@ impl MountedServer {
         self.volume
     }
 
-    /// Returns the number of bytes that files without a name can still take: together at most as many as the image.
+    /// Returns the number of further bytes that files without a name can take. All of them together can take at most as many bytes as the image has.
     pub(crate) fn spare(&self) -> usize
         ensures { result ≡ spare_in self.now }
     {
         self.orphans.spare(self.volume.image().len())
     }
 
-    /// Returns the scene at a given time.
+    /// Returns the volume and the nodes that the kernel knows, at a given time.
     pub(crate) fn scene<'a>(&'a self, alloc: Global, geometry: &'a Geometry, now: u32) -> Scene<'a>
         requires fits { Fits geometry.now self.now.volume.image }
         requires sizes { geometry.now ≡ geometry_of self.now.volume.edition self.now.volume.image }
@@ -124,7 +124,7 @@ impl MountedServer {
         }
     }
 
-    /// Saves the image, if it was changed since it was saved last; returns false if it couldn't be saved.
+    /// Saves the image, if it was changed since it was last saved. Returns false if it couldn't be saved.
     pub(crate) fn save<H: Host>(&mut self, host: &mut H) -> bool
         ensures { (images : List (List ℕ)) × Grows (H.saved host.old) (H.saved host.new) images × IsSaved self.old self.new images result }
     {
@@ -138,14 +138,14 @@ impl MountedServer {
         true
     }
 
-    /// Counts the bytes of a request, and cuts the journal after [`MOST_WEIGHT`].
+    /// Counts the bytes of a request, and cuts the journal once there are [`MOST_WEIGHT`].
     pub(crate) fn cut_if_heavy(&mut self, request: &[u8])
         ensures { IsCut self.old self.new (length request.now) }
     {
         self.weight = self.weight.saturating_add(request.len());
         if self.weight >= MOST_WEIGHT {
             self.weight = 0;
-            // The numbers of the records don't reach 2^64.
+            // This could fail only if a record's number reached 2^64.
             let _ = self.volume.cut();
         }
     }

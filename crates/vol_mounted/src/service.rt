@@ -11,7 +11,7 @@ use std::alloc::{AllocError, Global};
 use vol_serve::memory::{MOST_REQUEST, Room};
 use vol_serve::{Replies, Requests, ServeFault};
 
-/// The reason why serving ended before the requests did, or without the image saved.
+/// The reason why serving ended before the requests did, or why the image isn't saved.
 #[derive(Clone, Copy)]
 pub enum MountedFault {
     /// Serving ended before the requests did.
@@ -63,7 +63,7 @@ pub fn serve<Q: Requests, P: Replies, H: Host>(
     }
 }
 
-/// Answers requests until there are no more. NoMemory is returned only before the first.
+/// Answers requests until there are no more. Returns NoMemory only before the first request.
 fn run<Q: Requests, P: Replies, H: Host>(
     alloc: Global,
     server: &mut MountedServer,
@@ -98,7 +98,7 @@ fn run<Q: Requests, P: Replies, H: Host>(
     Err(ServeFault::Requests)
 }
 
-/// Answers a request, and sends the reply, if it needs one; returns false if it couldn't be sent.
+/// Answers a request, and sends the reply, if the kernel waits for one. Returns false if it couldn't be sent.
 fn take_turn<P: Replies, H: Host>(
     alloc: Global,
     server: &mut MountedServer,

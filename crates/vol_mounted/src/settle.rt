@@ -94,8 +94,7 @@ impl NodeTable {
     }
 }
 
-/// Records that a file lost a name: if it was freed, its bytes are kept while it is open; if it has other names, one of them is
-/// sought.
+/// Records that a file lost a name. If the file was freed, its bytes are kept while it is open; if it has other names, looks for one of them.
 pub(crate) fn settle_loss(nodes: &mut NodeTable, orphans: &mut Orphans, volume: &Volume, loss: Loss)
     ensures { held_by orphans.new.files.items ≤ held_by orphans.old.files.items + size_if loss.orphan }
 {
@@ -108,7 +107,7 @@ pub(crate) fn settle_loss(nodes: &mut NodeTable, orphans: &mut Orphans, volume: 
     }
 }
 
-/// Finds a name of node `i`, then of its directory, and so on up, until the root or a node whose last known name still leads to it.
+/// Finds a name of node `i`, then of its directory, and so on upwards, until it reaches the root or a node whose last known name still leads to it.
 fn meet_again(nodes: &mut NodeTable, image: &Image, geometry: &Geometry, i: u16)
     requires { Fits geometry.now image.now }
 {
@@ -141,7 +140,7 @@ fn is_met(nodes: &NodeTable, image: &Image, geometry: &Geometry, i: u16) -> bool
     }
 }
 
-/// Returns the first slot of all directories that names node `i`, and its directory, or `None`.
+/// Returns the first slot in any directory that names node `i`, with its directory, or `None` if there is none.
 fn search(image: &Image, geometry: &Geometry, i: u16) -> Option<(u16, Slot)>
     requires { Fits geometry.now image.now }
 {
@@ -153,7 +152,7 @@ fn search(image: &Image, geometry: &Geometry, i: u16) -> Option<(u16, Slot)>
     None
 }
 
-/// Returns the first slot of directory `dir` that names node `i`, or `None`.
+/// Returns the first slot of directory `dir` that names node `i`, or `None` if there is none.
 fn search_in(image: &Image, geometry: &Geometry, dir: u16, i: u16) -> Option<Slot>
     requires { Fits geometry.now image.now }
 {

@@ -1,4 +1,4 @@
-//! The nodes that a kernel knows by their numbers.
+//! The nodes that a kernel knows, each by its number.
 ghost use Rattle.std.specs.Prelude.{◌≡◌, ◌∷◌, ◌++◌, OnOk};
 
 use crate::known::KnownNode;
@@ -11,7 +11,7 @@ use vol_layout::{Edition, Slot};
 /// The number of possible i-numbers.
 const NODES: usize = 65_536;
 
-/// The records of all i-numbers. A contract sees it as their list.
+/// The records of all i-numbers. Contracts see it as the list of the records.
 #[derive(Drop)]
 pub struct NodeTable {
     nodes: Vec<KnownNode>,
@@ -31,13 +31,13 @@ impl NodeTable {
     ghost use Rattle.vol_mounted.specs.Numbers.{node_number, i_number, with_known, met, born, opened, closed};
     ghost use Rattle.vol_mounted.specs.Paths.{climb};
 
-    /// Returns a table of unmet nodes.
+    /// Returns a table of nodes that have not been found yet.
     pub(crate) fn new(alloc: Global) -> Result<NodeTable, AllocError> {
         let nodes = vec![in alloc; KnownNode::UNMET; NODES]?;
         Ok(NodeTable { nodes })
     }
 
-    /// Returns the number of i-numbers in it.
+    /// Returns the number of i-numbers in the table.
     fn count(&self) -> usize
         ensures { result ≡ length self.now }
     {
@@ -65,7 +65,7 @@ impl NodeTable {
         0x1_0000 * u64::from(birth) + u64::from(i)
     }
 
-    /// Returns the i-number of the node with number `node`, or `None` if no node has it now.
+    /// Returns the i-number of the node with number `node`, or `None` if no node has this number now.
     pub(crate) fn i_number(&self, edition: Edition, node: u64) -> Option<u16>
         ensures exact { result ≡ i_number edition self.now node }
         ensures back { IfSome result (λ i. node_number edition self.now i ≡ node) }
@@ -92,7 +92,7 @@ impl NodeTable {
         }
     }
 
-    /// Records that i-number `i` was allocated again: no number in the kernel leads to its new node, which isn't open.
+    /// Records that i-number `i` was allocated again: none of the kernel's numbers leads to the new node, and it isn't open.
     pub(crate) fn bear(&mut self, i: u16)
         ensures { self.new ≡ with_known self.old i born }
     {
@@ -120,8 +120,8 @@ impl NodeTable {
         }
     }
 
-    /// Returns the path from the root to node `i`, by the last known names, or `None` if they don't lead up to the root. The names
-    /// may be old: a walk has to test the path.
+    /// Returns the path from the root to node `i`, by the last known names. Returns `None` if they don't lead up to the root. The names may be
+    /// outdated, so the path has to be checked by a walk.
     pub(crate) fn climb(
         &self,
         alloc: Global,

@@ -1,4 +1,4 @@
--- The node that an i-node of some kind describes.
+-- The node of an i-number, from the kind of its i-node.
 use Rattle.std.proofs.Common.{◌≡◌, ◌≢◌, ℕ, ◌≤◌, ◌<◌, ◌/◌, ◌%◌, ◌==◌, cond, if◌then◌else◌, true, false, List, None, Some, Ok, Err, refl, ap, sym, ◌∙◌, arith}
 use Rattle.std.specs.Prelude.{Option, slice_index}
 use Rattle.std.specs.Option.{is_some, option_map, option_map_or, ok_or}
@@ -31,11 +31,11 @@ module _ (geometry : Geometry) (image : List ℕ) where
   unfolding tree
   no_number i outside = ap (λ b. cond b (node_of geometry image i) None) outside
 
-  -- 0 has no node
+  -- i-number 0 has no node
   pub none_zero : (i : ℕ) → i ≡ 0 → (tree geometry image).nodes i ≡ None
   none_zero i zero = let outside : is_number geometry i ≡ false = grind (arith, nat_tests) in no_number i outside
 
-  -- nor has a number above the last
+  -- an i-number above the last has no node
   pub none_above : (i : ℕ) → geometry.last_inode < i → (tree geometry image).nodes i ≡ None
   none_above i above = let outside : is_number geometry i ≡ false = grind (arith, nat_tests) in no_number i outside
 
@@ -43,11 +43,11 @@ module _ (geometry : Geometry) (image : List ℕ) where
       → (tree geometry image).nodes i ≡ option_map (node_with (inode_of geometry.edition image i)) (content_of geometry image i kind)
   node_by i kind first last is = node_inside geometry image i first last ∙ node_of_kind geometry image i kind is
 
-  -- nor has a free i-node
+  -- a free i-node is no node
   pub none_free : (i : ℕ) → 1 ≤ i → i ≤ geometry.last_inode → kind_at geometry image i ≡ kinds.Free → (tree geometry image).nodes i ≡ None
   none_free i first last is = node_by i kinds.Free first last is
 
-  -- nor one with a mode that isn't the edition's
+  -- an i-node whose mode isn't one of the edition's is no node
   pub none_odd : (i : ℕ) → 1 ≤ i → i ≤ geometry.last_inode → kind_at geometry image i ≡ kinds.Odd → (tree geometry image).nodes i ≡ None
   none_odd i first last is = node_by i kinds.Odd first last is
 
@@ -58,13 +58,13 @@ module _ (geometry : Geometry) (image : List ℕ) where
   some_by i kinds.Special used known = refl
   some_by i kinds.Odd used known = absurd (known refl)
 
-  -- every other i-number has one
+  -- every other i-number has a node
   pub held : (i : ℕ) (kind : Kind) → 1 ≤ i → i ≤ geometry.last_inode → kind ≡ kind_at geometry image i → kind ≢ kinds.Free → kind ≢ kinds.Odd
       → HasNode geometry image i kind
   held i kind first last is used known =
       record { first = first; last = last; is = sym is; some = some_by i kind used known; node = node_by i kind first last (sym is) }
 
-  -- the attributes of an i-node of some kind
+  -- the attributes computed from the fields of an i-node
   abbrev told : ℕ → ℕ → Kind → Inode → Stat
   told i permissions kind node = record {
     number = i;
@@ -87,20 +87,20 @@ module _ (geometry : Geometry) (image : List ℕ) where
   told_by i kinds.Special has = sym (ap (option_map (stat_of i)) has.node)
   told_by i kinds.Odd has = absurd (false≢true has.some)
 
-  -- the attributes of an i-node are those of its node
+  -- the attributes computed from an i-node are those of its node
   pub told_is : (i permissions : ℕ) (kind : Kind) (node : Inode) → HasNode geometry image i kind → node ≡ inode_of geometry.edition image i
       → permissions ≡ node.mode.bits % 4096 → Some (told i permissions kind node) ≡ stat_in (tree geometry image) i
   told_is i permissions kind node has node_is permissions_are = rw (permissions_are, node_is) (told_by i kind has)
 
-  -- and those without a node have none
+  -- an i-number without a node has no attributes
   pub told_none : (i : ℕ) → (tree geometry image).nodes i ≡ None → stat_in (tree geometry image) i ≡ None
   told_none i none = ap (option_map (stat_of i)) none
 
-  -- a directory has the map of its slots
+  -- the map of a directory is the map of its slots
   pub names_are : (d : ℕ) → HasNode geometry image d kinds.Directory → names_in (tree geometry image) d ≡ Ok (names_of (slots geometry image d))
   names_are d has = ap (λ (node : Option Node). after_ok (ok_or node faults.Stale) (λ n. ok_or (map_of n.content) faults.NotDirectory)) has.node
 
-  -- and other nodes have none
+  -- a node that isn't a directory has no map
   pub names_other : (d : ℕ) (kind : Kind) → HasNode geometry image d kind → kind ≢ kinds.Directory → names_in (tree geometry image) d ≡ Err faults.NotDirectory
   names_other d kinds.Free has other = absurd (false≢true has.some)
   names_other d kinds.Regular has other = ap (λ (node : Option Node). after_ok (ok_or node faults.Stale) (λ n. ok_or (map_of n.content) faults.NotDirectory)) has.node
@@ -114,11 +114,11 @@ module _ (geometry : Geometry) (image : List ℕ) where
   pub directory_is : (d : ℕ) → HasNode geometry image d kinds.Directory → IsDirectory geometry image d
   directory_is d has = record { first = has.first; last = has.last; kind = has.is }
 
-  -- a regular file has the bytes of its body
+  -- the bytes of a regular file are those of its body
   pub bytes_are : (i : ℕ) → HasNode geometry image i kinds.Regular → bytes_in (tree geometry image) i ≡ Ok (body geometry image i)
   bytes_are i has = ap (λ (node : Option Node). after_ok (ok_or node faults.Stale) (λ n. ok_or (bytes_of n.content) faults.NotRegular)) has.node
 
-  -- and other nodes have none
+  -- a node that isn't a regular file has no bytes
   pub bytes_other : (i : ℕ) (kind : Kind) → HasNode geometry image i kind → kind ≢ kinds.Regular → bytes_in (tree geometry image) i ≡ Err faults.NotRegular
   bytes_other i kinds.Free has other = absurd (false≢true has.some)
   bytes_other i kinds.Regular has other = absurd (other refl)
@@ -129,7 +129,7 @@ module _ (geometry : Geometry) (image : List ℕ) where
   pub bytes_none : (i : ℕ) → (tree geometry image).nodes i ≡ None → bytes_in (tree geometry image) i ≡ Err faults.Stale
   bytes_none i none = ap (λ (node : Option Node). after_ok (ok_or node faults.Stale) (λ n. ok_or (bytes_of n.content) faults.NotRegular)) none
 
-  -- a number leads to its node
+  -- the i-number of a node leads to it
   pub number_is : (i : ℕ) (kind : Kind) → HasNode geometry image i kind → number_in (tree geometry image) i ≡ Ok i
   number_is i kinds.Free has = absurd (false≢true has.some)
   number_is i kinds.Regular has = ap (λ (node : Option Node). after_ok (ok_or node faults.Stale) (λ _. Ok i)) has.node
@@ -156,7 +156,7 @@ module _ (geometry : Geometry) (image : List ℕ) where
         minor = slice_index stored.addresses 0 % 65536 % 256;
       })) halved)
 
-  -- a node of another kind has no device
+  -- a node that isn't a special file has no device
   pub special_other : (i : ℕ) (kind : Kind) → HasNode geometry image i kind → kind ≢ kinds.Special → special_in (tree geometry image) i ≡ None
   special_other i kinds.Free has other = absurd (false≢true has.some)
   special_other i kinds.Regular has other = ap (λ (node : Option Node). option_map_or (λ (n : Node). special_of n.content) node None) has.node

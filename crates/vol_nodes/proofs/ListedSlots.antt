@@ -1,4 +1,4 @@
--- The entries that a listing finds are those of all slots.
+-- The entries that a listing finds are the entries of all slots.
 use Rattle.std.proofs.Common.{◌≡◌, ℕ, zero, suc, ◌+◌, ◌-◌, ◌<◌, ◌≤◌, List, [], ◌∷◌, map, None, Some, refl, ap, ◌∙◌, arith}
 use Rattle.std.specs.Prelude.{Option}
 use Rattle.std.specs.List.{range_with_len}
@@ -9,7 +9,7 @@ use Rattle.vol_dir.specs.Names.{insert, names_of}
 use Rattle.vol_dir.specs.Scan.{IsNextEntry}
 use Rattle.vol_nodes.specs.Laws.{IsListed}
 
--- the entries of a listing
+-- the entries that a listing found
 abbrev pub listed : List (ℕ × Slot) → List (Option (List ℕ × ℕ))
 listed founds = map (λ (found : ℕ × Slot). entry_in found.1) founds
 
@@ -21,7 +21,7 @@ names_empty entry from (suc n) none =
     ap (λ first. names_of (first ∷ map entry (range_with_len (from + 1) n))) (none from (omega arith) (omega arith))
     ∙ names_empty entry (from + 1) n (λ t low high. none t (omega arith) (omega arith))
 
--- and are skipped
+-- skipping empty slots doesn't change the names
 names_passed : (entry : ℕ → Option (List ℕ × ℕ)) (from k n s : ℕ) → from + k ≡ s → ((t : ℕ) → from ≤ t → t < s → entry t ≡ None)
     → names_of (map entry (range_with_len from (k + n))) ≡ names_of (map entry (range_with_len s n))
 names_passed entry from zero n s is none =
@@ -34,7 +34,7 @@ names_passed entry from (suc k) n s is none =
     ∙ (ap (λ first. names_of (first ∷ map entry (range_with_len (from + 1) (k + n)))) (none from (omega arith) (omega arith))
     ∙ names_passed entry (from + 1) k n s (omega arith) (λ t low high. none t (omega arith) high))
 
--- the same slot before the same names
+-- putting the same slot before lists with the same names gives lists with the same names
 names_behind : (first : Option (List ℕ × ℕ)) (xs ys : List (Option (List ℕ × ℕ))) → names_of xs ≡ names_of ys → names_of (first ∷ xs) ≡ names_of (first ∷ ys)
 names_behind None xs ys same = same
 names_behind (Some e) xs ys same = ap (λ names. insert names e.0 e.1) same
@@ -54,7 +54,7 @@ names_listed entry count from n (found ∷ founds) is met =
     ∙ names_behind (entry_in found.1) (map entry (range_with_len (s + 1) m)) (listed founds)
     (names_listed entry count (s + 1) m founds (omega (arith, here.within)) met.1)))
 
--- the names of a listing from the first slot on are those of the directory
+-- the names of a listing that starts with slot 0 are those of the directory
 pub slots_listed : (geometry : Geometry) (image : List ℕ) (d : ℕ) (founds : List (ℕ × Slot))
     → IsListed (entry_at geometry image d) (slot_count geometry image d) 0 founds → names_of (slots geometry image d) ≡ names_of (listed founds)
 unfolding slots

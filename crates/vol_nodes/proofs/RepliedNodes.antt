@@ -33,24 +33,24 @@ use Rattle.vol_nodes.specs.declared.fault.NodeFault.{NodeFault}
 use Rattle.vol_nodes.specs.declared.fault.NodeFault.TheVariants as faults
 use Rattle.vol_nodes.proofs.ListedSlots.{listed, slots_listed}
 
--- the node of a number that has one
+-- an i-number whose node isn't `None` has a node
 some_node : (node : Option Node) → node ≢ None → (n : Node) × (node ≡ Some n)
 some_node None some = absurd (some refl)
 some_node (Some n) some = (n, refl)
 
--- the node that a path leads to
+-- a path leads to a node
 led_node : (edition : Edition) (image path : List ℕ) (i : ℕ) → LeadsTo edition image path i
     → (n : Node) × ((tree (geometry_of edition image) image).nodes i ≡ Some n)
 led_node edition image path i leads =
     some_node ((tree (geometry_of edition image) image).nodes i)
     (node_there (geometry_of edition image) image path i (sound_files edition image leads.fits leads.sound) (sound_entries edition image leads.sound) leads.walked)
 
--- user 0 of group 0 is one of every edition
+-- user 0 and group 0 are within the limits of both editions
 good_id : (edition : Edition) → is_bad_id edition 0 0 ≡ false
 good_id V6 = refl
 good_id V7 = refl
 
--- a path without a zero byte passes this check
+-- a path without a zero byte passes the first checks of a query
 asked : (geometry : Geometry) (image path : List ℕ) (others : Option Refusal) → has_zero path ≡ false
     → then_others (tree geometry image) user (path ∷ []) others ≡ others
 unfolding tree
@@ -58,15 +58,15 @@ asked geometry image path others nonzero =
     ap (λ b. if b then Some refusals.BadId else if has_zero path || false then Some refusals.Invalid else others) (good_id geometry.edition)
     ∙ ap (λ z. if z || false then Some refusals.Invalid else others) nonzero
 
--- the reply to a query that isn't refused is the answer
+-- a query that isn't refused has its reply as its answer
 answered : (tree : Tree) (query : Query) (reply : Reply) → query_refusal tree query ≡ None → reply_of tree query ≡ Ok reply → answer tree query ≡ Ok reply
 answered tree query reply none is = ap (λ r. refused_or r (reply_of tree query)) none ∙ is
 
--- a refused query has no reply
+-- a query that is refused has its refusal as its answer
 unanswered : (tree : Tree) (query : Query) (refusal : Refusal) → query_refusal tree query ≡ Some refusal → answer tree query ≡ Err refusal
 unanswered tree query refusal is = ap (λ r. refused_or r (reply_of tree query)) is
 
--- the node of a number, if there is one
+-- `node_at` returns the node of an i-number that has one
 at_node : (tree : Tree) (i : ℕ) (n : Node) → tree.nodes i ≡ Some n → node_at tree i ≡ n
 at_node tree i n is = ap (λ m. unwrap_or m no_node) is
 
@@ -84,15 +84,15 @@ stats_replied edition image path i leads nonzero =
           ∙ ap (λ n. Ok (replies.Stat (stat_of i n))) (at_node t i node.0 node.1)),
     )
 
--- the refusal of a Read, by the node's content
+-- the refusal of a Read, from the node's content
 abbrev tested : Content → Option Refusal
 tested content = first_of ((is_some (map_of content), refusals.IsDirectory) ∷ (is_device content, refusals.NotRegular) ∷ (false, refusals.Access) ∷ [])
 
--- the bytes of a Read, by the node's content
+-- the bytes of a Read, from the node's content
 abbrev bytes_by : Content → ℕ → ℕ → Result (List ℕ) NodeFault
 bytes_by content offset len = after_ok (ok_or (bytes_of content) faults.NotRegular) (λ bytes. Ok (read_bytes bytes offset len))
 
--- bytes are read if and only if they are replied, by the node's content
+-- bytes are read from a node if and only if they are the reply to a Read, from the node's content
 same_bytes : (content : Content) (read : Result (List ℕ) NodeFault) (refusal : Option Refusal) (reply : Result Reply Refusal) (offset len : ℕ) (bytes : List ℕ)
     → read ≡ bytes_by content offset len → refusal ≡ tested content → reply ≡ Ok (replies.Bytes (read_bytes (body_of content) offset len))
     → (read ≡ Ok bytes) ↔ (refused_or refusal reply ≡ Ok (replies.Bytes bytes))
@@ -120,20 +120,20 @@ bytes_replied edition image path i offset len bytes leads nonzero =
     (ap (λ r. reply_at r (λ i. replies.Bytes (read_bytes (body_of (node_at t i).content) offset len))) leads.walked
     ∙ ap (λ (n : Node). Ok (replies.Bytes (read_bytes (body_of n.content) offset len))) here)
 
--- two searches that lead to one number
+-- two searches that lead to the same i-number agree
 both_lead : (look : Result ℕ NodeFault) (find : Result ℕ Refusal) (i j : ℕ) → look ≡ Ok j → find ≡ Ok j → (look ≡ Ok i) ↔ (find ≡ Ok i)
 both_lead look find i j look_is find_is = (λ e. cc, λ e. cc)
 
--- and two that lead to none
+-- two searches that lead nowhere agree
 none_leads : (look : Result ℕ NodeFault) (find : Result ℕ Refusal) (i : ℕ) (fault : NodeFault) (refusal : Refusal) → look ≡ Err fault → find ≡ Err refusal
     → (look ≡ Ok i) ↔ (find ≡ Ok i)
 none_leads look find i fault refusal look_is find_is = (λ e. cc, λ e. cc)
 
--- the node that a name leads to, by a map's entry for it
+-- the node that a name leads to, from its i-number in a map
 abbrev numbered : Tree → Option ℕ → Result ℕ NodeFault
 numbered t found = after_ok (ok_or found faults.NoEntry) (number_in t)
 
--- a name that is found leads to the node, as a step of a walk does
+-- a name with an i-number in a map leads to the same node as a step of a walk
 same_found : (t : Tree) (found : Option ℕ) (look : Result ℕ NodeFault) (find : Result ℕ Refusal) (i : ℕ) → ((y : ℕ) → found ≡ Some y → t.nodes y ≢ None)
     → look ≡ numbered t found → find ≡ ok_or found refusals.NoEntry → (look ≡ Ok i) ↔ (find ≡ Ok i)
 same_found t None look find i there look_is find_is = none_leads look find i faults.NoEntry refusals.NoEntry look_is find_is
@@ -141,11 +141,11 @@ same_found t (Some y) look find i there look_is find_is =
     let node = some_node (t.nodes y) (there y refl) in
     both_lead look find i y (look_is ∙ ap (λ (n : Option Node). after_ok (ok_or n faults.Stale) (λ _. Ok y)) node.1) find_is
 
--- the map that user 0 finds in a node, by its content
+-- the map that user 0 finds in a node, from its content
 abbrev searched : Content → Result Names Refusal
 searched content = option_map_or (λ names. Ok names) (map_of content) (Err refusals.NotDirectory)
 
--- a name leads from a node as a step of a walk does, by the node's content
+-- a name leads from a node to the same node as a step of a walk, from the node's content
 same_step : (t : Tree) (d i : ℕ) (name : List ℕ) (content : Content) (look : Result ℕ NodeFault) (find : Result ℕ Refusal)
     → ((names : Names) (y : ℕ) → searched content ≡ Ok names → get names name ≡ Some y → t.nodes y ≢ None)
     → look ≡ after_ok (ok_or (map_of content) faults.NotDirectory) (λ names. numbered t (get names name))
@@ -154,17 +154,17 @@ same_step t d i name (Directory names) look find there look_is find_is = same_fo
 same_step t d i name (Body bytes) look find there look_is find_is = none_leads look find i faults.NotDirectory refusals.NotDirectory look_is find_is
 same_step t d i name (Device type addresses) look find there look_is find_is = none_leads look find i faults.NotDirectory refusals.NotDirectory look_is find_is
 
--- a component is its only component
+-- a name that satisfies `IsComponent` is its only component
 component_one : (name : List ℕ) → IsComponent name → components name ≡ name ∷ []
 component_one [] is = absurd (let some : 1 ≤ length {A = ℕ} [] = is.some in omega (arith, some))
 component_one (c ∷ name) is = one_component (c ∷ name) (ap not is.plain) is.short
 
--- the end of a walk
+-- a walk followed by no step is the walk
 walk_end : (r : Result ℕ Refusal) → and_then r (λ i. Ok i) ≡ r
 walk_end (Ok i) = refl
 walk_end (Err refusal) = refl
 
--- a walk with one more name
+-- a walk of a path, a slash and one more name is a walk of the path followed by a search
 walk_more : (t : Tree) (path name : List ℕ) (d : ℕ) → walk t user path ≡ Ok d → IsComponent name → walk t user (path ++ 47 ∷ name) ≡ find_in t user d name
 walk_more t path name d walked is =
     walk-onward t user path name ∙ (ap (λ r. and_then r (λ i. walk_from t user i (components name))) walked

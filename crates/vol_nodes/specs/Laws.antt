@@ -16,7 +16,7 @@ use Rattle.vol_volume.specs.declared.queries.Reply.TheVariants as replies
 use Rattle.vol_volume.specs.declared.queries.Stat.{Stat}
 use Rattle.vol_nodes.specs.Nodes.{stat_in, read_in, look_up}
 
--- rules 1 and 2 hold for an image, it is sound, and a path leads to node i, as user 0 walks it (Lions on namei)
+-- rules 1 and 2 hold for an image, it is sound, and a path leads to node `i`, as user 0 walks it (Lions on namei)
 pub record LeadsTo (edition : Edition) (image path : List ℕ) (i : ℕ) : Type 0 where
   pub fits : Fits (geometry_of edition image) image
   pub sound : IsSound edition image
@@ -28,7 +28,7 @@ StatsAreReplied = (edition : Edition) (image path : List ℕ) (i : ℕ) → Lead
     → let tree = tree (geometry_of edition image) image in
     (stat : Stat) × (stat_in tree i ≡ Some stat) × (answer tree (queries.Stat user path) ≡ Ok (replies.Stat stat))
 
--- bytes of a node are read if and only if a Read of its path replies them (Lions on readi)
+-- bytes of a node are read if and only if they are the reply to a Read of its path (Lions on readi)
 abbrev pub BytesAreReplied : Type 0
 BytesAreReplied = (edition : Edition) (image path : List ℕ) (i offset len : ℕ) (bytes : List ℕ) → LeadsTo edition image path i → has_zero path ≡ false
     → let tree = tree (geometry_of edition image) image in
@@ -40,12 +40,12 @@ NamesLeadAsWalks = (edition : Edition) (image path name : List ℕ) (d i : ℕ) 
     → let tree = tree (geometry_of edition image) image in
     (look_up tree d name ≡ Ok i) ↔ (walk tree user (path ++ 47 ∷ name) ≡ Ok i)
 
--- a listing that continues from slot `from`, entry by entry, finds exactly these, in `count` slots (manual section 5, directories)
+-- a listing that continues from slot `from`, entry by entry, finds exactly these entries, in `count` slots (manual section 5, directories)
 abbrev pub IsListed : (ℕ → Option (List ℕ × ℕ)) → ℕ → ℕ → List (ℕ × Slot) → Type 0
 IsListed entry count from [] = GoesOn entry from count None
 IsListed entry count from (found ∷ founds) = GoesOn entry from count (Some found) × IsListed entry count (found.0 + 1) founds
 
--- the entries that a listing finds from the first slot on are, as a map, the names in the reply to a List of the path (Lions on access)
+-- the entries that a listing finds starting with the first slot are, as a map, the names in the reply to a List of the path (Lions on access)
 abbrev pub ListingsAreReplied : Type 0
 ListingsAreReplied = (edition : Edition) (image path : List ℕ) (d : ℕ) (founds : List (ℕ × Slot)) → LeadsTo edition image path d → has_zero path ≡ false
     → let geometry = geometry_of edition image in

@@ -17,7 +17,7 @@ use Rattle.vol_nodes.specs.declared.fault.NodeFault.{NodeFault}
 use Rattle.vol_nodes.specs.declared.fault.NodeFault.TheVariants as faults
 use Rattle.vol_nodes.specs.declared.nodes.SpecialFile.{SpecialFile}
 
--- the attributes of node i, if there is one (stat)
+-- the attributes of node `i`, if there is one (stat)
 abbrev pub stat_in : Tree → ℕ → Option Stat
 stat_in tree i = option_map (stat_of i) (tree.nodes i)
 
@@ -26,18 +26,19 @@ abbrev pub is_block : MemberKind → Bool
 is_block members.Block = true
 is_block other = false
 
--- the device of a special file: its kind by the type bits of its mode, and the major and minor numbers in the low 16 bits of its first address (stat.h; ino.h; inode.h of the seventh edition)
+-- the device of a special file: its kind from the type bits of its mode, and the major and minor numbers in the low 16 bits of its first address
+-- (stat.h; ino.h; inode.h of the seventh edition)
 abbrev pub special_of : Content → Option SpecialFile
 special_of (Body bytes) = None
 special_of (Directory names) = None
 special_of (Device type addresses) =
     Some (record { is_block = is_block (device_kind type); major = slice_index addresses 0 % 65536 / 256; minor = slice_index addresses 0 % 65536 % 256 })
 
--- the device of node i, if it is a special file (manual section 5, file system)
+-- the device of node `i`, if it is a special file (manual section 5, file system)
 abbrev pub special_in : Tree → ℕ → Option SpecialFile
 special_in tree i = option_map_or (λ (node : Node). special_of node.content) (tree.nodes i) None
 
--- i-number i has a node, whose i-node is of this kind (manual section 5, file system)
+-- i-number `i` has a node, whose i-node is of this kind (manual section 5, file system)
 pub record HasNode (geometry : Geometry) (image : List ℕ) (i : ℕ) (kind : Kind) : Type 0 where
   pub first : 1 ≤ i
   pub last : i ≤ geometry.last_inode
@@ -45,20 +46,20 @@ pub record HasNode (geometry : Geometry) (image : List ℕ) (i : ℕ) (kind : Ki
   pub some : is_some (content_of geometry image i kind) ≡ true
   pub node : (tree geometry image).nodes i ≡ option_map (node_with (inode_of geometry.edition image i)) (content_of geometry image i kind)
 
--- the result that follows an Ok; a fault ends the request (this project)
+-- the result of the next step after an Ok, or the fault (this project)
 abbrev pub after_ok : {X Y : Type 0} → Result X NodeFault → (X → Result Y NodeFault) → Result Y NodeFault
 after_ok (Ok x) next = next x
 after_ok (Err fault) next = Err fault
 
--- node i, or Stale if there is none (this project)
+-- node `i`, or Stale if there is none (this project)
 abbrev pub node_in : Tree → ℕ → Result Node NodeFault
 node_in tree i = ok_or (tree.nodes i) faults.Stale
 
--- the map of directory d, or the fault if it has none (manual section 5, directories)
+-- the map of directory `d`, or the fault if it isn't one (manual section 5, directories)
 abbrev pub names_in : Tree → ℕ → Result Names NodeFault
 names_in tree d = after_ok (node_in tree d) (λ node. ok_or (map_of node.content) faults.NotDirectory)
 
--- i-number i, if it has a node (this project)
+-- `i`, if it is the i-number of a node, else Stale (this project)
 abbrev pub number_in : Tree → ℕ → Result ℕ NodeFault
 number_in tree i = after_ok (node_in tree i) (λ node. Ok i)
 
@@ -67,7 +68,7 @@ abbrev pub number_of : Tree → Names → List ℕ → Result ℕ NodeFault
 number_of tree names name =
     if nat_lt 14 (length name) then Err faults.LongName else after_ok (ok_or (get names name) faults.NoEntry) (number_in tree)
 
--- the number of the node that a name leads to in directory d, or the fault if it leads to none (Lions on namei)
+-- the number of the node that a name leads to in directory `d`, or the fault if it leads to none (Lions on namei)
 abbrev pub look_up : Tree → ℕ → List ℕ → Result ℕ NodeFault
 look_up tree d name = after_ok (names_in tree d) (λ names. number_of tree names name)
 
@@ -77,11 +78,11 @@ bytes_of (Body bytes) = Some bytes
 bytes_of (Directory names) = None
 bytes_of (Device type addresses) = None
 
--- the bytes of regular file i, or the fault if it has none (manual section 5, file system)
+-- the bytes of regular file `i`, or the fault if it isn't one (manual section 5, file system)
 abbrev pub bytes_in : Tree → ℕ → Result (List ℕ) NodeFault
 bytes_in tree i = after_ok (node_in tree i) (λ node. ok_or (bytes_of node.content) faults.NotRegular)
 
--- at most `len` bytes of regular file i from an offset on, or the fault (Lions on readi)
+-- at most `len` bytes of regular file `i` starting at an offset, or the fault (Lions on readi)
 abbrev pub read_in : Tree → ℕ → ℕ → ℕ → Result (List ℕ) NodeFault
 read_in tree i offset len = after_ok (bytes_in tree i) (λ bytes. Ok (read_bytes bytes offset len))
 
@@ -89,7 +90,7 @@ read_in tree i offset len = after_ok (bytes_in tree i) (λ bytes. Ok (read_bytes
 abbrev pub count_of : Result (List ℕ) NodeFault → Result ℕ NodeFault
 count_of read = after_ok read (λ bytes. Ok (length bytes))
 
--- a buffer after bytes were read into its beginning; unchanged if none were read (read)
+-- a buffer after bytes were read into its start; unchanged if none were read (read)
 abbrev pub filled : Result (List ℕ) NodeFault → List ℕ → List ℕ
 filled (Ok bytes) buffer = bytes ++ drop (length bytes) buffer
 filled (Err fault) buffer = buffer

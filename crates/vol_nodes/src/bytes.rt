@@ -26,12 +26,12 @@ fn regular(image: &Image, geometry: &Geometry, i: u16) -> Result<(), NodeFault>
     }
 }
 
-/// Reads bytes of regular file `i` from byte `offset` into `buffer`, up to the file's end or the buffer's, and returns their
-/// number: 0 at the end of the file and past it. The rest of `buffer` is unchanged. Holes read as zeros.
+/// Reads bytes of regular file `i` from byte `offset` into `buffer`, until the file or the buffer ends, and returns their number, which is 0 at the
+/// end of the file and past it. The rest of `buffer` is unchanged. Holes read as zeros.
 ///
 /// Returns `Stale` if no node has this number, then `NotRegular`; `buffer` is then unchanged.
 ///
-/// Takes no memory. Costs what [`vol_file::read`] costs.
+/// Takes no memory. Costs as much as [`vol_file::read`].
 pub fn read(
     image: &Image,
     geometry: &Geometry,

@@ -3,7 +3,7 @@
 /// The reason why a request for a node failed.
 #[derive(Clone, Copy, PartialEq, Eq)]
 pub enum NodeFault {
-    /// The number isn't that of a node: it is outside the volume, or its i-node is free, or its kind isn't the edition's.
+    /// No node has this number: it is outside the volume, its i-node is free, or the i-node's kind isn't one of the edition's.
     Stale,
     /// The node isn't a directory.
     NotDirectory,

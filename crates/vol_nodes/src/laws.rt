@@ -1,5 +1,4 @@
-//! Laws of requests by i-number: on a sound image they agree with queries by path. Calling a law does nothing; its contract is
-//! proved.
+//! Laws of requests by i-number: on a sound image they agree with queries by path. The functions do nothing; their proved contracts are the laws.
 ghost use Rattle.vol_nodes.specs.Laws.{StatsAreReplied, BytesAreReplied, NamesLeadAsWalks, ListingsAreReplied};
 
 /// If a path leads to a node, `stat` of the node is the reply to a Stat of the path.
@@ -12,13 +11,12 @@ pub fn bytes_are_replied()
     ensures { BytesAreReplied }
 {}
 
-/// If a path leads to a directory, looking up a name there leads where the path followed by the name does.
+/// If a path leads to a directory, looking up a name in it leads to the same node as the path followed by the name.
 pub fn names_lead_as_walks()
     ensures { NamesLeadAsWalks }
 {}
 
-/// If a path leads to a directory, the entries from its first slot on are, as a map, the names in the reply to a List of the
-/// path.
+/// If a path leads to a directory, the entries starting with its first slot are, as a map, the names in the reply to a List of the path.
 pub fn listings_are_replied()
     ensures { ListingsAreReplied }
 {}

@@ -29,13 +29,13 @@ fn directory(image: &Image, geometry: &Geometry, dir: u16) -> Result<(), NodeFau
     }
 }
 
-/// Returns the number of the node that `name` leads to in directory `dir`. If several entries have the name, the first counts;
-/// `.` and `..` are entries like any other.
+/// Returns the number of the node that `name` leads to in directory `dir`. If several entries have the name, the first one counts; `.` and `..` are
+/// entries like any other.
 ///
-/// Returns `Stale` if no node has the number `dir`, then `NotDirectory`, then `LongName`, then `NoEntry`; last, `Stale` if the
-/// entry leads to no node, as in a damaged image: a listing shows the name, so it isn't missing.
+/// Returns `Stale` if no node has the number `dir`, then `NotDirectory`, then `LongName`, then `NoEntry`; last, `Stale` if the entry leads to no
+/// node, as may happen in a damaged image: a listing shows the name, so it isn't missing.
 ///
-/// Takes no memory. Costs what [`find`] costs.
+/// Takes no memory. Costs as much as [`find`].
 pub fn look_up(image: &Image, geometry: &Geometry, dir: u16, name: &[u8]) -> Result<u16, NodeFault>
     requires fits { Fits geometry.now image.now }
     ensures { result ≡ look_up (tree geometry.now image.now) dir name.now }
@@ -55,9 +55,9 @@ pub fn look_up(image: &Image, geometry: &Geometry, dir: u16, name: &[u8]) -> Res
 /// continues in the slot after the returned one, so it visits each slot once even while names are added and removed. The bytes
 /// after the name's first zero byte are unspecified.
 ///
-/// Returns `Stale` if no node has the number `dir`, then `NotDirectory`. The entry's number may be that of no node.
+/// Returns `Stale` if no node has the number `dir`, then `NotDirectory`. The entry's number may belong to no node.
 ///
-/// Takes no memory. Costs what [`next_entry`] costs: holes are skipped, however large the directory is.
+/// Takes no memory. Costs as much as [`next_entry`]: holes are skipped, however large the directory is.
 pub fn next_name(
     image: &Image,
     geometry: &Geometry,

@@ -37,8 +37,8 @@ pub(crate) fn node_kind(image: &Image, geometry: &Geometry, i: u16) -> Option<Ki
     }
 }
 
-/// Returns the attributes of node `i`. Returns `None` if no node has this number: it is outside the volume, or its i-node is free
-/// or its kind isn't one of the edition's.
+/// Returns the attributes of node `i`, or `None` if no node has this number: it is outside the volume, its i-node is free, or the i-node's kind isn't
+/// one of the edition's.
 pub fn stat(image: &Image, geometry: &Geometry, i: u16) -> Option<Stat>
     requires { Fits geometry.now image.now }
     ensures { result ≡ stat_in (tree geometry.now image.now) i }

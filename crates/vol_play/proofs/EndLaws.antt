@@ -1,4 +1,4 @@
--- Facts about a volume once all scripts were played, from the results of their lines.
+-- Facts about a volume after all scripts were played, from the results of their lines.
 use Rattle.std.proofs.Common.{◌≡◌, ◌∙◌, ℕ, ◌+◌, ◌≤◌, List, [], ◌∷◌, ◌++◌, Some, map, max, All, true≢false, false, refl, ap, sym, arith}
 use Rattle.std.proofs.lemmas.List.Elements.{All-append, All-cons, All-head, All-nil, All-same, All-tail, All-weaker}
 use Rattle.std.specs.Prelude.{Vec}
@@ -29,7 +29,7 @@ use Rattle.vol_play.proofs.PlayerLaws.{IsEnded}
 use Rattle.vol_play.proofs.StepLaws.{known_all_of, known_cuts, known_places, known_receipts}
 
 module _ (shared : Opened) where
-  -- all sessions are the volume's
+  -- all sessions belong to the shared volume
   own_dealt : (players : List Player) → AllByRecursion (IsEnded shared) players → All (λ s. s.of ≡ shared.of) (sessions_of players)
   own_dealt [] all = All-nil (λ (s : Known). s.of ≡ shared.of)
   own_dealt (Caller session steps played ∷ players) all =
@@ -37,14 +37,14 @@ module _ (shared : Opened) where
       (own_dealt players all.1)
   own_dealt (Viewer view queries played ∷ players) all = own_dealt players all.1
 
-  -- all views are the volume's
+  -- all views belong to the shared volume
   pub own_views : (players : List Player) → AllByRecursion (IsEnded shared) players → All (λ v. shared.of.book ≡ Some v.book) (views_of players)
   own_views [] all = All-nil (λ (v : Watched). shared.of.book ≡ Some v.book)
   own_views (Caller session steps played ∷ players) all = own_views players all.1
   own_views (Viewer view queries played ∷ players) all =
       All-cons (λ (v : Watched). shared.of.book ≡ Some v.book) view (views_of players) all.0.2 (own_views players all.1)
 
-  -- the records that all calls made
+  -- the records that all sessions made have the same total weight as the records that the calls of all scripts made
   places_dealt : (weight : ℕ → ℕ) (players : List Player) → AllByRecursion (IsEnded shared) players
       → total (λ s. total weight s.places) (sessions_of players) ≡ total (λ came. total weight (places_made came.items)) (map played_by players)
   unfolding total
@@ -56,7 +56,7 @@ module _ (shared : Opened) where
   places_dealt weight (Viewer view queries played ∷ players) all =
       let one = ap (total weight) all.0.0 in let rest = places_dealt weight players all.1 in omega arith
 
-  -- the greatest number that a cut returned
+  -- the greatest number that the cuts of all sessions returned is the greatest that the cuts of all scripts returned
   cuts_dealt : (players : List Player) → AllByRecursion (IsEnded shared) players
       → greatest (λ s. greatest_of s.cuts) (sessions_of players) ≡ greatest (λ came. greatest_of (cuts_made came.items)) (map played_by players)
   unfolding greatest
@@ -79,7 +79,7 @@ module _ (shared : Opened) where
   uncut_dealt (Viewer view queries played ∷ players) all none =
       uncut_dealt players all.1 (All-tail (λ (came : Vec Played Global). cuts_made came.items ≡ []) played (map played_by players) none)
 
-  -- a fact of the receipts of all sessions and views is one of all receipts
+  -- a fact that holds for the receipts of all sessions and views holds for all receipts of the scripts
   receipts_dealt : (fits : Receipt → Type 0) (players : List Player) → AllByRecursion (IsEnded shared) players
       → All (λ s. All fits s.receipts) (sessions_of players) → All (λ v. All fits v.receipts) (views_of players)
       → All (λ came. All fits (receipts_in came.items)) (map played_by players)
@@ -94,7 +94,7 @@ module _ (shared : Opened) where
       (All-same fits (receipts_in played.items) view.receipts (sym all.0.3) (All-head (λ (v : Watched). All fits v.receipts) view (views_of players) views))
       (receipts_dealt fits players all.1 sessions (All-tail (λ (v : Watched). All fits v.receipts) view (views_of players) views))
 
-  -- a fact of the receipts of all sessions is one of those of the scripts for sessions
+  -- a fact that holds for the receipts of all sessions holds for the receipts of the scripts for sessions
   called_dealt : (fits : Receipt → Type 0) (players : List Player) → AllByRecursion (IsEnded shared) players
       → All (λ s. All fits s.receipts) (sessions_of players)
       → All (λ came. is_seen came.items ≡ false → All fits (receipts_in came.items)) (map played_by players)
@@ -110,7 +110,7 @@ module _ (shared : Opened) where
       (λ called. absurd (true≢false (sym all.0.4 ∙ called)))
       (called_dealt fits players all.1 sessions)
 
-  -- the same, with the sessions that no script had
+  -- these facts also hold with the sessions that no script used
   module _ (left : List Known) (unused : All (λ s. s ≡ fresh_session shared) left) (players : List Player) (ended : AllByRecursion (IsEnded shared) players) where
     pub own_sessions : All (λ s. s.of ≡ shared.of) (left ++ sessions_of players)
     own_sessions =
@@ -154,7 +154,7 @@ module _ (shared : Opened) where
         → All (λ came. is_seen came.items ≡ false → All fits (receipts_in came.items)) (map played_by players)
     ended_called fits sessions = called_dealt fits players ended (all_after (λ (s : Known). All fits s.receipts) left (sessions_of players) sessions)
 
-    -- the facts about the volume at the end are the result of a play
+    -- after the sharing ends, the volume and the results of the scripts' lines satisfy the definition of a play
     pub whole_played : (scripts : List Script) (last : Mounted) → InPairs (λ script came. CameOfScript script (next_number shared.stored) came.items) scripts (map played_by players)
         → Closes shared.stored (left ++ sessions_of players) (views_of players) last → ArePlayed (unpublished shared.stored) scripts last (map played_by players)
     whole_played scripts last came closes = record {

@@ -1,4 +1,4 @@
--- A volume that is shared, with or without views, for as many scripts as there are.
+-- A volume that is shared, with or without views, by one session or view for each script.
 use Rattle.std.proofs.Common.{◌≡◌, ◌≢◌, ◌∙◌, ℕ, ◌+◌, List, [], ◌∷◌, None, Some, length, map, All, refl, ap, sym, arith}
 use Rattle.std.proofs.lemmas.List.Elements.{All-nil}
 use Rattle.std.specs.Prelude.{cond, count_by}
@@ -15,7 +15,7 @@ use Rattle.vol_play.specs.Players.{is_session, is_view, wants_session, wants_vie
 use Rattle.vol_play.specs.declared.prepare.Prepared.{Prepared}
 use Rattle.vol_play.proofs.ListLaws.{counted_first}
 
--- a volume that is shared without views
+-- a volume that is shared without views satisfies `IsOpened`
 pub opened_plain : (volume : Mounted) (sessions : ℕ) (shared : Opened) (all : List Known) → shared.stored ≡ stored_of volume → shared.of.book ≡ None
     → shared.sessions ≡ sessions → length all ≡ sessions → All (λ s. s ≡ fresh_session shared) all → IsOpened (stored_of volume) sessions 0 shared all []
 opened_plain volume sessions shared all stored plain of count fresh = record {
@@ -29,7 +29,7 @@ opened_plain volume sessions shared all stored plain of count fresh = record {
   published = λ some. absurd (some refl);
 }
 
--- a volume that is shared with views
+-- a volume that is shared with views satisfies `IsOpened`
 pub opened_published : (stored : Stored) (sessions views : ℕ) (shared : Opened) (all : List Known) (seen : List Watched) → views ≢ 0
     → unpublished shared.stored ≡ stored → (shared.sessions ≡ sessions) × (length all ≡ sessions) → (shared.views ≡ views) × (length seen ≡ views)
     → All (λ s. s ≡ fresh_session shared) all → All (IsNewView shared.stored) seen → All (λ v. shared.of.book ≡ Some v.book) seen
@@ -45,7 +45,7 @@ opened_published stored sessions views shared all seen some is callers viewers f
   published = λ more. viewers.0 ∙ sym viewers.1;
 }
 
--- the same volume, with its counts under other names
+-- the same holds for equal numbers of sessions and views
 pub opened_as : (stored : Stored) (sessions views callers viewers : ℕ) (shared : Opened) (all : List Known) (seen : List Watched)
     → sessions ≡ callers → views ≡ viewers → IsOpened stored sessions views shared all seen → IsOpened (unpublished shared.stored) callers viewers shared all seen
 opened_as stored sessions views callers viewers shared all seen callers_are viewers_are is = record {

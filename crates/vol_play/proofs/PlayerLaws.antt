@@ -1,4 +1,4 @@
--- Players before and after all scripts were played.
+-- Players before and after the scripts are played.
 use Rattle.std.proofs.Common.{◌≡◌, ◌∙◌, ℕ, ◌+◌, ◌≤◌, List, [], ◌∷◌, ◌++◌, Some, length, map, All, true, refl, ap, sym, subst, append_assoc, length-append, arith}
 use Rattle.std.proofs.lemmas.List.Elements.{All-cons, All-head, All-nil, All-tail}
 use Rattle.std.specs.Prelude.{Vec, cond, count_by, vec_capacity}
@@ -26,25 +26,25 @@ use Rattle.vol_play.specs.declared.prepare.Player.TheVariants.{Caller, Viewer}
 use Rattle.vol_play.proofs.ListLaws.{counted_first}
 use Rattle.vol_play.proofs.QueryLaws.{view_cuts, view_places, view_seen}
 
--- the sessions of players are that of the first and those of the others
+-- the sessions of players are the first player's, followed by the others'
 pub sessions_first : (player : Player) (players : List Player) → sessions_of (player ∷ players) ≡ sessions_of (player ∷ []) ++ sessions_of players
 sessions_first (Caller session steps played) players = refl
 sessions_first (Viewer view queries played) players = refl
 
--- so are the views
+-- the views of players are the first player's, followed by the others'
 pub views_first : (player : Player) (players : List Player) → views_of (player ∷ players) ≡ views_of (player ∷ []) ++ views_of players
 views_first (Caller session steps played) players = refl
 views_first (Viewer view queries played) players = refl
 
 module _ {A : Type 0} (of : List Player → List A) (first : (player : Player) (players : List Player) → of (player ∷ players) ≡ of (player ∷ []) ++ of players) where
-  -- a list that got the first player's part, followed by the parts of the others, has all
+  -- if the first player's part was appended, the list followed by the other players' parts is still the whole list
   pub put_on : (old new whole : List A) (player : Player) (players left : List Player) → left ≡ player ∷ players → new ≡ old ++ of (player ∷ [])
       → old ++ of left ≡ whole → new ++ of players ≡ whole
   put_on old new whole player players left left_is new_is so_far =
       ap (λ (xs : List A). xs ++ of players) new_is ∙ append_assoc old (of (player ∷ [])) (of players)
       ∙ ap (λ (xs : List A). old ++ xs) (sym (first player players) ∙ ap of (sym left_is)) ∙ so_far
 
-  -- there is room for the first player's part, followed by those of the others
+  -- if there is room for the parts of all players, there is still room after the first player's part was appended
   pub fits_on : (old new : List A) (room : ℕ) (player : Player) (players left : List Player) → left ≡ player ∷ players → new ≡ old ++ of (player ∷ [])
       → length old + length (of left) ≤ room → (length old + length (of (player ∷ [])) ≤ room) × (length new + length (of players) ≤ room)
   fits_on old new room player players left left_is new_is fits =
@@ -52,7 +52,7 @@ module _ {A : Type 0} (of : List Player → List A) (first : (player : Player) (
       let parts = ap (λ (ps : List Player). length (of ps)) left_is ∙ ap length (first player players) ∙ length-append (of (player ∷ [])) (of players) in
       (omega arith, omega arith)
 
--- there is a player for each script
+-- two lists that are related in pairs have the same length
 pub as_many : {A B : Type 0} (related : A → B → Type 0) (xs : List A) (ys : List B) → InPairs related xs ys → length ys ≡ length xs
 as_many related [] [] all = refl
 as_many related [] (y ∷ ys) all = absurd all
@@ -60,14 +60,14 @@ as_many related (x ∷ xs) [] all = absurd all
 as_many related (x ∷ xs) (y ∷ ys) all = let h = as_many related xs ys all.1 in omega arith
 
 module _ (shared : Opened) where
-  -- a view that was just opened begins at the volume's next number
+  -- a view that was just opened starts at the volume's next record number
   fresh_number : (view : Watched) → IsFreshView shared view → number_of view.log ≡ next_number shared.stored
   fresh_number view is =
       let first = ap (λ (o : Origin). o.first) is.fresh.origin in
       let records = ap (λ (rs : List Record). length rs) is.fresh.records in
       omega arith
 
-  -- a script that is ready can be played by its player
+  -- a player with a script that has no results yet can play it
   can_play : (script : Script) (room : Vec Played Global) (player : Player) → room.items ≡ [] → lines_of script ≤ vec_capacity room
       → IsDealtTo shared script room player → CanPlay shared.of player
   can_play (kinds.Session wanted) room (Caller session steps played) empty fits dealt = (
@@ -82,7 +82,7 @@ module _ (shared : Opened) where
     subst (λ (p : Vec Played Global). length queries + 1 ≤ vec_capacity p) (sym dealt.2) (subst (λ (qs : List Query). length qs + 1 ≤ vec_capacity room) (sym dealt.1) fits),
   )
 
-  -- so can all
+  -- all players can play their scripts
   pub dealt_can : (prepared : List Prepared) (players : List Player) → All IsPrepared prepared → InPairs (IsDealt shared) prepared players
       → All (CanPlay shared.of) players
   dealt_can [] [] ready dealt = All-nil (CanPlay shared.of)
@@ -92,7 +92,7 @@ module _ (shared : Opened) where
       let one = All-head IsPrepared p ps ready in
       All-cons (CanPlay shared.of) q qs (can_play p.script p.played q one.empty one.room dealt.0) (dealt_can ps qs (All-tail IsPrepared p ps ready) dealt.1)
 
-  -- a script's player after it was played
+  -- a script's player after it played the script
   abbrev EndedAs : Script → Player → Type 0
   EndedAs (kinds.Session wanted) (Caller session steps played) =
       CameInTurn CameOf wanted (next_number shared.stored) played.items × (session ≡ known_after_all (fresh_session shared) played.items)
@@ -129,7 +129,7 @@ module _ (shared : Opened) where
   ended_all (p ∷ ps) (o ∷ os) [] dealt has = absurd has
   ended_all (p ∷ ps) (o ∷ os) (n ∷ ns) dealt has = (ended_one p.script p.played o n dealt.0 has.0, ended_all ps os ns dealt.1 has.1)
 
-  -- each line has a result
+  -- after a script was played, each of its lines has a result
   came_one : (script : Script) (player : Player) → EndedAs script player → CameOfScript script (next_number shared.stored) (played_by player).items
   came_one (kinds.Session wanted) (Caller session steps played) ended = ended.0
   came_one (kinds.Session wanted) (Viewer view queries played) ended = absurd ended
@@ -143,7 +143,7 @@ module _ (shared : Opened) where
   came_all (p ∷ ps) [] all = absurd all
   came_all (p ∷ ps) (q ∷ qs) all = (came_one p.script q all.0, came_all ps qs all.1)
 
-  -- as many sessions and views are given back as were dealt
+  -- the number of sessions of some players is 1 if the first script is for a session, else 0, plus the number of the other players' sessions
   sessions_one : (script : Script) (player : Player) (rest : List Player) → EndedAs script player
       → length (sessions_of (player ∷ rest)) ≡ cond (is_session script) 1 0 + length (sessions_of rest)
   sessions_one (kinds.Session wanted) (Caller session steps played) rest ended = omega arith
@@ -172,7 +172,8 @@ module _ (shared : Opened) where
   views_many (p ∷ ps) [] all = absurd all
   views_many (p ∷ ps) (q ∷ qs) all = views_one p.script q qs all.0 ∙ ap (λ n. cond (is_view p.script) 1 0 + n) (views_many ps qs all.1) ∙ sym (counted_first wants_view p ps)
 
-  -- facts about one player once its script was played: its session has run the lines with these results, or its view made no records, no cuts and their receipts
+  -- facts about one player after its script was played: its session has run the lines with these results; or its view made no records and no cuts,
+  -- and has the receipts
   abbrev pub IsEnded : Player → Type 0
   IsEnded (Caller session steps played) = session ≡ known_after_all (fresh_session shared) played.items
   IsEnded (Viewer view queries played) = (places_made played.items ≡ []) × (cuts_made played.items ≡ [])

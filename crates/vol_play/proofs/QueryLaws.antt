@@ -30,13 +30,13 @@ question_place log receipt query is agrees =
     question_after (origin_in log) (history_of log) count query receipt.at receipt.outcome
     (subst (λ (asked : Asked). AgreesAfter (origin_in log) (history_of log) count asked receipt.outcome) is agrees.1)
 
--- without a record the next receipt may have the same number
+-- if a receipt has no record, the next receipt may have the same number
 pub question_next : (at : ℕ) (outcome : Outcome) → place_of at outcome ≡ [] → next_of at outcome ≡ at
 question_next at (Accepted done) none = absurd (let e = none in cc)
 question_next at (Refused refusal) none = refl
 question_next at (Answered reply) none = refl
 
--- a number above the least is above any lesser one
+-- a possible result for a least number is also possible for a smaller one
 query_less : (query : Query) (less next : ℕ) (came : Played) → less ≤ next → CameOfQuery query next came → CameOfQuery query less came
 query_less query less next (played.Told receipt) below one = (one.0, let least = one.1 in omega arith, one.2)
 query_less query less next (played.Cut first) below one = absurd one
@@ -59,7 +59,7 @@ in_turn_less (q ∷ qs) less next [] below all = absurd all
 in_turn_less (q ∷ qs) less next (c ∷ cs) below all =
     (query_less q less next c below all.0, in_turn_less qs (next_after less c) (next_after next c) cs (after_less less next c below) all.1)
 
--- queries make no records
+-- the queries of a view make no records
 pub queries_places : (queries : List Query) (next : ℕ) (came : List Played) → CameInTurn CameOfQuery queries next came → places_made came ≡ []
 queries_places [] next [] all = refl
 queries_places [] next (c ∷ cs) all = absurd all
@@ -70,7 +70,7 @@ queries_places (q ∷ qs) next (played.NoMemory ∷ cs) all = queries_places qs 
 queries_places (q ∷ qs) next (played.NotEntered ∷ cs) all = queries_places qs _ cs all.1
 queries_places (q ∷ qs) next (played.View ∷ cs) all = absurd all.0
 
--- and no cuts
+-- the queries of a view make no cuts
 pub queries_cuts : (queries : List Query) (next : ℕ) (came : List Played) → CameInTurn CameOfQuery queries next came → cuts_made came ≡ []
 queries_cuts [] next [] all = refl
 queries_cuts [] next (c ∷ cs) all = absurd all
@@ -97,7 +97,7 @@ view_cuts queries next (played.NoMemory ∷ others) all = absurd all
 view_cuts queries next (played.NotEntered ∷ others) all = absurd all
 view_cuts queries next (played.View ∷ others) all = queries_cuts queries next others all
 
--- the results of a view's script say that it is one
+-- the results of a script for a view begin with the mark of a view
 pub view_seen : (queries : List Query) (next : ℕ) (came : List Played) → CameOfView queries next came → is_seen came ≡ true
 view_seen queries next [] all = absurd all
 view_seen queries next (played.Told receipt ∷ others) all = absurd all

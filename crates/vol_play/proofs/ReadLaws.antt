@@ -1,4 +1,4 @@
--- Scripts that were read, and reasons to play none.
+-- Scripts that were read, and reasons to play no script.
 use Rattle.std.proofs.Common.{◌≡◌, ℕ, ◌+◌, ◌≤◌, Bool, List, [], ◌∷◌, length, Some, Result, Ok, Err, false, true, refl, sym, ap, arith}
 use Rattle.std.proofs.lemmas.Bool.{leb-false}
 use Rattle.std.specs.Prelude.{Vec, cond, count_by, drop, nat_le, ◌&&◌, if◌then◌else◌}
@@ -15,14 +15,14 @@ use Rattle.vol_volume.specs.declared.queries.Query.{Query}
 use Rattle.vol_play.specs.Players.{is_view}
 use Rattle.vol_play.proofs.ListLaws.{counted_first}
 
--- if scripts were read, the first was, and those after it
+-- if all scripts were read, the first was read, and so were those after it
 before_read : (first : Result Script BadLine) (number : ℕ) (others : Result (List Script) (ℕ × BadLine)) (read : List Script) → before_scripts first number others ≡ Ok read
     → (head : Script) × (tail : List Script) × (first ≡ Ok head) × (others ≡ Ok tail) × (read ≡ head ∷ tail)
 before_read (Err line) number others read is = absurd (let e = is in cc)
 before_read (Ok script) number (Ok tail) read is = let e = is in (script, tail, refl, refl, cc)
 before_read (Ok script) number (Err later) read is = absurd (let e = is in cc)
 
--- as many scripts are read as there are
+-- the number of scripts that were read is the number of scripts
 pub read_many : (number views : ℕ) (scripts : List (Vec ℕ Global)) (read : List Script) → scripts_from number views scripts ≡ Ok read → length read ≡ length scripts
 read_many number views [] read is = let e = is in let none : read ≡ [] = cc in ap length none
 read_many number views (script ∷ scripts) read is =
@@ -31,7 +31,7 @@ read_many number views (script ∷ scripts) read is =
     let all = ap length parts.4 in
     omega arith
 
--- lines that were read make the script that they were read for
+-- if the lines of a session's script were read, the script is for a session
 made_session : (asked : Result (List ScriptStep) BadLine) (script : Script) → result_map_both kinds.Session (λ line. line) asked ≡ Ok script → is_view script ≡ false
 made_session (Ok steps) script is = let e = is in let same : script ≡ kinds.Session steps = cc in ap is_view same
 made_session (Err line) script is = absurd (let e = is in cc)
@@ -49,7 +49,7 @@ read_by views true false viewed asked script over_is as_view as_session few is =
     let yes = as_view is in let below = leb-false 16 views (sym over_is) in (rw yes (omega arith), omega arith)
 read_by views false over viewed asked script over_is as_view as_session few is = let no = as_session is in (rw no (omega arith), few)
 
--- a script that was read is for a view if its first line says so, and then at most 15 came before it
+-- if a script is read after `views` scripts for views, their number with this script is greater by 1 if it is for a view, and is at most 16
 read_one : (views : ℕ) (bytes : List ℕ) (script : Script) → views ≤ 16 → script_after views bytes ≡ Ok script
     → (views_after views bytes ≡ cond (is_view script) 1 0 + views) × (views_after views bytes ≤ 16)
 read_one views bytes script few is =

@@ -10,11 +10,11 @@ use Rattle.vol_shared.specs.Watch.{IsNewView}
 use Rattle.vol_views.specs.Views.{Watched}
 use Rattle.vol_volume.specs.Volume.{Mounted}
 
--- a session that was just opened (this project)
+-- the state of a session that was just opened (this project)
 abbrev pub fresh_session : Opened → Known
 fresh_session shared = new_session shared.of (next_number shared.stored)
 
--- a view that was just opened: it is the shared volume's, and knows all its records (this project)
+-- a view was just opened: it belongs to the shared volume, and knows all its records (this project)
 pub record IsFreshView (shared : Opened) (view : Watched) : Type 0 where
   pub own : shared.of.book ≡ Some view.book
   pub fresh : IsNewView shared.stored view
@@ -30,7 +30,7 @@ pub record IsOpened (volume : Stored) (callers viewers : ℕ) (shared : Opened) 
   pub plain : seen ≡ [] → shared.of.book ≡ None
   pub published : seen ≢ [] → shared.views ≡ length seen
 
--- all sessions and views of a shared volume are handed back (this project)
+-- all sessions and views of a shared volume are returned to it (this project)
 pub record IsReturned (shared : Opened) (all : List Known) (seen : List Watched) : Type 0 where
   pub count : length all ≡ shared.sessions
   pub own : All (λ s. s.of ≡ shared.of) all
@@ -38,7 +38,7 @@ pub record IsReturned (shared : Opened) (all : List Known) (seen : List Watched)
   pub plain : seen ≡ [] → shared.of.book ≡ None
   pub published : seen ≢ [] → length seen ≡ shared.views
 
--- a shared volume at its end, given its sessions and views (this project)
+-- a shared volume after the sharing ends, given its sessions and views (this project)
 pub record Closes (opened : Stored) (all : List Known) (seen : List Watched) (last : Mounted) : Type 0 where
   pub goes_on : Continues opened (stored_of last) (λ agrees. All (λ s. All agrees s.receipts) all)
   pub uncut : All (λ s. s.cuts ≡ []) all → (origin_of last ≡ opened.origin) × BeginsWith last.journal opened.journal

@@ -41,7 +41,11 @@ script_cuts (kinds.View queries) = false
 abbrev pub any_cut : List Script → Bool
 any_cut scripts = list_any script_cuts scripts
 
--- scripts were played on a volume: each line of each script has a result, in order; the volume continues what it was by records with which all receipts of sessions agree, also those given before a cut; the bytes that no call changes stay; if no script cut the journal, it extends the one that was there; the journal's first number is the greatest that a cut returned, or that of the start; the accepted calls of all scripts have the numbers of the records made since, each once; and each receipt agrees with the journal, unless its number is below that of the journal's first record (this project)
+-- scripts were played on a volume: each line of each script has a result, in order; the volume results from the old one by records that all receipts
+-- of sessions agree with, including the receipts from before a cut; the bytes that no call changes stay; if no script cut the journal, it extends the
+-- old one; the journal's first number is the greatest that a cut returned, or else the old one; the accepted calls of all scripts have the numbers of
+-- the records made since, each once; and each receipt agrees with the journal, unless its number is below the number of the journal's first record
+-- (this project)
 pub record ArePlayed (opened : Stored) (scripts : List Script) (last : Mounted) (played : List (Vec Played Global)) : Type 0 where
   pub came : InPairs (λ script came. CameOfScript script (next_number opened) came.items) scripts played
   pub goes_on : Continues opened (stored_of last) (λ agrees. All (λ came. is_seen came.items ≡ false → All agrees (receipts_in came.items)) played)
@@ -51,7 +55,7 @@ pub record ArePlayed (opened : Stored) (scripts : List Script) (last : Mounted) 
       ≡ below weight (next_number (stored_of last))
   pub agree : All (λ came. All (λ receipt. last.first ≤ receipt.at → Agrees (origin_of last) last.journal receipt) (receipts_in came.items)) played
 
--- scripts were played on the sound volume in an image, and it has the state after its journal (this project)
+-- scripts were played on the sound volume in an image, whose state afterwards is the one after its journal (this project)
 pub record IsPlayed (edition : Edition) (image : List ℕ) (scripts : List Script) (last : Mounted) (played : List (Vec Played Global)) : Type 0 where
   pub sound : IsSound edition image
   pub whole : ArePlayed (stored_of (mounted edition image)) scripts last played
@@ -61,11 +65,11 @@ pub record IsPlayed (edition : Edition) (image : List ℕ) (scripts : List Scrip
 abbrev pub IsUnplayed : Edition → List ℕ → Fault → Type 0
 IsUnplayed edition image fault = IsCause edition image (λ refusal. ⊥) fault
 
--- standard output is as it was (this project)
+-- standard output is unchanged (this project)
 abbrev pub IsSilent : Streams → Type 0
 IsSilent streams = Keeps streams.old streams.new × (streams.failed ≡ streams.had_failed)
 
--- a line of a script can't be read, or memory ran out for the scripts (this project)
+-- a line of a script can't be read, or memory for the scripts ran out (this project)
 abbrev pub StopsUnread : List (Vec ℕ Global) → Streams → Answer → Type 0
 StopsUnread scripts streams answer = IsSilent streams × ((fault : ScriptsFault) × ReadsScripts scripts (Err fault) × AnswersFault fault streams.said answer)
 
@@ -79,7 +83,7 @@ abbrev pub PlaysAll : Edition → List ℕ → Bool → List Script → Streams 
 PlaysAll edition image journal scripts streams answer = (last : Mounted) × (played : List (Vec Played Global)) × IsPlayed edition image scripts last played
     × Finishes last (any_cut scripts) played (PrintsPlay last (any_cut scripts) journal played streams.old streams.new streams.had_failed streams.failed) streams.said answer
 
--- the result of `play`: a line of a script can't be read; or all can, and no step is played; or all scripts are played (this project)
+-- the result of `play`: a line of a script can't be read; or all lines can be read, and no step is played; or all scripts are played (this project)
 abbrev pub PlaysVolume : Edition → List ℕ → Bool → List (Vec ℕ Global) → Streams → Answer → Type 0
 PlaysVolume edition image journal scripts streams answer = StopsUnread scripts streams answer
     ⊎ ((read : List Script) × (scripts_in scripts ≡ Ok read) × (StopsUnplayed edition image streams answer ⊎ PlaysAll edition image journal read streams answer))

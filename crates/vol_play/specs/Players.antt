@@ -40,7 +40,7 @@ wants_view prepared = is_view prepared.script
 abbrev pub wants_session : Prepared → Bool
 wants_session prepared = is_session prepared.script
 
--- the number of results that a script's lines have (this project)
+-- the number of results of a script's lines (this project)
 abbrev pub lines_of : Script → ℕ
 lines_of (kinds.Session steps) = length steps
 lines_of (kinds.View queries) = length queries + 1
@@ -67,14 +67,14 @@ views_of [] = []
 views_of (Caller session steps played ∷ players) = views_of players
 views_of (Viewer view queries played ∷ players) = view ∷ views_of players
 
--- a player has a script's lines and the room for their results, and a session or a view that was just opened (this project)
+-- a player has a script's lines, the room for their results, and a session or a view that was just opened (this project)
 abbrev pub IsDealtTo : Opened → Script → Vec Played Global → Player → Type 0
 IsDealtTo shared (kinds.Session wanted) room (Caller session steps played) = (session ≡ fresh_session shared) × (steps ≡ wanted) × (played ≡ room)
 IsDealtTo shared (kinds.Session wanted) room (Viewer view queries played) = ⊥
 IsDealtTo shared (kinds.View wanted) room (Caller session steps played) = ⊥
 IsDealtTo shared (kinds.View wanted) room (Viewer view queries played) = IsFreshView shared view × (queries ≡ wanted) × (played ≡ room)
 
--- a player has a script (this project)
+-- a player was assigned to a script (this project)
 abbrev pub IsDealt : Opened → Prepared → Player → Type 0
 IsDealt shared prepared player = IsDealtTo shared prepared.script prepared.played player
 
@@ -83,7 +83,7 @@ abbrev pub CanPlay : Identity → Player → Type 0
 CanPlay of (Caller session steps played) = (session.of ≡ of) × (played.items ≡ []) × (length steps ≤ vec_capacity played)
 CanPlay of (Viewer view queries played) = (played.items ≡ []) × (length queries + 1 ≤ vec_capacity played)
 
--- a player after it played its script (this project)
+-- a player before and after it played its script (this project)
 abbrev pub HasPlayed : Player → Player → Type 0
 HasPlayed (Caller old steps room) (Caller new none played) = CameInTurn CameOf steps old.next played.items × (new ≡ known_after_all old played.items)
 HasPlayed (Caller old steps room) (Viewer new none played) = ⊥

@@ -12,7 +12,8 @@ use Rattle.vol_scripts.specs.declared.steps.ScriptStep.TheVariants as steps
 use Rattle.vol_volume.specs.Answer.{takes_memory}
 use Rattle.vol_volume.specs.declared.queries.Query.{Query}
 
--- a possible result of a step, given the least number that its receipt or its cut may have: a call or query has a receipt of itself, unless memory runs out, for a query only if its reply takes memory; a cut always succeeds (this project)
+-- a possible result of a step, given the least number that its receipt or its cut may have: a call or query has a receipt for itself, unless memory
+-- runs out, which for a query is possible only if its reply takes memory; a cut always succeeds (this project)
 abbrev pub CameOf : ScriptStep → ℕ → Played → Type 0
 CameOf (steps.Change call) next (played.Told receipt) = (receipt.asked ≡ asked.Change call) × (next ≤ receipt.at)
 CameOf (steps.Question query) next (played.Told receipt) = (receipt.asked ≡ asked.Question query) × (next ≤ receipt.at)
@@ -26,7 +27,8 @@ CameOf steps.Cut next played.NoMemory = ⊥
 CameOf step next played.NotEntered = ⊥
 CameOf step next played.View = ⊥
 
--- a possible result of a view's query, given the least number that its receipt may have: a receipt of itself, which has no record; none if its reply takes memory and that runs out, or if the published version couldn't be read (this project)
+-- a possible result of a view's query, given the least number that its receipt may have: a receipt for the query, which has no record; or no receipt,
+-- if the reply takes memory and memory runs out, or if the published version couldn't be read (this project)
 abbrev pub CameOfQuery : Query → ℕ → Played → Type 0
 CameOfQuery query next (played.Told receipt) = (receipt.asked ≡ asked.Question query) × (next ≤ receipt.at) × (place_of receipt.at receipt.outcome ≡ [])
 CameOfQuery query next (played.Cut first) = ⊥
@@ -42,19 +44,19 @@ next_after next played.NoMemory = next
 next_after next played.NotEntered = next
 next_after next played.View = next
 
--- possible results of lines, one after another, given those of each (this project)
+-- possible results of lines, one after another, given the possible results of each line (this project)
 abbrev pub CameInTurn : {A : Type 0} → (A → ℕ → Played → Type 0) → List A → ℕ → List Played → Type 0
 CameInTurn came_of [] next [] = Unit {0}
 CameInTurn came_of [] next (came ∷ others) = ⊥
 CameInTurn came_of (line ∷ lines) next [] = ⊥
 CameInTurn came_of (line ∷ lines) next (came ∷ others) = came_of line next came × CameInTurn came_of lines (next_after next came) others
 
--- possible results of a script for a view: the first one says so (this project)
+-- possible results of a script for a view: the first result marks it as one (this project)
 abbrev pub CameOfView : List Query → ℕ → List Played → Type 0
 CameOfView queries next (played.View ∷ others) = CameInTurn CameOfQuery queries next others
 CameOfView queries next _ = ⊥
 
--- true if the results are those of a script for a view, as the first one says (this project)
+-- true if the first result marks the script as one for a view (this project)
 abbrev pub is_seen : List Played → Bool
 is_seen (played.View ∷ others) = true
 is_seen _ = false

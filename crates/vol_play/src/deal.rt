@@ -1,4 +1,4 @@
-//! Deals a session or a view to each script.
+//! Assigns a session or a view to each script.
 ghost use Rattle.std.specs.Prelude.{◌≡◌, ◌+◌, ◌≤◌, ◌∷◌, [], All, IsTrue, count_by, vec_len, vec_capacity};
 ghost use Rattle.vol_shared.specs.Opened.{Opened};
 ghost use Rattle.vol_shared.specs.Sessions.{Known};
@@ -9,8 +9,7 @@ use crate::prepare::{Player, Prepared};
 use vol_scripts::Script;
 use vol_shared::{Session, View};
 
-/// Deals a session or a view to each script, in order. Sessions that aren't needed stay in `sessions`, and all lists
-/// keep their capacity.
+/// Assigns a session or a view to each script, in order. Sessions that aren't needed stay in `sessions`, and all lists keep their capacity.
 pub(crate) fn deal(
     sessions: &mut Vec<Session>,
     views: &mut Vec<View>,
@@ -34,7 +33,7 @@ pub(crate) fn deal(
     }
 }
 
-/// Deals a session or a view to a script.
+/// Assigns a session or a view to a script.
 fn seat(sessions: &mut Vec<Session>, views: &mut Vec<View>, prepared: Prepared) -> Player
     requires session { IsTrue (wants_session prepared) → 1 ≤ vec_len sessions.old }
     requires view { IsTrue (wants_view prepared) → 1 ≤ vec_len views.old }

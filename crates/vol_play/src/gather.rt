@@ -1,4 +1,4 @@
-//! Gathers the sessions, the views and the results of all lines.
+//! Collects the sessions, the views and the results of all lines after a play.
 ghost use Rattle.std.specs.Prelude.{◌≡◌, ◌++◌, ◌∷◌, ◌+◌, ◌<◌, ◌≤◌, [], length, map, vec_len, vec_capacity};
 ghost use Rattle.vol_play.specs.Players.{played_by, sessions_of, views_of};
 
@@ -6,8 +6,7 @@ use crate::prepare::Player;
 use vol_scripts::Played;
 use vol_shared::{Session, View};
 
-/// Moves each player's session or view to its list, after those already in it, and its script's results to `played`,
-/// in order.
+/// Moves each player's session or view to the end of its list, and the results of each script to `played`, in order.
 pub(crate) fn gather(
     players: Vec<Player>,
     sessions: &mut Vec<Session>,
@@ -27,7 +26,7 @@ pub(crate) fn gather(
     }
 }
 
-/// Moves one player's session or view and its results back.
+/// Moves one player's session or view, and its results, back to their lists.
 fn put_back(
     player: Player,
     sessions: &mut Vec<Session>,

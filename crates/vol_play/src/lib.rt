@@ -1,5 +1,4 @@
-//! Plays scripts of calls and queries on a volume that threads share. Each script has one session or one view, and
-//! one thread.
+//! Plays scripts of calls and queries on a volume that threads share. Each script has one session or one view, and one thread.
 #![tactic(auto)]
 
 mod deal;

@@ -8,10 +8,10 @@ use std::sync::Wait;
 use vol_shared::{Closed, MOST_SESSIONS, MOST_VIEWS, Session, Shared, View};
 use vol_volume::Volume;
 
-/// Shares a volume with `sessions` sessions, 1 to [`MOST_SESSIONS`], and `views` views, at most [`MOST_VIEWS`]. A
-/// view that finds no seat counts as out of memory.
+/// Shares a volume with `sessions` sessions, 1 to [`MOST_SESSIONS`], and `views` views, at most [`MOST_VIEWS`]. If there is no seat for a view, this
+/// is reported as out of memory.
 ///
-/// Takes the memory of [`Shared::open`], or with views that of [`Shared::open_with`].
+/// Takes the memory of [`Shared::open`], or, with views, the memory of [`Shared::open_with`].
 pub(crate) fn open<R: Wait>(
     rt: &R,
     alloc: Global,
@@ -67,7 +67,7 @@ fn open_published<R: Wait>(
     }
 }
 
-/// Ends the sharing, with all sessions and views.
+/// Ends the sharing, and takes all sessions and views back.
 pub(crate) fn close<R: Wait>(
     rt: &R,
     shared: Shared,

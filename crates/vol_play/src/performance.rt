@@ -18,9 +18,8 @@ use vol_scripts::{Played, Script};
 use vol_shared::{MOST_SESSIONS, MOST_VIEWS, Session, Shared, View};
 use vol_volume::Volume;
 
-/// Plays scripts on a volume, each with a session or a view of its own, and returns the volume and the results of
-/// their lines. If all are for views, one session is opened and not used. If memory runs out before the first step,
-/// nothing is done.
+/// Plays scripts on a volume, each with its own session or view, and returns the volume and the results of the scripts' lines. If all scripts are for
+/// views, one session is opened and not used. If memory runs out before the first step, nothing is done.
 pub(crate) fn play_on<R: Threads + Wait + Sync, G: Gate>(
     rt: &R,
     alloc: Global,
@@ -60,7 +59,7 @@ fn is_view(script: &Script) -> bool
     matches!(script, Script::View(_))
 }
 
-/// Plays all scripts of a stage on a volume that was just opened, and closes it.
+/// Plays all scripts of a stage on a volume that was just opened, and then closes the volume.
 fn play_opened<R: Threads + Wait + Sync, G: Gate>(
     rt: &R,
     alloc: Global,

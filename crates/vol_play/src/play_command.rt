@@ -39,14 +39,14 @@ pub fn play<R: Threads + Wait + Sync, G: Gate, O: Sink, E: Sink>(
     answer
 }
 
-/// Plays 1 to [`MOST_SESSIONS`] scripts on the volume in an image, each with one session, or one view if its first
-/// line says so, in one thread. A script whose thread can't be started is played by the calling thread. The gate is
-/// called before and after each script, with the script's number, counted from 0.
+/// Plays 1 to [`MOST_SESSIONS`] scripts on the volume in an image. Each script has one thread and one session, or one view if its first line is the
+/// word `view`. If a script's thread can't be started, the calling thread plays the script. The gate is called before and after each script, with the
+/// script's number, counted from 0.
 ///
-/// All scripts are read before the first call. If a line can't be read, the volume isn't sound or memory runs out
-/// before the first call, nothing is saved and that is the fault; the status is 2 for a line, 1 for an image that
-/// isn't sound, 4 for memory. Otherwise the scripts are played, and the play ends as [`finish`] says: a line for each
-/// step on `output`, then the journal if it is wanted, and the bytes of the volume to save, whatever the status.
+/// All scripts are read before the first call. If a line can't be read, the volume isn't sound or memory runs out before the first call, nothing is
+/// saved, and the fault reports the reason; the status is 2 for a line, 1 for an image that isn't sound, 4 for memory. Otherwise the scripts are
+/// played, and [`finish`] ends the play: it prints a line for each step on `output`, then the journal if it is wanted, and returns the bytes of the
+/// volume to save, whatever the status.
 ///
 /// Takes memory for the scripts, for [`Volume::mount`], for each step and call, and for [`finish`].
 pub fn perform<R: Threads + Wait + Sync, G: Gate, O: Sink>(

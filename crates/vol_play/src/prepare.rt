@@ -1,4 +1,4 @@
-//! The memory that a play takes before its volume is shared, so that only calls and queries can fail while it is.
+//! The memory for a play. It is taken before the volume is shared, so that only calls and queries can fail afterwards.
 ghost use Rattle.std.specs.Prelude.{◌≡◌, ◌∷◌, ◌++◌, [], map, All, IfOk, OnOk, length, vec_len, vec_capacity, ◌≤◌};
 ghost use Rattle.vol_play.specs.Players.{IsPrepared, lines_of};
 
@@ -14,7 +14,7 @@ pub(crate) struct Prepared {
     pub(crate) played: Vec<Played>,
 }
 
-/// A script's player, with the results of its lines.
+/// The player of a script, with the results of the script's lines.
 #[derive(Drop)]
 pub(crate) enum Player {
     /// A session, which makes calls and queries.
@@ -72,7 +72,7 @@ fn prepare(alloc: Global, scripts: Vec<Script>) -> Result<Vec<Prepared>, AllocEr
     Ok(prepared)
 }
 
-/// Returns the number of results that a script's lines have.
+/// Returns the number of results of a script's lines.
 fn lines_of(script: &Script) -> usize
     ensures { result ≡ lines_of script.now }
 {

@@ -1,4 +1,4 @@
-//! Runs the players, each in a thread of its own.
+//! Runs the players, each in its own thread.
 ghost use Rattle.std.specs.Prelude.{◌≡◌, ◌<◌, All, length};
 ghost use Rattle.vol_play.specs.Players.{InPairs, CanPlay, HasPlayed};
 
@@ -15,7 +15,7 @@ use vol_scripts::Sequence;
 use vol_shared::Shared;
 
 impl Player {
-    /// Plays the script; no line of it is left afterwards.
+    /// Plays the script. Afterwards the player has no line left.
     fn play<R: Wait>(&mut self, rt: &R, alloc: Global, shared: &Shared)
         requires { CanPlay shared.now.of self.old }
         ensures { HasPlayed self.old self.new }
@@ -41,8 +41,8 @@ impl Player {
     }
 }
 
-/// Runs one thread per player, which plays its script; if no thread can be started, the calling one plays it. The
-/// gate is called before and after each script.
+/// Runs one thread per player, which plays the player's script; if a thread can't be started, the calling thread plays the script. The gate is called
+/// before and after each script.
 pub(crate) fn run_all<R: Threads + Wait + Sync, G: Gate>(
     rt: &R,
     alloc: Global,

@@ -21,13 +21,14 @@ get_before [] ys k x is = cc
 get_before (y ∷ xs) ys zero x is = is
 get_before (y ∷ xs) ys (suc k) x is = get_before xs ys k x is
 
--- an element of the second list follows the first list in both together
+-- an element of the second list is at the same index plus the length of the first in both together
 pub get_behind : {X : Type 0} (xs ys : List X) (k m : ℕ) → k ≡ length xs + m → slice_get (xs ++ ys) k ≡ slice_get ys m
 get_behind [] ys k m at = let same : k ≡ m = omega arith in ap (slice_get ys) same
 get_behind (x ∷ xs) ys zero m at = absurd (omega arith)
 get_behind (x ∷ xs) ys (suc k) m at = get_behind xs ys k m (omega arith)
 
--- an outcome that is the one after some records of a journal is also the one after some of another, if the same records are next and the states are equal
+-- an outcome that agrees after `k` records of one journal also agrees after `m` records of another, if the same record is next and the states there
+-- are equal
 agrees_where : (old new : Origin) (was is : List Record) (k m : ℕ) (asked : Asked) (outcome : Outcome)
     → ((entry : Record) → slice_get was k ≡ Some entry → slice_get is m ≡ Some entry)
     → (k ≤ length was → m ≤ length is)
@@ -37,7 +38,7 @@ agrees_where old new was is k m (Change call) (Accepted done) records within sta
 agrees_where old new was is k m asked outcome records within states agrees =
     (within agrees.0, subst (λ s. IsAnswer s asked outcome) (states agrees.0) agrees.1)
 
--- agreement reads no record past the receipt's number, so it stays as the journal grows
+-- a receipt that agrees with a journal also agrees with it after more records are added
 pub agrees_grows : (origin : Origin) (journal more : List Record) (receipt : Receipt)
     → Agrees origin journal receipt → Agrees origin (journal ++ more) receipt
 agrees_grows origin journal more receipt agrees =
@@ -50,7 +51,7 @@ agrees_grows origin journal more receipt agrees =
           agrees.1,
     )
 
--- agreement stays if records before the receipt's number are cut, and the journal starts from the state that they made
+-- a receipt still agrees after records before its number are cut, if the journal's new start is the state after them
 pub agrees_after_cut : (old new : Origin) (gone journal : List Record) (receipt : Receipt) → new.first ≡ old.first + length gone
     → start new ≡ after (start old) gone
     → new.first ≤ receipt.at

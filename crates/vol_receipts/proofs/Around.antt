@@ -9,18 +9,18 @@ use Rattle.vol_layout.specs.declared.geometry.Geometry.{Geometry}
 use Rattle.vol_volume.specs.declared.calls.Call.{Call}
 use Rattle.vol_volume.specs.declared.calls.Done.{Done}
 
--- they stay where no byte changes
+-- if no byte changes, the bytes that no call changes are unchanged
 pub around_same : (edition : Edition) (old new : List ℕ) → new ≡ old → StaysAround (geometry_of edition old) old new
 around_same edition old new same =
     subst (λ (bytes : List ℕ). StaysAround (geometry_of edition old) old bytes) (sym same)
     (record { len = refl; before = λ k h. refl; flags = λ k from to. refl; rest = λ k from to. refl; behind = λ k h. refl })
 
--- they stay by an accepted call
+-- an accepted call leaves the bytes that no call changes unchanged
 pub around_call : (old new : Mounted) (call : Call) (done : Done) → Accepts old new call done
     → StaysAround (geometry_of old.edition old.image) old.image new.image
 around_call old new call done accepts = accepts.performed.changes.around
 
--- they stay by one change and then by another
+-- if each of two changes in a row leaves the bytes that no call changes unchanged, so do both together
 pub around_both : (edition : Edition) (one two three : List ℕ) → StaysAround (geometry_of edition one) one two
     → StaysAround (geometry_of edition two) two three → StaysAround (geometry_of edition one) one three
 around_both edition one two three first second =

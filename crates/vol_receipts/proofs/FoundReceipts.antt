@@ -1,4 +1,4 @@
--- Findings are stored at their receipts' indexes, one after another.
+-- Storing findings at the indexes of their receipts, one after another.
 use Rattle.std.proofs.Common.{◌≡◌, ◌⊎◌, ℕ, zero, suc, ◌+◌, ◌-◌, ◌<◌, ◌≤◌, List, [], ◌∷◌, ◌++◌, length, get_or, refl, ap, sym, subst, ◌∙◌, inl, inr, arith, below_more}
 use Rattle.std.specs.Prelude.{Option, Some, None}
 use Rattle.std.specs.List.{slice_get, All, Contains}
@@ -17,7 +17,7 @@ use Rattle.vol_receipts.specs.declared.confirm_many.Numbered.{Numbered}
 use Rattle.vol_receipts.specs.declared.receipts.Origin.{Origin}
 use Rattle.vol_receipts.specs.declared.receipts.Receipt.{Receipt}
 
--- the element at an index after a write: the written one, or, elsewhere, the old one
+-- after a write at index `k`, the element at `k` is the written one, and any other element is the old one
 get_set : {X : Type 0} (xs : List X) (k i : ℕ) (y z : X) → slice_get (set xs k y) i ≡ Some z
     → ((i ≡ k) × (z ≡ y)) ⊎ ((i ≡ k → ⊥) × (slice_get xs i ≡ Some z))
 get_set [] zero i y z is = cc
@@ -37,12 +37,12 @@ IsFoundAt origin journal receipts findings i =
     → slice_get findings i ≡ Some finding
     → IsFound origin journal receipt finding
 
--- the findings for the first numbers are right
+-- the findings on the receipts of the first `k` numbers are right
 pub record AreFoundUpTo (origin : Origin) (journal : List Record) (receipts : List Receipt) (order : List Numbered) (findings : List ReceiptStatus) (k : ℕ) : Type 0 where
   pub len : length findings ≡ length receipts
   pub each : (j : ℕ) (d : Numbered) → j < k → IsFoundAt origin journal receipts findings (get_or order j d).index
 
--- storing a right finding keeps the others right, and is right itself
+-- storing a right finding makes the finding at its index right, and no other finding wrong
 put_found : (origin : Origin) (journal : List Record) (receipts : List Receipt) (findings : List ReceiptStatus) (k i : ℕ) (receipt : Receipt) (finding : ReceiptStatus)
     → slice_get receipts k ≡ Some receipt
     → IsFound origin journal receipt finding
@@ -57,7 +57,7 @@ put_found origin journal receipts findings k i receipt finding here found before
           [ inl here_too ↦ absurd (kept.0 here_too) | inr right ↦ right other told at kept.1 ]
     ]
 
--- one more finding is right
+-- after one more right finding is stored, the findings of the first `k` + 1 numbers are right
 pub found_more : (origin : Origin) (journal : List Record) (receipts : List Receipt) (order : List Numbered) (findings : List ReceiptStatus) (k : ℕ)
     (receipt : Receipt) (finding : ReceiptStatus) (d : Numbered)
     → AreFoundUpTo origin journal receipts order findings k
@@ -75,7 +75,7 @@ found_more origin journal receipts order findings k receipt finding d before her
       j;
 }
 
--- when all numbers are done, all findings are right
+-- once all numbers are visited, all findings are right
 pub found_all : (origin : Origin) (journal : List Record) (receipts : List Receipt) (order : List Numbered) (findings : List ReceiptStatus) (k : ℕ)
     → IsInOrder receipts order
     → k ≡ length order
@@ -90,17 +90,17 @@ found_all origin journal receipts order findings k in_order end done = record {
       (done.each there.0 (record { at = receipt.at; index = i }) (omega (arith, there.1))) receipt finding at stands;
 }
 
--- at most `m` replayed records are at most `n`, if m ≤ n
+-- a volume with at most `m` replayed records has at most `n` of them, if `m` ≤ `n`
 pub at_most_more : (volume : Mounted) (again : Option Mounted) (m n : ℕ) → m ≤ n → HasAtMost volume again m → HasAtMost volume again n
 at_most_more volume None m n le behind = behind
 at_most_more volume (Some made) m n le behind = (behind.0, omega (arith, behind.1, le))
 
--- the first receipts are numbered
+-- the first `k` receipts have their numbers in `order`
 pub record AreNumbered (receipts : List Receipt) (order : List Numbered) (k : ℕ) : Type 0 where
   pub right : All (IsNumberOf receipts) order
   pub whole : (j : ℕ) (receipt : Receipt) → j < k → slice_get receipts j ≡ Some receipt → Contains order (record { at = receipt.at; index = j })
 
--- one more receipt is numbered
+-- after the number of receipt `k` is appended, the first `k` + 1 receipts have their numbers in the list
 pub numbered_more : (receipts : List Receipt) (order : List Numbered) (k : ℕ) (receipt : Receipt) → AreNumbered receipts order k
     → slice_get receipts k ≡ Some receipt
     → AreNumbered receipts (order ++ record { at = receipt.at; index = k } ∷ []) (k + 1)
@@ -119,7 +119,7 @@ numbered_more receipts order k receipt before here = record {
       j below other at;
 }
 
--- all receipts are numbered, and their numbers sorted
+-- once all receipts are numbered and their numbers are sorted, they are in order
 pub in_order : (receipts : List Receipt) (order sorted : List Numbered) (k : ℕ) → AreNumbered receipts order k → length receipts ≤ k
     → IsPermutation order sorted
     → IsNonDecreasingBy (λ numbered. numbered.at) sorted
@@ -131,14 +131,14 @@ in_order receipts order sorted k all end moved ascending = record {
       (all.whole j receipt (omega (arith, slice_get_within receipts j receipt at, end)) at);
 }
 
--- a number in the list belongs to one of the receipts
+-- the index stored with a number belongs to one of the receipts
 pub place_within : (receipts : List Receipt) (order : List Numbered) (k : ℕ) (d : Numbered) → All (IsNumberOf receipts) order → k < length order
     → (get_or order k d).index < length receipts
 place_within receipts order k d right within =
     let number : IsNumberOf receipts (get_or order k d) = All-get_or (IsNumberOf receipts) order k d within right in
     slice_get_within receipts (get_or order k d).index number.0 number.1
 
--- the receipt read at the index of such a number is the one with that number
+-- the receipt at the index stored with a number has that number
 pub receipt_at : (receipts : List Receipt) (order : List Numbered) (k : ℕ) (d : Numbered) (read : Receipt) → All (IsNumberOf receipts) order
     → k < length order
     → read ≡ get_or receipts (get_or order k d).index read
@@ -148,7 +148,7 @@ receipt_at receipts order k d read right within is =
     let same : number.0 ≡ read = sym (get_or_from_slice_get receipts (get_or order k d).index number.0 read number.1) ∙ sym is in
     (number.1 ∙ ap Some same, number.2 ∙ ap (λ r. r.at) same)
 
--- later numbers are no less, also when the first is taken off
+-- a later number in ascending order isn't smaller, also after `first` is subtracted from both
 pub later_number : (order : List Numbered) (k j : ℕ) (d e : Numbered) (at first : ℕ) → IsNonDecreasingBy (λ numbered. numbered.at) order
     → (get_or order k d).at ≡ at
     → k + 1 ≤ j

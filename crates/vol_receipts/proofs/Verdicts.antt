@@ -1,4 +1,4 @@
--- The meaning of a refusal for the verdict on a call, or the answer to a query.
+-- Refusals and the verdict on a call, or the answer to a query.
 use Rattle.std.proofs.Common.{◌≡◌, refl, sym}
 use Rattle.std.specs.Prelude.{Some, Err}
 use Rattle.vol_dir.specs.Tree.{State, Tree}
@@ -10,7 +10,7 @@ use Rattle.vol_dir.specs.declared.refusal.Refusal.TheVariants as refusals
 use Rattle.vol_volume.specs.declared.calls.Call.{Call}
 use Rattle.vol_volume.specs.declared.queries.Query.{Query}
 
--- a refusal other than out of memory is the verdict
+-- a refusal of a call, other than NoMemory, is the verdict on it
 pub verdict_is : (state : State) (call : Call) (refusal : Refusal) → (refusal ≡ refusals.NoMemory → ⊥) → Refuses state call refusal
     → verdict state call ≡ Some refusal
 verdict_is state call refusals.NoMemory other refuses = absurd (other refl)
@@ -29,7 +29,7 @@ verdict_is state call refusals.NotRegular other refuses = refuses
 verdict_is state call refusals.NoInode other refuses = refuses
 verdict_is state call refusals.BadId other refuses = refuses
 
--- a refusal of a query other than out of memory is the answer
+-- a refusal of a query, other than NoMemory, is the answer to it
 pub answer_is : (tree : Tree) (query : Query) (refusal : Refusal) → (refusal ≡ refusals.NoMemory → ⊥) → Answers tree query (Err refusal)
     → answer tree query ≡ Err refusal
 answer_is tree query refusals.NoMemory other answers = absurd (other refl)

@@ -26,7 +26,7 @@ start origin = reads_as origin.edition origin.bytes
 abbrev pub state_after : Origin → List Record → ℕ → State
 state_after origin journal count = after (start origin) (take count journal)
 
--- an outcome other than an accepted call is the one in a state: the verdict on a call, or the answer to a query (this project)
+-- an outcome other than an accepted call is right in a state: it is the verdict on a call, or the answer to a query (this project)
 abbrev pub IsAnswer : State → Asked → Outcome → Type 0
 IsAnswer state (Change call) (Refused refusal) = verdict state call ≡ Some refusal
 IsAnswer state (Question query) (Refused refusal) = answer state.tree query ≡ Err refusal
@@ -35,13 +35,14 @@ IsAnswer state (Change call) (Accepted done) = ⊥
 IsAnswer state (Change call) (Answered reply) = ⊥
 IsAnswer state (Question query) (Accepted done) = ⊥
 
--- an outcome is the one after the first `count` records of a journal: an accepted call is the next record, with its result; any other outcome is the one in the state after these records, which the journal has (this project)
+-- an outcome agrees with the first `count` records of a journal: an accepted call is the next record, with its result; any other outcome is right in
+-- the state after these records, and the journal has at least `count` records (this project)
 abbrev pub AgreesAfter : Origin → List Record → ℕ → Asked → Outcome → Type 0
 AgreesAfter origin journal count (Change call) (Accepted done) = slice_get journal count ≡ Some (record { call = call; done = done })
 AgreesAfter origin journal count asked outcome =
     (count ≤ length journal) × IsAnswer (state_after origin journal count) asked outcome
 
--- a receipt agrees with a journal, whose first record has the origin's number (this project)
+-- a receipt agrees with a journal whose first record has the origin's number (this project)
 abbrev pub Agrees : Origin → List Record → Receipt → Type 0
 Agrees origin journal receipt =
     (origin.first ≤ receipt.at) × AgreesAfter origin journal (receipt.at - origin.first) receipt.asked receipt.outcome

@@ -11,13 +11,13 @@ use Rattle.vol_receipts.specs.declared.confirm_many.ReceiptStatus.{ReceiptStatus
 use Rattle.vol_receipts.specs.declared.confirm_many.ReceiptStatus.TheVariants as kinds
 use Rattle.vol_receipts.specs.declared.confirm_many.Numbered.{Numbered}
 
--- the finding on a receipt is right: it agrees with the journal, it doesn't, or its record was cut (this project)
+-- the finding on a receipt is right: the receipt agrees with the journal, it doesn't agree, or its record was cut (this project)
 abbrev pub IsFound : Origin → List Record → Receipt → ReceiptStatus → Type 0
 IsFound origin journal receipt kinds.Agrees = Agrees origin journal receipt
 IsFound origin journal receipt kinds.Differs = (origin.first ≤ receipt.at) × (Agrees origin journal receipt → ⊥)
 IsFound origin journal receipt kinds.Gone = receipt.at < origin.first
 
--- each receipt has its right finding, in their order (this project)
+-- the findings are right, in the order of the receipts (this project)
 pub record AreFound (origin : Origin) (journal : List Record) (receipts : List Receipt) (findings : List ReceiptStatus) : Type 0 where
   pub len : length findings ≡ length receipts
   pub each : (k : ℕ) (receipt : Receipt) (finding : ReceiptStatus)
@@ -30,7 +30,7 @@ abbrev pub IsNumberOf : List Receipt → Numbered → Type 0
 IsNumberOf receipts numbered =
     (receipt : Receipt) × (slice_get receipts numbered.index ≡ Some receipt) × (numbered.at ≡ receipt.at)
 
--- the numbers of all receipts, each with its receipt's index, ascending (this project)
+-- the numbers of all receipts in ascending order, each with its receipt's index (this project)
 pub record IsInOrder (receipts : List Receipt) (order : List Numbered) : Type 0 where
   pub ascending : IsNonDecreasingBy (λ numbered. numbered.at) order
   pub right : All (IsNumberOf receipts) order
@@ -48,7 +48,7 @@ is_gone kinds.Agrees = false
 is_gone kinds.Differs = false
 is_gone kinds.Gone = true
 
--- the numbers of receipts that agree and of those whose records were cut (this project)
+-- the number of receipts that agree, and the number of receipts whose records were cut (this project)
 pub record AreCounted (origin : Origin) (journal : List Record) (receipts : List Receipt) (confirmed : Confirmed) : Type 0 where
   pub findings : List ReceiptStatus
   pub found : AreFound origin journal receipts findings

@@ -1,4 +1,4 @@
-//! Compares a receipt with a journal's records, and with a volume that replays the first of them.
+//! Compares a receipt with a journal's records, and with a volume that replays the records before it.
 ghost use Rattle.std.specs.Prelude.{◌≡◌, ◌≤◌, ◌↔◌, [], length, IsTrue, IfOk, OnErr, Some, Ok, Err};
 ghost use Rattle.std.specs.List.{slice_get};
 ghost use Rattle.vol_volume.specs.Answer.{answer};
@@ -13,8 +13,8 @@ use std::alloc::{AllocError, Global};
 use vol_dir::Refusal;
 use vol_volume::{Call, Done, Listing, Query, Record, Reply, Volume};
 
-/// True if a receipt's outcome follows the first `count` records of a volume. `again` is a volume that may
-/// have replayed some of them; it is brought up to `count` unless the outcome is an accepted call.
+/// True if a receipt's outcome follows the first `count` records of a volume. `again` is a volume that may have replayed some of these records; it
+/// replays the rest unless the outcome is an accepted call.
 pub(crate) fn agrees_after(
     volume: &Volume,
     again: &mut Option<Volume>,
@@ -37,7 +37,7 @@ pub(crate) fn agrees_after(
     Ok(agrees)
 }
 
-/// True if a volume, in its present state, gives this outcome.
+/// True if a call or query has this outcome in the present state of a volume.
 fn is_answer(
     volume: &Volume,
     alloc: Global,
@@ -54,7 +54,7 @@ fn is_answer(
         (Asked::Question(query), Outcome::Answered(reply)) => {
             is_answered(volume, alloc, query, reply)
         }
-        // The present state accepts no call, and a call never has a query's reply.
+        // An accepted call isn't an outcome of the present state, and a call never gets a query's reply.
         _ => Ok(false),
     }
 }
@@ -103,7 +103,7 @@ fn is_refused(
     }
 }
 
-/// True if a volume gives this reply to a query.
+/// True if a query of a volume has this reply.
 fn is_answered(
     volume: &Volume,
     alloc: Global,

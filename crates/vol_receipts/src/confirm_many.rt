@@ -12,11 +12,11 @@ use vol_volume::Volume;
 /// The finding on one receipt.
 #[derive(Clone, Copy, PartialEq, Eq)]
 pub enum ReceiptStatus {
-    /// It agrees with the journal.
+    /// The receipt agrees with the journal.
     Agrees,
-    /// It doesn't agree.
+    /// The receipt doesn't agree with the journal.
     Differs,
-    /// Its number is below that of the journal's first record: its record was cut.
+    /// The receipt's number is below the number of the journal's first record: its record was cut.
     Gone,
 }
 
@@ -29,8 +29,7 @@ pub struct Confirmed {
     pub gone: u64,
 }
 
-/// Counts the receipts that agree with a volume's journal, and those whose records were cut. Takes the memory
-/// and time of [`find_all`].
+/// Counts the receipts that agree with a volume's journal, and the receipts whose records were cut. Takes the memory and time of [`find_all`].
 pub fn confirm_all(
     volume: &Volume,
     alloc: Global,
@@ -53,10 +52,9 @@ pub fn confirm_all(
 
 /// Returns the finding on each receipt, in the order of the receipts.
 ///
-/// Takes the receipts by ascending number, so that each record is replayed at most once. Takes memory for the
-/// journal's starting bytes, for mounting them, for a copy of each replayed record, and for a number and a
-/// finding per receipt. Costs as much as mounting, replaying and sorting. If one allocation is refused, no
-/// finding is returned.
+/// Visits the receipts by ascending number, so that each record is replayed at most once. Takes memory for the journal's starting bytes, for mounting
+/// them, for a copy of each replayed record, and for a number and a finding per receipt. Costs as much as mounting, replaying and sorting. If one
+/// allocation is refused, no finding is returned.
 pub fn find_all(
     volume: &Volume,
     alloc: Global,
@@ -68,7 +66,7 @@ pub fn find_all(
     find_in_order(volume, alloc, receipts, &order)
 }
 
-/// Returns the findings on receipts, which are visited in the order of their numbers.
+/// Returns the findings on all receipts, visiting them in the order of their numbers.
 fn find_in_order(
     volume: &Volume,
     alloc: Global,
@@ -94,7 +92,7 @@ struct Numbered {
     index: usize,
 }
 
-/// Returns the receipts' numbers, ascending.
+/// Returns the receipts' numbers, in ascending order.
 fn by_number(alloc: Global, receipts: &[Receipt]) -> Result<Vec<Numbered>, AllocError>
     ensures { IfOk result (λ order. IsInOrder receipts.now order.items) }
 {
@@ -109,8 +107,8 @@ fn by_number(alloc: Global, receipts: &[Receipt]) -> Result<Vec<Numbered>, Alloc
     Ok(order)
 }
 
-/// Returns the finding on a receipt. `again` is a volume that may have replayed some of the records; it is
-/// brought up to the receipt's number if they are needed.
+/// Returns the finding on a receipt. `again` is a volume that may have replayed some of the records; if the finding depends on the records before the
+/// receipt's number, it replays the rest of them.
 pub(crate) fn find(
     volume: &Volume,
     again: &mut Option<Volume>,

@@ -1,4 +1,4 @@
-//! Receipts: a call or query with its outcome, and checks that a journal agrees with them.
+//! Receipts of calls and queries with their outcomes, and checks that a journal agrees with them.
 #![tactic(auto)]
 
 mod agree;

@@ -27,23 +27,23 @@ pub enum Outcome {
 /// A record of one call or query and its outcome.
 #[derive(Drop)]
 pub struct Receipt {
-    /// The record number of an accepted call. For any other outcome, the number of records when it was given,
-    /// including those that were cut: the outcome is the one in the state after them.
+    /// The record number of an accepted call. For any other outcome, the number of records when the receipt was given, including records that were
+    /// cut: the outcome belongs to the state after these records.
     pub at: u64,
     /// The call or query.
     pub asked: Asked,
-    /// Its outcome.
+    /// The outcome of the call or query.
     pub outcome: Outcome,
 }
 
-/// The start of a journal: the bytes that were mounted or left by the last cut, and the number of records cut
-/// so far. Only contracts use it; no value of it is made.
+/// The start of a journal: the bytes of the image when it was mounted or after the last cut, and the number of records cut so far. Only contracts use
+/// it; no value of it is made.
 #[derive(Drop)]
 pub struct Origin {
     /// The edition of the bytes.
     pub edition: Edition,
     /// The bytes of the image.
     pub bytes: LinkedList<u8>,
-    /// The number of records that were cut, which is the number of the journal's first.
+    /// The number of records that were cut, which is the number of the journal's first record.
     pub first: u64,
 }

@@ -1,4 +1,4 @@
-//! Calls and queries that leave receipts.
+//! Calls and queries that return receipts.
 ghost use Rattle.std.specs.Prelude.{◌≡◌, ◌+◌, ◌-◌, ◌<◌, ◌≤◌, ◌^◌, ◌++◌, ◌∷◌, ◌⊎◌, [], length, true, IfOk, IfErr, OnErr, IfSome, Some, None};
 ghost use Rattle.std.specs.List.{slice_get};
 ghost use Rattle.vol_layout.specs.Geometry.{geometry_of};
@@ -13,12 +13,11 @@ use std::alloc::{AllocError, Global};
 use vol_dir::Refusal;
 use vol_volume::{Call, Done, Query, Volume};
 
-/// Makes a call and returns its receipt, which holds the copy `asked`. An accepted call becomes the journal's
-/// next record; a refused one changes nothing. The bytes that no call changes stay as they are.
+/// Makes a call and returns its receipt, which contains the copy `asked`. An accepted call becomes the journal's next record; a refused one changes
+/// nothing. The bytes that no call changes stay as they are.
 ///
-/// If the call would be accepted but the journal has no room for a record, the call is handed back and
-/// nothing changes. There is no room when memory runs out or the record's number would reach 2^64 - 1. Costs
-/// what [`Volume::call`] does.
+/// If the call would be accepted but the journal has no room for a record, the call is handed back and nothing changes. There is no room when memory
+/// runs out or the record's number would reach 2^64 - 1. Costs as much as [`Volume::call`].
 pub fn change(
     volume: &mut Volume,
     alloc: Global,
@@ -54,8 +53,7 @@ pub fn change(
 
 /// Runs a query and returns its receipt.
 ///
-/// The query is handed back if memory for its reply runs out, or if the number of the next record isn't below
-/// 2^64. Costs what [`Volume::ask`] does.
+/// The query is handed back if memory for its reply runs out, or if the number of the next record isn't below 2^64. Costs as much as [`Volume::ask`].
 pub fn reply(volume: &Volume, alloc: Global, query: Query) -> Result<Receipt, (AllocError, Query)>
     ensures at { IfOk result (λ receipt. receipt.at ≡ volume.now.first + length volume.now.journal) }
     ensures asked { IfOk result (λ receipt. receipt.asked ≡ Asked.Question query) }
@@ -100,7 +98,7 @@ fn accepted(volume: &Volume, at: u64, asked: Call, done: Done) -> Receipt
     ensures outcome { result.outcome ≡ Outcome.Accepted done }
     ensures agrees { Agrees (origin_of volume.now) volume.now.journal result }
 {
-    // Only the contract reads the volume.
+    // Only the contract uses the volume.
     let _ = volume;
     Receipt {
         at,
@@ -109,7 +107,7 @@ fn accepted(volume: &Volume, at: u64, asked: Call, done: Done) -> Receipt
     }
 }
 
-/// Returns the receipt of a refusal or a reply, given in the state after all records.
+/// Returns the receipt of a refusal or a reply in the state after all records.
 #[tactic(auto, using(crate::proofs::Records::agrees_told))]
 fn told(volume: &Volume, at: u64, asked: Asked, outcome: Outcome) -> Receipt
     requires at { at ≡ volume.now.first + length volume.now.journal }

@@ -6,7 +6,7 @@ ghost use Rattle.vol_receipts.specs.Replay.{HasFirst, HasAtMost};
 use std::alloc::{AllocError, Global};
 use vol_volume::{MountFault, Record, Volume};
 
-/// Returns a volume with the first `count` records replayed, continuing `again` if given.
+/// Returns a volume with the first `count` records replayed, starting from `again` if it is given.
 pub(crate) fn go_on(
     volume: &Volume,
     again: Option<Volume>,
@@ -40,8 +40,7 @@ fn begin(volume: &Volume, alloc: Global) -> Result<Volume, AllocError>
     }
 }
 
-/// Replays record `k` of a volume, counted from its journal's first, on `made`, which has the records before
-/// it.
+/// Replays record `k` of a volume, counted from the first record of its journal, on `made`, which has replayed the records before it.
 #[tactic(auto, using(crate::proofs::Records::has_more))]
 fn redo_next(volume: &Volume, made: &mut Volume, alloc: Global, k: usize) -> Result<(), AllocError>
     requires first { HasFirst volume.now made.old k }

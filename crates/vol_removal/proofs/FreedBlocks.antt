@@ -49,7 +49,7 @@ use Rattle.vol_removal.specs.Removal.{call_of}
 use Rattle.vol_removal.proofs.FreedNumbers.{AreTaking, IsTaking, links_of, set_alike, without_links}
 use Rattle.vol_removal.proofs.GoneTrees.{without}
 
--- a place of a file is one while the mode stays
+-- a block-map position of a file is still one if the mode is unchanged
 place_over : (g : Geometry) (one other : List ℕ) (i : ℕ) (p : List ℕ) → mode_of g other i ≡ mode_of g one i → IsPlaceOf g one i p → IsPlaceOf g other i p
 place_over g one other i p same place = record {
   file = record {
@@ -60,7 +60,7 @@ place_over g one other i p same place = record {
   place = subst (λ m. IsPlace (form_of g.edition m) p) (sym same) place.place;
 }
 
--- the blocks that a remaining file names
+-- the block map of a file with unchanged content points to the same blocks
 named_after : (g : Geometry) (old new : List ℕ) (i k : ℕ) (p : List ℕ) → KeepsContent g old new i → NamedBy g old i p k → NamedBy g new i p k
 named_after g old new i k p kept by =
     record { place = place_over g old new i p kept.mode by.place; is = kept.names p by.place ∙ by.is; some = by.some }
@@ -69,7 +69,7 @@ named_before : (g : Geometry) (old new : List ℕ) (i k : ℕ) (p : List ℕ) �
 named_before g old new i k p kept by =
     let place = place_over g new old i p (sym kept.mode) by.place in record { place = place; is = sym (kept.names p place) ∙ by.is; some = by.some }
 
--- a block that a file names is freed with it
+-- the blocks in the block map of a freed file are freed
 freed_in : (g : Geometry) (image : List ℕ) (i k : ℕ) (p : List ℕ) → NamedBy g image i p k → IsIn k (blocks_freed g image i)
 freed_in g image i k p by =
     let all : blocks_freed g image i ≡ blocks_of g image i = ap (λ t. if t then blocks_of g image i else []) by.place.file.kind in
@@ -78,7 +78,7 @@ freed_in g image i k p by =
     (at_in g image i p (places (form_at g image i)) (places_among (form_at g image i) p by.place.place) (λ none. by.some (sym by.is ∙ none))) in
     subst (IsIn k) (sym all) (subst (λ b. IsIn b (blocks_of g image i)) by.is here)
 
--- a file has a node
+-- a file is a node
 file_there : (g : Geometry) (image : List ℕ) (i : ℕ) → IsFile g image i → (tree g image).nodes i ≢ None
 file_there g image i file none =
     let kind = kind_at g image i in
@@ -87,12 +87,12 @@ file_there g image i file none =
     sym (node_inside g image i file.first file.last ∙ (node_of_kind g image i kind refl ∙ ap (option_map (node_with (inode_of g.edition image i))) held.1)) ∙ none in
     absurd (cc)
 
--- free blocks are free still, and one that a file named is free or named by the same file
+-- free blocks are still free, and each block of a file is free or still belongs to the same file
 record FreesOrKeeps (g : Geometry) (old new : List ℕ) : Type 0 where
   pub free : (k : ℕ) → IsFreeBlock g old k → IsFreeBlock g new k
   pub named : (i k : ℕ) (p : List ℕ) → NamedBy g old i p k → IsFreeBlock g new k ⊎ ((q : List ℕ) × NamedBy g new i q k)
 
--- so it is after a change of directory d and of file i, if i is gone and its blocks are free, or no other than d
+-- a change of directory `d` and of file `i` satisfies `FreesOrKeeps`, if `i` is `d`, or if `i` is gone and its blocks are free
 frees_or_keeps : (g : Geometry) (old new : List ℕ) (d i : ℕ) (freed : List ℕ) → Rules3To8 g old → Rules3To8 g new
     → FreeBecomes g old new (λ blocks. freed ++ blocks) → KeepsFilesBut g old new d i
     → (d ≡ i) ⊎ (((tree g new).nodes i ≡ None) × (freed ≡ blocks_freed g old i)) → FreesOrKeeps g old new
@@ -117,7 +117,7 @@ frees_or_keeps g old new d i freed rules after listed kept gone = record {
   ];
 }
   where
-    -- the file that names it now named it before
+    -- a file that has the block afterwards is the one that had it before
     owner : (j k f : ℕ) (p q : List ℕ) → NamedBy g old j p k → j ≡ d → NamedBy g new f q k → f ≡ j
     owner j k f p q by parent now = elim (cases_eq f d) [
       | inl same ↦ same ∙ sym parent
@@ -148,14 +148,14 @@ release_gone : (state : State) (now i : ℕ) → nat_le (node_at state.tree i).l
 release_gone state now i few =
     ap (λ b. (cond b (remove_node i state) (drop_link now i state)).tree.nodes i) few ∙ set_here state.tree.nodes i None
 
--- the reach of an Unlink of a name of node i in directory d, by whether it was the last
+-- the reach of an Unlink of a name in directory `d` that isn't the node's last name
 abbrev kept_of : ℕ → Reach
 kept_of d = record { file = d; other = d; listed = as_before; put = None }
 
 abbrev reach_if : Geometry → List ℕ → ℕ → ℕ → Bool → Reach
 reach_if g old d i last = cond last (gives d i (blocks_freed g old i)) (kept_of d)
 
--- after an Unlink
+-- an Unlink satisfies `FreesOrKeeps`
 unlink_frees : (g : Geometry) (old new path : List ℕ) (now d : ℕ) (name : List ℕ) (done : Done) → walk_parent (tree g old) user path ≡ Some (Ok (d, name))
     → Rules3To8 g old → Performs g old new (Unlink user now path) done → FreesOrKeeps g old new
 unfolding reached_by changed_by
@@ -183,7 +183,7 @@ unlink_frees g old new path now d name done walked rules performed =
     by false many listed kept made =
         frees_or_keeps g old new d d [] rules (ready_whole g new performed.changes.ready) listed kept (inl refl)
 
--- after an Rmdir
+-- an Rmdir satisfies `FreesOrKeeps`
 rmdir_frees : (g : Geometry) (old new path : List ℕ) (now d : ℕ) (name : List ℕ) (done : Done) → walk_parent (tree g old) user path ≡ Some (Ok (d, name))
     → Rules3To8 g old → Performs g old new (Rmdir user now path) done → FreesOrKeeps g old new
 unfolding reached_by changed_by
@@ -198,7 +198,7 @@ rmdir_frees g old new path now d name done walked rules performed =
     (subst (λ (r : Reach). KeepsFilesBut g old new r.file r.other) reached performed.rest.files)
     (inr (ap (λ (s : State). s.tree.nodes i) made ∙ set_here (drop_link now d (remove_entry now d name (state g old))).tree.nodes i None, refl))
 
--- after either call
+-- each call of a removal satisfies `FreesOrKeeps`
 call_frees : (g : Geometry) (old new path : List ℕ) (now : ℕ) (names : Option Names) (done : Done) → verdict (state g old) (call_of now path names) ≡ None
     → Rules3To8 g old → Performs g old new (call_of now path names) done → FreesOrKeeps g old new
 unfolding verdict
@@ -220,7 +220,7 @@ accepted_frees old mid call done sound taking accepts =
     subst (λ (c : Call). verdict (state g old.image) c ≡ None → Performs g old.image mid.image c done → FreesOrKeeps g old.image mid.image) (sym taking.3)
     (λ accepted performed. call_frees g old.image mid.image taking.1 taking.0 taking.2 done accepted rules performed) accepts.accepted accepts.performed
 
--- after all calls of a removal
+-- all calls of a removal together satisfy `FreesOrKeeps`
 all_free : (old new : Mounted) (calls : List Call) → IsSound old.edition old.image → AreTaking calls → AreMade old calls new
     → FreesOrKeeps (geometry_of old.edition old.image) old.image new.image
 unfolding AreMade
@@ -245,7 +245,7 @@ all_free old new (call ∷ calls) sound taking made =
       ];
     }
 
--- so each block of a file that was removed is free
+-- each block of a removed file is free
 pub blocks_free : (old new : Mounted) (calls : List Call) → IsSound old.edition old.image → AreTaking calls → AreMade old calls new
     → FreesBlocks (geometry_of old.edition old.image) old.image new.image
 blocks_free old new calls sound taking made i k p names gone =

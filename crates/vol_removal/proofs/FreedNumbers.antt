@@ -42,7 +42,7 @@ use Rattle.vol_removal.specs.FreedNumbers.{own_names, led_to, takes_name, FreesN
 use Rattle.vol_removal.specs.Removal.{Takes, call_of, names_of}
 use Rattle.vol_removal.proofs.GoneTrees.{Stays, kept_name, root_stays, stays_rmdir, stays_unlink, unlinked, without}
 
--- replacing a node by one like it changes nothing
+-- replacing a node by one with the same value of `f` doesn't change `f` of any node
 pub set_alike : {X : Type 0} (f : Option Node → X) (nodes : ℕ → Option Node) (d : ℕ) (changed : Option Node) (x : ℕ) → f changed ≡ f (nodes d)
     → f (set_at nodes d changed x) ≡ f (nodes x)
 set_alike f nodes d changed x same = elim (cases_eq x d) [
@@ -50,7 +50,7 @@ set_alike f nodes d changed x same = elim (cases_eq x d) [
   | inr other ↦ ap f (set_beside nodes d changed x other)
 ]
 
--- removing a name keeps a directory, its link count and its own names
+-- after a name is removed from it, a directory is still one
 map_kept : (name : List ℕ) (held : Content) → is_some (map_of (change_names (λ ns. remove ns name) held)) ≡ is_some (map_of held)
 map_kept name (Body bytes) = refl
 map_kept name (Directory names) = refl
@@ -74,7 +74,7 @@ pub without_links : (now : ℕ) (name : List ℕ) (node : Option Node) → links
 without_links now name None = refl
 without_links now name (Some node) = refl
 
--- the own names of a directory, and of other nodes
+-- a directory has one own name
 own_map : (node : Option Node) → is_map node ≡ true → own_names node ≡ 1
 own_map None is = absurd (cc)
 own_map (Some node) is = ap (λ b. cond b 1 node.links) is
@@ -83,7 +83,7 @@ own_links : (node : Option Node) → is_map node ≡ false → own_names node �
 own_links None is = refl
 own_links (Some node) is = ap (λ b. cond b 1 node.links) is
 
--- one link fewer is one name fewer, except for a directory
+-- a directory with one link fewer has the same number of own names
 map_unlinked : (now : ℕ) (node : Option Node) → is_map node ≡ true → own_names (unlinked now node) ≡ own_names node
 map_unlinked now None is = refl
 map_unlinked now (Some node) is = ap (λ b. cond b 1 (node.links - 1)) is ∙ sym (ap (λ b. cond b 1 node.links) is)
@@ -92,7 +92,7 @@ own_unlinked : (now : ℕ) (node : Option Node) → is_map node ≡ false → ow
 own_unlinked now None is = refl
 own_unlinked now (Some node) is = ap (λ b. cond b 1 (node.links - 1)) is ∙ sym (ap (λ b. cond b 1 node.links - 1) is)
 
--- a node with one own name less, or none in its place
+-- replacing a node by one with one own name fewer changes only the own names of this node
 own_set : (nodes : ℕ → Option Node) (i : ℕ) (changed : Option Node) → own_names changed ≡ own_names (nodes i) - 1 → (x : ℕ)
     → own_names (set_at nodes i changed x) ≡ own_names (nodes x) - cond (x == i) 1 0
 own_set nodes i changed less x = elim (cases_eq x i) [
@@ -114,7 +114,7 @@ searched_is (Some node) names is = by node.content is
     by (Directory ns) is = refl
     by (Device type addresses) is = absurd (cc)
 
--- a walk to a directory, and then over a name in it
+-- a walk to a directory followed by a name in it is a walk of the whole path
 pub walk_joined : (tree : Tree) (path : List ℕ) (front : List (List ℕ)) (name : List ℕ) (d i : ℕ) → components path ≡ front ++ name ∷ []
     → walk_from tree user (root tree) front ≡ Ok d → found (tree.nodes d) name ≡ Ok i → walk tree user path ≡ Ok i
 unfolding walk
@@ -124,7 +124,7 @@ walk_joined tree path front name d i parts walks found =
     ∙ (ap (λ (r : Result ℕ Refusal). and_then r (λ j. walk_from tree user j (name ∷ []))) walks
     ∙ ap (λ (r : Result ℕ Refusal). and_then r (λ j. Ok j)) found))
 
--- the own names of nodes, and the names that are found, after a call that removes a name
+-- a call removed a name: one own name of the node that the path led to is gone, and no name is new
 pub record TakesName (state new : State) (path : List ℕ) : Type 0 where
   pub i : ℕ
   pub walked : walk state.tree user path ≡ Ok i
@@ -132,7 +132,7 @@ pub record TakesName (state new : State) (path : List ℕ) : Type 0 where
   pub kept : KeepsNames new.tree.nodes state.tree.nodes
   pub own : (x : ℕ) → own_names (new.tree.nodes x) ≡ own_names (state.tree.nodes x) - cond (x == i) 1 0
 
--- whatever else the calls do, no name is new
+-- removing a name makes no new names
 without_was : (now : ℕ) (name word : List ℕ) (node : Option Node) (j : ℕ) → found (without now name node) word ≡ Ok j → found node word ≡ Ok j
 without_was now name word None j is = absurd (cc)
 without_was now name word (Some node) j is = by node.content is
@@ -173,7 +173,7 @@ number_walked tree path d name reached there =
     by None is = absurd (cc)
     by (Some i) is = refl
 
--- an Unlink
+-- an Unlink removes one own name of its node
 unlink_own : (state : State) (now d i : ℕ) (name : List ℕ) → is_map (state.tree.nodes i) ≡ false → (x : ℕ)
     → own_names ((release now i (remove_entry now d name state)).tree.nodes x) ≡ own_names (state.tree.nodes x) - cond (x == i) 1 0
 unlink_own state now d i name plain x =
@@ -208,7 +208,7 @@ unlink_takes state path now done accepted =
       own = unlink_own state now d i name may.1;
     })
 
--- an Rmdir
+-- an Rmdir removes one own name of its node
 rmdir_own : (state : State) (now d : ℕ) (name : List ℕ) → is_map (state.tree.nodes d) ≡ true
     → is_map (state.tree.nodes (number_of_name state.tree d name)) ≡ true → (x : ℕ)
     → own_names ((after_rmdir state now d name).tree.nodes x) ≡ own_names (state.tree.nodes x) - cond (x == number_of_name state.tree d name) 1 0
@@ -242,7 +242,7 @@ rmdir_takes state path now done accepted =
       own = rmdir_own state now d name (searched_is (state.tree.nodes d) reached.names reached.searched) may.gone;
     })
 
--- either call, of a removal
+-- each accepted call of a removal satisfies `TakesName`
 pub call_takes : (state : State) (path : List ℕ) (now : ℕ) (names : Option Names) (done : Done) → verdict state (call_of now path names) ≡ None
     → TakesName state (step state (call_of now path names) done) path
 call_takes state path now None done accepted = unlink_takes state path now done accepted
@@ -253,7 +253,7 @@ call_counts : (tree : Tree) (path : List ℕ) (now x i : ℕ) (names : Option Na
 call_counts tree path now x i None led = ap (led_to x) led
 call_counts tree path now x i (Some names) led = ap (led_to x) led
 
--- calls of a removal
+-- a call is one of a removal
 abbrev pub IsTaking : Call → Type 0
 IsTaking call = (now : ℕ) × (path : List ℕ) × (names : Option Names) × (call ≡ call_of now path names)
 
@@ -271,7 +271,7 @@ takes_taking tree now _ _ (Takes.next path rest inner others below beside) =
     taking_both inner (call_of now path (names_of tree path) ∷ others) (takes_taking tree now _ inner below)
     ((now, path, names_of tree path, refl), takes_taking tree now rest others beside)
 
--- one of them, accepted by a volume
+-- a call of a removal that a volume accepts satisfies `TakesName`
 taken_by : (old mid : Mounted) (call : Call) (done : Done) (taking : IsTaking call) → Accepts old mid call done
     → TakesName (reads_as old.edition old.image) (reads_as mid.edition mid.image) taking.1
 taken_by old mid call done taking accepts =
@@ -282,7 +282,7 @@ taken_by old mid call done taking accepts =
     (subst (λ (c : Call). verdict state c ≡ None → TakesName state (step state c done) taking.1) (sym taking.3)
     (call_takes state taking.1 taking.0 taking.2 done) accepts.accepted)
 
--- all of them take away as many own names as there are calls whose paths led to the node, in any tree that has all names
+-- all calls together remove as many own names of a node as there are calls whose paths lead to it, in any tree that has all the names
 names_taken : (old new : Mounted) (calls : List Call) (tree : Tree) → AreTaking calls → AreMade old calls new
     → root tree ≡ root (reads_as old.edition old.image).tree → KeepsNames (reads_as old.edition old.image).tree.nodes tree.nodes → (x : ℕ)
     → own_names ((reads_as new.edition new.image).tree.nodes x)
@@ -305,7 +305,7 @@ names_taken old new (call ∷ calls) tree taking made same keeps x =
     sum_by-cons (λ c. cond (takes_name tree x c) 1 0) call calls ∙ ap (λ b. cond b 1 0 + count_by (takes_name tree x) calls) counts in
     omega (arith, rest, one, all)
 
--- a node of a sound image has an own name, from the root on
+-- a node of a sound image with an i-number at or above the root's has at least one own name
 own_some : (geometry : Geometry) (image : List ℕ) (i : ℕ) (node : Node) → Rules1To12 geometry image → (constants geometry.edition).root ≤ i
     → (tree geometry image).nodes i ≡ Some node → 1 ≤ own_names (Some node)
 unfolding tree
@@ -330,7 +330,7 @@ own_some geometry image i node ready low is =
         let none : None ≡ Some node = sym (node_of_kind geometry image i kinds.Free kind) ∙ is in
         absurd (cc)
 
--- so an i-number is free exactly if all were taken
+-- after the calls an i-number is free if and only if all own names of its node were removed
 pub numbers_freed : (old new : Mounted) (calls : List Call) → AreTaking calls → AreMade old calls new
     → Rules1To12 (geometry_of new.edition new.image) new.image → new.edition ≡ old.edition
     → FreesNumbers (reads_as old.edition old.image).tree calls (reads_as new.edition new.image).tree

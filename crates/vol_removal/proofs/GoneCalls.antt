@@ -28,7 +28,7 @@ use Rattle.vol_volume.specs.declared.calls.Call.TheVariants.{Unlink, Rmdir}
 use Rattle.vol_volume.specs.declared.calls.Done.{Done}
 use Rattle.vol_volume.specs.declared.queries.Query.TheVariants as queries
 
--- a Stat of a path is refused as its walk is
+-- a Stat of a path is refused if its walk is
 answer_of : (tree : Tree) (path : List ℕ) (refusal : Refusal) → is_bad_id tree.geometry.edition 0 0 ≡ false → list_any has_zero (path ∷ []) ≡ false
     → walk tree user path ≡ Err refusal → answer tree (queries.Stat user path) ≡ Err refusal
 unfolding query_refusal
@@ -38,7 +38,7 @@ answer_of tree path refusal good plain is =
     ∙ (ap (λ b. cond b (Some refusals.Invalid) (of_node (walk tree user path) (λ i. None))) plain
     ∙ ap (λ r. of_node r (λ i. None)) is))
 
--- a walk of a path whose last name was removed
+-- a walk of a path whose last name was removed ends with NoEntry
 walk_over : (g : Geometry) (old new path : List ℕ) (d : ℕ) (name : List ℕ) (front : List (List ℕ)) → (tree g new).nodes (root (tree g new)) ≢ None
     → ((x : ℕ) → (tree g new).nodes x ≢ None → walk_from (tree g old) user x front ≡ Ok d
     → walk_from (tree g new) user x (front ++ name ∷ []) ≡ Err refusals.NoEntry)
@@ -48,7 +48,7 @@ unfolding tree walk
 walk_over g old new path d name front there gone walks parts =
     ap (walk_from (tree g new) user (root (tree g new))) parts ∙ gone (root (tree g new)) there walks
 
--- a path whose last name was removed leads to nothing
+-- a path whose last name was removed leads nowhere
 gone_by : (g : Geometry) (old new path : List ℕ) (now d : ℕ) (name : List ℕ) → Reaches (tree g old) path d name → Rules1To12 g new
     → Stays (set_at (tree g old).nodes d (without now name ((tree g old).nodes d))) (tree g new).nodes
     → walk (tree g new) user path ≡ Err refusals.NoEntry
@@ -60,7 +60,7 @@ gone_by g old new path now d name reached ready stays =
     walk_over g old new path d name reached.front (root_there g new rules)
     (walk_gone (tree g old) (tree g new) user d name reached.names lost reached.searched reached.front) reached.walks reached.parts
 
--- an accepted Unlink of a path leaves nothing there
+-- after an accepted Unlink its path leads nowhere
 pub unlink_gone : (g : Geometry) (old new path : List ℕ) (now : ℕ) (done : Done) → verdict (state g old) (Unlink user now path) ≡ None
     → Becomes g old new (step (state g old) (Unlink user now path) done) → answer (tree g new) (queries.Stat user path) ≡ Err refusals.NoEntry
 unfolding verdict changed_by tree
@@ -74,7 +74,7 @@ unlink_gone g old new path now done accepted becomes =
     answer_of (tree g new) path refusals.NoEntry first.good_id first.no_zero
     (gone_by g old new path now parent.0 parent.1 (reaches (tree g old) path parent.0 parent.1 parent.2) becomes.ready stays)
 
--- nor does an accepted Rmdir
+-- after an accepted Rmdir its path leads nowhere
 rmdir_gone : (g : Geometry) (old new path : List ℕ) (now : ℕ) (done : Done) → verdict (state g old) (Rmdir user now path) ≡ None
     → Becomes g old new (step (state g old) (Rmdir user now path) done) → answer (tree g new) (queries.Stat user path) ≡ Err refusals.NoEntry
 unfolding verdict changed_by tree
@@ -88,7 +88,7 @@ rmdir_gone g old new path now done accepted becomes =
     answer_of (tree g new) path refusals.NoEntry first.good_id first.no_zero
     (gone_by g old new path now parent.0 parent.1 (reaches (tree g old) path parent.0 parent.1 parent.2) becomes.ready stays)
 
--- so the call for a path leaves nothing there
+-- after the call for a path, the path leads nowhere
 pub call_gone : (mid new : Mounted) (path : List ℕ) (now : ℕ) (names : Option Names) (done : Done) → Accepts mid new (call_of now path names) done
     → answer (tree (geometry_of mid.edition mid.image) new.image) (queries.Stat user path) ≡ Err refusals.NoEntry
 call_gone mid new path now None done accepts =

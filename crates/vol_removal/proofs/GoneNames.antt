@@ -9,7 +9,7 @@ use Rattle.vol_dir.specs.declared.cred.Cred.{Cred}
 use Rattle.vol_dir.specs.declared.refusal.Refusal.{Refusal}
 use Rattle.vol_dir.specs.declared.refusal.Refusal.TheVariants as refusals
 
--- the new tree is the old one, except that directory d has lost a name, and that a node without names may be freed
+-- the new tree is the old one, except that directory `d` has lost a name, and that a node without names may be freed
 pub record LosesName (old new : Tree) (cred : Cred) (d : ℕ) (name : List ℕ) : Type 0 where
   pub searched : (x : ℕ) (names : Names) → new.nodes x ≢ None → search old cred x ≡ Ok names → (others : Names) × (search new cred x ≡ Ok others)
   pub kept : (x : ℕ) (names others : Names) (word : List ℕ) (y : ℕ) → new.nodes x ≢ None → search old cred x ≡ Ok names → search new cred x ≡ Ok others
@@ -17,7 +17,7 @@ pub record LosesName (old new : Tree) (cred : Cred) (d : ℕ) (name : List ℕ) 
   pub lost : (others : Names) → new.nodes d ≢ None → search new cred d ≡ Ok others → get others name ≡ None
   pub leads : (x : ℕ) (others : Names) (word : List ℕ) (y : ℕ) → search new cred x ≡ Ok others → get others word ≡ Some y → new.nodes y ≢ None
 
--- a search continues from a name that the map has
+-- a walk from a node continues at the i-number that the node's map has for the first name
 found_from : (tree : Tree) (cred : Cred) (x : ℕ) (names : Names) (word : List ℕ) (words : List (List ℕ)) (found : Option ℕ) → search tree cred x ≡ Ok names
     → get names word ≡ found
     → walk_from tree cred x (word ∷ words) ≡ and_then (ok_or found refusals.NoEntry) (λ y. walk_from tree cred y words)
@@ -25,7 +25,7 @@ found_from tree cred x names word words found searched is =
     ap (λ (s : Result Names Refusal). and_then (and_then s (λ ns. ok_or (get ns word) refusals.NoEntry)) (λ y. walk_from tree cred y words)) searched
     ∙ ap (λ (o : Option ℕ). and_then (ok_or o refusals.NoEntry) (λ y. walk_from tree cred y words)) is
 
--- a walk that led somewhere began at a directory that may be searched
+-- a walk of at least one name that leads somewhere begins at a directory that may be searched
 began_at : (tree : Tree) (cred : Cred) (x d : ℕ) (word : List ℕ) (words : List (List ℕ)) → walk_from tree cred x (word ∷ words) ≡ Ok d
     → (names : Names) × (search tree cred x ≡ Ok names)
 began_at tree cred x d word words walks =
@@ -36,7 +36,7 @@ began_at tree cred x d word words walks =
       | Err refusal ↦ λ _ e. cc
     ] refl walks
 
--- a walk that led to the directory, and then over the name, leads to nothing
+-- a walk that led to directory `d` and then over the name now ends with NoEntry
 pub walk_gone : (old new : Tree) (cred : Cred) (d : ℕ) (name : List ℕ) (here : Names) → LosesName old new cred d name → search old cred d ≡ Ok here
     → (front : List (List ℕ)) (x : ℕ) → new.nodes x ≢ None → walk_from old cred x front ≡ Ok d
     → walk_from new cred x (front ++ name ∷ []) ≡ Err refusals.NoEntry

@@ -18,7 +18,7 @@ use Rattle.vol_change.proofs.NodeEdits.{set_here}
 use Rattle.vol_import.proofs.TreeWalks.{named, searched}
 use Rattle.vol_removal.proofs.GoneNames.{LosesName}
 
--- a node that still exists is searched as before
+-- each node that still exists existed before, and is searched as before
 abbrev pub Stays : (ℕ → Option Node) → (ℕ → Option Node) → Type 0
 Stays old new = (x : ℕ) → new x ≢ None → (old x ≢ None) × (searched (new x) ≡ searched (old x))
 
@@ -28,14 +28,14 @@ stays_then old mid new first second x is =
     let a = first x b.0 in
     (a.0, b.1 ∙ a.1)
 
--- a node is removed
+-- removing a node leaves all others as they were
 stays_removed : (nodes : ℕ → Option Node) (i : ℕ) → Stays nodes (set_at nodes i None)
 stays_removed nodes i x is = elim (cases_eq x i) [
   | inl here ↦ absurd (is (ap (set_at nodes i None) here ∙ set_here nodes i None))
   | inr other ↦ let same = set_beside nodes i None x other in (λ none. is (same ∙ none), ap searched same)
 ]
 
--- a node with one fewer link
+-- a node with one link fewer
 abbrev pub unlinked : ℕ → Option Node → Option Node
 unlinked now node = option_map (λ (node : Node). record (stamped now node) { links = node.links - 1 }) node
 
@@ -43,7 +43,7 @@ unlinked_alike : (now : ℕ) (node : Option Node) → searched (unlinked now nod
 unlinked_alike now None = refl
 unlinked_alike now (Some node) = refl
 
--- a node loses a link
+-- a node with one link fewer is searched as before
 stays_unlinked : (nodes : ℕ → Option Node) (now i : ℕ) → Stays nodes (set_at nodes i (unlinked now (nodes i)))
 stays_unlinked nodes now i x is = elim (cases_eq x i) [
   | inl here ↦
@@ -52,7 +52,7 @@ stays_unlinked nodes now i x is = elim (cases_eq x i) [
   | inr other ↦ let same = set_beside nodes i (unlinked now (nodes i)) x other in (λ none. is (same ∙ none), ap searched same)
 ]
 
--- a node loses a link, and is removed with the last
+-- a node that loses a link, and is removed with the last one, satisfies `Stays`
 stays_released : (state : State) (now i : ℕ) → Stays state.tree.nodes (release now i state).tree.nodes
 stays_released state now i =
     elim (nat_le (node_at state.tree i).links 1) as (λ b. Stays state.tree.nodes (cond b (remove_node i state) (drop_link now i state)).tree.nodes) [
@@ -60,7 +60,7 @@ stays_released state now i =
       | false ↦ stays_unlinked state.tree.nodes now i
     ]
 
--- the root stays
+-- the root is unchanged when a node loses a link
 pub root_stays : (state : State) (now i : ℕ) → root (release now i state).tree ≡ root state.tree
 root_stays state now i =
     elim (nat_le (node_at state.tree i).links 1) as (λ b. root (cond b (remove_node i state) (drop_link now i state)).tree ≡ root state.tree) [
@@ -68,7 +68,7 @@ root_stays state now i =
       | false ↦ refl
     ]
 
--- a directory with one fewer name
+-- a directory with one name fewer
 abbrev pub without : ℕ → List ℕ → Option Node → Option Node
 without now name node = option_map (λ (node : Node). record (modified now node) { content = change_names (λ names. remove names name) node.content }) node
 
@@ -92,11 +92,11 @@ with_name now name (Some node) others is =
       | Device type addresses ↦ λ e. cc
     ] is
 
--- a name that a map no longer has isn't found in it
+-- a name that was removed from a map isn't found in it
 lost_name : (names : Names) (name : List ℕ) → get (remove names name) name ≡ None
 lost_name names name = get_remove names name name ∙ ap (λ b. cond b None (get names name)) (bytes_same name name refl)
 
--- any other name that is found existed before
+-- any name that is still found after a removal was found before
 pub kept_name : (names : Names) (name word : List ℕ) (y : ℕ) → get (remove names name) word ≡ Some y → get names word ≡ Some y
 kept_name names name word y is =
     elim (bytes_eq name word) as (λ b. cond b None (get names word) ≡ Some y → get names word ≡ Some y) [
@@ -104,7 +104,7 @@ kept_name names name word y is =
       | false ↦ λ e. e
     ] (sym (get_remove names name word) ∙ is)
 
--- whatever the calls do once the name is gone, the tree has lost it
+-- a tree whose nodes are kept after the name was removed has lost the name
 pub loses : (old new : Tree) (now d : ℕ) (name : List ℕ) → Stays (set_at old.nodes d (without now name (old.nodes d))) new.nodes
     → ((x : ℕ) (others : Names) (word : List ℕ) (y : ℕ) → search new user x ≡ Ok others → get others word ≡ Some y → new.nodes y ≢ None)
     → LosesName old new user d name
@@ -137,7 +137,7 @@ loses old new now d name stays leads = record {
     beside : (x : ℕ) → x ≢ d → set_at old.nodes d (without now name (old.nodes d)) x ≡ old.nodes x
     beside x other = set_beside old.nodes d (without now name (old.nodes d)) x other
 
--- a name is removed
+-- the nodes after a removal are the old nodes with this name removed from its directory
 stays_without : (state : State) (now d : ℕ) (name : List ℕ) → Stays (set_at state.tree.nodes d (without now name (state.tree.nodes d))) (remove_entry now d name state).tree.nodes
 stays_without state now d name x is = (is, refl)
 

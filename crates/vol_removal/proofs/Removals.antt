@@ -27,13 +27,13 @@ use Rattle.vol_volume.specs.declared.volume.MountFault.TheVariants as mounts
 use Rattle.vol_removal.specs.declared.faults.RemovalFault.{RemovalFault}
 use Rattle.vol_removal.specs.declared.faults.RemovalFault.TheVariants as faults
 
--- calls that are made keep the edition
+-- calls that a volume accepts don't change its edition
 edition_kept : (old new : Mounted) (calls : List Call) → AreMade old calls new → new.edition ≡ old.edition
 unfolding AreMade
 edition_kept old new [] made = ap (λ (v : Mounted). v.edition) made
 edition_kept old new (call ∷ calls) made = edition_kept made.0 new calls made.3 ∙ made.2.edition
 
--- the last of calls that are made
+-- a volume accepted this call last
 record EndsWith (new : Mounted) (call : Call) : Type 0 where
   pub mid : Mounted
   pub done : Done
@@ -48,19 +48,19 @@ ends_with old new [] call made = record {
 }
 ends_with old new (first ∷ inner) call made = ends_with made.0 new inner call made.3
 
--- the sizes of its image
+-- the last call doesn't change the geometry
 ended_sizes : (new : Mounted) (call : Call) (ends : EndsWith new call) → geometry_of ends.mid.edition ends.mid.image ≡ geometry_of new.edition new.image
 ended_sizes new call ends =
     ends.accepts.performed.changes.ready.sizes ∙ ap (λ e. geometry_of e new.image) (sym ends.accepts.edition)
 
--- after it the path leads to nothing
+-- after the last call of a removal its path leads nowhere
 ended_gone : (new : Mounted) (path : List ℕ) (now : ℕ) (tree_before : Tree) → EndsWith new (call_of now path (names_of tree_before path))
     → answer (reads_as new.edition new.image).tree (queries.Stat user path) ≡ Err refusals.NoEntry
 ended_gone new path now before ends =
     ap (λ g. answer (tree g new.image) (queries.Stat user path)) (sym (ended_sizes new (call_of now path (names_of before path)) ends))
     ∙ call_gone ends.mid new path now (names_of before path) ends.done ends.accepts
 
--- all calls are made
+-- if all calls of a removal are made, the bytes of the volume are its result
 removes_from : (edition : Edition) (image path : List ℕ) (now : ℕ) (new : Mounted) (calls : List Call) → IsSound edition image
     → IsRemoval (reads_as edition image).tree path now calls → AreMade (mounted edition image) calls new → IsConsistent new
     → Removes edition image path now new.image
@@ -90,7 +90,7 @@ all_removed edition image path bytes now old new calls sound is removal made con
     (subst (λ (v : Mounted). IsRemoval (reads_as v.edition v.image).tree path now calls) is removal)
     (subst (λ (v : Mounted). AreMade v calls new) is made) consistent)
 
--- a fault of mounting is reported
+-- a fault of mounting is a reason not to remove a path
 unmounted_reason : (edition : Edition) (image path : List ℕ) (now : ℕ) (why : MountFault) → IsFaultOf edition image why → IsReason edition image path now (unmounted why)
 unfolding IsReason
 unmounted_reason edition image path now (mounts.Unsound rule) is = is
@@ -105,7 +105,7 @@ pub is_unmounted : (edition : Edition) (image : List ℕ) (why : MountFault) (fa
 unfolding IsUnmounted
 is_unmounted edition image why fault is cause = (why, is, cause)
 
--- a path that leads nowhere is reported
+-- a path that leads nowhere is a reason not to remove it
 missing_reason : (edition : Edition) (image path : List ℕ) (now : ℕ) (fault : RemovalFault) → IsSound edition image
     → IsNotFound (reads_as edition image).tree path fault → IsReason edition image path now fault
 unfolding IsReason
@@ -119,7 +119,7 @@ pub not_found : (edition : Edition) (image path : List ℕ) (now : ℕ) (old : M
 not_found edition image path now old fault sound is missing =
     missing_reason edition image path now fault sound (subst (λ (v : Mounted). IsNotFound (reads_as v.edition v.image).tree path fault) is missing)
 
--- a refused call is reported
+-- a refused call is a reason not to remove a path
 stop_reason : (edition : Edition) (image path : List ℕ) (now : ℕ) (calls : List Call) (new : Mounted) (fault : RemovalFault) → IsSound edition image
     → IsRemoval (reads_as edition image).tree path now calls → IsStop (mounted edition image) calls new fault → IsReason edition image path now fault
 unfolding IsStop IsReason

@@ -6,7 +6,7 @@ use Rattle.vol_dir.specs.Tree.{Tree}
 use Rattle.vol_removal.specs.Removal.{Takes, names_of, paths_of, call_of}
 use Rattle.vol_volume.specs.declared.calls.Call.{Call}
 
--- the calls of the first paths, and those of the others
+-- calls that remove two lists of paths consist of those of the first list followed by those of the second
 takes_split : (tree : Tree) (now : ℕ) (paths more : List (List ℕ)) (calls : List Call) → Takes tree now (paths ++ more) calls
     → (first : List Call) × (second : List Call) × (calls ≡ first ++ second) × Takes tree now paths first × Takes tree now more second
 takes_split tree now [] more calls takes = ([], calls, refl, Takes.none, takes)
@@ -20,7 +20,7 @@ takes_split tree now (path ∷ paths) more _ (Takes.next _ _ inner others below 
       parts.4,
     )
 
--- the calls of more paths after those of the first
+-- calls that remove one list of paths followed by calls that remove another remove both
 takes_join : (tree : Tree) (now : ℕ) (paths more : List (List ℕ)) (first second : List Call) → Takes tree now paths first → Takes tree now more second
     → Takes tree now (paths ++ more) (first ++ second)
 takes_join tree now _ more _ second Takes.none rest = rest
@@ -29,12 +29,12 @@ takes_join tree now _ more _ second (Takes.next path paths inner others below be
     subst (Takes tree now (path ∷ (paths ++ more))) (sym (append_assoc inner (call ∷ others) second))
     (Takes.next path (paths ++ more) inner (others ++ second) below (takes_join tree now paths more others second beside rest))
 
--- the call for a path itself is its last
+-- the last call of those that remove a path is the call for the path itself
 pub takes_last : (tree : Tree) (now : ℕ) (path : List ℕ) (calls : List Call) → Takes tree now (path ∷ []) calls
     → (inner : List Call) × (calls ≡ inner ++ call_of now path (names_of tree path) ∷ [])
 takes_last tree now path _ (Takes.next _ _ inner _ below Takes.none) = (inner, refl)
 
--- there is one list of calls alone
+-- two lists of calls that remove the same paths are equal
 pub takes_once : (tree : Tree) (now : ℕ) (paths : List (List ℕ)) (calls others : List Call) → Takes tree now paths calls → Takes tree now paths others
     → calls ≡ others
 takes_once tree now _ _ _ Takes.none Takes.none = refl
@@ -43,7 +43,7 @@ takes_once tree now _ _ _ (Takes.next path rest inner others below beside) (Take
     ap (λ calls. calls ++ call ∷ others) (takes_once tree now _ inner inner2 below below2)
     ∙ ap (λ calls. inner2 ++ call ∷ calls) (takes_once tree now rest others others2 beside beside2)
 
--- if some calls remove the pending paths, they and then the calls so far, in reverse, remove the path
+-- calls that remove the pending paths, followed by the calls so far in reverse, remove `path`
 pub TakesOn : Tree → ℕ → List ℕ → List (List ℕ) → List Call → Type 0
 TakesOn tree now path pending calls = (first : List Call) → Takes tree now pending first → Takes tree now (path ∷ []) (first ++ reverse calls)
 
@@ -53,7 +53,7 @@ unfolding TakesOn
 on_start tree now path pending calls one none first takes =
     subst (Takes tree now (path ∷ [])) (sym (ap (λ cs. first ++ reverse cs) none ∙ append-nil first)) (subst (λ ps. Takes tree now ps first) one takes)
 
--- one more path
+-- taking one more pending path preserves `TakesOn`
 pub on_path : (tree : Tree) (now : ℕ) (path next : List ℕ) (pending rest after : List (List ℕ)) (calls more : List Call) (call : Call)
     → TakesOn tree now path pending calls → pending ≡ rest ++ next ∷ [] → after ≡ rest ++ paths_of next (names_of tree next)
     → call ≡ call_of now next (names_of tree next) → more ≡ calls ++ call ∷ [] → TakesOn tree now path after more
@@ -72,7 +72,7 @@ on_path tree now path next pending rest after calls more call on popped pushed i
     ∙ (ap (λ cs. cs ++ call ∷ reverse calls) (sym parts.2) ∙ ap (λ cs. first ++ cs) (sym turned))) in
     subst (Takes tree now (path ∷ [])) same (on (parts.0 ++ (parts.1 ++ call ∷ [])) all)
 
--- if no path is pending, the calls are complete
+-- if no path is pending, the calls so far in reverse remove `path`
 pub on_end : (tree : Tree) (now : ℕ) (path : List ℕ) (pending : List (List ℕ)) (calls : List Call) → TakesOn tree now path pending calls → pending ≡ []
     → Takes tree now (path ∷ []) (reverse calls)
 unfolding TakesOn

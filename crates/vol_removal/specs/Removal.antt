@@ -15,7 +15,7 @@ use Rattle.vol_volume.specs.declared.queries.Reply.TheVariants as replies
 use Rattle.vol_removal.specs.declared.faults.RemovalFault.{RemovalFault}
 use Rattle.vol_removal.specs.declared.faults.RemovalFault.TheVariants as faults
 
--- the names that a List returns; None if it is refused (this project)
+-- the names that a List returns; None if the List is refused (this project)
 abbrev pub listed : Result Reply Refusal → Option Names
 listed (Ok (replies.Names names)) = Some names
 listed (Ok (replies.Stat stat)) = None
@@ -26,7 +26,7 @@ listed (Err refusal) = None
 abbrev pub names_of : Tree → List ℕ → Option Names
 names_of tree path = listed (answer tree (ListNames user path))
 
--- the path of a name below a path; none for `.` and `..` (rm)
+-- the path of a name below a path; no path for `.` and `..` (rm)
 abbrev pub path_of : List ℕ → List ℕ → List (List ℕ)
 path_of path name = if is_dots name then [] else below path name ∷ []
 
@@ -35,12 +35,12 @@ abbrev pub paths_of : List ℕ → Option Names → List (List ℕ)
 paths_of path None = []
 paths_of path (Some names) = flat_map (λ (entry : List ℕ × ℕ). path_of path entry.0) names
 
--- the call that removes a path: that of a directory, or of another node (rm, rmdir)
+-- the call that removes a path: an Rmdir for a directory, else an Unlink (rm, rmdir)
 abbrev pub call_of : ℕ → List ℕ → Option Names → Call
 call_of now path (Some names) = Rmdir user now path
 call_of now path None = Unlink user now path
 
--- calls remove paths, each path in turn: first everything below it, and then itself (rm)
+-- calls remove all paths in order: for each path first everything below it, and then the path itself (rm)
 pub data Takes (tree : Tree) (now : ℕ) : List (List ℕ) → List Call → Type 0 where
   none : Takes tree now [] []
   next : (path : List ℕ) (rest : List (List ℕ)) (inner others : List Call)
@@ -51,12 +51,12 @@ pub data Takes (tree : Tree) (now : ℕ) : List (List ℕ) → List Call → Typ
 abbrev pub IsFound : Tree → List ℕ → Type 0
 IsFound tree path = is_ok (answer tree (Stat user path)) ≡ true
 
--- the calls remove a path, which leads somewhere, and everything below it (rm)
+-- the path leads somewhere, and the calls remove it and everything below it (rm)
 pub record IsRemoval (tree : Tree) (path : List ℕ) (now : ℕ) (calls : List Call) : Type 0 where
   pub found : IsFound tree path
   pub takes : Takes tree now (path ∷ []) calls
 
--- the reason why there are no such calls: a Stat of the path is refused, or memory runs out (this project)
+-- the reason why there are no calls to remove a path: a Stat of the path is refused, or memory runs out (this project)
 abbrev pub IsNotFound : Tree → List ℕ → RemovalFault → Type 0
 IsNotFound tree path (faults.Missing refusal) = answer tree (Stat user path) ≡ Err refusal
 IsNotFound tree path faults.NoMemory = Unit {0}

@@ -19,7 +19,8 @@ use Rattle.vol_volume.specs.declared.volume.MountFault.TheVariants as mounts
 use Rattle.vol_removal.specs.declared.faults.RemovalFault.{RemovalFault}
 use Rattle.vol_removal.specs.declared.faults.RemovalFault.TheVariants as faults
 
--- the bytes are those that the calls which remove a path, and everything below it, make of a sound image, all of them; the path then leads nowhere, and nodes that lost their last name are free, with their blocks (rm)
+-- the bytes are the result of making all calls that remove a path, and everything below it, on a sound image; the path then leads nowhere, and nodes
+-- that lost their last name are free, with their blocks (rm)
 pub record Removes (edition : Edition) (image : List ℕ) (path : List ℕ) (now : ℕ) (bytes : List ℕ) : Type 0 where
   pub calls : List Call
   pub removal : IsRemoval (reads_as edition image).tree path now calls
@@ -28,21 +29,22 @@ pub record Removes (edition : Edition) (image : List ℕ) (path : List ℕ) (now
   pub numbers : FreesNumbers (reads_as edition image).tree calls (reads_as edition bytes).tree
   pub blocks : FreesBlocks (geometry_of edition image) image bytes
 
--- one of the calls that remove a path is refused, after those before it were accepted (this project)
+-- one of the calls that remove a path is refused, after the calls before it were accepted (this project)
 pub record IsRefused (edition : Edition) (image : List ℕ) (path : List ℕ) (now : ℕ) (refusal : Refusal) (call : Call) : Type 0 where
   pub calls : List Call
   pub removal : IsRemoval (reads_as edition image).tree path now calls
   pub volume : Mounted
   pub stopped : AreStopped (mounted edition image) calls volume refusal call
 
--- a reason not to remove a path: the first rule that the image breaks; in a sound image that the path leads nowhere, or a refusal of one of the calls; or NoMemory (this project)
+-- a reason not to remove a path: the first rule that the image breaks; for a sound image, that the path leads nowhere, or a refusal of one of the
+-- calls; or NoMemory (this project)
 unfoldable pub IsReason : Edition → List ℕ → List ℕ → ℕ → RemovalFault → Type 0
 IsReason edition image path now (faults.Unsound rule) = IsLeastBroken true edition image rule
 IsReason edition image path now (faults.Missing refusal) = IsSound edition image × (answer (reads_as edition image).tree (queries.Stat user path) ≡ Err refusal)
 IsReason edition image path now (faults.Refused refusal call) = IsSound edition image × IsRefused edition image path now refusal call
 IsReason edition image path now faults.NoMemory = Unit {0}
 
--- the fault of a volume that isn't mounted, for this reason (this project)
+-- the removal fault of a volume that isn't mounted for this reason (this project)
 abbrev pub unmounted : MountFault → RemovalFault
 unmounted (mounts.Unsound rule) = faults.Unsound rule
 unmounted mounts.NoMemory = faults.NoMemory

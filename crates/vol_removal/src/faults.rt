@@ -8,9 +8,9 @@ use vol_volume::{Call, MountFault};
 /// The reason why a path isn't removed.
 #[derive(Drop)]
 pub enum RemovalFault {
-    /// The image isn't sound: the first of the twelve rules that it breaks.
+    /// The image isn't sound; this is the first of the twelve rules that it breaks.
     Unsound(u8),
-    /// The path leads nowhere: the refusal of a Stat of it.
+    /// The path leads nowhere; this is the refusal of a Stat of it.
     Missing(Refusal),
     /// A call is refused.
     Refused(Refusal, Call),

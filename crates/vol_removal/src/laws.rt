@@ -1,4 +1,4 @@
-//! A law about removals. The function does nothing: the contract, which is proved, is the point.
+//! A law about removals. The function does nothing; its proved contract is the law.
 ghost use Rattle.vol_removal.specs.Laws.{IsOneRemoval};
 
 /// In every tree, exactly one list of calls removes a path.

@@ -1,4 +1,4 @@
-//! Removing a path and everything below it, by the calls of a volume.
+//! Removes a path and everything below it with calls on a volume.
 #![tactic(auto)]
 
 pub mod faults;

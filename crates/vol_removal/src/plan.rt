@@ -1,4 +1,4 @@
-//! The calls that remove a path.
+//! Plans the calls that remove a path.
 ghost use Rattle.std.specs.Prelude.{◌≡◌, ◌++◌, ◌∷◌, [], IfOk, IfErr, OnOk, Some};
 ghost use Rattle.vol_volume.specs.Volume.{reads_as};
 ghost use Rattle.vol_removal.specs.Removal.{IsFound, IsNotFound, IsRemoval, Takes, names_of, path_of, paths_of, call_of};
@@ -9,14 +9,13 @@ use vol_dir::{Cred, Refusal, is_dots};
 use vol_import::import_plan::below;
 use vol_volume::{Bytes, Call, Listing, Query, Reply, Volume};
 
-/// Returns the calls that remove a path of a volume, as user 0 and at time `now`: for a directory, first everything below it,
-/// with the names of each directory in ascending order of their bytes, and then the directory itself, by an Rmdir; for any
-/// other node the one name, by an Unlink, whatever other names it has. The path of an entry in a directory is that of the
-/// directory, a slash and the name. Changes nothing. The calls may be refused: no Rmdir removes the root, or a directory whose
-/// path ends in `.` or `..`.
+/// Returns the calls that remove a path of a volume, as user 0 and at time `now`. For a directory, they first remove everything below it, with the
+/// names of each directory in ascending order of their bytes, and then the directory itself, by an Rmdir. For any other node they remove this one
+/// name, by an Unlink, even if it has other names. The path of an entry in a directory is the directory's path, a slash and the name. Changes
+/// nothing. The calls may be refused: no Rmdir removes the root, or a directory whose path ends in `.` or `..`.
 ///
-/// If the path leads nowhere, the fault has the refusal of a Stat of it. Takes memory for the calls, with a path each, and for
-/// the names of one directory at a time. Costs the walk of the path of each node that is met, and a List of each directory.
+/// If the path leads nowhere, the fault has the refusal of a Stat of it. Takes memory for the calls, with a path each, and for the names of one
+/// directory at a time. Costs the walk of the path of each node visited, and a List of each directory.
 pub fn removal(
     alloc: Global,
     volume: &Volume,
@@ -61,7 +60,7 @@ fn calls_for(alloc: Global, volume: &Volume, path: Bytes, now: u32) -> Result<Ve
     Ok(calls)
 }
 
-/// Returns the call that removes a path. Appends the paths of the entries in it, if it is a directory.
+/// Returns the call that removes a path. If the path leads to a directory, appends the paths of its entries to the list.
 fn call_for(
     alloc: Global,
     volume: &Volume,

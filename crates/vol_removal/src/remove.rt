@@ -13,12 +13,12 @@ use vol_import::make_all;
 use vol_layout::Edition;
 use vol_volume::{Call, Volume};
 
-/// Removes a path of the volume in some bytes, and for a directory everything below it, and returns the new bytes of the
-/// volume, in which the path leads nowhere. Makes all calls of [`removal`], in order and as user 0; or there is nothing to
-/// save, and the fault has the first reason: of the image, then of the path, then of the calls.
+/// Removes a path of the volume stored in these bytes, and for a directory everything below it, and returns the new bytes of the volume, in which the
+/// path leads nowhere. Makes all calls of [`removal`], in order and as user 0. If one step fails, nothing is returned but the first reason: of the
+/// image, then of the path, then of the calls.
 ///
-/// Takes memory to mount the image, and what [`removal`] and the calls take. Costs that and the calls: for each node removed,
-/// the walk of its path and a search of its directory.
+/// Takes memory to mount the image, for [`removal`] and for the calls. Costs the same, and for each node removed the walk of its path and a search of
+/// its directory.
 pub fn remove_all(
     alloc: Global,
     edition: Edition,
@@ -35,7 +35,7 @@ pub fn remove_all(
     Ok(volume.unmount())
 }
 
-/// Mounts the volume in some bytes.
+/// Mounts the volume stored in these bytes.
 #[tactic(auto, using(crate::proofs::Removals::is_unmounted))]
 fn mount(alloc: Global, edition: Edition, image: Vec<u8>) -> Result<Volume, RemovalFault>
     ensures mounted { IfOk result (λ volume. volume ≡ mounted edition image.items) }

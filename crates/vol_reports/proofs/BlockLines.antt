@@ -1,4 +1,4 @@
--- The words of a table that counts an image's blocks give the lines of its block report.
+-- If the words count an image's blocks, they give the lines of its block report.
 use Rattle.std.proofs.Common.{◌≡◌, ℕ, ◌+◌, ◌<◌, ◌≤◌, true, not, eqb, leb, ltb, List, [], ◌++◌, Option, length, get_or, ap, ◌∙◌, arith, append_assoc}
 use Rattle.std.proofs.lemmas.Bool.{and_from, le-leb, lt-ltb}
 use Rattle.vol_layout.specs.Geometry.{in_zone}
@@ -12,28 +12,28 @@ use Rattle.vol_reports.specs.declared.line.Line.{Line}
 use Rattle.vol_free.specs.declared.free_walk.FreeFault.{FreeFault}
 use Rattle.vol_reports.proofs.Ranges.{flat_same, count_same}
 
--- a number from the first data block to the last is in the zone
+-- a number between the first and the last data block is in the data zone
 pub in_zone_from : (g : Geometry) (b : ℕ) → g.zone_start ≤ b → b < g.zone_start + zone_len g → in_zone g b ≡ true
 in_zone_from g b low high =
     let end : b < g.zone_end = omega arith in and_from (leb g.zone_start b) (ltb b g.zone_end) (le-leb g.zone_start b low) (lt-ltb b g.zone_end end)
 
--- the words say which blocks are used
+-- the words and the image agree on which blocks are used
 used_same : {g : Geometry} {image words : List ℕ} {fault : Option (FreeFault × ℕ)} → CountsBlocks g image words fault → (b : ℕ) → in_zone g b ≡ true
     → is_used_in g words b ≡ is_used g image b
 used_same counts b inside = ap (λ n. not (eqb n 0)) (counts.places b inside)
 
--- which the free list has
+-- the words and the image agree on which blocks are in the free list
 met_same : {g : Geometry} {image words : List ℕ} {fault : Option (FreeFault × ℕ)} → CountsBlocks g image words fault → (b : ℕ) → in_zone g b ≡ true
     → is_met_in g words b ≡ is_met g image b
 met_same counts b inside = ap (λ n. not (eqb n 0)) (counts.frees b inside)
 
--- and which are lost
+-- the words and the image agree on which blocks are lost
 lost_same : {g : Geometry} {image words : List ℕ} {fault : Option (FreeFault × ℕ)} → CountsBlocks g image words fault → (b : ℕ) → in_zone g b ≡ true
     → is_lost_in g words b ≡ is_lost g image b
 lost_same {g} {image} {words} counts b inside =
     ap (λ n. is_lost_of n (is_met_in g words b)) (counts.places b inside) ∙ ap (λ m. is_lost_of (use_count g image b) m) (met_same counts b inside)
 
--- the lines of bad places, computed from the words, are those of the report
+-- the lines of bad block addresses, computed from the words, are those of the report
 bad_same : {g : Geometry} {image words : List ℕ} {fault : Option (FreeFault × ℕ)} → CountsBlocks g image words fault
     → inode_lines g (bad_line_in g words) ≡ bad_lines g image
 unfolding bad_lines
@@ -42,7 +42,7 @@ bad_same {g} {image} {words} counts =
     ap (λ n. bad_line_of i n (get_or words (least_word g i) 0)) (counts.bads i low (omega arith))
     ∙ ap (λ n. bad_line_of i (length (bad_numbers g image i)) n) (counts.leasts i low (omega arith)))
 
--- so are those of blocks claimed more than once
+-- the lines of blocks claimed more than once, computed from the words, are those of the report
 dup_same : {g : Geometry} {image words : List ℕ} {fault : Option (FreeFault × ℕ)} → CountsBlocks g image words fault
     → zone_lines g (dup_line_in g words) ≡ dup_lines g image
 unfolding dup_lines
@@ -51,7 +51,7 @@ dup_same {g} {image} {words} counts =
     let inside = in_zone_from g b low high in
     ap (λ n. dup_line_of b n (is_met_in g words b)) (counts.places b inside) ∙ ap (λ m. dup_line_of b (use_count g image b) m) (met_same counts b inside))
 
--- those of lost blocks
+-- the lines of lost blocks, computed from the words, are those of the report
 lost_lines_same : {g : Geometry} {image words : List ℕ} {fault : Option (FreeFault × ℕ)} → CountsBlocks g image words fault
     → zone_lines g (lost_line_in g words) ≡ lost_lines g image
 unfolding lost_lines
@@ -59,7 +59,7 @@ lost_lines_same {g} {image} {words} counts =
     flat_same (lost_line_in g words) (lost_line g image) g.zone_start (zone_len g) (λ b low high.
     ap (lost_line_of b) (lost_same counts b (in_zone_from g b low high)))
 
--- and the totals
+-- the totals, computed from the words, are those of the report
 total_same : {g : Geometry} {image words : List ℕ} {fault : Option (FreeFault × ℕ)} → CountsBlocks g image words fault
     → total_lines_in g words ≡ total_lines g image
 unfolding total_lines
@@ -72,7 +72,7 @@ total_same {g} {image} {words} counts =
     count_same (is_lost_in g words) (is_lost g image) g.zone_start (zone_len g) (λ b low high. lost_same counts b (in_zone_from g b low high)) in
     let files = counts.files in let directories = counts.directories in let specials = counts.specials in let odds = counts.odds in cc
 
--- five lists put one after another
+-- five lists appended one after another are their concatenation
 joined : {A : Type 0} (n v w x y z a b c d e : List A) → n ≡ [] → v ≡ n ++ a → w ≡ v ++ b → x ≡ w ++ c → y ≡ x ++ d → z ≡ y ++ e
     → z ≡ a ++ (b ++ (c ++ (d ++ e)))
 joined n v w x y z a b c d e first p q r s t =
@@ -80,7 +80,7 @@ joined n v w x y z a b c d e first p q r s t =
     t ∙ ap (λ l. l ++ e) (s ∙ ap (λ l. l ++ d) (r ∙ ap (λ l. l ++ c) (q ∙ ap (λ l. l ++ b) (p ∙ ap (λ l. l ++ a) first)))) in
     all ∙ simp append_assoc
 
--- the lines appended one after another are the report
+-- the five groups of lines, appended one after another, are the report
 pub blocks_from : {g : Geometry} {image words : List ℕ} {fault : Option (FreeFault × ℕ)} (n v w x y z : List Line) → n ≡ []
     → Appended n v (inode_lines g (bad_line_in g words)) → Appended v w (zone_lines g (dup_line_in g words))
     → Appended w x (zone_lines g (lost_line_in g words)) → Appended x y (free_list_line fault) → Appended y z (total_lines_in g words)

@@ -9,7 +9,7 @@ use Rattle.vol_reports.specs.Placed.{Placed}
 use Rattle.vol_reports.specs.Ncheck.{slashed, dots, path_up}
 use Rattle.vol_reports.specs.Climb.{naming_in, trail, path_start, AreBefore, Steps, Climbs}
 
--- a count with one more item before the others
+-- a first item adds 1 to a count if it passes the test
 count_front : {X : Type 0} (t : X → Bool) (x : X) (xs : List X) → count_by t (x ∷ xs) ≡ cond (t x) 1 0 + count_by t xs
 count_front t x xs = sum_by-append (λ y. cond (t y) 1 0) (x ∷ []) xs ∙ ap (λ n. n + count_by t xs) (omega arith)
 
@@ -20,7 +20,7 @@ count_none t (x ∷ xs) d none =
     count_front t x xs ∙ (ap (λ b. cond b 1 0 + count_by t xs) (none 0 (omega arith))
     ∙ ap (λ n. 0 + n) (count_none t xs d (λ k low. none (suc k) (omega arith))))
 
--- an item that passes in place of one that doesn't adds one to the count
+-- replacing an item that fails the test by one that passes it adds 1 to the count
 count_set : (t : ℕ → Bool) (xs : List ℕ) (k v : ℕ) → k < length xs → t (get_or xs k 0) ≡ false → t v ≡ true
     → count_by t (set xs k v) ≡ count_by t xs + 1
 count_set t xs k v low fails passes =
@@ -29,31 +29,31 @@ count_set t xs k v low fails passes =
     let b : ◌≡◌ {A = ℕ} (cond (t v) 1 0) 1 = ap (λ b. cond b 1 0) passes in
     omega (arith, e, a, b)
 
--- the trail of a climb with one more entry
+-- the trail of a climb with one more entry begins with this entry's name
 pub trail_push : (way : List (Bor Placed)) (entry : Bor Placed) → trail (way ++ entry ∷ []) ≡ slashed entry.now.name ++ trail way
 unfolding trail
 trail_push [] entry = sym (append-nil (slashed entry.now.name))
 trail_push (first ∷ way) entry =
     ap (λ xs. xs ++ slashed first.now.name) (trail_push way entry) ∙ append_assoc (slashed entry.now.name) (trail way) (slashed first.now.name)
 
--- a climb without entries has no trail
+-- a climb that passed no entries has an empty trail
 pub trail_none : (way : List (Bor Placed)) → length way ≡ 0 → trail way ≡ []
 unfolding trail
 trail_none [] e = refl
 trail_none (entry ∷ way) e = absurd (omega (arith, e))
 
--- two equal choices
+-- a choice between two equal values is that value
 both_same : {X : Type 0} (b : Bool) (x : X) → cond b x x ≡ x
 both_same true x = refl
 both_same false x = refl
 
--- at the root a path is nothing
+-- the path of the root is empty
 up_root : (root : ℕ) (naming : ℕ → Option Placed) (fuel : ℕ) (met : List ℕ) (at : ℕ) → at ≡ root → 1 ≤ fuel → path_up root naming fuel met at ≡ []
 unfolding path_up
 up_root root naming zero met at e low = absurd (omega arith)
 up_root root naming (suc fuel) met at e low = rw (eq-eqb at root e) refl
 
--- if a climb ends elsewhere, its path starts with dots
+-- a climb ends in dots at a directory that it passed before or that has no naming entry
 up_dots : (root : ℕ) (naming : ℕ → Option Placed) (fuel : ℕ) (met : List ℕ) (at : ℕ) → at ≢ root
     → (list_any (λ e. e == at) met ≡ true) ⊎ (naming at ≡ None) → path_up root naming fuel met at ≡ dots
 unfolding path_up
@@ -64,21 +64,22 @@ up_dots root naming (suc fuel) met at other ends =
       | inr none ↦ rw (ne_eqb at root other, none) (both_same (list_any (λ e. e == at) met) dots)
     ]
 
--- if it continues, it ends in a name
+-- at any other directory the path ends with the naming entry's name, and the climb continues at the entry's directory
 up_next : (root : ℕ) (naming : ℕ → Option Placed) (more : ℕ) (met : List ℕ) (at : ℕ) (entry : Placed) → at ≢ root
     → list_any (λ e. e == at) met ≡ false → naming at ≡ Some entry
     → path_up root naming (suc more) met at ≡ path_up root naming more (at ∷ met) entry.directory ++ slashed entry.name
 unfolding path_up
 up_next root naming more met at entry other fresh is = rw (ne_eqb at root other, fresh, is) refl
 
--- the same for a count that is one more
+-- if `fuel` is `more` + 1, the path of `at` within `fuel` steps is that of the naming entry's directory within `more` steps, followed by the entry's
+-- name
 up_more : (root : ℕ) (naming : ℕ → Option Placed) (fuel more : ℕ) (met : List ℕ) (at : ℕ) (entry : Placed) → fuel ≡ more + 1 → at ≢ root
     → list_any (λ e. e == at) met ≡ false → naming at ≡ Some entry
     → path_up root naming fuel met at ≡ path_up root naming more (at ∷ met) entry.directory ++ slashed entry.name
 up_more root naming fuel more met at entry e other fresh is =
     ap (λ n. path_up root naming n met at) (e ∙ add-one more) ∙ up_next root naming more met at entry other fresh is
 
--- a climb begins
+-- at the start of a climb from `d`, it is at `d` and has passed no entries
 pub climbs_first : {root turn d : ℕ} {naming : List (Option (Bor Placed))} {marks : List ℕ} (way : List (Bor Placed)) → length marks ≡ length naming
     → AreBefore turn marks → way ≡ [] → Climbs root naming turn d d marks way
 unfolding trail
@@ -96,13 +97,13 @@ climbs_first {root} {turn} {d} {naming} {marks} way room before none =
       path = sym (ap (λ w. start ++ trail w) none ∙ append-nil start);
     }
 
--- the climb hasn't used up all steps
+-- a climb in progress has at least one step left
 fuel_some : {root turn d at : ℕ} {naming : List (Option (Bor Placed))} {marks : List ℕ} {way : List (Bor Placed)}
     → (was : Climbs root naming turn d at marks way) → 1 ≤ was.fuel
 fuel_some {turn = turn} {marks = marks} was =
     let few = count_by-le-length (λ m. m == turn) marks in omega (arith, few, was.spent, was.room, was.count)
 
--- the marks after a step say which directories were met
+-- after a step at `at`, the directories that the climb passed are those marked with its turn
 flags_more : (met old new : List ℕ) (turn at x : ℕ) → at < length old → new ≡ set old at turn
     → list_any (λ e. e == x) met ≡ (get_or old x 0 == turn) → list_any (λ e. e == x) (at ∷ met) ≡ (get_or new x 0 == turn)
 flags_more met old new turn at x low is was =
@@ -115,7 +116,7 @@ flags_more met old new turn at x low is was =
           ∙ (was ∙ ap (λ n. n == turn) (sym (ap (λ xs. get_or xs x 0) is ∙ get_or-set_other old at x turn 0 (λ e. other (sym e)))))
     ]
 
--- a climb continues
+-- after a step over a naming entry, the climb is at the entry's directory
 climbs_on : {root turn d at : ℕ} {naming : List (Option (Bor Placed))} {old new : List ℕ} {way : List (Bor Placed)} (entry : Bor Placed)
     → Climbs root naming turn d at old way → at ≢ root → Steps naming turn at old new (Some entry) → AreBefore (turn + 1) new
     → Climbs root naming turn d entry.now.directory new (way ++ entry ∷ [])
@@ -139,7 +140,7 @@ climbs_on {root} {turn} {d} {at} {naming} {old} {new} {way} entry was other step
           ∙ ap (λ xs. path_up root (naming_in naming) (was.fuel - 1) (at ∷ was.met) entry.now.directory ++ xs) (sym (trail_push way entry))));
     }
 
--- the same for an equal climb and directory
+-- after a step over a naming entry, the climb is at `next`, if that is the entry's directory
 pub climbs_more : {root turn d at next : ℕ} {naming : List (Option (Bor Placed))} {old new : List ℕ} {way more : List (Bor Placed)} (entry : Bor Placed)
     → Climbs root naming turn d at old way → at ≢ root → Steps naming turn at old new (Some entry) → AreBefore (turn + 1) new
     → next ≡ entry.now.directory → more ≡ way ++ entry ∷ [] → Climbs root naming turn d next new more
@@ -147,7 +148,7 @@ climbs_more {root} {turn} {d} {naming = naming} {new = new} {way = way} {more = 
     subst (λ x. Climbs root naming turn d x new more) (sym to)
     (subst (λ w. Climbs root naming turn d entry.now.directory new w) (sym grown) (climbs_on entry was other steps early))
 
--- a climb ends
+-- a climb that ends elsewhere than at the root gives the path of `d`, with dots at the start
 pub climbs_end : {root turn d at : ℕ} {naming : List (Option (Bor Placed))} {old : List ℕ} {way : List (Bor Placed)} (new : List ℕ)
     → Climbs root naming turn d at old way → at ≢ root → Steps naming turn at old new None
     → path_up root (naming_in naming) (length naming + 1) [] d ≡ path_start false ++ trail way
@@ -156,14 +157,14 @@ climbs_end {root} {turn} {d} {at} {naming} {old} {way} new was other steps =
     elim steps [ inl seen ↦ inl (was.flags at seen.0 ∙ eq-eqb (get_or old at 0) turn seen.1) | inr none ↦ inr none ] in
     was.path ∙ ap (λ xs. xs ++ trail way) (up_dots root (naming_in naming) was.fuel was.met at other ends)
 
--- a climb ends at the root
+-- a climb that ends at the root gives the path of `d`
 pub climbs_root : {root turn d at : ℕ} {naming : List (Option (Bor Placed))} {marks : List ℕ} {way : List (Bor Placed)}
     → Climbs root naming turn d at marks way → at ≡ root
     → path_up root (naming_in naming) (length naming + 1) [] d ≡ path_start true ++ trail way
 climbs_root {root} {turn} {d} {at} {naming} {marks} {way} was e =
     was.path ∙ ap (λ xs. xs ++ trail way) (up_root root (naming_in naming) was.fuel was.met at e (fuel_some was))
 
--- a step marks one more directory, of a fixed number of them
+-- a step leaves one directory fewer without a mark of this turn
 pub climbs_fall : {root turn d at : ℕ} {naming : List (Option (Bor Placed))} {old new : List ℕ} {way : List (Bor Placed)} (entry : Bor Placed)
     → Climbs root naming turn d at old way → Steps naming turn at old new (Some entry)
     → length new - count_by (λ m. m == turn) new < length old - count_by (λ m. m == turn) old
@@ -175,16 +176,16 @@ climbs_fall {turn = turn} {at = at} {old = old} {new = new} entry was steps =
     let few = count_by-le-length (λ m. m == turn) new in
     omega (arith, wide, len, set_count, counted, few)
 
--- past the naming entries there is none
+-- there is no naming entry past the end of the list
 pub none_past : (naming : List (Option (Bor Placed))) (at : ℕ) → length naming ≤ at → naming_in naming at ≡ None
 none_past naming at past = ap (option_map (λ (entry : Bor Placed). entry.now)) (get_or_past naming at None past)
 
--- the naming entry in the list
+-- the naming entry of an i-number is the element at its index
 named_at : (naming : List (Option (Bor Placed))) (at : ℕ) (o : Option (Bor Placed)) → at < length naming → o ≡ get_or naming at o
     → naming_in naming at ≡ option_map (λ (entry : Bor Placed). entry.now) o
 named_at naming at o low is = ap (option_map (λ (entry : Bor Placed). entry.now)) (get_or_default naming at None o low ∙ sym is)
 
--- the result of a step at a directory that is marked by it
+-- marking a directory that isn't marked with this turn makes a step to its naming entry
 pub steps_at : (naming : List (Option (Bor Placed))) (turn at : ℕ) (old : List ℕ) (o : Option (Bor Placed)) → length old ≡ length naming
     → at < length old → get_or old at 0 ≢ turn → o ≡ get_or naming at o → Steps naming turn at old (set old at turn) o
 steps_at naming turn at old None room low unmet is = inr (named_at naming at None (omega (arith, low, room)) is)

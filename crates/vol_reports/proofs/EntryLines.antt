@@ -1,4 +1,4 @@
--- The words of a table that counts an image's entries give the lines of its entry report.
+-- If the words count an image's entries, they give the lines of its entry report.
 use Rattle.std.proofs.Common.{◌≡◌, ℕ, ◌+◌, ◌-◌, List, get_or, ap, ◌∙◌, arith}
 use Rattle.vol_layout.specs.declared.geometry.Geometry.{Geometry}
 use Rattle.vol_judge.specs.Directories.{entry_count}

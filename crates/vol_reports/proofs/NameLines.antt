@@ -22,19 +22,19 @@ use Rattle.vol_reports.specs.Ncheck.{slashed, entered, entries_of, entries_in, a
 use Rattle.vol_reports.specs.Counted.{CountsNames, rank_of}
 use Rattle.vol_reports.specs.Climb.{naming_in, IsNaming, HasNaming, path_in}
 
--- an item before others adds its weight to their sum
+-- a first item adds its weight to a sum
 sum_front : {X : Type 0} (f : X → ℕ) (x : X) (xs : List X) → sum_by f (x ∷ xs) ≡ f x + sum_by f xs
 sum_front f x xs = sum_by-append f (x ∷ []) xs ∙ ap (λ n. n + sum_by f xs) (omega arith)
 
--- an item in a list
+-- a list has its first item
 in_front : {X : Type 0} (x : X) (xs : List X) → Contains (x ∷ xs) x
 in_front x xs = (0, omega arith, refl)
 
--- an item of the rest is one of the list
+-- a list has each item of its rest
 in_rest : {X : Type 0} (x y : X) (xs : List X) → Contains xs y → Contains (x ∷ xs) y
 in_rest x y xs has = Contains-append_right (x ∷ []) xs y has
 
--- an item of a list is the first, or one of the rest
+-- an item of a list is its first item, or an item of the rest
 in_cases : {X : Type 0} (x y : X) (xs : List X) → Contains (x ∷ xs) y → (x ≡ y) ⊎ Contains xs y
 in_cases x y xs has =
     elim (Contains-append_cases (x ∷ []) xs y has) [
@@ -42,7 +42,7 @@ in_cases x y xs has =
       | inr rest ↦ inr rest
     ]
 
--- an item weighs no more than all
+-- an item weighs at most as much as the whole list
 weight_in : {X : Type 0} (f : X → ℕ) (xs : List X) (x : X) → Contains xs x → f x ≤ sum_by f xs
 weight_in f [] x has = absurd (omega (arith, has.1))
 weight_in f (y ∷ xs) x has =
@@ -52,7 +52,7 @@ weight_in f (y ∷ xs) x has =
       | inr rest ↦ let h = weight_in f xs x rest in omega (arith, e, h)
     ]
 
--- if items weigh something, one of them does
+-- if a count of the items that pass a test isn't 0, one of them passes it
 some_weighs : {X : Type 0} (t : X → Bool) (xs : List X) → 1 ≤ sum_by (λ x. cond (t x) 1 0) xs → (x : X) × Contains xs x × (t x ≡ true)
 some_weighs t [] low = absurd (omega arith)
 some_weighs t (y ∷ xs) low =
@@ -90,7 +90,7 @@ same_itself : (a : Placed) → same_entry a a ≡ true
 unfolding same_entry
 same_itself a = and_from _ _ (and_from _ _ (eq-eqb a.directory a.directory refl) (eq-eqb a.slot a.slot refl)) (and_from _ _ (eq-eqb a.inode a.inode refl) (bytes_same a.name a.name refl))
 
--- lists with the same weights have the same entries
+-- lists with equal sums under every weight have the same entries
 member_moves : (xs ys : List Placed) → ((weight : Placed → ℕ) → sum_by weight xs ≡ sum_by weight ys) → (entry : Placed) → Contains xs entry → Contains ys entry
 member_moves xs ys same entry has =
     let weighs = weight_in (λ x. cond (same_entry x entry) 1 0) xs entry has in
@@ -104,12 +104,12 @@ first_here : (i : ℕ) (first : Placed) (entries : List Placed) → first.inode 
 unfolding naming_entry
 first_here i first entries here = rw (eq-eqb first.inode i here) refl
 
--- and else one of the rest is
+-- if the first entry isn't for the i-number, the naming entry is that of the rest
 first_other : (i : ℕ) (first : Placed) (entries : List Placed) → first.inode ≢ i → naming_entry i (first ∷ entries) ≡ naming_entry i entries
 unfolding naming_entry
 first_other i first entries other = rw (ne_eqb first.inode i other) refl
 
--- the naming entry is for the i-number, and one of the entries
+-- the naming entry is for the i-number, and is one of the entries
 naming_some : (i : ℕ) (entries : List Placed) (entry : Placed) → naming_entry i entries ≡ Some entry → (entry.inode ≡ i) × Contains entries entry
 unfolding naming_entry
 naming_some i [] entry is = absurd (cc)
@@ -124,7 +124,7 @@ naming_some i (first ∷ entries) entry is =
           (rest.0, in_rest first entry entries rest.1)
     ]
 
--- if there is none, no entry is for the i-number
+-- if an i-number has no naming entry, no entry is for it
 naming_never : (i : ℕ) (entries : List Placed) → naming_entry i entries ≡ None → (entry : Placed) → Contains entries entry → entry.inode ≢ i
 unfolding naming_entry
 naming_never i [] is entry has = absurd (omega (arith, has.1))
@@ -137,30 +137,30 @@ naming_never i (first ∷ entries) is entry has =
       ]
     ]
 
--- an entry of an image is in a slot of a directory
+-- an entry is that of a slot of a directory in the image
 record IsOfImage (g : Geometry) (image : List ℕ) (entry : Placed) : Type 0 where
   first : 1 ≤ entry.directory
   last : entry.directory ≤ g.last_inode
   low : entry.slot < 4294967296
   slot : entry_at g image entry.directory entry.slot ≡ Some (entry.name, entry.inode)
 
--- a property of each of some lists over a range is one of all
+-- a property of all elements of each list over a range is a property of all elements of their concatenation
 all_flat : {A : Type 0} (P : A → Type 0) (f : ℕ → List A) (a n : ℕ) → ((j : ℕ) → a ≤ j → j < a + n → All P (f j)) → All P (flat_map f (range_with_len a n))
 all_flat P f a zero each = λ k d low. absurd (omega (arith, low))
 all_flat P f a (suc n) each =
     All-append P (f a) (flat_map f (range_with_len (a + 1) n)) (each a (omega arith) (omega arith))
     (all_flat P f (a + 1) n (λ j low high. each j (omega arith) (omega arith)))
 
--- no body is longer
+-- the greatest size of a file is at most 1,082,201,088 bytes
 greatest_low : (edition : Edition) → (constants edition).greatest ≤ 1082201088
 greatest_low V6 = omega arith
 greatest_low V7 = omega arith
 
--- no directory has 2^32 slots
+-- a directory has fewer than 2^32 slots
 slots_few : (g : Geometry) (image : List ℕ) (d s : ℕ) → s < slot_count g image d → s < 4294967296
 slots_few g image d s low = let most = greatest_low g.edition in omega (arith, low, most)
 
--- the entry of a slot is such
+-- the entry of a slot of the image satisfies `IsOfImage`
 slot_of_image : (g : Geometry) (image : List ℕ) (d s : ℕ) (o : Option (List ℕ × ℕ)) → 1 ≤ d → d ≤ g.last_inode → s < slot_count g image d
     → entry_at g image d s ≡ o → All (IsOfImage g image) (entered d s o)
 slot_of_image g image d s None first last low is = λ k e none. absurd (omega (arith, none))
@@ -173,7 +173,7 @@ slot_of_image g image d s (Some entry) first last low is =
       | inr other ↦ rw other one
     ]
 
--- each entry in an i-number of some kind is such
+-- each entry in an i-number of this kind satisfies `IsOfImage`
 kind_of_image : (g : Geometry) (image : List ℕ) (d : ℕ) → 1 ≤ d → d ≤ g.last_inode → (kind : Kind) → All (IsOfImage g image) (entries_in g image d kind)
 unfolding entries_of
 kind_of_image g image d low high kinds.Directory =
@@ -184,7 +184,7 @@ kind_of_image g image d low high kinds.Regular = λ k e none. absurd (omega (ari
 kind_of_image g image d low high kinds.Special = λ k e none. absurd (omega (arith, none))
 kind_of_image g image d low high kinds.Odd = λ k e none. absurd (omega (arith, none))
 
--- each entry of an image is such
+-- each entry of an image satisfies `IsOfImage`
 all_of_image : (g : Geometry) (image : List ℕ) → All (IsOfImage g image) (all_entries g image)
 unfolding all_entries
 all_of_image g image =
@@ -195,7 +195,7 @@ all_of_image g image =
 some_same : {A : Type 0} (x y : A) → Some x ≡ Some y → x ≡ y
 some_same x y e = cc
 
--- entries of an image with the same rank are the same
+-- two entries of an image with the same rank are equal
 rank_once : {g : Geometry} {image : List ℕ} (a b : Placed) → IsOfImage g image a → IsOfImage g image b
     → rank a.directory a.slot ≡ rank b.directory b.slot → a ≡ b
 rank_once {g} {image} a b first second same =
@@ -206,12 +206,12 @@ rank_once {g} {image} a b first second same =
     let pair : (a.name, a.inode) ≡ (b.name, b.inode) = some_same (a.name, a.inode) (b.name, b.inode) e in
     same_fields a b d s (ap (λ x. x.1) pair) (ap (λ x. x.0) pair)
 
--- an option is something, or nothing
+-- an option is `Some` or `None`
 some_or_none : {A : Type 0} (o : Option A) → ((x : A) × (o ≡ Some x)) ⊎ (o ≡ None)
 some_or_none None = inr refl
 some_or_none (Some x) = inl (x, refl)
 
--- the entry found is the naming entry
+-- the naming entry found for an i-number is its naming entry in the image
 naming_right : {g : Geometry} {image words : List ℕ} {entries : List Placed} {naming : List (Option (Bor Placed))} (i : ℕ) → CountsNames g image words entries
     → 1 ≤ i → i ≤ g.last_inode → HasNaming words entries naming i → naming_in naming i ≡ naming_entry i (all_entries g image)
 naming_right {g} {image} {words} {entries} {naming} i counts low high has =
@@ -241,7 +241,7 @@ naming_right {g} {image} {words} {entries} {naming} i counts low high has =
           ]
     ]
 
--- paths are the same if the naming entries of directories are
+-- paths are the same if the naming entries of all directories are the same
 path_same : (root last : ℕ) (f h : ℕ → Option Placed) → ((i : ℕ) → 1 ≤ i → i ≤ last → f i ≡ h i)
     → ((i : ℕ) (entry : Placed) → h i ≡ Some entry → (1 ≤ entry.directory) × (entry.directory ≤ last))
     → (fuel : ℕ) (met : List ℕ) (d : ℕ) → 1 ≤ d → d ≤ last → path_up root f fuel met d ≡ path_up root h fuel met d
@@ -257,19 +257,19 @@ path_same root last f h same inside (suc fuel) met d low high =
       | inr none ↦ rw (e, none) refl
     ]
 
--- a sum over mapped items
+-- a sum over mapped items is the sum of their mapped weights
 sum_map : {X Y : Type 0} (f : Y → ℕ) (h : X → Y) (xs : List X) → sum_by f (map h xs) ≡ sum_by (λ x. f (h x)) xs
 sum_map f h [] = refl
 sum_map f h (x ∷ xs) = sum_front f (h x) (map h xs) ∙ (ap (λ n. f (h x) + n) (sum_map f h xs) ∙ sym (sum_front (λ y. f (h y)) x xs))
 
--- a sum is the same if each item's weight is
+-- sums are equal if all items have equal weights
 sum_same : {X : Type 0} (f h : X → ℕ) (xs : List X) → ((x : X) → Contains xs x → f x ≡ h x) → sum_by f xs ≡ sum_by h xs
 sum_same f h [] same = refl
 sum_same f h (x ∷ xs) same =
     sum_front f x xs ∙ (ap (λ n. n + sum_by f xs) (same x (in_front x xs))
     ∙ (ap (λ n. h x + n) (sum_same f h xs (λ y has. same y (in_rest x y xs has))) ∙ sym (sum_front h x xs)))
 
--- the paths found have the weights of the report's
+-- the paths found have the same sum as those of the report, under every weight
 pub paths_weigh : {g : Geometry} {image words : List ℕ} {entries : List Placed} {naming : List (Option (Bor Placed))} → CountsNames g image words entries
     → length naming ≡ g.last_inode + 1 → ((i : ℕ) → i ≤ g.last_inode → HasNaming words entries naming i) → (weight : ℕ × List ℕ → ℕ)
     → sum_by weight (map (path_in (root_of g) naming) entries) ≡ sum_by weight (named_paths g image)

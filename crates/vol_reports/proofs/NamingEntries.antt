@@ -1,4 +1,4 @@
--- Finding the naming entries, entry after entry.
+-- Finding the naming entries, one entry at a time.
 use Rattle.std.proofs.Common.{◌≡◌, inl, inr, ℕ, List, [], ◌∷◌, ◌++◌, Option, Some, None, option_map, replicate, Bor, sym, ap, ◌∙◌, subst, arith}
 use Rattle.std.specs.List.{Contains}
 use Rattle.std.proofs.lemmas.List.{get_or-replicate, get_or_past, length-replicate}
@@ -7,7 +7,7 @@ use Rattle.std.proofs.lemmas.Bool.{cases_lt}
 use Rattle.vol_reports.specs.Placed.{Placed}
 use Rattle.vol_reports.specs.Climb.{naming_in, IsNaming, HasNaming, PutsNaming}
 
--- a list of no entries has none
+-- a list of `None` has no naming entry
 naming_none : (n i : ℕ) → naming_in (replicate n None) i ≡ None
 naming_none n i =
     let nothing : Option (Bor Placed) = None in
@@ -16,7 +16,7 @@ naming_none n i =
       | inr high ↦ get_or_past (replicate n None) i None (omega (arith, high, length-replicate n nothing))
     ])
 
--- at the beginning no entry is known
+-- before the first entry, no naming entry is known
 pub naming_first : (words : List ℕ) (naming : List (Option (Bor Placed))) (n i : ℕ) → naming ≡ replicate n None → HasNaming words [] naming i
 naming_first words naming n i is =
     let none : naming_in naming i ≡ None = ap (λ xs. naming_in xs i) is ∙ naming_none n i in
@@ -25,7 +25,7 @@ naming_first words naming n i is =
       missing = λ nothing entry has named. absurd (omega (arith, has.1));
     }
 
--- a loop's step: one more entry is known
+-- a loop's step: after one more entry, the naming entries of all entries so far are known
 pub naming_more : {words : List ℕ} {xs : List Placed} {old new : List (Option (Bor Placed))} {i : ℕ} (entry : Placed) → HasNaming words xs old i
     → PutsNaming words entry old new i → HasNaming words (xs ++ entry ∷ []) new i
 naming_more {words} {xs} {old} {new} {i} entry was puts =

@@ -8,46 +8,46 @@ use Rattle.std.proofs.lemmas.List.Concat.{flat_map-append}
 use Rattle.std.proofs.lemmas.List.Sums.{sum_by-append, count_by-le-length}
 use Rattle.std.proofs.lemmas.List.FromFn.{length-range_with_len}
 
--- a range with one more number
+-- a range of one more number ends with this number
 pub range_last : (a n : ℕ) → range_with_len a (suc n) ≡ range_with_len a n ++ (a + n) ∷ []
 range_last a zero = ap (λ j. j ∷ []) (omega arith)
 range_last a (suc n) = ap (λ r. a ∷ r) (range_last (a + 1) n ∙ ap (λ j. range_with_len (a + 1) n ++ j ∷ []) (omega arith))
 
--- the same, for numbers that are equal by arithmetic
+-- a range of `m` numbers, if `m` is `n` + 1, is a range of `n` numbers followed by `j`
 pub range_more : (a n m j : ℕ) → m ≡ n + 1 → a + n ≡ j → range_with_len a m ≡ range_with_len a n ++ j ∷ []
 range_more a n m j e f =
     ap (range_with_len a) (e ∙ add-one n) ∙ (range_last a n ∙ ap (λ k. range_with_len a n ++ k ∷ []) f)
 
--- a list made of lists over a range, with one more
+-- concatenating lists over a range of one more number appends one more list
 pub flat_more : {A : Type 0} (f : ℕ → List A) (a n m j : ℕ) → m ≡ n + 1 → a + n ≡ j
     → flat_map f (range_with_len a m) ≡ flat_map f (range_with_len a n) ++ f j
 flat_more f a n m j e g =
     ap (flat_map f) (range_more a n m j e g) ∙ (flat_map-append f (range_with_len a n) (j ∷ []) ∙ ap (λ xs. flat_map f (range_with_len a n) ++ xs) (append-nil (f j)))
 
--- a loop's step: the items for a number follow those for the numbers before it
+-- a loop's step: after the list of one more number is appended, the lists of all numbers so far are appended
 pub appended_more : {A : Type 0} (f : ℕ → List A) (old now new : List A) (a n m j : ℕ) → m ≡ n + 1 → a + n ≡ j
     → now ≡ old ++ flat_map f (range_with_len a n) → new ≡ now ++ f j → new ≡ old ++ flat_map f (range_with_len a m)
 appended_more f old now new a n m j e g was is =
     is ∙ (ap (λ xs. xs ++ f j) was ∙ (append_assoc old (flat_map f (range_with_len a n)) (f j) ∙ ap (λ xs. old ++ xs) (sym (flat_more f a n m j e g))))
 
--- no more numbers of a range pass a test than it has
+-- at most `n` numbers of a range of length `n` pass a test
 pub count_few : (t : ℕ → Bool) (a n : ℕ) → count_by t (range_with_len a n) ≤ n
 count_few t a n = let e = length-range_with_len a n in let h = count_by-le-length t (range_with_len a n) in omega arith
 
--- a count over a list with a number before it
+-- a first number adds 1 to a count if it passes the test
 count_cons : (t : ℕ → Bool) (j : ℕ) (xs : List ℕ) → count_by t (j ∷ xs) ≡ cond (t j) 1 0 + count_by t xs
 count_cons t j xs = sum_by-append (λ k. cond (t k) 1 0) (j ∷ []) xs ∙ ap (λ n. n + count_by t xs) (omega arith)
 
--- a count over two lists
+-- a last number adds 1 to a count if it passes the test
 count_append : (t : ℕ → Bool) (xs : List ℕ) (j : ℕ) → count_by t (xs ++ j ∷ []) ≡ count_by t xs + cond (t j) 1 0
 count_append t xs j = sum_by-append (λ k. cond (t k) 1 0) xs (j ∷ []) ∙ ap (λ n. count_by t xs + n) (omega arith)
 
--- the number of a truth value
+-- `bool_byte` of a truth value is 1 for true and 0 for false
 byte_of : (b : Bool) → bool_byte b ≡ cond b 1 0
 byte_of true = refl
 byte_of false = refl
 
--- a count has room for one more number
+-- a count over fewer than 2^32 numbers doesn't overflow when one more is counted
 pub room_more : (t : ℕ → Bool) (a n now x : ℕ) (b : Bool) → now ≡ count_by t (range_with_len a n) → x ≡ bool_byte b → n + 1 < 4294967296
     → now + x < 4294967296
 room_more t a n now x b was is low =
@@ -55,7 +55,7 @@ room_more t a n now x b was is low =
     let one : x ≤ 1 = elim b as (λ v. x ≡ bool_byte v → x ≤ 1) [ true ↦ λ e. omega (arith, e) | false ↦ λ e. omega (arith, e) ] is in
     omega arith
 
--- a loop's step: a number that is counted if it passes a test
+-- a loop's step: the count includes one more number if it passes the test
 pub counted_more : (t : ℕ → Bool) (a n m j now x : ℕ) (b : Bool) → m ≡ n + 1 → a + n ≡ j → now ≡ count_by t (range_with_len a n)
     → x ≡ bool_byte b → b ≡ t j → now + x ≡ count_by t (range_with_len a m)
 counted_more t a n m j now x b e g was is passes =
@@ -63,7 +63,7 @@ counted_more t a n m j now x b e g was is passes =
     let k = ap (count_by t) (range_more a n m j e g) in
     let y : x ≡ cond (t j) 1 0 = is ∙ (byte_of b ∙ ap (λ v. cond v 1 0) passes) in omega arith
 
--- lists made of lists over a range are the same if each list is
+-- concatenations over a range are equal if all lists are equal
 pub flat_same : {A : Type 0} (f g : ℕ → List A) (a n : ℕ) → ((j : ℕ) → a ≤ j → j < a + n → f j ≡ g j)
     → flat_map f (range_with_len a n) ≡ flat_map g (range_with_len a n)
 flat_same f g a zero same = refl
@@ -71,7 +71,7 @@ flat_same f g a (suc n) same =
     ap (λ xs. xs ++ flat_map f (range_with_len (a + 1) n)) (same a (omega arith) (omega arith))
     ∙ ap (λ xs. g a ++ xs) (flat_same f g (a + 1) n (λ j low high. same j (omega arith) (omega arith)))
 
--- counts over a range are the same if each number passes both tests or none
+-- counts over a range are equal if both tests agree on each number
 pub count_same : (s t : ℕ → Bool) (a n : ℕ) → ((j : ℕ) → a ≤ j → j < a + n → s j ≡ t j)
     → count_by s (range_with_len a n) ≡ count_by t (range_with_len a n)
 count_same s t a zero same = refl
@@ -81,7 +81,7 @@ count_same s t a (suc n) same =
     ∙ (ap (λ k. cond (t a) 1 0 + k) (count_same s t (a + 1) n (λ j low high. same j (omega arith) (omega arith)))
     ∙ sym (count_cons t a (range_with_len (a + 1) n))))
 
--- a loop's step: a property of each item is one with one more item after them
+-- a loop's step: a property of each item still holds after an item with the property is appended
 pub pushed_more : {A : Type 0} (P : ℕ → A → Type 0) (xs ys : List A) (x : A) (n : ℕ) → ys ≡ xs ++ x ∷ [] → length xs ≡ n
     → ((k : ℕ) (d : A) → k < n → P k (get_or xs k d)) → P n x → (k : ℕ) (d : A) → k < n + 1 → P k (get_or ys k d)
 pushed_more {A} P xs ys x n is wide each last k d low =

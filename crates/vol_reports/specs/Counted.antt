@@ -19,7 +19,7 @@ use Rattle.vol_reports.specs.declared.inode_link_counts.LinkCount.{LinkCount}
 abbrev pub HasBlockWidth : Geometry → List ℕ → Type 0
 HasBlockWidth g words = length words ≡ 1 + (2 * zone_len g + (g.last_inode + 4)) + g.last_inode
 
--- the words are those of the blocks of an image, and this is the fault that ended the walk over its free list (icheck)
+-- the words are the block counts of an image, and this is the fault that ended the walk over its free list (icheck)
 pub record CountsBlocks (g : Geometry) (image words : List ℕ) (fault : Option (FreeFault × ℕ)) : Type 0 where
   pub wide : HasBlockWidth g words
   pub places : (b : ℕ) → in_zone g b ≡ true → slice_index words (place_word g b) ≡ use_count g image b
@@ -32,7 +32,7 @@ pub record CountsBlocks (g : Geometry) (image words : List ℕ) (fault : Option 
   pub odds : slice_index words (kind_word g 3) ≡ kind_count g image kinds.Odd
   pub ended : fault ≡ (free_walk g image).fault
 
--- these are the link counts of an image, from i-number 1 on (dcheck)
+-- these are the link counts of an image, starting with i-number 1 (dcheck)
 pub record HasLinkCounts (g : Geometry) (image : List ℕ) (links : List LinkCount) : Type 0 where
   pub wide : length links ≡ g.last_inode
   pub counts : (k : ℕ) (d : LinkCount) → k < g.last_inode → (slice_index_or links k d).links ≡ link_count g image (k + 1)
@@ -42,7 +42,7 @@ pub record HasLinkCounts (g : Geometry) (image : List ℕ) (links : List LinkCou
 abbrev pub HasEntryWidth : Geometry → List ℕ → Type 0
 HasEntryWidth g words = length words ≡ 1 + g.last_inode
 
--- the words are those of the entries of an image (dcheck)
+-- the words are the entry counts of an image (dcheck)
 pub record CountsEntries (g : Geometry) (image words : List ℕ) : Type 0 where
   pub wide : HasEntryWidth g words
   pub entries : (i : ℕ) → 1 ≤ i → i ≤ g.last_inode → slice_index words (entry_word i) ≡ entry_count g image i

@@ -18,20 +18,21 @@ is_allocated kinds.Directory = true
 is_allocated kinds.Special = true
 is_allocated kinds.Odd = true
 
--- the link count of i-node i, or 0 if it is free (dcheck; the 0 is this project's)
+-- the link count of i-node `i`, or 0 if it is free (dcheck; the 0 is this project's)
 abbrev pub link_count : Geometry → List ℕ → ℕ → ℕ
 link_count g image i = if is_allocated (kind_at g image i) then (inode_of g.edition image i).links else 0
 
--- true if i-node i must have an entry: it is allocated, and not kept for bad blocks, as the seventh edition keeps the i-number before the root's (dcheck)
+-- true if i-node `i` must have an entry: it is allocated, and isn't reserved for bad blocks, as the seventh edition reserves the i-number before the
+-- root's (dcheck)
 abbrev pub wants_entry : Geometry → List ℕ → ℕ → Bool
 wants_entry g image i = is_allocated (kind_at g image i) && nat_le (root_of g) i
 
--- the line of an i-number with these counts of entries and links: none if they agree, unless both are 0 and an entry is wanted (dcheck)
+-- the line of an i-number with these numbers of entries and links: none if they agree, unless both are 0 and an entry is wanted (dcheck)
 abbrev pub links_line_of : ℕ → ℕ → ℕ → Bool → List Line
 links_line_of i entries links wanted =
     if not (entries == links) || ((entries == 0) && wanted) then lines.Links i entries links ∷ [] else []
 
--- the line of i-number i, if its entries and its link count disagree (dcheck)
+-- the line of i-number `i`, if its number of entries and its link count disagree (dcheck)
 abbrev pub links_line : Geometry → List ℕ → ℕ → List Line
 links_line g image i = links_line_of i (entry_count g image i) (link_count g image i) (wants_entry g image i)
 

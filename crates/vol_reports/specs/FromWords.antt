@@ -1,4 +1,4 @@
--- The report lines, computed from the words of a table of counts.
+-- The lines of a report, computed from a table of counts.
 use Rattle.std.specs.Prelude.{◌≡◌, ℕ, ◌-◌, ◌==◌, Bool, false, not, List, [], ◌∷◌, ◌++◌, slice_index, slice_index_or}
 use Rattle.std.specs.List.{flat_map, range_with_len}
 use Rattle.vol_layout.specs.declared.geometry.Geometry.{Geometry}
@@ -11,31 +11,31 @@ use Rattle.vol_reports.specs.declared.line.Line.TheVariants as lines
 use Rattle.vol_reports.specs.declared.line.Total.{Total}
 use Rattle.vol_reports.specs.declared.line.Total.TheVariants as totals
 
--- the number of places that name block b, by the words (this project)
+-- the number of block-map positions that point to block `b`, according to the words (this project)
 abbrev pub places_in : Geometry → List ℕ → ℕ → ℕ
 places_in g words b = slice_index words (place_word g b)
 
--- true if the free list has block b, by the words (this project)
+-- true if the free list has block `b`, according to the words (this project)
 abbrev pub is_met_in : Geometry → List ℕ → ℕ → Bool
 is_met_in g words b = not (slice_index words (free_word g b) == 0)
 
--- true if some place names block b, by the words (this project)
+-- true if a block-map position points to block `b`, according to the words (this project)
 abbrev pub is_used_in : Geometry → List ℕ → ℕ → Bool
 is_used_in g words b = not (places_in g words b == 0)
 
--- true if block b is neither used nor free, by the words (this project)
+-- true if block `b` is neither used nor free, according to the words (this project)
 abbrev pub is_lost_in : Geometry → List ℕ → ℕ → Bool
 is_lost_in g words b = is_lost_of (places_in g words b) (is_met_in g words b)
 
--- the line of an i-node's bad places, by the words (icheck)
+-- the line of an i-node's bad block addresses, computed from the words (icheck)
 abbrev pub bad_line_in : Geometry → List ℕ → ℕ → List Line
 bad_line_in g words i = bad_line_of i (slice_index words (bad_word g i)) (slice_index words (least_word g i))
 
--- the line of a block that is claimed more than once, by the words (icheck)
+-- the line of a block that is claimed more than once, computed from the words (icheck)
 abbrev pub dup_line_in : Geometry → List ℕ → ℕ → List Line
 dup_line_in g words b = dup_line_of b (places_in g words b) (is_met_in g words b)
 
--- the line of a block that is lost, by the words (icheck)
+-- the line of a block that is lost, computed from the words (icheck)
 abbrev pub lost_line_in : Geometry → List ℕ → ℕ → List Line
 lost_line_in g words b = lost_line_of b (is_lost_in g words b)
 
@@ -43,7 +43,7 @@ lost_line_in g words b = lost_line_of b (is_lost_in g words b)
 abbrev pub total_line : Total → ℕ → List Line
 total_line total count = lines.Total total count ∷ []
 
--- the totals, by the words (icheck)
+-- the totals, computed from the words (icheck)
 abbrev pub total_lines_in : Geometry → List ℕ → List Line
 total_lines_in g words =
     lines.Total totals.Files (slice_index words (kind_word g 0))
@@ -63,15 +63,15 @@ inode_lines g line = flat_map line (range_with_len 1 g.last_inode)
 abbrev pub zone_lines : Geometry → (ℕ → List Line) → List Line
 zone_lines g line = flat_map line (range_with_len g.zone_start (zone_len g))
 
--- lines appended to others (this project)
+-- lines appended to other lines (this project)
 abbrev pub Appended : List Line → List Line → List Line → Type 0
 Appended old new added = new ≡ old ++ added
 
--- the line of i-number i, by the words and the link counts (dcheck)
+-- the line of i-number `i`, computed from the words and the link counts (dcheck)
 abbrev pub links_line_in : List ℕ → List LinkCount → LinkCount → ℕ → List Line
 links_line_in words links none i =
     links_line_of i (slice_index words (entry_word i)) (slice_index_or links (i - 1) none).links (slice_index_or links (i - 1) none).wants_entry
 
--- a link count for no i-number (this project)
+-- the link count used for an i-number that isn't in the list (this project)
 abbrev pub no_links : LinkCount
 no_links = record { links = 0; wants_entry = false }

@@ -17,16 +17,16 @@ use Rattle.vol_reports.specs.Placed.{Placed, placed}
 use Rattle.vol_reports.specs.declared.line.Line.{Line}
 use Rattle.vol_reports.specs.declared.line.Line.TheVariants as lines
 
--- the entry in slot s of directory d, if there is one and its name is neither `.` nor `..` (ncheck)
+-- the entry in slot `s` of directory `d`, if there is one and its name is neither `.` nor `..` (ncheck)
 abbrev pub entered : ℕ → ℕ → Option (List ℕ × ℕ) → List Placed
 entered d s None = []
 entered d s (Some entry) = if is_dots entry.0 then [] else placed d s entry.1 entry.0 ∷ []
 
--- the entries of directory d, in the order of their slots (ncheck)
+-- the entries of directory `d`, in the order of their slots (ncheck)
 unfoldable pub entries_of : Geometry → List ℕ → ℕ → List Placed
 entries_of g image d = flat_map (λ s. entered d s (entry_at g image d s)) (range_with_len 0 (slot_count g image d))
 
--- the entries in i-number d, of some kind; only directories have entries (ncheck)
+-- the entries in i-number `d` of this kind; only directories have entries (ncheck)
 abbrev pub entries_in : Geometry → List ℕ → ℕ → Kind → List Placed
 entries_in g image d kinds.Directory = entries_of g image d
 entries_in g image d kinds.Free = []
@@ -34,16 +34,16 @@ entries_in g image d kinds.Regular = []
 entries_in g image d kinds.Special = []
 entries_in g image d kinds.Odd = []
 
--- all entries, by directory and slot (ncheck)
+-- all entries, ordered by directory and slot (ncheck)
 unfoldable pub all_entries : Geometry → List ℕ → List Placed
 all_entries g image = flat_map (λ d. entries_in g image d (kind_at g image d)) (range_with_len 1 g.last_inode)
 
--- the naming entry of i-number i: the first that is for it (ncheck)
+-- the naming entry of i-number `i`: the first entry that is for it (ncheck)
 unfoldable pub naming_entry : ℕ → List Placed → Option Placed
 naming_entry i [] = None
 naming_entry i (entry ∷ entries) = if entry.inode == i then Some entry else naming_entry i entries
 
--- a name with a slash before it (ncheck)
+-- a name after a slash (ncheck)
 abbrev pub slashed : List ℕ → List ℕ
 slashed name = 47 ∷ name
 
@@ -51,7 +51,9 @@ slashed name = 47 ∷ name
 abbrev pub dots : List ℕ
 dots = 46 ∷ 46 ∷ 46 ∷ []
 
--- the path of directory d, found by climbing from it, where each i-number may have a naming entry: at the root it begins with nothing; at a directory that this climb passed before, or that has no naming entry, with dots; else it ends with the naming entry's name, and the climb continues at that entry's directory. Each directory uses up one `suc` (ncheck)
+-- the path of directory `d`, found by climbing from it, where each i-number may have a naming entry. At the root the path begins with nothing; at a
+-- directory that this climb passed before, or that has no naming entry, it begins with dots. Otherwise it ends with the naming entry's name, and the
+-- climb continues at that entry's directory. Each directory uses up one `suc` (ncheck)
 unfoldable pub path_up : ℕ → (ℕ → Option Placed) → ℕ → List ℕ → ℕ → List ℕ
 path_up root naming zero met d = dots
 path_up root naming (suc fuel) met d =
@@ -59,7 +61,7 @@ path_up root naming (suc fuel) met d =
     else if list_any (λ e. e == d) met then dots
     else option_map_or (λ (entry : Placed). path_up root naming fuel (d ∷ met) entry.directory ++ slashed entry.name) (naming d) dots
 
--- the path of a directory: a climb passes each directory at most once, so it ends before it uses up all steps (ncheck)
+-- the path of a directory; a climb passes each directory at most once, so it ends within the given number of steps (ncheck)
 abbrev pub directory_path : Geometry → (ℕ → Option Placed) → ℕ → List ℕ
 directory_path g naming d = path_up (root_of g) naming (g.last_inode + 2) [] d
 
@@ -71,7 +73,7 @@ named_path g naming entry = (entry.inode, directory_path g naming entry.director
 unfoldable pub named_paths : Geometry → List ℕ → List (ℕ × List ℕ)
 named_paths g image = map (named_path g (λ i. naming_entry i (all_entries g image))) (all_entries g image)
 
--- the order of the report: by i-number, then by the bytes of the path (this project)
+-- the order of the report: first by i-number, then by the bytes of the path (this project)
 abbrev pub pair_cmp : ℕ × List ℕ → ℕ × List ℕ → Ordering
 pair_cmp a b = ordering_then (nat_cmp a.0 b.0) (slice_cmp nat_cmp a.1 b.1)
 
@@ -79,7 +81,7 @@ pair_cmp a b = ordering_then (nat_cmp a.0 b.0) (slice_cmp nat_cmp a.1 b.1)
 abbrev pub name_line : ℕ × List ℕ → Line
 name_line pair = lines.Name pair.0 pair.1
 
--- the name report of an image with a geometry: a line for each entry, in order; equal lines stay (ncheck)
+-- the name report of an image with a geometry: a line for each entry, in order; equal lines are all kept (ncheck)
 pub record IsNameLines (g : Geometry) (image : List ℕ) (report : List Line) : Type 0 where
   pub pairs : List (ℕ × List ℕ)
   pub lines : report ≡ map name_line pairs

@@ -1,4 +1,4 @@
--- The three reports of any image, and whether they report faults.
+-- The three reports of any image, and the lines in them that are faults.
 use Rattle.std.specs.Prelude.{◌≡◌, ℕ, ◌==◌, Bool, true, false, not, List, [], ◌∷◌, take, Result, Ok, Err}
 use Rattle.std.specs.List.{list_any}
 use Rattle.std.specs.Str.{bytes_eq}
@@ -51,7 +51,7 @@ entry_report edition image = entry_report_of (geometry_read edition image) image
 abbrev pub IsNameReport : Edition → List ℕ → List Line → Type 0
 IsNameReport edition image report = IsNameReportOf (geometry_read edition image) image report
 
--- true if a total reports a fault: a number of odd i-nodes other than 0 (icheck; which lines are faults is this project's)
+-- true if a total is a fault: a number of odd i-nodes other than 0 (icheck; the choice of faults is this project's)
 abbrev pub is_faulty_total : Total → ℕ → Bool
 is_faulty_total totals.Odd n = not (n == 0)
 is_faulty_total totals.Files n = false
@@ -61,7 +61,7 @@ is_faulty_total totals.Used n = false
 is_faulty_total totals.Free n = false
 is_faulty_total totals.Missing n = false
 
--- true if a line reports a fault: all do except totals and paths from the root (icheck, dcheck, ncheck; which lines are faults is this project's)
+-- true if a line is a fault: every line is, except totals and paths from the root (icheck, dcheck, ncheck; the choice of faults is this project's)
 abbrev pub is_faulty : Line → Bool
 is_faulty (lines.Rule number) = true
 is_faulty (lines.Bad inode count least) = true
@@ -72,6 +72,6 @@ is_faulty (lines.Total total number) = is_faulty_total total number
 is_faulty (lines.Links inode entries links) = true
 is_faulty (lines.Name inode path) = bytes_eq (take 3 path) dots
 
--- true if a report reports a fault (this project)
+-- true if a report has a fault (this project)
 abbrev pub has_faults : List Line → Bool
 has_faults report = list_any is_faulty report

@@ -1,4 +1,4 @@
-//! The paths of entries: the climb from a directory to the root, over the entries that name directories.
+//! The paths of entries: climbs from a directory to the root over the entries that name the directories.
 ghost use Rattle.std.specs.Prelude.{◌≡◌, ◌+◌, ◌++◌, [], length, IfOk, OnOk};
 ghost use Rattle.vol_judge.specs.Directories.{root_of};
 ghost use Rattle.vol_reports.specs.Ncheck.{slashed, path_up};
@@ -11,10 +11,10 @@ use vol_layout::Geometry;
 /// The beginning of a path that doesn't start at the root.
 const DOTS: &[u8] = b"...";
 
-/// Returns the path of an entry. Each mark is the turn whose climb last passed the directory; this is turn `turn`. `way` is a
-/// buffer for the entries that the climb passes.
+/// Returns the path of an entry. Climbs are numbered by turns, and this is turn `turn`; a directory's mark is the last turn that passed it. `way` is
+/// a buffer for the entries that the climb passes.
 ///
-/// Costs as much as the path is long.
+/// Takes time in proportion to the length of the path.
 pub(crate) fn entry_path<'a>(
     alloc: Global,
     geometry: &Geometry,
@@ -39,8 +39,8 @@ pub(crate) fn entry_path<'a>(
     Ok(path)
 }
 
-/// Climbs from directory `d`, and collects the naming entries that it passes, the lowest first. Returns true if it ends at
-/// the root, and not at a directory that it passed before or that has no naming entry.
+/// Climbs from directory `d`, and collects the naming entries that it passes, the lowest first. Returns true if it ends at the root; returns false if
+/// it ends at a directory that it passed before or that has no naming entry.
 fn climb<'a>(
     geometry: &Geometry,
     naming: &[Option<&'a EnteredName>],
@@ -91,7 +91,7 @@ fn step<'a>(
     naming[k]
 }
 
-/// Returns the beginning of a path.
+/// Returns the beginning of a path: empty, or dots if the path doesn't start at the root.
 fn first_bytes(alloc: Global, rooted: bool) -> Result<Vec<u8>, AllocError>
     ensures { IfOk result (λ path. path.items ≡ path_start rooted) }
 {
@@ -102,7 +102,7 @@ fn first_bytes(alloc: Global, rooted: bool) -> Result<Vec<u8>, AllocError>
     Ok(path)
 }
 
-/// Appends the names of the entries that a climb passed, the last of them first, and empties `way`.
+/// Appends the names of the entries that a climb passed, starting with the last, and empties `way`.
 fn push_names(path: &mut Vec<u8>, way: &mut Vec<&EnteredName>) -> Result<(), AllocError>
     ensures path { IfOk result (λ _. path.new.items ≡ path.old.items ++ trail way.old.items) }
     ensures way { OnOk result (way.new.items ≡ []) }

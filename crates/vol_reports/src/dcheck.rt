@@ -1,4 +1,4 @@
-//! The entry report, built from the words of a table of counts.
+//! The entry report, built from a table of counts.
 ghost use Rattle.std.specs.Prelude.{◌≡◌, ℕ, ◌<◌, ◌≤◌, List, length, IfOk};
 ghost use Rattle.count_table.specs.Tallies.{items_of};
 ghost use Rattle.vol_reports.specs.Dcheck.{entry_lines};
@@ -13,9 +13,9 @@ use count_table::Summed;
 use std::alloc::{AllocError, Global};
 use vol_layout::Geometry;
 
-/// Returns the entry report of any image whose entries the words count, and which has these link counts, from i-number 1 on.
+/// Returns the entry report of any image whose entries are counted in these words and whose link counts, starting with i-number 1, are these.
 ///
-/// Costs a read of each of them, and memory for the lines.
+/// Reads each word and each link count once. Takes memory for the lines.
 pub fn entry_report(
     alloc: Global,
     geometry: &Geometry,
@@ -34,7 +34,7 @@ pub fn entry_report(
     Ok(Report::from_vec(lines))
 }
 
-/// Appends the line of i-number `i`, if its entries and its link count don't agree.
+/// Appends the line of i-number `i`, if its number of entries and its link count don't agree.
 fn push_links(
     lines: &mut Vec<Line>,
     words: &Summed,

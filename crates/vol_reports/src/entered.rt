@@ -1,4 +1,4 @@
-//! Entries that a checker met.
+//! Entries that a checker found.
 ghost use Rattle.std.specs.Prelude.{◌≡◌};
 ghost use Rattle.vol_layout.specs.Slot.{name_of};
 ghost use Rattle.vol_reports.specs.Placed.{placed};
@@ -6,8 +6,7 @@ ghost use Rattle.vol_reports.specs.Placed.{placed};
 use std::marker::Model;
 use vol_layout::Slot;
 
-/// An entry of a directory, with its position. Contracts see its position, its i-number and its name; the bytes after the name
-/// don't count.
+/// A directory entry with its position. Contracts see its position, its i-number and its name; they ignore the bytes after the name.
 #[derive(Drop)]
 pub struct EnteredName {
     directory: u16,
@@ -57,7 +56,7 @@ impl EnteredName {
         self.slot.inode
     }
 
-    /// Returns its name.
+    /// Returns the entry's name.
     pub fn name(&self) -> &[u8]
         ensures { result.now ≡ self.now.name }
     {

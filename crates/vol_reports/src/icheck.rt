@@ -1,4 +1,4 @@
-//! The block report, built from the words of a table of counts.
+//! The block report, built from a table of counts.
 ghost use Rattle.std.specs.Prelude.{◌≡◌, ℕ, ◌<◌, ◌≤◌, true, List, IfOk};
 ghost use Rattle.count_table.specs.Tallies.{items_of};
 ghost use Rattle.vol_layout.specs.Geometry.{in_zone};
@@ -14,7 +14,7 @@ use std::alloc::{AllocError, Global};
 use vol_free::FreeFault;
 use vol_layout::Geometry;
 
-/// Returns the block report of any image whose blocks the words count, and whose free list's walk ended with this fault.
+/// Returns the block report of any image whose blocks are counted in these words, and whose free list's walk ended with this fault.
 ///
 /// Costs a few reads of the words of each data block and i-number, and memory for the lines.
 pub fn block_report(
@@ -37,7 +37,7 @@ pub fn block_report(
     Ok(Report::from_vec(lines))
 }
 
-/// True if some place names data block `b`.
+/// True if a block-map position points to data block `b`.
 fn is_used(geometry: &Geometry, words: &Summed, b: u32) -> bool
     requires zone { in_zone geometry.now b ≡ true }
     requires wide { HasBlockWidth geometry.now (items_of words.now) }
@@ -46,7 +46,7 @@ fn is_used(geometry: &Geometry, words: &Summed, b: u32) -> bool
     words.word(place_word(geometry, b)) > 0
 }
 
-/// True if the walk over the free list met data block `b`.
+/// True if the walk over the free list passed data block `b`.
 fn is_free(geometry: &Geometry, words: &Summed, b: u32) -> bool
     requires zone { in_zone geometry.now b ≡ true }
     requires wide { HasBlockWidth geometry.now (items_of words.now) }
@@ -64,7 +64,7 @@ fn is_lost(geometry: &Geometry, words: &Summed, b: u32) -> bool
     !is_used(geometry, words, b) && !is_free(geometry, words, b)
 }
 
-/// Appends the lines of the i-nodes with bad places.
+/// Appends the lines of the i-nodes with bad block addresses.
 fn push_bad_lines(
     lines: &mut Vec<Line>,
     geometry: &Geometry,
@@ -80,7 +80,7 @@ fn push_bad_lines(
     Ok(())
 }
 
-/// Appends the line of i-node `i`, if some of its places name numbers outside the data blocks.
+/// Appends the line of i-node `i`, if its block map has numbers outside the data blocks.
 fn push_bad(
     lines: &mut Vec<Line>,
     geometry: &Geometry,

@@ -14,11 +14,11 @@ use vol_layout::{Geometry, Kind};
 pub struct LinkCount {
     /// The link count, or 0 if the i-node is free.
     pub links: u16,
-    /// True if there must be an entry for it.
+    /// True if the i-number must have an entry.
     pub wants_entry: bool,
 }
 
-/// Returns the link counts of an image, from i-number 1 on. Reads only the i-list. Takes four bytes for each i-number.
+/// Returns the link counts of an image, starting with i-number 1. Reads only the i-list. Takes four bytes for each i-number.
 pub fn link_counts(
     alloc: Global,
     image: &Image,

@@ -11,11 +11,11 @@ pub enum Total {
     Directories,
     /// Special files.
     Special,
-    /// I-nodes whose mode is not one of the edition's.
+    /// I-nodes whose mode isn't one of the edition's.
     Odd,
-    /// Data blocks that some place names.
+    /// Data blocks that a block-map position points to.
     Used,
-    /// Data blocks that the walk over the free list met.
+    /// Data blocks that the walk over the free list passed.
     Free,
     /// Data blocks that are neither used nor free.
     Missing,
@@ -26,23 +26,23 @@ pub enum Total {
 pub enum Line {
     /// The image breaks this rule, 1 or 2, and so has no geometry.
     Rule(u8),
-    /// `count` places of an i-node name numbers outside the data blocks, the least of which is `least`.
+    /// `count` block-map positions of an i-node have numbers outside the data blocks, the least of which is `least`.
     Bad {
         inode: u16,
         count: u64,
         least: u64,
     },
-    /// `places` places name a block, which may also be in the free list: more than one use in all.
+    /// `places` block-map positions point to a block, which may also be in the free list: more than one use in all.
     Dup {
         block: u32,
         places: u64,
         free: bool,
     },
-    /// No place names the block, and it isn't in the free list.
+    /// No block-map position points to the block, and it isn't in the free list.
     Lost(u32),
     /// The walk over the free list ended with this fault, at this count or number.
     FreeList(FreeFault, u32),
-    /// A total of a block report.
+    /// One of the totals of a block report.
     Total(Total, u64),
     /// An i-number, its number of entries, and its link count.
     Links {

@@ -1,4 +1,4 @@
-//! The name report, built from the entries that were met and the words of a table of counts.
+//! The name report, built from the entries found and a table of counts.
 ghost use Rattle.std.specs.Prelude.{◌≡◌, ℕ, ◌+◌, ◌<◌, ◌≤◌, List, length, map, IfOk};
 ghost use Rattle.count_table.specs.Tallies.{items_of};
 ghost use Rattle.vol_judge.specs.Directories.{root_of};
@@ -16,10 +16,9 @@ use pdp_words::Bytes;
 use std::alloc::{AllocError, Global};
 use vol_layout::Geometry;
 
-/// Returns the name report of any image that has these entries, each once, in any order. The words hold the ranks of the
-/// naming entries.
+/// Returns the name report of any image that has these entries, each once, in any order. The words contain the ranks of the naming entries.
 ///
-/// Costs as much as the report is long, and sorting it. Takes memory for the paths, and some for each i-number.
+/// Takes time in proportion to the length of the report, and to sort it. Takes memory for the paths, and some for each i-number.
 pub fn name_report(
     alloc: Global,
     geometry: &Geometry,

@@ -38,7 +38,7 @@ impl Report {
         self.lines.as_slice()
     }
 
-    /// Returns the report of an image without geometry, for this reason. Takes memory for one line.
+    /// Returns the report of an image that has no geometry because of this fault. Takes memory for one line.
     pub fn of_fault(alloc: Global, fault: GeometryFault) -> Result<Report, AllocError>
         ensures { IfOk result (λ report. report ≡ rule_lines fault) }
     {
@@ -51,8 +51,8 @@ impl Report {
         Ok(Report { lines })
     }
 
-    /// True if it reports a fault: in a block report, any line before the totals, or a number of odd i-nodes other than 0; in
-    /// an entry report, any line; in a name report, a path that begins with dots.
+    /// True if the report has a fault: in a block report, any line before the totals, or a number of odd i-nodes other than 0; in an entry report,
+    /// any line; in a name report, a path that begins with dots.
     pub fn has_faults(&self) -> bool
         ensures { result ≡ has_faults self.now }
     {
@@ -61,7 +61,7 @@ impl Report {
 }
 
 impl Line {
-    /// True if it reports a fault.
+    /// True if the line is a fault.
     pub fn is_faulty(&self) -> bool
         ensures { result ≡ is_faulty self.now }
     {

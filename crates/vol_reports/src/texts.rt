@@ -10,7 +10,7 @@ use std::alloc::AllocError;
 impl Report {
     /// Appends the text of all lines, each with a newline.
     ///
-    /// Costs as much as the text is long.
+    /// Takes time in proportion to the length of the text.
     pub fn push_text(&self, text: &mut Vec<u8>) -> Result<(), AllocError>
         ensures { IfOk result (λ _. text.new.items ≡ text.old.items ++ report_text self.now) }
     {
@@ -33,7 +33,7 @@ impl Line {
 }
 
 impl Total {
-    /// Returns its word in a line.
+    /// Returns the word for this total in a line.
     pub fn word(self) -> &'static [u8]
         ensures { result.now ≡ total_word self }
     {

@@ -1,4 +1,4 @@
-//! The words of the table of counts, and what each of them counts.
+//! The words of a table of counts, and the count in each of them.
 ghost use Rattle.std.specs.Prelude.{◌≡◌, ◌^◌, ◌≤◌, ◌<◌, true};
 ghost use Rattle.vol_layout.specs.Geometry.{in_zone};
 ghost use Rattle.vol_reports.specs.Words.{place_word, free_word, bad_word, kind_word, least_word, entry_word, name_word, zone_len};
@@ -15,7 +15,7 @@ pub fn zone_len(geometry: &Geometry) -> usize
     (geometry.zone_end - geometry.zone_start) as usize
 }
 
-/// Returns the word that counts the places that name data block `b`.
+/// Returns the word that counts the block-map positions that point to data block `b`.
 pub fn place_word(geometry: &Geometry, b: u32) -> usize
     requires zone { in_zone geometry.now b ≡ true }
     ensures { result ≡ place_word geometry.now b }
@@ -31,7 +31,7 @@ pub fn free_word(geometry: &Geometry, b: u32) -> usize
     1 + (zone_len(geometry) + (b - geometry.zone_start) as usize)
 }
 
-/// Returns the word that counts the places of i-node `i` that name no data block.
+/// Returns the word that counts the block-map positions of i-node `i` with numbers outside the data blocks.
 pub fn bad_word(geometry: &Geometry, i: u16) -> usize
     requires zone { geometry.now.zone_start < geometry.now.zone_end }
     requires first { 1 ≤ i }
@@ -40,8 +40,7 @@ pub fn bad_word(geometry: &Geometry, i: u16) -> usize
     1 + (2 * zone_len(geometry) + (i - 1) as usize)
 }
 
-/// Returns the word that counts the i-nodes of a kind: 0 for regular files, 1 for directories, 2 for special files, 3 for odd
-/// ones.
+/// Returns the word that counts the i-nodes of a kind: 0 for regular files, 1 for directories, 2 for special files, 3 for odd i-nodes.
 pub fn kind_word(geometry: &Geometry, k: usize) -> usize
     requires zone { geometry.now.zone_start < geometry.now.zone_end }
     requires few { k ≤ 3 }
@@ -50,7 +49,7 @@ pub fn kind_word(geometry: &Geometry, k: usize) -> usize
     1 + (2 * zone_len(geometry) + (geometry.last_inode as usize + k))
 }
 
-/// Returns the word for the least number outside the data blocks that a place of i-node `i` names.
+/// Returns the word for the least number outside the data blocks in the block map of i-node `i`.
 pub fn least_word(geometry: &Geometry, i: u16) -> usize
     requires zone { geometry.now.zone_start < geometry.now.zone_end }
     requires first { 1 ≤ i }

@@ -4,7 +4,7 @@ use Rattle.command_faults.specs.Streams.{ErrorStream, Hears, says}
 use Rattle.command_faults.specs.Faults.{fault_line, fault_status}
 use Rattle.command_faults.specs.declared.fault.Fault.{Fault}
 
--- a printed report has its status, and a fault its status and its line
+-- if the report was printed, the play has the report's status; otherwise it has the status and the line of the fault
 pub ends : (printed : Result ℕ Fault → Type 0) (errors : ErrorStream) (outcome : Result ℕ Fault) (status : ℕ) (fault : Option Fault) → printed outcome
     → IfOk outcome (λ s. (status ≡ s) × (fault ≡ None)) → IfErr outcome (λ why. (status ≡ fault_status why) × (fault ≡ Some why)) → Hears errors fault
     → (printed (Ok status) × says errors []) ⊎ ((why : Fault) × printed (Err why) × (status ≡ fault_status why) × says errors (fault_line why))

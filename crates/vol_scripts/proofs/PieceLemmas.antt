@@ -7,7 +7,7 @@ use Rattle.std.specs.Borrow.{Bor}
 use Rattle.std.specs.List.{slice_split, onto_first, position, position_or_len}
 use Rattle.vol_scripts.specs.Pieces.{pieces_left}
 
--- bytes without a separator are one piece
+-- bytes in which no separator is found are one piece
 whole : (p : ℕ → Bool) (xs : List ℕ) → length xs ≤ position_or_len p xs → slice_split p xs ≡ xs ∷ []
 whole p [] none = refl
 whole p (x ∷ xs) none = elim (p x) as
@@ -16,7 +16,7 @@ whole p (x ∷ xs) none = elim (p x) as
       | false ↦ λ none. let rest : slice_split p xs ≡ xs ∷ [] = whole p xs (omega arith) in rw rest refl
     ] none
 
--- an index that was found is below the length
+-- if an index is found, it is below the length
 found_at : (a n at : ℕ) → cond (ltb a n) (Some a) None ≡ Some at → (a < n) × (a ≡ at)
 found_at a n at found = go (ltb a n) refl found
   where
@@ -24,7 +24,7 @@ found_at a n at found = go (ltb a n) refl found
     go true is found = (ltb-true a n is, cc)
     go false is found = absurd (cc)
 
--- if no index was found, it is the length
+-- if no index is found, the length is returned
 found_none : (a n : ℕ) → cond (ltb a n) (Some a) None ≡ None → n ≤ a
 found_none a n found = go (ltb a n) refl found
   where
@@ -32,7 +32,7 @@ found_none a n found = go (ltb a n) refl found
     go true is found = absurd (cc)
     go false is found = ltb-false a n is
 
--- a piece ends at the first separator
+-- if there is a separator, the first piece ends at the first one
 pub piece_at : (p : ℕ → Bool) (xs : List ℕ) (at : ℕ) → position p xs ≡ Some at
     → slice_split p xs ≡ take at xs ∷ slice_split p (take (length xs - (at + 1)) (drop (at + 1) xs))
 piece_at p xs at found =
@@ -46,29 +46,29 @@ piece_at p xs at found =
 pub piece_alone : (p : ℕ → Bool) (xs : List ℕ) → position p xs ≡ None → slice_split p xs ≡ xs ∷ []
 piece_alone p xs none = whole p xs (found_none (position_or_len p xs) (length xs) none)
 
--- if bytes remain, there is a piece
+-- if there is no piece, no bytes remain
 pub some_piece : (separator : ℕ) (rest : Option (Bor (List ℕ))) → pieces_left separator rest ≡ [] → is_none rest ≡ true
 some_piece separator None is = refl
 some_piece separator (Some rest) is =
     let count = length-slice_split (λ b. b == separator) rest.now in
     absurd (omega (arith, count, ap length is))
 
--- if none remain, there is no piece
+-- if no bytes remain, there is no piece
 pub no_piece : (separator : ℕ) (rest : Option (Bor (List ℕ))) → is_none rest ≡ true → pieces_left separator rest ≡ []
 no_piece separator None is = refl
 no_piece separator (Some rest) is = absurd (cc)
 
--- the bytes of some pieces, with one more for each
+-- the number of bytes in some pieces, with one more for each piece
 abbrev pub space : List (List ℕ) → ℕ
 space [] = 0
 space (piece ∷ pieces) = length piece + 1 + space pieces
 
--- a byte more in the first piece
+-- one more byte in the first piece adds 1 to the number of bytes
 space_first : (x : ℕ) (pieces : List (List ℕ)) → 1 ≤ space pieces → space (onto_first x pieces) ≡ space pieces + 1
 space_first x [] some = absurd (omega (arith, some))
 space_first x (piece ∷ pieces) some = omega arith
 
--- bytes that are split have their separators between the pieces
+-- the count for the pieces of some bytes is the number of bytes plus 1
 pub space_split : (p : ℕ → Bool) (xs : List ℕ) → space (slice_split p xs) ≡ length xs + 1
 space_split p [] = refl
 space_split p (x ∷ xs) = elim (p x) as (λ b. space (cond b ([] ∷ slice_split p xs) (onto_first x (slice_split p xs))) ≡ length (x ∷ xs) + 1) [
@@ -76,7 +76,7 @@ space_split p (x ∷ xs) = elim (p x) as (λ b. space (cond b ([] ∷ slice_spli
   | false ↦ omega (arith, space_split p xs, space_first x (slice_split p xs) (omega (arith, space_split p xs)))
 ]
 
--- a piece and others have at least a byte each
+-- if there are pieces, they have at least one byte in this count
 pub space_some : (pieces : List (List ℕ)) → pieces ≢ [] → 1 ≤ space pieces
 space_some [] some = absurd (some refl)
 space_some (piece ∷ pieces) some = omega arith

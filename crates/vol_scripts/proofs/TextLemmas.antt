@@ -8,7 +8,7 @@ use Rattle.vol_scripts.specs.Refuse.{unread_text}
 use Rattle.vol_scripts.specs.Texts.{kind_text, node_text, permissions_text, stat_text}
 use Rattle.vol_volume.specs.declared.queries.Stat.{Stat}
 
--- four digits, one after another
+-- the four octal digits of permissions are appended one after another
 pub four_digits : (bits : ℕ) → decimal (bits / 512 % 8) ++ (decimal (bits / 64 % 8) ++ (decimal (bits / 8 % 8) ++ decimal (bits % 8))) ≡ permissions_text bits
 four_digits bits =
     let a : decimal (bits / 512 % 8) ≡ (48 + bits / 512 % 8) ∷ [] = decimal_digit (bits / 512 % 8) (omega arith) in
@@ -17,31 +17,31 @@ four_digits bits =
     let d : decimal (bits % 8) ≡ (48 + bits % 8) ∷ [] = decimal_digit (bits % 8) (omega arith) in
     rw (a, b, c, d) refl
 
--- a node, piece by piece
+-- the parts of a node's text, appended one after another, are this text
 pub node_pieces : (stat : Stat) (kind permissions : List ℕ) → kind ≡ kind_text stat.kind → permissions ≡ permissions_text stat.permissions
     → decimal stat.number ++ (codes " " ++ (kind ++ (codes " " ++ permissions))) ≡ node_text stat
 node_pieces stat kind permissions k p = rw (k, p) (simp append_assoc)
 
--- a node's attributes, piece by piece
+-- the parts of the text of a node's attributes, appended one after another, are this text
 pub stat_pieces : (stat : Stat) (node : List ℕ) → node ≡ node_text stat
     → codes "stat " ++ (node ++ (codes " " ++ (decimal stat.links ++ (codes " " ++ (decimal stat.uid ++ (codes " " ++ (decimal stat.gid ++ (codes " "
     ++ decimal stat.size)))))))) ≡ stat_text stat
 stat_pieces stat node n = rw n (simp append_assoc)
 
--- the message for a line that can't be read, piece by piece
+-- the parts of the message for an unreadable line, appended one after another, are this message
 pub unread_pieces : (script line : ℕ) → codes "unixvol: script " ++ (decimal script ++ (codes " line " ++ (decimal line ++ codes "\n"))) ≡ unread_text script line
 unread_pieces script line = simp append_assoc
 
--- the words before a call's path, piece by piece
+-- the words before a call's path, appended one after another, are these words
 pub before_pieces : (now : ℕ) (cred : Cred) (command : List ℕ)
     → decimal now ++ (codes " " ++ (decimal cred.uid ++ (codes " " ++ (decimal cred.gid ++ (codes " " ++ (command ++ codes " ")))))) ≡ words_before now cred command
 before_pieces now cred command = simp append_assoc
 
--- two words, each after a space, piece by piece
+-- two words, each with a space before it, are appended one after another
 pub pair_pieces : (first second : List ℕ) → codes " " ++ (first ++ (codes " " ++ second)) ≡ codes " " ++ first ++ codes " " ++ second
 pair_pieces first second = simp append_assoc
 
--- the line of a call is appended, piece by piece
+-- the parts of a call's line, appended one after another, are this line
 pub call_pieces : (text one two three four before path after : List ℕ) → one ≡ text ++ before → two ≡ one ++ path → three ≡ two ++ after → four ≡ three ++ codes "\n"
     → four ≡ text ++ (before ++ path ++ after ++ codes "\n")
 call_pieces text one two three four before path after first second third last = rw (last, third, second, first) (simp append_assoc)

@@ -64,27 +64,28 @@ all_receipts (script ∷ scripts) = receipts_in script.items ++ all_receipts scr
 abbrev pub gone_of : Mounted → Bool → List Receipt → Option ℕ
 gone_of volume cuts receipts = if cuts then Some (count_by (λ receipt. nat_lt receipt.at volume.first) receipts) else None
 
--- the whole report, given the number of receipts that agree with the journal; it ends with the journal, if that is wanted (this project)
+-- the whole report, given the number of receipts that agree with the journal; the journal is at its end, if it is wanted (this project)
 abbrev pub play_text : Mounted → Bool → Bool → List (Vec Played Global) → ℕ → List ℕ
 play_text volume cuts journal scripts agree =
     scripts_text 1 scripts ++ totals_text (length volume.journal) agree (gone_of volume cuts (all_receipts scripts)) ++ journal_if journal volume.journal
 
--- `agree` receipts agree with the journal; none if memory ran out (this project)
+-- `agree` receipts agree with the journal, or 0 if memory ran out (this project)
 abbrev pub AreConfirmed : Mounted → List Receipt → Option Confirmed → ℕ → Type 0
 AreConfirmed volume receipts (Some confirmed) agree = AreCounted (origin_of volume) volume.journal receipts confirmed × (agree ≡ confirmed.agree)
 AreConfirmed volume receipts None agree = agree ≡ 0
 
--- the status of a play that was printed; out of memory for confirming counts as it does for a step (this project)
+-- the status of a play whose report was printed; if memory for confirming ran out, it is the same as for a step (this project)
 abbrev pub printed_status : List (Vec Played Global) → Option Confirmed → ℕ
 printed_status scripts (Some confirmed) = scripts_status scripts
 printed_status scripts None = 4
 
--- the report of a play, whatever was confirmed, satisfies `goes_out` (this project)
+-- for some result of confirming the receipts, the report of the play satisfies `goes_out` (this project)
 abbrev pub Reports : Mounted → Bool → Bool → List (Vec Played Global) → (List ℕ → Option Confirmed → Type 0) → Type 0
 Reports volume cuts journal scripts goes_out = (confirmed : Option Confirmed) × (agree : ℕ) × AreConfirmed volume (all_receipts scripts) confirmed agree
     × goes_out (play_text volume cuts journal scripts agree) confirmed
 
--- the bytes that standard output gets: the report; or, if it failed, a prefix of it; or nothing, if memory ran out (this project)
+-- the bytes that are written to standard output: the report; or, if standard output failed, a prefix of it; or nothing, if memory ran out (this
+-- project)
 abbrev pub PrintsPlay : Mounted → Bool → Bool → List (Vec Played Global) → Option (List ℕ) → Option (List ℕ) → Bool → Bool → Result ℕ Fault → Type 0
 PrintsPlay volume cuts journal scripts old new had_failed failed (Ok status) = (failed ≡ had_failed)
     × Reports volume cuts journal scripts (λ text confirmed. Appends old new text × (status ≡ printed_status scripts confirmed))
@@ -93,7 +94,8 @@ PrintsPlay volume cuts journal scripts old new had_failed failed (Err faults.Out
 PrintsPlay volume cuts journal scripts old new had_failed failed (Err fault) =
     (fault ≡ no_memory) × (failed ≡ had_failed) × Keeps old new
 
--- the result of a play: the bytes of the volume are to be saved; the report is printed without a line on standard error, or there is a fault, with its status and its line (this project)
+-- the result of a play: the bytes of the volume are to be saved; the report is printed without a line on standard error, or there is a fault, with
+-- its status and its line (this project)
 pub record Finishes (volume : Mounted) (cuts : Bool) (scripts : List (Vec Played Global)) (printed : Result ℕ Fault → Type 0)
     (said : List ℕ → Type 0) (answer : Answer) : Type 0 where
   pub saved : IsSomeAnd answer.image (λ bytes. bytes.items ≡ volume.image)

@@ -10,19 +10,19 @@ use Rattle.vol_scripts.specs.Numbers.{long_in, short_in, permissions_in, bytes_i
 use Rattle.vol_scripts.specs.declared.commands.Command.{Command}
 use Rattle.vol_scripts.specs.declared.commands.Command.TheVariants as commands
 
--- a command is a query (this project)
+-- true if a command is a query (this project)
 abbrev pub is_query : Command → Bool
 is_query commands.Stat = true
 is_query commands.Read = true
 is_query commands.List = true
 is_query _ = false
 
--- there is a command, and it is a query (this project)
+-- true if there is a command and it is a query (this project)
 abbrev pub names_query : Option Command → Bool
 names_query None = false
 names_query (Some command) = is_query command
 
--- a word is of a form (this project)
+-- true if a word has this form (this project)
 abbrev pub has_form : WordForm → List ℕ → Bool
 has_form forms.Number word = is_some (long_in word)
 has_form forms.Id word = is_some (short_in word)
@@ -49,18 +49,20 @@ forms_after commands.Read = forms.Path ∷ forms.Number ∷ forms.Number ∷ []
 forms_after commands.List = forms.Path ∷ []
 forms_after commands.Cut = []
 
--- the forms of the words after this one, a command or not (this project)
+-- the forms of the words after a word that names this command, or no command (this project)
 abbrev pub forms_of_named : Option Command → List WordForm
 forms_of_named None = []
 forms_of_named (Some command) = forms_after command
 
--- the forms of the words after a word of this form, before which these were wanted after it: a command says them (this project)
+-- the forms of the words that must follow a word of this form: the forms of a command's words if it is a command, else the ones that were required
+-- before (this project)
 abbrev pub wanted_after : WordForm → List ℕ → List WordForm → List WordForm
 wanted_after forms.Command word others = forms_of_named (command_named word)
 wanted_after forms.Query word others = forms_of_named (command_named word)
 wanted_after _ word others = others
 
--- the first of some words that isn't of the form wanted, is too many or is missing; the first word begins after this number of bytes (this project)
+-- the first of some words that doesn't have the required form, is too many or is missing; the first word begins after `at` bytes of the line (this
+-- project)
 abbrev pub flaw_from : ℕ → List WordForm → List (List ℕ) → Option LineFlaw
 flaw_from at [] [] = None
 flaw_from at (form ∷ forms) [] = Some (flaws.Ends form)
@@ -68,6 +70,6 @@ flaw_from at [] (word ∷ words) = Some (flaws.Extra at word)
 flaw_from at (form ∷ forms) (word ∷ words) =
     if has_form form word then flaw_from (at + length word + 1) (wanted_after form word forms) words else Some (flaws.Word at word form)
 
--- the first flaw of a line: it has a time, a user, a group, and a command of this form with its words (this project)
+-- the first flaw of a line, which must have a time, a user, a group, a command of this form, and the command's words (this project)
 abbrev pub flaw_in : WordForm → List ℕ → Option LineFlaw
 flaw_in command line = flaw_from 0 (forms.Number ∷ forms.Id ∷ forms.Id ∷ command ∷ []) (slice_split (λ b. b == 32) line)

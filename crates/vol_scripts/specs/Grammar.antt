@@ -39,7 +39,7 @@ all_commands = commands.Create ∷ commands.Mkdir ∷ commands.Link ∷ commands
 abbrev pub command_named : List ℕ → Option Command
 command_named word = find (λ command. bytes_eq (command_word command) word) all_commands
 
--- the next value, if there is one (Option::and_then)
+-- a function of the value, if there is one (Option::and_then)
 infixl 10 ◌>>=◌
 abbrev pub ◌>>=◌ : {A B : Type 0} → Option A → (A → Option B) → Option B
 found >>= next = option_and_then next found
@@ -64,35 +64,35 @@ abbrev pub none_of : List (List ℕ) → Option (Unit {0})
 none_of [] = Some tt
 none_of _ = None
 
--- a user and a group (this project)
+-- a user and a group, read from two words (this project)
 abbrev pub cred_in : List ℕ → List ℕ → Option Cred
 cred_in uid gid = do
   user ← short_in uid
   group ← short_in gid
   Some (record { uid = user; gid = group })
 
--- `PATH PERM` (this project)
+-- the values of `PATH PERM` (this project)
 abbrev pub path_and_permissions : List (List ℕ) → Option (List ℕ × ℕ)
 path_and_permissions words = do
   given ← two_of words
   permissions ← permissions_in given.1
   Some (given.0, permissions)
 
--- `PATH LENGTH` (this project)
+-- the values of `PATH LENGTH` (this project)
 abbrev pub path_and_length : List (List ℕ) → Option (List ℕ × ℕ)
 path_and_length words = do
   given ← two_of words
   number ← long_in given.1
   Some (given.0, number)
 
--- `PATH UID GID` (this project)
+-- the values of `PATH UID GID` (this project)
 abbrev pub path_and_owner : List (List ℕ) → Option (List ℕ × Cred)
 path_and_owner words = do
   given ← three_of words
   owner ← cred_in given.1 given.2
   Some (given.0, owner)
 
--- `PATH OFFSET HEX` (this project)
+-- the values of `PATH OFFSET HEX` (this project)
 abbrev pub path_and_bytes : List (List ℕ) → Option (List ℕ × ℕ × List ℕ)
 path_and_bytes words = do
   given ← three_of words
@@ -100,7 +100,7 @@ path_and_bytes words = do
   bytes ← bytes_in given.2
   Some (given.0, offset, bytes)
 
--- `PATH OFFSET LEN`, or `PATH ATIME MTIME` (this project)
+-- the values of `PATH OFFSET LEN`, or of `PATH ATIME MTIME` (this project)
 abbrev pub path_and_numbers : List (List ℕ) → Option (List ℕ × ℕ × ℕ)
 path_and_numbers words = do
   given ← three_of words
@@ -108,7 +108,9 @@ path_and_numbers words = do
   second ← long_in given.2
   Some (given.0, first, second)
 
--- what a command asks for with the words after it: `create PATH PERM`, `mkdir PATH PERM`, `link FROM TO`, `unlink PATH`, `rmdir PATH`, `write PATH OFFSET HEX`, `truncate PATH LENGTH`, `chmod PATH PERM`, `chown PATH UID GID`, `times PATH ATIME MTIME`, `stat PATH`, `read PATH OFFSET LEN`, `list PATH`, `cut` (this project)
+-- the step of a command with the words after it: `create PATH PERM`, `mkdir PATH PERM`, `link FROM TO`, `unlink PATH`, `rmdir PATH`, `write PATH
+-- OFFSET HEX`, `truncate PATH LENGTH`, `chmod PATH PERM`, `chown PATH UID GID`, `times PATH ATIME MTIME`, `stat PATH`, `read PATH OFFSET LEN`, `list
+-- PATH`, `cut` (this project)
 abbrev pub asked_by : Command → Cred → ℕ → List (List ℕ) → Option ScriptStep
 asked_by commands.Create cred now words =
     option_map (λ given. steps.Change (calls.Create cred now given.0 given.1)) (path_and_permissions words)
@@ -133,7 +135,7 @@ asked_by commands.Read cred now words =
 asked_by commands.List cred now words = option_map (λ path. steps.Question (queries.List cred path)) (one_of words)
 asked_by commands.Cut cred now words = option_map (λ nothing. steps.Cut) (none_of words)
 
--- the step of a line's words: `NOW UID GID`, the command and its words (this project)
+-- the step of a line with these words: `NOW UID GID`, the command and its words (this project)
 abbrev pub step_by : List (List ℕ) → Option ScriptStep
 step_by (now ∷ uid ∷ gid ∷ name ∷ words) = do
   moment ← long_in now
@@ -142,7 +144,7 @@ step_by (now ∷ uid ∷ gid ∷ name ∷ words) = do
   asked_by command cred moment words
 step_by _ = None
 
--- the step of a session in a line, whose words are separated by single spaces (this project)
+-- the session's step in a line, whose words are separated by single spaces (this project)
 abbrev pub step_in : List ℕ → Option ScriptStep
 step_in line = step_by (slice_split (λ b. b == 32) line)
 
@@ -152,6 +154,6 @@ query_of (steps.Change call) = None
 query_of (steps.Question query) = Some query
 query_of steps.Cut = None
 
--- the query of a view in a line (this project)
+-- the view's query in a line (this project)
 abbrev pub query_in : List ℕ → Option Query
 query_in line = step_in line >>= query_of

@@ -1,4 +1,4 @@
--- The journal of a volume, as the lines of a script.
+-- The journal of a volume, in the format of a script.
 use Rattle.std.specs.Prelude.{ℕ, ◌++◌, Bool, if◌then◌else◌, List, [], ◌∷◌, codes, decimal}
 use Rattle.vol_dir.specs.declared.cred.Cred.{Cred}
 use Rattle.vol_volume.specs.Perform.{caller_of}
@@ -10,7 +10,7 @@ use Rattle.vol_scripts.specs.Texts.{bytes_text, permissions_text}
 use Rattle.vol_scripts.specs.declared.commands.Command.{Command}
 use Rattle.vol_scripts.specs.declared.commands.Command.TheVariants as commands
 
--- the command that asks for a call (this project)
+-- the command for a call (this project)
 abbrev pub command_of : Call → Command
 command_of (calls.Create cred now path perm) = commands.Create
 command_of (calls.Mkdir cred now path perm) = commands.Mkdir
@@ -36,7 +36,7 @@ path_of (calls.Chmod cred now path perm) = path
 path_of (calls.Chown cred now path uid gid) = path
 path_of (calls.Times cred now path atime mtime) = path
 
--- the words after a call's first path, each after a space (this project)
+-- the words after a call's first path, each with a space before it (this project)
 abbrev pub words_after : Call → List ℕ
 words_after (calls.Create cred now path perm) = codes " " ++ permissions_text perm
 words_after (calls.Mkdir cred now path perm) = codes " " ++ permissions_text perm
@@ -49,12 +49,12 @@ words_after (calls.Chmod cred now path perm) = codes " " ++ permissions_text per
 words_after (calls.Chown cred now path uid gid) = codes " " ++ decimal uid ++ codes " " ++ decimal gid
 words_after (calls.Times cred now path atime mtime) = codes " " ++ decimal atime ++ codes " " ++ decimal mtime
 
--- the words before a call's first path, each before a space: its time, user, group and command (this project)
+-- the words before a call's first path, each followed by a space: the call's time, user, group and command (this project)
 abbrev pub words_before : ℕ → Cred → List ℕ → List ℕ
 words_before now cred command =
     decimal now ++ codes " " ++ decimal cred.uid ++ codes " " ++ decimal cred.gid ++ codes " " ++ command ++ codes " "
 
--- the line of a call, as a script has it (this project)
+-- the line of a call in a script (this project)
 abbrev pub call_text : Call → List ℕ
 call_text call =
     words_before (caller_of call).moment (caller_of call).cred (command_word (command_of call)) ++ path_of call ++ words_after call ++ codes "\n"
@@ -64,6 +64,6 @@ abbrev pub journal_text : List Record → List ℕ
 journal_text [] = []
 journal_text (entry ∷ entries) = call_text entry.call ++ journal_text entries
 
--- the lines of a journal, if they are wanted (this project)
+-- the lines of a journal, if these lines are wanted (this project)
 abbrev pub journal_if : Bool → List Record → List ℕ
 journal_if wanted records = if wanted then journal_text records else []

@@ -18,11 +18,12 @@ pub record SavesNothing (answer : Answer) (status : ℕ) (said : Type 0) : Type 
   pub ends : answer.status ≡ status
   pub line : said
 
--- the fault of a result is this line, with this flaw (this project)
+-- the fault of a result is this line of this script, with this flaw (this project)
 abbrev pub Blames : Answer → ℕ → ℕ → Option LineFlaw → Type 0
 Blames answer script line flaw = (text : Vec ℕ Global) × (answer.fault ≡ Some (command_faults.BadLine script line text flaw))
 
--- the result for a fault: the line that can't be read and its flaw, with status 2; or out of memory, with status 4, also when making that message (this project)
+-- the result for a fault: the line that can't be read and its flaw, with status 2; or out of memory, with status 4, also if there is too little
+-- memory for that message (this project)
 abbrev pub AnswersFault : ScriptsFault → (List ℕ → Type 0) → Answer → Type 0
 AnswersFault (faults.Line script line flaw) said answer =
     SavesNothing answer 2 (said (unread_text script line)) × Blames answer script line flaw ⊎ SavesNothing answer 4 (said (fault_line no_memory))

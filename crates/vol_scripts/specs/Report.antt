@@ -25,17 +25,17 @@ step_line_text script line played.NoMemory = line_text script line (refusal_text
 step_line_text script line played.NotEntered = line_text script line (codes "NotEntered")
 step_line_text script line played.View = []
 
--- the lines of a script's steps, the first of which has this number (this project)
+-- the lines of a script's steps; the first line has this number (this project)
 abbrev pub lines_text : ℕ → ℕ → List Played → List ℕ
 lines_text script line [] = []
 lines_text script line (first ∷ others) = step_line_text script line first ++ lines_text script (line + 1) others
 
--- the last line if a script cuts the journal: the number of receipts whose records were cut (this project)
+-- the last line, if a script cuts the journal: the number of receipts whose records were cut (this project)
 abbrev pub gone_text : Option ℕ → List ℕ
 gone_text None = []
 gone_text (Some gone) = codes "gone " ++ decimal gone ++ codes "\n"
 
--- the last lines: the numbers of records and of confirmed receipts, and of those whose records were cut (this project)
+-- the last lines: the number of records, the number of confirmed receipts, and the number of receipts whose records were cut (this project)
 abbrev pub totals_text : ℕ → ℕ → Option ℕ → List ℕ
 totals_text records confirmed gone =
     codes "records " ++ decimal records ++ codes "\nconfirmed " ++ decimal confirmed ++ codes "\n" ++ gone_text gone

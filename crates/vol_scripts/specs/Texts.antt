@@ -11,7 +11,7 @@ use Rattle.vol_volume.specs.declared.queries.Reply.{Reply}
 use Rattle.vol_volume.specs.declared.queries.Reply.TheVariants as replies
 use Rattle.vol_volume.specs.declared.queries.Stat.{Stat}
 
--- the text of an accepted call's result: the i-number made, the number of bytes written, or 0 (this project)
+-- the text of an accepted call's result: the i-number of the new node, the number of bytes written, or 0 (this project)
 abbrev pub done_text : Done → List ℕ
 done_text (dones.Made number) = codes "ok " ++ decimal number
 done_text (dones.Wrote count) = codes "ok " ++ decimal count
@@ -55,7 +55,7 @@ stat_text stat =
     codes "stat " ++ node_text stat ++ codes " " ++ decimal stat.links ++ codes " " ++ decimal stat.uid ++ codes " " ++ decimal stat.gid ++ codes " "
     ++ decimal stat.size
 
--- bytes as hexadecimal digits, or a hyphen for none (this project)
+-- bytes as hexadecimal digits, or a hyphen if there are none (this project)
 abbrev pub bytes_text : List ℕ → List ℕ
 bytes_text [] = codes "-"
 bytes_text (byte ∷ bytes) = encode_lower (byte ∷ bytes)

@@ -1,4 +1,4 @@
-//! The words after the command, and their values.
+//! Reads the words after a line's command.
 ghost use Rattle.std.specs.Prelude.{◌≡◌, Some, None, MatchOption, IfOk};
 ghost use Rattle.vol_scripts.specs.Grammar.{one_of, two_of, three_of, none_of, cred_in, path_and_permissions, path_and_length, path_and_owner, path_and_bytes, path_and_numbers};
 ghost use Rattle.vol_scripts.specs.Scripts.{Reads};
@@ -58,7 +58,7 @@ pub(crate) fn cred_in(uid: &[u8], gid: &[u8]) -> Option<Cred>
     })
 }
 
-/// Reads `PATH`.
+/// Reads the words `PATH`.
 pub(crate) fn path_alone(alloc: Global, words: Pieces<'_>) -> Result<Bytes, LineFault>
     ensures { Reads (one_of words.entry) result }
 {
@@ -66,7 +66,7 @@ pub(crate) fn path_alone(alloc: Global, words: Pieces<'_>) -> Result<Bytes, Line
     Ok(Bytes::from_slice(alloc, path)?)
 }
 
-/// Reads `FROM TO`.
+/// Reads the words `FROM TO`.
 pub(crate) fn two_paths(alloc: Global, words: Pieces<'_>) -> Result<(Bytes, Bytes), LineFault>
     ensures { Reads (two_of words.entry) result }
 {
@@ -77,7 +77,7 @@ pub(crate) fn two_paths(alloc: Global, words: Pieces<'_>) -> Result<(Bytes, Byte
     ))
 }
 
-/// Reads `PATH PERM`.
+/// Reads the words `PATH PERM`.
 pub(crate) fn path_and_permissions(
     alloc: Global,
     words: Pieces<'_>,
@@ -89,7 +89,7 @@ pub(crate) fn path_and_permissions(
     Ok((Bytes::from_slice(alloc, path)?, permissions))
 }
 
-/// Reads `PATH LENGTH`.
+/// Reads the words `PATH LENGTH`.
 pub(crate) fn path_and_length(alloc: Global, words: Pieces<'_>) -> Result<(Bytes, u32), LineFault>
     ensures { Reads (path_and_length words.entry) result }
 {
@@ -98,7 +98,7 @@ pub(crate) fn path_and_length(alloc: Global, words: Pieces<'_>) -> Result<(Bytes
     Ok((Bytes::from_slice(alloc, path)?, length))
 }
 
-/// Reads `PATH UID GID`.
+/// Reads the words `PATH UID GID`.
 pub(crate) fn path_and_owner(alloc: Global, words: Pieces<'_>) -> Result<(Bytes, Cred), LineFault>
     ensures { Reads (path_and_owner words.entry) result }
 {
@@ -107,7 +107,7 @@ pub(crate) fn path_and_owner(alloc: Global, words: Pieces<'_>) -> Result<(Bytes,
     Ok((Bytes::from_slice(alloc, path)?, owner))
 }
 
-/// Reads `PATH OFFSET HEX`.
+/// Reads the words `PATH OFFSET HEX`.
 pub(crate) fn path_and_bytes(
     alloc: Global,
     words: Pieces<'_>,
@@ -120,7 +120,7 @@ pub(crate) fn path_and_bytes(
     Ok((Bytes::from_slice(alloc, path)?, offset, bytes))
 }
 
-/// `PATH OFFSET LEN`, or `PATH ATIME MTIME`.
+/// Reads the words `PATH OFFSET LEN`, or `PATH ATIME MTIME`.
 pub(crate) fn path_and_numbers(
     alloc: Global,
     words: Pieces<'_>,

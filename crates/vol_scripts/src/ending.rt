@@ -1,4 +1,4 @@
-//! The end of a play, when its volume is no longer shared: its report, its status, and the bytes to save.
+//! The end of a play, when its volume is no longer shared: the report, the status, and the bytes to save.
 ghost use Rattle.std.specs.Prelude.{◌≡◌, ◌++◌, IfOk, IfErr, None, OnOk, Some, count_by, nat_lt};
 ghost use Rattle.std.specs.String.{string_bytes};
 ghost use Rattle.command_faults.specs.Faults.{fault_status};
@@ -15,15 +15,13 @@ use std::alloc::{AllocError, Global};
 use vol_receipts::{Confirmed, Outcome, Receipt, confirm_all};
 use vol_volume::Volume;
 
-/// Ends a play. Prints a line for each step of each script, in order, then the number of records in the
-/// journal and the number of receipts that agree with it; if a script cuts the journal, also the number of
-/// receipts whose records were cut; and, if the journal is wanted, a line for each of its records, as a script has it.
-/// The volume's bytes are to be saved in any case.
+/// Ends a play. Prints a line for each step of each script, in order, then the number of records in the journal and the number of receipts that agree
+/// with it. If a script cuts the journal, also prints the number of receipts whose records were cut; and, if the journal is wanted, a line for each
+/// of its records, in the format of a script. The volume's bytes are to be saved in any case.
 ///
-/// The status is 3 if `output` failed; else 4 if a step, this report or confirming the receipts ran out of
-/// memory (no receipt then counts as confirmed), or if a view couldn't read the published version; else 1 if
-/// a step was refused; else 0. If memory for the report runs out, none of it is printed. The fault is that of
-/// the output, or out of memory for the report.
+/// The status is 3 if `output` failed; else 4 if a step, this report or confirming the receipts ran out of memory (no receipt then counts as
+/// confirmed), or if a view couldn't read the published version; else 1 if a step was refused; else 0. If memory for the report runs out, none of it
+/// is printed. The fault reports the failed output, or out of memory for the report.
 ///
 /// Takes memory for the report, a list of the receipts, and confirming them.
 pub fn finish<O: Sink>(
@@ -47,7 +45,7 @@ pub fn finish<O: Sink>(
     }
 }
 
-/// Returns the result of a play whose report was printed, or failed.
+/// Returns the result of a play. `printed` is the status if its report was printed, or the fault.
 fn ending_of(printed: Result<u8, Fault>) -> Ending
     ensures printed { IfOk printed (λ status. (result.status ≡ status) × (result.fault ≡ None)) }
     ensures fault { IfErr printed (λ fault. (result.status ≡ fault_status fault) × (result.fault ≡ Some fault)) }
@@ -85,8 +83,7 @@ fn print_report<O: Sink>(
     }
 }
 
-/// Returns the report of a play, and the counts of confirmed receipts, or `None` if memory for confirming ran
-/// out.
+/// Returns the report of a play, with the counts of confirmed receipts, or `None` instead of the counts if memory for confirming ran out.
 fn report_of(
     alloc: Global,
     volume: &Volume,
@@ -108,8 +105,8 @@ fn report_of(
     Ok((text, confirmed))
 }
 
-/// Confirms the receipts. Returns the counts, or `None` if memory runs out, and the number that agree with
-/// the journal, which is then 0.
+/// Confirms the receipts. Returns the counts, or `None` if memory runs out, and the number of receipts that agree with the journal, which is 0 if
+/// memory runs out.
 fn confirm(alloc: Global, volume: &Volume, receipts: &[Receipt]) -> (Option<Confirmed>, u64)
     ensures { AreConfirmed volume.now receipts.now result.0 result.1 }
 {
@@ -155,7 +152,7 @@ fn push_receipts(receipts: &mut Vec<Receipt>, played: Vec<Played>) -> Result<(),
     Ok(())
 }
 
-/// Counts the receipts whose records were cut, which is below record number `first`.
+/// Counts the receipts whose records were cut: their numbers are below `first`, the number of the journal's first record.
 fn gone_among(first: u64, receipts: &[Receipt]) -> u64
     ensures { result ≡ count_by (λ receipt. nat_lt receipt.at first) receipts.now }
 {

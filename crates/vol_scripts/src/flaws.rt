@@ -10,8 +10,8 @@ use command_faults::{LineFlaw, WordForm};
 use pdp_words::Bytes;
 use std::alloc::{AllocError, Global};
 
-/// Returns the first flaw of a line whose command must be of this form, or `None` if its words are all as they must be.
-/// Takes memory for the flawed word, or for bytes before it.
+/// Returns the first flaw of a line whose command must have this form, or `None` if all its words have the required forms. Takes memory for the
+/// flawed word, or for the bytes before it.
 pub(crate) fn flaw_in(
     alloc: Global,
     command: WordForm,
@@ -46,7 +46,7 @@ pub(crate) fn flaw_in(
     Ok(missing(wanted))
 }
 
-/// Returns the flaw of a line that ends before words of these forms, if there are any.
+/// Returns the flaw of a line that ends before words of these forms, or `None` if there are none.
 fn missing(wanted: &[WordForm]) -> Option<LineFlaw>
     ensures { result ≡ flaw_from 0 wanted.now [] }
 {
@@ -54,8 +54,7 @@ fn missing(wanted: &[WordForm]) -> Option<LineFlaw>
     Some(LineFlaw::Ends(*form))
 }
 
-/// Returns the forms of the words after a word of this form, if `others` were wanted after it: those of the command,
-/// if it is one.
+/// Returns the forms of the words that must follow a word of this form: the forms of a command's words if it is a command, else `others`.
 fn wanted_after<'a>(form: WordForm, word: &[u8], others: &'a [WordForm]) -> &'a [WordForm]
     ensures { result.now ≡ wanted_after form word.now others.now }
 {
@@ -68,7 +67,7 @@ fn wanted_after<'a>(form: WordForm, word: &[u8], others: &'a [WordForm]) -> &'a 
     }
 }
 
-/// True if a word is of a form. Takes memory for bytes.
+/// True if a word has this form. Takes memory for bytes.
 fn has_form(alloc: Global, form: WordForm, word: &[u8]) -> Result<bool, AllocError>
     ensures { IfOk result (λ has. has ≡ has_form form word.now) }
 {
@@ -84,7 +83,7 @@ fn has_form(alloc: Global, form: WordForm, word: &[u8]) -> Result<bool, AllocErr
     Ok(has)
 }
 
-/// True if a word has bytes.
+/// True if a word can be read as bytes.
 fn has_bytes(alloc: Global, word: &[u8]) -> Result<bool, AllocError>
     ensures { IfOk result (λ has. has ≡ has_form WordForm.Bytes word.now) }
 {
@@ -95,7 +94,7 @@ fn has_bytes(alloc: Global, word: &[u8]) -> Result<bool, AllocError>
     }
 }
 
-/// True if there is a command, and it is a query.
+/// True if there is a command and it is a query.
 fn names_query(command: Option<Command>) -> bool
     ensures { result ≡ names_query command }
 {

@@ -1,4 +1,4 @@
-//! The journal of a volume, as the lines of a script.
+//! The journal of a volume, in the format of a script.
 ghost use Rattle.std.specs.Prelude.{◌≡◌, ◌++◌, IfOk, OnOk, codes, decimal};
 ghost use Rattle.std.specs.String.{string_bytes};
 ghost use Rattle.vol_volume.specs.Perform.{caller_of};
@@ -12,7 +12,7 @@ use std::alloc::{AllocError, Global};
 use vol_dir::Cred;
 use vol_volume::{Call, Record};
 
-/// Appends a line for each record of a journal, if they are wanted. Takes memory for the text.
+/// Appends a line for each record of a journal, if these lines are wanted. Takes memory for the text.
 pub(crate) fn push_journal(
     alloc: Global,
     text: &mut Vec<u8>,
@@ -71,7 +71,7 @@ fn caller_of(call: &Call) -> (Cred, u32)
     (*cred, *now)
 }
 
-/// Returns the command that asks for a call.
+/// Returns the command for a call.
 fn command_of(call: &Call) -> Command
     ensures { result ≡ command_of call.now }
 {
@@ -107,7 +107,7 @@ fn path_of(call: &Call) -> &[u8]
     }
 }
 
-/// Returns the words after the first path of a call, each after a space.
+/// Returns the words after the first path of a call, each with a space before it.
 fn words_after(alloc: Global, call: &Call) -> Result<Vec<u8>, AllocError>
     ensures { IfOk result (λ text. text.items ≡ words_after call.now) }
 {
@@ -124,7 +124,7 @@ fn words_after(alloc: Global, call: &Call) -> Result<Vec<u8>, AllocError>
     }
 }
 
-/// Returns two numbers, each after a space.
+/// Returns two numbers, each with a space before it.
 #[tactic(auto, using(crate::proofs::TextLemmas::pair_pieces))]
 fn numbers_after(alloc: Global, first: u32, second: u32) -> Result<Vec<u8>, AllocError>
     ensures { IfOk result (λ text. text.items ≡ codes " " ++ decimal first ++ codes " " ++ decimal second) }
@@ -133,7 +133,7 @@ fn numbers_after(alloc: Global, first: u32, second: u32) -> Result<Vec<u8>, Allo
     Ok(text.into_bytes())
 }
 
-/// Returns a number and bytes, each after a space.
+/// Returns a number and bytes, each with a space before it.
 #[tactic(auto, using(crate::proofs::TextLemmas::pair_pieces))]
 fn bytes_after(alloc: Global, offset: u32, bytes: &[u8]) -> Result<Vec<u8>, AllocError>
     ensures { IfOk result (λ text. text.items ≡ codes " " ++ decimal offset ++ codes " " ++ bytes_text bytes.now) }
@@ -144,7 +144,7 @@ fn bytes_after(alloc: Global, offset: u32, bytes: &[u8]) -> Result<Vec<u8>, Allo
     Ok(text.into_bytes())
 }
 
-/// Returns permissions after a space.
+/// Returns permissions, with a space before them.
 fn permissions_after(alloc: Global, bits: u16) -> Result<Vec<u8>, AllocError>
     ensures { IfOk result (λ text. text.items ≡ codes " " ++ permissions_text bits) }
 {
@@ -152,7 +152,7 @@ fn permissions_after(alloc: Global, bits: u16) -> Result<Vec<u8>, AllocError>
     word_after(alloc, digits.as_bytes())
 }
 
-/// Returns a word after a space.
+/// Returns a word, with a space before it.
 fn word_after(alloc: Global, word: &[u8]) -> Result<Vec<u8>, AllocError>
     ensures { IfOk result (λ text. text.items ≡ codes " " ++ word.now) }
 {

@@ -18,7 +18,7 @@ use vol_volume::{Call, Query};
 /// The reason why a line couldn't be read.
 #[derive(Clone, Copy)]
 pub(crate) enum LineFault {
-    /// It isn't a line that a script may have.
+    /// The line isn't valid in a script.
     Unreadable,
     /// An allocation was refused.
     NoMemory,
@@ -34,7 +34,7 @@ impl From<AllocError> for LineFault {
     }
 }
 
-/// A step that a line of a script can hold.
+/// A step that can be read from a line of a script.
 pub(crate) trait FromLine: Drop {
     ghost use Rattle.std.specs.Prelude.{List, Option};
 
@@ -101,7 +101,7 @@ fn first_four_of<'a>(words: &mut Pieces<'a>) -> Option<(&'a [u8], &'a [u8], &'a 
     Some((first, second, third, fourth))
 }
 
-/// Reads the words after the command.
+/// Reads the words after the command, and returns the step.
 fn asked_by(
     alloc: Global,
     command: Command,
@@ -132,7 +132,7 @@ fn asked_by(
     }
 }
 
-/// Reads `create`.
+/// Reads the words after `create`.
 fn create(alloc: Global, cred: Cred, now: u32, words: Pieces<'_>) -> Result<ScriptStep, LineFault>
     ensures { Reads (asked_by Command.Create cred now words.entry) result }
 {
@@ -145,7 +145,7 @@ fn create(alloc: Global, cred: Cred, now: u32, words: Pieces<'_>) -> Result<Scri
     }))
 }
 
-/// Reads `mkdir`.
+/// Reads the words after `mkdir`.
 fn mkdir(alloc: Global, cred: Cred, now: u32, words: Pieces<'_>) -> Result<ScriptStep, LineFault>
     ensures { Reads (asked_by Command.Mkdir cred now words.entry) result }
 {
@@ -158,7 +158,7 @@ fn mkdir(alloc: Global, cred: Cred, now: u32, words: Pieces<'_>) -> Result<Scrip
     }))
 }
 
-/// Reads `link`.
+/// Reads the words after `link`.
 fn link(alloc: Global, cred: Cred, now: u32, words: Pieces<'_>) -> Result<ScriptStep, LineFault>
     ensures { Reads (asked_by Command.Link cred now words.entry) result }
 {
@@ -171,7 +171,7 @@ fn link(alloc: Global, cred: Cred, now: u32, words: Pieces<'_>) -> Result<Script
     }))
 }
 
-/// Reads `unlink`.
+/// Reads the words after `unlink`.
 fn unlink(alloc: Global, cred: Cred, now: u32, words: Pieces<'_>) -> Result<ScriptStep, LineFault>
     ensures { Reads (asked_by Command.Unlink cred now words.entry) result }
 {
@@ -179,7 +179,7 @@ fn unlink(alloc: Global, cred: Cred, now: u32, words: Pieces<'_>) -> Result<Scri
     Ok(ScriptStep::Change(Call::Unlink { cred, now, path }))
 }
 
-/// Reads `rmdir`.
+/// Reads the words after `rmdir`.
 fn rmdir(alloc: Global, cred: Cred, now: u32, words: Pieces<'_>) -> Result<ScriptStep, LineFault>
     ensures { Reads (asked_by Command.Rmdir cred now words.entry) result }
 {
@@ -187,7 +187,7 @@ fn rmdir(alloc: Global, cred: Cred, now: u32, words: Pieces<'_>) -> Result<Scrip
     Ok(ScriptStep::Change(Call::Rmdir { cred, now, path }))
 }
 
-/// Reads `write`.
+/// Reads the words after `write`.
 fn write(alloc: Global, cred: Cred, now: u32, words: Pieces<'_>) -> Result<ScriptStep, LineFault>
     ensures { Reads (asked_by Command.Write cred now words.entry) result }
 {
@@ -201,7 +201,7 @@ fn write(alloc: Global, cred: Cred, now: u32, words: Pieces<'_>) -> Result<Scrip
     }))
 }
 
-/// Reads `truncate`.
+/// Reads the words after `truncate`.
 fn truncate(alloc: Global, cred: Cred, now: u32, words: Pieces<'_>) -> Result<ScriptStep, LineFault>
     ensures { Reads (asked_by Command.Truncate cred now words.entry) result }
 {
@@ -214,7 +214,7 @@ fn truncate(alloc: Global, cred: Cred, now: u32, words: Pieces<'_>) -> Result<Sc
     }))
 }
 
-/// Reads `chmod`.
+/// Reads the words after `chmod`.
 fn chmod(alloc: Global, cred: Cred, now: u32, words: Pieces<'_>) -> Result<ScriptStep, LineFault>
     ensures { Reads (asked_by Command.Chmod cred now words.entry) result }
 {
@@ -227,7 +227,7 @@ fn chmod(alloc: Global, cred: Cred, now: u32, words: Pieces<'_>) -> Result<Scrip
     }))
 }
 
-/// Reads `chown`.
+/// Reads the words after `chown`.
 fn chown(alloc: Global, cred: Cred, now: u32, words: Pieces<'_>) -> Result<ScriptStep, LineFault>
     ensures { Reads (asked_by Command.Chown cred now words.entry) result }
 {
@@ -241,7 +241,7 @@ fn chown(alloc: Global, cred: Cred, now: u32, words: Pieces<'_>) -> Result<Scrip
     }))
 }
 
-/// `times`.
+/// Reads the words after `times`.
 fn times(alloc: Global, cred: Cred, now: u32, words: Pieces<'_>) -> Result<ScriptStep, LineFault>
     ensures { Reads (asked_by Command.Times cred now words.entry) result }
 {
@@ -255,7 +255,7 @@ fn times(alloc: Global, cred: Cred, now: u32, words: Pieces<'_>) -> Result<Scrip
     }))
 }
 
-/// Reads `stat`.
+/// Reads the words after `stat`.
 fn stat(alloc: Global, cred: Cred, words: Pieces<'_>) -> Result<ScriptStep, LineFault>
     ensures { (now : ℕ) → Reads (asked_by Command.Stat cred now words.entry) result }
 {
@@ -263,7 +263,7 @@ fn stat(alloc: Global, cred: Cred, words: Pieces<'_>) -> Result<ScriptStep, Line
     Ok(ScriptStep::Question(Query::Stat { cred, path }))
 }
 
-/// Reads `read`.
+/// Reads the words after `read`.
 fn read(alloc: Global, cred: Cred, words: Pieces<'_>) -> Result<ScriptStep, LineFault>
     ensures { (now : ℕ) → Reads (asked_by Command.Read cred now words.entry) result }
 {
@@ -276,7 +276,7 @@ fn read(alloc: Global, cred: Cred, words: Pieces<'_>) -> Result<ScriptStep, Line
     }))
 }
 
-/// Reads `list`.
+/// Reads the words after `list`.
 fn list(alloc: Global, cred: Cred, words: Pieces<'_>) -> Result<ScriptStep, LineFault>
     ensures { (now : ℕ) → Reads (asked_by Command.List cred now words.entry) result }
 {

@@ -32,7 +32,7 @@ pub(crate) fn permissions_in(word: &[u8]) -> Option<u16>
     short_number_in(8, ALL_PERMISSIONS, word)
 }
 
-/// Reads a number of at most `most`, which has 16 bits, in the radix.
+/// Reads a number in this radix that is at most `most`, a 16-bit number.
 fn short_number_in(radix: u32, most: u16, word: &[u8]) -> Option<u16>
     requires least { 2 ≤ radix }
     requires greatest { radix ≤ 36 }
@@ -42,8 +42,7 @@ fn short_number_in(radix: u32, most: u16, word: &[u8]) -> Option<u16>
     Some(number as u16)
 }
 
-/// Reads a number of at most `most` in the radix: one or more digits, with leading zeros allowed and no sign.
-/// Costs the length of the word.
+/// Reads a number in this radix that is at most `most`: one or more digits, with leading zeros allowed and no sign. Costs the length of the word.
 fn number_in(radix: u32, most: u32, word: &[u8]) -> Option<u32>
     requires least { 2 ≤ radix }
     requires greatest { radix ≤ 36 }
@@ -68,8 +67,7 @@ fn with_digit(radix: u32, most: u32, number: u32, digit: u32) -> Option<u32>
     (number <= most).then_some(number)
 }
 
-/// Reads bytes, with two hexadecimal digits of either case for each, or a hyphen for none. Costs the length
-/// of the word.
+/// Reads bytes: two hexadecimal digits of either case for each byte, or a hyphen for no bytes. Costs the length of the word.
 pub(crate) fn bytes_in(alloc: Global, word: &[u8]) -> Result<Bytes, LineFault>
     ensures { Reads (bytes_in word.now) result }
 {

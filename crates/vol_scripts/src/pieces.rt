@@ -4,7 +4,7 @@ ghost use Rattle.std.specs.List.{slice_split};
 
 use std::marker::Model;
 
-/// The remaining pieces of bytes that are split at separators. Contracts see the list of them.
+/// The remaining pieces of bytes that are split at separators. Contracts see it as the list of the pieces.
 #[derive(Drop)]
 pub(crate) struct Pieces<'a> {
     separator: u8,
@@ -38,7 +38,7 @@ impl<'a> Pieces<'a> {
         self.rest.is_none()
     }
 
-    /// Returns and removes the next piece. Costs its length.
+    /// Removes the next piece and returns it. Costs its length.
     pub(crate) fn take_next(&mut self) -> Option<&'a [u8]>
         ensures { MatchOption result ((self.old ≡ []) × (self.new ≡ [])) (λ piece. self.old ≡ piece.now ∷ self.new) }
     {

@@ -6,12 +6,12 @@ use vol_receipts::Receipt;
 pub enum Played {
     /// The receipt of a call or a query.
     Told(Receipt),
-    /// The journal was cut. The number of its next record.
+    /// The journal was cut. Its next record has this number.
     Cut(u64),
-    /// An allocation was refused, so nothing was done, and there is no receipt.
+    /// An allocation was refused: nothing was done, and there is no receipt.
     NoMemory,
-    /// A view couldn't read the published version, so there is no receipt.
+    /// A view couldn't read the published version; there is no receipt.
     NotEntered,
-    /// The line that marks a script as one for a view. It prints nothing.
+    /// The line that marks a script as one for a view. No line is printed for it.
     View,
 }

@@ -37,8 +37,8 @@ impl From<AllocError> for ScriptFault {
 /// The line that marks a script as one for a view.
 const VIEW_LINE: &[u8] = b"view\n";
 
-/// Reads a script: for a view if its first line is the word `view`, else for a session. Each line ends with a
-/// newline, and an empty script has no lines. A script for a view has only queries.
+/// Reads a script. If its first line is the word `view`, the script is for a view, else for a session. Each line ends with a newline, and an empty
+/// script has no lines. A script for a view has only queries.
 ///
 /// Takes memory for the steps, their paths and the bytes of their writes. Costs the length of the script.
 pub fn read_script(alloc: Global, script: &[u8]) -> Result<Script, ScriptFault>
@@ -50,7 +50,7 @@ pub fn read_script(alloc: Global, script: &[u8]) -> Result<Script, ScriptFault>
     }
 }
 
-/// Reads the steps of lines, the first of which has number `first`; their commands must be of this form.
+/// Reads the steps of lines. The first line has the number `first`, and all commands must have this form.
 fn read_lines<A: FromLine>(
     alloc: Global,
     text: &[u8],
@@ -65,7 +65,7 @@ fn read_lines<A: FromLine>(
     'lines: while let Some(line) = lines.take_next() {
         let number = asked.len() as u64 + first;
         if lines.is_empty() {
-            // The text after the last newline isn't a line, and must be empty.
+            // The text after the last newline isn't a line and must be empty.
             return if line.is_empty() {
                 Ok(Sequence::from_vec(asked))
             } else {
@@ -98,11 +98,11 @@ fn push_item<T: Drop>(items: &mut Vec<T>, item: T) -> Result<(), ScriptFault>
 /// The reason why several scripts couldn't be read.
 #[derive(Drop)]
 pub enum ScriptsFault {
-    /// The first line that can't be read, by script and line, both numbered from 1.
+    /// The first line that can't be read.
     Line {
-        /// The script's number.
+        /// The script's number, from 1.
         script: u64,
-        /// The line's number in it.
+        /// The line's number in the script, from 1.
         line: u64,
         /// The line's first flaw.
         flaw: Option<LineFlaw>,
@@ -111,8 +111,8 @@ pub enum ScriptsFault {
     NoMemory,
 }
 
-/// Reads several scripts as [`read_script`] does. At most [`MOST_VIEWS`] may be for views; the first line of
-/// any further one counts as unreadable. Takes the memory of [`read_script`], and a list of the scripts.
+/// Reads several scripts as [`read_script`] does. At most [`MOST_VIEWS`] of them may be for views; the first line of any further one counts as
+/// unreadable. Takes the memory of [`read_script`], and memory for a list of the scripts.
 pub fn read_scripts(alloc: Global, scripts: &[Vec<u8>]) -> Result<Vec<Script>, ScriptsFault>
     ensures { ReadsScripts scripts.now result }
 {
@@ -135,7 +135,7 @@ pub fn read_scripts(alloc: Global, scripts: &[Vec<u8>]) -> Result<Vec<Script>, S
     Ok(read)
 }
 
-/// Reads a script when `views` scripts before it are for views.
+/// Reads a script, after `views` scripts for views.
 fn read_next(alloc: Global, views: &mut u64, script: &[u8]) -> Result<Script, ScriptFault>
     requires { views.old ≤ MOST_VIEWS }
     ensures read { ReadsScript (script_after views.old script.now) result }

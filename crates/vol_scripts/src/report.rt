@@ -21,8 +21,8 @@ fn outcome_text(alloc: Global, outcome: &Outcome) -> Result<String, AllocError>
     }
 }
 
-/// Appends the lines of a script's steps; `script` is its number, from 1. Takes memory for the text, and for
-/// the result of one step at a time.
+/// Appends the lines of a script's steps. `script` is the script's number, from 1. Takes memory for the text, and for the result of one step at a
+/// time.
 pub(crate) fn push_lines(
     alloc: Global,
     text: &mut String,
@@ -39,7 +39,7 @@ pub(crate) fn push_lines(
     Ok(())
 }
 
-/// Appends the line of a step. The line that marks a script as one for a view has none.
+/// Appends the line of a step. The step that marks a script as one for a view has no line.
 fn push_line(
     alloc: Global,
     text: &mut String,
@@ -64,7 +64,7 @@ fn push_line(
     }
 }
 
-/// Appends a line: the numbers of a script and of its line, and the result.
+/// Appends a line with the numbers of a script and of its line, and the result.
 fn push_came(text: &mut String, script: u64, line: u64, came: &str) -> Result<(), AllocError>
     ensures { OnOk result (string_bytes text.new ≡ string_bytes text.old ++ line_text script line came.now) }
 {

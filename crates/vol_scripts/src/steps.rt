@@ -15,7 +15,7 @@ pub enum ScriptStep {
     Cut,
 }
 
-/// A script, which is played in a thread of its own.
+/// A script, which is played in its own thread.
 #[derive(Drop)]
 pub enum Script {
     /// A script for a session: one step per line.
@@ -24,7 +24,7 @@ pub enum Script {
     View(Sequence<Query>),
 }
 
-/// The steps of a script, in order. Contracts see the list.
+/// The steps of a script, in order. Contracts see it as the list of the steps.
 #[derive(Drop)]
 pub struct Sequence<T> {
     items: Vec<T>,

@@ -37,7 +37,7 @@ pub(crate) fn reply_text(alloc: Global, reply: &Reply) -> Result<String, AllocEr
     }
 }
 
-/// Returns bytes as hexadecimal digits, or a hyphen for none.
+/// Returns bytes as hexadecimal digits, or a hyphen if there are none.
 pub(crate) fn bytes_text(alloc: Global, bytes: &[u8]) -> Result<String, AllocError>
     ensures { IfOk result (λ text. string_bytes text ≡ bytes_text bytes.now) }
 {

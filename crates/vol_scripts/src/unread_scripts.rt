@@ -10,8 +10,8 @@ use command_faults::{Answer, Fault};
 use std::alloc::{AllocError, Global};
 use vol_dir::Refusal;
 
-/// Returns the result of a play whose scripts couldn't be read: nothing to save, and as fault the first
-/// unreadable line with status 2, or out of memory with status 4.
+/// Returns the result of a play whose scripts couldn't be read. There is nothing to save; the fault is the first unreadable line, with status 2, or
+/// out of memory, with status 4.
 pub fn refuse(alloc: Global, fault: ScriptsFault) -> Answer
     ensures { (errors : ErrorStream) → Hears errors result.fault → AnswersFault fault (says errors) result }
 {

@@ -1,4 +1,4 @@
--- The entries of a directory's slots, as they are listed.
+-- The entries of a directory's slots in the reply to READDIR.
 use Rattle.std.proofs.Common.{◌≡◌, ◌∙◌, sym, ap, ℕ, zero, suc, ◌+◌, ◌-◌, ◌<◌, ◌≤◌, ◌/◌, min, arith, List, [], ◌++◌, Option, None, Ok, inl, inr}
 use Rattle.std.proofs.lemmas.Bool.{cases_lt}
 use Rattle.fuse_words.specs.declared.directory.EntryKind.{EntryKind}
@@ -16,7 +16,7 @@ use Rattle.vol_nodes.specs.Nodes.{after_ok, names_in}
 use Rattle.vol_serve.specs.Attributes.{entry_kind_in}
 use Rattle.vol_serve.specs.Listings.{listed, entries_from, listing_in}
 
--- slots without an entry list nothing
+-- if the slots from `slot` up to `found` have no entry, listing from `slot` has the same result as listing from `found`
 pub none_on : (entry : ℕ → Option (List ℕ × ℕ)) (kind : ℕ → EntryKind) (count slot found room : ℕ) → slot ≤ found → found ≤ slot + count
     → ((t : ℕ) → slot ≤ t → t < found → entry t ≡ None)
     → entries_from entry kind slot room count ≡ entries_from entry kind found room (slot + count - found)
@@ -36,7 +36,7 @@ none_on entry kind (suc count) slot found room low high none =
           ap (λ s. entries_from entry kind s room (suc count)) here ∙ ap (λ n. entries_from entry kind found room n) all
     ]
 
--- the entries from a slot on, by the next slot that has an entry
+-- if slot `found` is the next one with an entry, the listing is this entry, followed by the entries after it
 pub from_next : (entry : ℕ → Option (List ℕ × ℕ)) (kind : ℕ → EntryKind) (from count room found : ℕ) (slot : Slot)
     → IsNextEntry entry from count found slot
     → entries_from entry kind from room (count - from)
@@ -50,7 +50,7 @@ from_next entry kind from count room found slot next =
     ∙ (ap (λ n. entries_from entry kind found room n) left
     ∙ ap (λ o. listed kind found room o (λ left. entries_from entry kind (found + 1) left (count - (found + 1)))) next.holds)
 
--- nothing is listed if no slot that is left has an entry
+-- if no remaining slot has an entry, nothing is listed
 pub from_last : (entry : ℕ → Option (List ℕ × ℕ)) (kind : ℕ → EntryKind) (from count room : ℕ)
     → ((t : ℕ) → from ≤ t → t < count → entry t ≡ None) → entries_from entry kind from room (count - from) ≡ []
 unfolding entries_from
@@ -59,7 +59,7 @@ from_last entry kind from count room none =
     none_on entry kind (count - from) from (from + (count - from)) room (omega arith) (omega arith) (λ t low high. none t low (omega arith))
     ∙ ap (λ n. entries_from entry kind (from + (count - from)) room n) over
 
--- a slot far past the last lists nothing, like any other past the last
+-- if there are at most `far` slots, starting at `from` lists the same as starting at the smaller of `from` and `far`
 pub from_far : (entry : ℕ → Option (List ℕ × ℕ)) (kind : ℕ → EntryKind) (from far count room : ℕ) → count ≤ far
     → entries_from entry kind from room (count - from) ≡ entries_from entry kind (min from far) room (count - min from far)
 unfolding entries_from
@@ -74,7 +74,7 @@ from_far entry kind from far count room past =
           ap (λ n. entries_from entry kind from room n) none_left ∙ ap (λ n. entries_from entry kind (min from far) room n) none_there
     ]
 
--- no directory has 2^32 slots
+-- no file has 2^32 slots
 few_by : (edition : Edition) (size : ℕ) → min size (constants edition).greatest / 16 ≤ 4294967295
 few_by V6 size = omega arith
 few_by V7 size = omega arith
@@ -83,7 +83,7 @@ few_by V7 size = omega arith
 pub few_slots : (geometry : Geometry) (image : List ℕ) (d : ℕ) → slot_count geometry image d ≤ 4294967295
 few_slots geometry image d = few_by geometry.edition (size_at geometry.edition image (inode_place geometry.edition d))
 
--- a listing, at its beginning
+-- at its beginning the listing is empty, so all entries are still to be added
 pub from_first : (entry : ℕ → Option (List ℕ × ℕ)) (kind : ℕ → EntryKind) (from far count size slot len : ℕ) (items : List ℕ)
     → slot ≡ min from far → count ≤ far → items ≡ [] → len ≡ 0
     → entries_from entry kind from size (count - from) ≡ items ++ entries_from entry kind slot (size - len) (count - slot)
@@ -94,7 +94,7 @@ from_first entry kind from far count size slot len items at past none zero_long 
     ∙ (ap (λ s. entries_from entry kind s (size - len) (count - s)) (sym at)
     ∙ ap (λ xs. xs ++ entries_from entry kind slot (size - len) (count - slot)) (sym none)))
 
--- a listing that is done
+-- if all entries were added, the listing is done
 pub listing_done : (geometry : Geometry) (image : List ℕ) (d from size : ℕ) (names : Names) (items : List ℕ)
     → names_in (tree geometry image) d ≡ Ok names
     → entries_from (entry_at geometry image d) (entry_kind_in (tree geometry image)) from size (slot_count geometry image d - from) ≡ items

@@ -28,7 +28,7 @@ use Rattle.vol_serve.specs.Statistics.{statistics_of}
 use Rattle.vol_serve.specs.declared.errno.RequestRefusal.{RequestRefusal}
 use Rattle.vol_serve.specs.declared.errno.RequestRefusal.TheVariants.{Node, ReadOnly, Malformed, Version, Unserved}
 
--- the reply made from a node's result; a fault ends it (this project)
+-- the reply made from a result about a node, or the refusal for its fault (this project)
 abbrev pub answered : {X : Type 0} → Result X NodeFault → (X → Result (List ℕ) RequestRefusal) → Result (List ℕ) RequestRefusal
 answered (Ok x) next = next x
 answered (Err fault) next = Err (Node fault)
@@ -49,7 +49,7 @@ settings_of max_readahead flags = record {
   max_pages = 0;
 }
 
--- the reply to INIT: a kernel below version 7 is refused, and one above sends INIT again (fuse.h)
+-- the reply to INIT: a kernel below version 7 is refused, and one above version 7 sends INIT again (fuse.h)
 abbrev pub init_reply : ℕ → ℕ → ℕ → ℕ → Result (List ℕ) RequestRefusal
 init_reply unique major max_readahead flags =
     if nat_lt major 7 then Err Version else Ok (init_message unique (settings_of max_readahead flags))
@@ -59,12 +59,13 @@ abbrev pub is_change : ℕ → Bool
 is_change opcode =
     (opcode == 4) || (opcode == 6) || (nat_le 8 opcode && nat_le opcode 13) || (opcode == 16) || (opcode == 35) || (opcode == 43) || (opcode == 45) || (opcode == 47)
 
--- the reply to OPEN of a node of some kind: only a regular file, and only for reading; the kernel may keep the bytes that it has (FOPEN_KEEP_CACHE; O_ACCMODE)
+-- the reply to OPEN of a node of some kind: only a regular file can be opened, and only for reading; the kernel may keep the bytes that it has cached
+-- (FOPEN_KEEP_CACHE; O_ACCMODE)
 abbrev pub open_by : Kind → ℕ → ℕ → Result (List ℕ) RequestRefusal
 open_by kinds.Regular unique flags = if flags % 4 == 0 then Ok (open_message unique 0 2) else Err ReadOnly
 open_by _ unique flags = Err (Node nodes.NotRegular)
 
--- the reply to OPENDIR of a node of some kind: only a directory; the kernel may keep its entries (FOPEN_KEEP_CACHE, FOPEN_CACHE_DIR)
+-- the reply to OPENDIR of a node of some kind: only a directory can be opened; the kernel may keep its entries (FOPEN_KEEP_CACHE, FOPEN_CACHE_DIR)
 abbrev pub open_directory_by : Kind → ℕ → Result (List ℕ) RequestRefusal
 open_directory_by kinds.Directory unique = Ok (open_message unique 0 10)
 open_directory_by _ unique = Err (Node nodes.NotDirectory)
@@ -101,7 +102,7 @@ attributes_reply tree unique i = answered (attributes_in tree i) (λ attributes.
 abbrev pub read_reply : Tree → ℕ → ℕ → ℕ → ℕ → Result (List ℕ) RequestRefusal
 read_reply tree unique i offset size = answered (read_in tree i offset (min 131072 size)) (λ bytes. Ok (data_message unique bytes))
 
--- the reply to READDIR of directory d, from the slot `offset` on: at most 128 KiB (fuse_read_in)
+-- the reply to READDIR of directory d, starting at slot `offset`: at most 128 KiB (fuse_read_in)
 abbrev pub listing_reply : Geometry → List ℕ → ℕ → ℕ → ℕ → ℕ → Result (List ℕ) RequestRefusal
 listing_reply geometry image unique d offset size =
     answered (listing_in geometry image d offset (min 131072 size)) (λ entries. Ok (data_message unique entries))
@@ -141,13 +142,13 @@ message_of unique (Err refusal) = status_message unique (errno refusal)
 abbrev pub waited_for : Header → Result (List ℕ) RequestRefusal → Option (List ℕ)
 waited_for header reply = if wants_reply header.opcode then Some (message_of header.unique reply) else None
 
--- the reply to bytes that were read as a request, if one is sent: without a whole header there is nobody to reply to (this project)
+-- the reply to bytes that were read as a request, if one is sent: there is no reply to bytes without a whole header (this project)
 abbrev pub reply_by : Geometry → List ℕ → Result Request RequestFault → Option (List ℕ)
 reply_by geometry image (Ok request) = waited_for request.header (operation_reply geometry image request.header request.operation)
 reply_by geometry image (Err faults.NoHeader) = None
 reply_by geometry image (Err (faults.Length header)) = waited_for header (Err Malformed)
 reply_by geometry image (Err (faults.Body header)) = waited_for header (Err Malformed)
 
--- the reply to a request's bytes, if one is sent: the one that the image determines (this project)
+-- the reply to a request's bytes, if one is sent; the image determines it (this project)
 abbrev pub reply_to : Geometry → List ℕ → List ℕ → Option (List ℕ)
 reply_to geometry image bytes = reply_by geometry image (request_of bytes)

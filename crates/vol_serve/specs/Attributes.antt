@@ -1,4 +1,4 @@
--- The attributes of a node, as the kernel gets them.
+-- The attributes of a node, in the form that the kernel needs.
 use Rattle.std.specs.Prelude.{ℕ, ◌+◌, ◌*◌, ◌/◌, if◌then◌else◌, Option, None, Some, Result, unwrap_or}
 use Rattle.std.specs.Option.{option_map, option_map_or, ok_or}
 use Rattle.fuse_words.specs.declared.directory.EntryKind.{EntryKind}
@@ -13,7 +13,7 @@ use Rattle.vol_nodes.specs.declared.fault.NodeFault.{NodeFault}
 use Rattle.vol_nodes.specs.declared.fault.NodeFault.TheVariants as faults
 use Rattle.vol_nodes.specs.declared.nodes.SpecialFile.{SpecialFile}
 
--- the type bits of a special file: those of a block special file, or of a character special file (Linux, stat.h: S_IFBLK, S_IFCHR)
+-- the type bits of a special file: a block special file's or a character special file's (Linux, stat.h: S_IFBLK, S_IFCHR)
 abbrev pub special_type : Option SpecialFile → ℕ
 special_type None = 8192
 special_type (Some file) = if file.is_block then 24576 else 8192
@@ -29,7 +29,8 @@ abbrev pub device_of : Option SpecialFile → ℕ
 device_of None = 0
 device_of (Some file) = 256 * file.major + file.minor
 
--- the attributes of a node: its blocks have 512 bytes, and holes count; if its i-node has no time of change, that of its contents is given (fuse_attr)
+-- the attributes of a node: its size in 512-byte blocks includes holes; if its i-node has no time of change, this is the time of the last change of
+-- its contents (fuse_attr)
 abbrev pub attributes_of : Stat → Option SpecialFile → Attributes
 attributes_of stat special = record {
   ino = stat.number;
@@ -61,6 +62,6 @@ entry_of kinds.Regular special = entries.Regular
 entry_of kinds.Directory special = entries.Directory
 entry_of _ special = special_entry special
 
--- the kind of node i in a directory entry, unknown if there is no such node (dirent.h: DT_UNKNOWN)
+-- the kind of node i in a directory entry, unknown if there is no node with this number (dirent.h: DT_UNKNOWN)
 abbrev pub entry_kind_in : Tree → ℕ → EntryKind
 entry_kind_in tree i = option_map_or (λ (stat : Stat). entry_of stat.kind (special_in tree i)) (stat_in tree i) entries.Unknown

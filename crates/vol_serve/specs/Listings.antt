@@ -10,7 +10,8 @@ use Rattle.vol_nodes.specs.Nodes.{after_ok, names_in}
 use Rattle.vol_nodes.specs.declared.fault.NodeFault.{NodeFault}
 use Rattle.vol_serve.specs.Attributes.{entry_kind_in}
 
--- the entry of slot `slot`, unless its name is empty or has a slash, followed by more, in at most `room` bytes: the first entry without room ends the listing (fuse_dirent)
+-- the entry of slot `slot`, unless its name is empty or has a slash, followed by further entries, in at most `room` bytes: the first entry without
+-- room ends the listing (fuse_dirent)
 abbrev pub listed : (ℕ → EntryKind) → ℕ → ℕ → Option (List ℕ × ℕ) → (ℕ → List ℕ) → List ℕ
 listed kind slot room None more = more room
 listed kind slot room (Some entry) more =
@@ -19,13 +20,14 @@ listed kind slot room (Some entry) more =
     else [])
     else more room
 
--- the entries of `count` slots from `slot` on, in at most `room` bytes; the offset of each is the slot after it, where the kernel reads on (fuse_dirent; this project)
+-- the entries of `count` slots, starting at `slot`, in at most `room` bytes; the offset of each entry is the number of the next slot, where the
+-- kernel continues to read (fuse_dirent; this project)
 unfoldable pub entries_from : (ℕ → Option (List ℕ × ℕ)) → (ℕ → EntryKind) → ℕ → ℕ → ℕ → List ℕ
 entries_from entry kind slot room zero = []
 entries_from entry kind slot room (suc count) =
     listed kind slot room (entry slot) (λ left. entries_from entry kind (slot + 1) left count)
 
--- the entries of directory d from slot `from` on, in at most `room` bytes, or the fault if there are none (READDIR)
+-- the entries of directory d, starting at slot `from`, in at most `room` bytes, or the fault if there are none (READDIR)
 abbrev pub listing_in : Geometry → List ℕ → ℕ → ℕ → ℕ → Result (List ℕ) NodeFault
 listing_in geometry image d from room =
     after_ok (names_in (tree geometry image) d) (λ names.

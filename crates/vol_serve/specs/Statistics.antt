@@ -1,4 +1,4 @@
--- The sizes of a volume, as the kernel gets them.
+-- The sizes of a volume, in the form that the kernel needs.
 use Rattle.std.specs.Prelude.{ℕ, ◌-◌, List, length}
 use Rattle.fuse_words.specs.declared.reply.Statistics.{Statistics}
 use Rattle.vol_layout.specs.declared.geometry.Geometry.{Geometry}
@@ -6,7 +6,7 @@ use Rattle.vol_layout.specs.declared.mode.Kind.TheVariants as kinds
 use Rattle.vol_free.specs.FreeWalk.{free_walk}
 use Rattle.vol_reports.specs.Icheck.{kind_count}
 
--- the sizes: the data blocks, the free ones up to the free list's first fault, and the i-nodes (fuse_kstatfs)
+-- the sizes: the number of data blocks, of free blocks up to the free list's first fault, and of i-nodes (fuse_kstatfs)
 unfoldable pub statistics_of : Geometry → List ℕ → Statistics
 statistics_of geometry image = record {
   blocks = geometry.zone_end - geometry.zone_start;

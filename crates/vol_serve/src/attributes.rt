@@ -1,4 +1,4 @@
-//! The attributes of a node, as the kernel gets them.
+//! The attributes of a node, in the form that the kernel needs.
 ghost use Rattle.std.specs.Prelude.{◌≡◌};
 ghost use Rattle.vol_layout.specs.Geometry.{Fits};
 ghost use Rattle.vol_dir.specs.Tree.{tree};

@@ -7,15 +7,15 @@ use vol_nodes::NodeFault;
 /// The reason why a request was refused.
 #[derive(Clone, Copy)]
 pub enum RequestRefusal {
-    /// The node can't be used so, or doesn't exist.
+    /// The node isn't suited to the operation, or doesn't exist.
     Node(NodeFault),
-    /// It would change the volume, which is served read-only.
+    /// The operation would change the volume, which is served read-only.
     ReadOnly,
-    /// It has fewer or more bytes than it should have, or an incomplete name.
+    /// The request has fewer or more bytes than it should have, or an incomplete name.
     Malformed,
     /// The kernel's version of the protocol is too old.
     Version,
-    /// The operation isn't served. The kernel manages without it.
+    /// The operation isn't served. The kernel can do without it.
     Unserved,
 }
 

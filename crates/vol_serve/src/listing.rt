@@ -13,8 +13,8 @@ use vol_archive::is_plain;
 use vol_layout::{Geometry, Slot};
 use vol_nodes::{NodeFault, next_name};
 
-/// Puts the entries of directory `dir` from slot `from` on into `out`, as many as fit in `size` bytes. The offset of each is the
-/// slot after it.
+/// Puts the entries of directory `dir` into `out`, starting at slot `from`, as many as fit in `size` bytes. The offset of each entry is the number of
+/// the next slot.
 pub(crate) fn put_entries(
     image: &Image,
     geometry: &Geometry,
@@ -43,7 +43,7 @@ pub(crate) fn put_entries(
     Ok(())
 }
 
-/// Appends the entry in slot `slot`, if it is to be listed; returns false if there is no room for it.
+/// Appends the entry in slot `slot`, if it is to be listed. Returns false if there is no room for it.
 fn put_entry(
     image: &Image,
     geometry: &Geometry,

@@ -1,4 +1,4 @@
-//! The memory of a server. It is taken once, so that no request takes any.
+//! The memory of a server. All of it is allocated at the start; requests allocate nothing.
 ghost use Rattle.std.specs.Prelude.{◌≡◌, ◌≤◌, vec_capacity, IfOk};
 ghost use Rattle.vol_layout.specs.Geometry.{Fits};
 ghost use Rattle.vol_serve.specs.Statistics.{statistics_of};
@@ -9,8 +9,7 @@ use pdp_words::Image;
 use std::alloc::{AllocError, Global};
 use vol_layout::Geometry;
 
-/// The greatest number of bytes in a request: 4096 more than the 128 KiB of a write. The kernel fails reads with room for fewer
-/// than 8192 bytes.
+/// The greatest number of bytes in a request: 4096 more than the 128 KiB of a write. A kernel fails all reads of requests into fewer than 8192 bytes.
 pub const MOST_REQUEST: usize = 135_168;
 
 /// Room for a reply and its data.

@@ -11,8 +11,7 @@ pub trait Requests {
     // true if there are no more requests
     ghost has_ended: { Self → Bool };
 
-    /// Waits for a request, puts it at the beginning of `buffer`, and returns its length in bytes, or `None` if there are no
-    /// more.
+    /// Waits for a request, puts it at the beginning of `buffer`, and returns its length in bytes, or `None` if there are no more requests.
     fn take(&mut self, buffer: &mut [u8]) -> Option<usize>
         ensures bound { IfSome result (λ count. count ≤ length buffer.new) }
         ensures taken { MatchOption result (Grows (taken self.old) (taken self.new) [])

@@ -5,7 +5,7 @@ ghost use Rattle.vol_serve.specs.NodeNumbers.{node_number, i_number};
 use fuse_words::ROOT;
 use vol_layout::Edition;
 
-/// The node number that i-number 0 would have. The numbers from here on are never used for another node.
+/// The node number that i-number 0 would have. Numbers from this one up are never reused for another node.
 const FIRST: u64 = 0x1_0000;
 
 /// Returns the number of the node with i-number `i`.

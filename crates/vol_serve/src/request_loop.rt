@@ -15,7 +15,7 @@ use pdp_words::Image;
 use std::alloc::Global;
 use vol_layout::Geometry;
 
-/// The reason why serving ended with requests left.
+/// The reason why serving ended before the requests did.
 #[derive(Clone, Copy)]
 pub enum ServeFault {
     /// Out of memory, before the first request.
@@ -26,8 +26,8 @@ pub enum ServeFault {
     Requests,
 }
 
-/// Serves an image read-only until there are no more requests. Takes 390 KiB; while it counts the free blocks, also a byte for
-/// each block of the volume and four for each free one. After that no request takes any memory.
+/// Serves an image read-only until there are no more requests. Takes 390 KiB, and, while it counts the free blocks, a byte for each block of the
+/// volume and four bytes for each free one. After that, requests take no memory.
 pub fn serve<Q: Requests, P: Replies>(
     alloc: Global,
     image: &Image,
@@ -82,7 +82,7 @@ fn run<Q: Requests, P: Replies>(
     Err(ServeFault::Requests)
 }
 
-/// Sends the reply to a request, if it gets one; returns false if the reply couldn't be sent.
+/// Sends the reply to a request, if it has one. Returns false if the reply couldn't be sent.
 fn answer_one<P: Replies>(
     served: &Served<'_>,
     request: &[u8],

@@ -12,9 +12,9 @@ use vol_layout::Geometry;
 pub(crate) struct Served<'a> {
     /// The image.
     pub(crate) image: &'a Image,
-    /// Its geometry.
+    /// The image's geometry.
     pub(crate) geometry: &'a Geometry,
-    /// Its sizes.
+    /// The volume's sizes.
     pub(crate) sizes: &'a Statistics,
     pub(crate) ghost fits: { Fits geometry.now image.now },
     pub(crate) ghost counted: { sizes.now ≡ statistics_of geometry.now image.now },

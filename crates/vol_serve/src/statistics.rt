@@ -1,4 +1,4 @@
-//! The sizes of a volume, as the kernel gets them.
+//! The sizes of a volume, in the form that the kernel needs.
 ghost use Rattle.std.specs.Prelude.{◌≡◌, IfOk};
 ghost use Rattle.vol_layout.specs.Geometry.{Fits};
 ghost use Rattle.vol_serve.specs.Statistics.{statistics_of};
@@ -10,7 +10,7 @@ use vol_inspect::super_report::super_report;
 use vol_layout::Geometry;
 use vol_layout::slot::NAME;
 
-/// Counts the free blocks and i-nodes of a volume. Takes memory for the walk over the free list, and gives it back.
+/// Counts the free blocks and i-nodes of a volume. Takes memory for the walk over the free list, and frees it.
 #[tactic(auto, unfolding(crate::specs::Statistics::statistics_of))]
 pub fn statistics(
     alloc: Global,

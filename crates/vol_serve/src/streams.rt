@@ -1,4 +1,4 @@
-//! Requests from a reader and replies to a writer, such as /dev/fuse: one read gives one request, and one write takes one reply.
+//! Requests from a reader and replies to a writer, such as /dev/fuse: each read returns one request, and each write sends one reply.
 ghost use Rattle.std.specs.Prelude.{◌≡◌, ◌<◌, ◌≤◌, [], ◌∷◌, length, take, true, false, None, IfOk, IfSome, IfNone, MatchBool, MatchOption, MatchResult};
 ghost use Rattle.std.specs.Bool.{OnTrue, OnFalse};
 ghost use Rattle.std.specs.Io.KnownBytes.{Keeps, Consumes, Appends};
@@ -8,7 +8,7 @@ ghost use Rattle.vol_serve.specs.Streams.{reader_in, has_reader_ended, read_faul
 use crate::messages::{Replies, Requests};
 use std::io::{self, Error, ErrorKind, Read, Write};
 
-/// Requests from a reader.
+/// A source of requests that reads them from a reader.
 #[derive(Drop)]
 pub struct RequestReader<R> {
     reader: R,
@@ -16,7 +16,7 @@ pub struct RequestReader<R> {
     fault: Option<Error>,
 }
 
-/// Replies to a writer.
+/// A destination of replies that writes them to a writer.
 #[derive(Drop)]
 pub struct ReplyWriter<W> {
     writer: W,
@@ -27,7 +27,7 @@ pub struct ReplyWriter<W> {
 }
 
 impl<R: Read + Drop> RequestReader<R> {
-    /// Returns requests from `reader`, one for each read.
+    /// Returns a source of requests from `reader`, one with each read.
     pub fn new(reader: R) -> RequestReader<R>
         ensures reader { reader_in result ≡ reader }
         ensures fresh { has_reader_ended result ≡ false }
@@ -40,8 +40,8 @@ impl<R: Read + Drop> RequestReader<R> {
         }
     }
 
-    /// Returns the error that ended the requests, or `None` at the end of the reader's bytes. /dev/fuse gives the system's error
-    /// 19 (ENODEV) once the volume is unmounted.
+    /// Returns the error that ended the requests, or `None` at the end of the reader's bytes. Once the volume is unmounted, /dev/fuse returns the
+    /// system's error 19 (ENODEV).
     pub fn into_fault(self) -> Option<Error>
         ensures { result ≡ read_fault self }
     {
@@ -50,7 +50,7 @@ impl<R: Read + Drop> RequestReader<R> {
 }
 
 impl<W: Write + Drop> ReplyWriter<W> {
-    /// Sends replies to `writer`, one with each write.
+    /// Returns a destination that sends replies to `writer`, one with each write.
     pub fn new(writer: W) -> ReplyWriter<W>
         ensures writer { writer_in result ≡ writer }
         ensures fresh { has_writer_failed result ≡ false }
@@ -73,7 +73,7 @@ impl<W: Write + Drop> ReplyWriter<W> {
 }
 
 impl<R: Read> Requests for RequestReader<R> {
-    // the bytes of one read aren't known
+    // the bytes that one read returns aren't known
     ghost taken = { λ reader. None };
 
     ghost has_ended = { has_reader_ended };
@@ -102,7 +102,7 @@ impl<R: Read> Requests for RequestReader<R> {
 }
 
 impl<W: Write> Replies for ReplyWriter<W> {
-    // the bytes of one write aren't known
+    // the bytes that one write accepts aren't known
     ghost sent = { λ writer. None };
 
     ghost has_failed = { has_writer_failed };
@@ -129,8 +129,8 @@ impl<W: Write> Replies for ReplyWriter<W> {
     }
 }
 
-/// Reads one request, and returns its length in bytes, 0 at the end. A read is tried again if a signal interrupted it, or if its
-/// request was withdrawn meanwhile, which the system reports as NotFound.
+/// Reads one request, and returns its length in bytes, or 0 at the end. A read is repeated if a signal interrupted it, or if its request was
+/// withdrawn meanwhile, which the system reports as NotFound.
 fn read_request<R: Read>(reader: &mut R, buffer: &mut [u8]) -> io::Result<usize>
     ensures bound { IfOk result (λ count. count ≤ length buffer.new) }
     ensures bytes { MatchResult result (λ count. Consumes (R.remaining reader.old) (R.remaining reader.new) (take count buffer.new))
@@ -146,9 +146,9 @@ fn read_request<R: Read>(reader: &mut R, buffer: &mut [u8]) -> io::Result<usize>
     Err(Error::from(ErrorKind::TimedOut))
 }
 
-/// Writes one reply with one write. A write that a signal interrupted is tried again. If the request was withdrawn meanwhile,
-/// which the system reports as NotFound, the write counts as done, as nobody waits for it, and the result is true. A write that
-/// takes only a part is an error.
+/// Writes one reply with one write. A write that a signal interrupted is repeated. If the request was withdrawn meanwhile, which the system reports
+/// as NotFound, nobody waits for the reply: the write counts as done, and the result is true. It is an error if a write accepts only a part of the
+/// reply.
 fn write_reply<W: Write>(writer: &mut W, reply: &[u8]) -> io::Result<bool>
     ensures { IfOk result (λ withdrawn. MatchBool withdrawn (Keeps (W.contents writer.old) (W.contents writer.new))
         (Appends (W.contents writer.old) (W.contents writer.new) reply.now)) }
@@ -165,7 +165,7 @@ fn write_reply<W: Write>(writer: &mut W, reply: &[u8]) -> io::Result<bool>
     Err(Error::from(ErrorKind::TimedOut))
 }
 
-/// True if a read that failed with this error isn't tried again.
+/// True if a read that failed with this error isn't repeated.
 fn is_final(fault: &Error) -> bool {
     !matches!(fault.kind(), ErrorKind::Interrupted | ErrorKind::NotFound)
 }

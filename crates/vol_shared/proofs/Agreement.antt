@@ -1,4 +1,4 @@
--- A receipt that agrees with a journal agrees with it and the records cut before.
+-- A receipt that agrees with a journal also agrees with the cut records followed by the journal.
 use Rattle.std.proofs.Common.{◌≡◌, ℕ, ◌+◌, ◌-◌, List, [], ◌++◌, length, take, ap, sym, subst, ◌∙◌, arith, length-append}
 use Rattle.std.proofs.Math.Seq.{take-append-add}
 use Rattle.count_table.specs.Sums.{total, below}
@@ -16,7 +16,7 @@ use Rattle.vol_receipts.specs.declared.receipts.Receipt.{Receipt}
 use Rattle.vol_shared.specs.Stored.{Stored, Follows}
 
 module _ (opened : Stored) (gone : List Record) (found : Stored) (follows : Follows opened gone found) (journal : List Record) where
-  -- the state after some records of the journal is that after the records cut before and these, from the start
+  -- the state after `m` records of the journal is the state after the cut records and these `m` records, from the opened volume's start
   states : (k m : ℕ) → k ≡ length gone + m → state_after found.origin journal m ≡ state_after opened.origin (gone ++ journal) k
   states k m split =
       sym (ap (λ n. after (start opened.origin) (take n (gone ++ journal))) split
@@ -39,7 +39,7 @@ module _ (opened : Stored) (gone : List Record) (found : Stored) (follows : Foll
         after_back (receipt.at - opened.origin.first) (receipt.at - found.origin.first) receipt.asked receipt.outcome (omega arith) agrees.1,
       )
 
--- the numbers below that of a receipt and its own, if its call was accepted, are those below the next
+-- the numbers below a receipt's number, together with its own if its call was accepted, are the numbers below the next record's number
 pub place_goes_on : (weight : ℕ → ℕ) (at : ℕ) (state : ℕ) (asked : Asked) (outcome : Outcome) (journal : List Record) → (o : _) × AgreesAfter o journal state asked outcome
     → total weight (place_of at outcome) + below weight at ≡ below weight (at + length (record_of asked outcome))
 place_goes_on weight at state (Change call) (Accepted done) journal agrees =

@@ -12,7 +12,7 @@ use Rattle.vol_shared.specs.Plays.{Event, nothing, receipt, took, gave, FindsVol
 use Rattle.vol_shared.specs.Sessions.{known_by, knowledge_of, IsIdle, Got, HasCut}
 use Rattle.vol_shared.specs.declared.lock_rule.Knowledge.{Knowledge}
 
--- the next record of the volume that is found has a number that isn't below the least that a session's receipt may have
+-- the number of the next record in the volume that a seat finds isn't below the least number that the session's next receipt may have
 pub reaches : (v : Knowledge) (gone : List Record) (found : Stored) → FindsVolume v gone found
     → v.opened.origin.first + length v.history ≤ next_number found
 reaches v gone found finds =
@@ -59,13 +59,13 @@ has_cut views next count mine is me end found given first took-it cut-it reporte
       receipts = ap (λ (w : Knowledge). w.receipts) here;
     }
 
--- a seat's opened volume stays
+-- giving the volume back doesn't change the seat's opened volume
 pub keeps_opened : (v : Knowledge) (given : Stored) (event : Event) → (gave v given event).opened ≡ v.opened
 keeps_opened v given nothing = refl
 keeps_opened v given (receipt r) = refl
 keeps_opened v given cut = refl
 
--- so does the log that has the volume's records
+-- a call doesn't change the log with the volume's records
 pub same_book : (views later : List Knowledge) (me end : Me (Option Stored) Knowledge) (found given : Stored) (event : Event)
     → Took (knowledge_of views, []) me found None → end ≡ (gave me.0 given event, []) → later ≡ end.0 ∷ []
     → (knowledge_of later).opened.book ≡ (knowledge_of views).opened.book
@@ -76,7 +76,7 @@ same_book views later me end found given event took-it gave-it is =
     let four = ap (λ (m : Me (Option Stored) Knowledge). m.0.opened.book) took-it.2 in
     one ∙ (two ∙ (three ∙ four))
 
--- the log of the volume that is given back is that of the opened one
+-- if the volume is given back with its log, this is still the log of the opened volume
 pub reported_book : (views later : List Knowledge) (me end : Me (Option Stored) Knowledge) (found given : Stored) (event : Event) (reported : Option Reached)
     → Took (knowledge_of views, []) me found None → given.book ≡ found.book → end ≡ (gave me.0 given event, []) → later ≡ end.0 ∷ []
     → book_in reported ≡ given.book → book_in reported ≡ (knowledge_of later).opened.book

@@ -1,4 +1,4 @@
--- Facts about a shared volume that was closed, from what its sessions did.
+-- Facts about a shared volume that was closed, derived from the knowledge of its sessions.
 use Rattle.std.proofs.Common.{◌≡◌, ℕ, ◌+◌, ◌≤◌, List, [], ◌++◌, length, max, ap, ◌∙◌, subst, arith, All}
 use Rattle.count_table.specs.Sums.{total, below}
 use Rattle.count_table.proofs.Totals.{total_ones, below_ones}
@@ -14,7 +14,7 @@ use Rattle.vol_shared.specs.Stored.{Stored, stored_of, next_number, Continues}
 use Rattle.vol_shared.specs.declared.lock_rule.Knowledge.{Knowledge}
 use Rattle.vol_shared.proofs.Lists.{total_flat, greatest_flat, length_flat, flat_none, all_flat, no_length}
 
--- a volume that has these contents of the lock
+-- the volume with these contents of the lock
 volume_of : Stored → Mounted
 volume_of stored = record {
   edition = stored.origin.edition;
@@ -24,12 +24,12 @@ volume_of stored = record {
   first = stored.origin.first;
 }
 
--- the contents of the lock are all of a volume
+-- two volumes with the same contents of the lock are equal
 pub same_volume : (one other : Mounted) → stored_of one ≡ stored_of other → one ≡ other
 unfolding volume_of
 same_volume one other e = ap volume_of e
 
--- there are as many places as records made since
+-- there are as many places as records made since the volume was opened
 pub counts : (opened : Stored) (v : Knowledge) (last : Stored) → IsSettled opened v last → length v.places + next_number opened ≡ next_number last
 counts opened v last is =
     let p = is.places (λ n. 1) in

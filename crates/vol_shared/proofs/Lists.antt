@@ -1,4 +1,4 @@
--- Laws of prefixes, greatest values and joined lists.
+-- Laws of prefixes, greatest elements and joined lists.
 use Rattle.std.proofs.Common.{◌≡◌, ◌⊎◌, ℕ, zero, suc, ◌≤◌, List, [], ◌∷◌, ◌++◌, length, set, max, sym, refl, ap, ◌∙◌, subst, append_assoc, append-nil, length-append, inl, inr, arith, All}
 use Rattle.std.specs.List.{flat_map}
 use Rattle.std.proofs.lemmas.List.Elements.{All-cons, All-head, All-nil, All-tail}
@@ -18,7 +18,7 @@ module _ {A : Type 0} where
   pub begins_on : (xs ys zs : List A) → BeginsWith zs ys → BeginsWith ys xs → BeginsWith zs xs
   begins_on xs ys zs b a = (a.0 ++ b.0, b.1 ∙ (ap (λ (l : List A). l ++ b.0) a.1 ∙ append_assoc xs a.0 b.0))
 
-  -- of two prefixes of one list the longer begins with the other
+  -- of two prefixes of one list, the longer begins with the shorter
   begins_between : (xs ys zs : List A) → BeginsWith zs xs → BeginsWith zs ys → length xs ≤ length ys → BeginsWith ys xs
   begins_between [] ys zs a b le = (ys, refl)
   begins_between (x ∷ xs) [] zs a b le = absurd (omega arith)
@@ -68,25 +68,26 @@ module _ {A : Type 0} (weight : A → ℕ) where
   greatest_append [] ys = omega arith
   greatest_append (x ∷ xs) ys = let h = greatest_append xs ys in omega arith
 
-  -- a last member
+  -- appending `x` makes the greatest weight the maximum of itself and the weight of `x`
   pub greatest_push : (xs : List A) (x : A) → greatest weight (xs ++ x ∷ []) ≡ max (greatest weight xs) (weight x)
   greatest_push xs x = let h = greatest_append xs (x ∷ []) in let c = greatest_cons x [] in let n = greatest_nil in omega arith
 
-  -- a member changes
+  -- replacing element `x` by `y`: the new greatest weight and the weight of `x` have the same maximum as the old greatest weight and the weight of
+  -- `y`
   pub greatest_set : (xs : List A) (i : ℕ) (x y : A) → get_elem? xs i ≡ some x → max (greatest weight (set xs i y)) (weight x) ≡ max (greatest weight xs) (weight y)
   unfolding greatest
   greatest_set [] i x y e = absurd (some-ne-none x (sym e))
   greatest_set (z ∷ xs) zero x y e = let s = ap weight (some-injective z x e) in omega arith
   greatest_set (z ∷ xs) (suc i) x y e = let h = greatest_set xs i x y e in omega arith
 
-  -- a member weighs at most the greatest
+  -- no element weighs more than the greatest weight
   pub greatest_part : (xs : List A) (i : ℕ) (x : A) → get_elem? xs i ≡ some x → weight x ≤ greatest weight xs
   unfolding greatest
   greatest_part [] i x e = absurd (some-ne-none x (sym e))
   greatest_part (z ∷ xs) zero x e = let s = ap weight (some-injective z x e) in omega arith
   greatest_part (z ∷ xs) (suc i) x e = let h = greatest_part xs i x e in omega arith
 
-  -- a bound of all members bounds the greatest
+  -- a bound of all weights is a bound of the greatest weight
   pub greatest_all : (bound : ℕ) (xs : List A) → ((i : ℕ) (x : A) → get_elem? xs i ≡ some x → weight x ≤ bound) → greatest weight xs ≤ bound
   unfolding greatest
   greatest_all bound [] each = omega arith
@@ -106,17 +107,17 @@ module _ {A B : Type 0} (f : A → List B) where
       let h = greatest_flat weight xs in omega arith
 
 module _ {A : Type 0} (P : A → Type 0) where
-  -- a fact of all members is one of the last
+  -- if all elements have a property, the last one has it
   pub all_last : (xs : List A) (x : A) → All P (xs ++ x ∷ []) → P x
   all_last [] x h = h 0 x (omega arith)
   all_last (y ∷ xs) x h = all_last xs x (All-tail P y (xs ++ x ∷ []) h)
 
-  -- and of those before it
+  -- if all elements of `xs ++ ys` have a property, all elements of `xs` have it
   pub all_prefix : (xs ys : List A) → All P (xs ++ ys) → All P xs
   all_prefix [] ys h = All-nil P
   all_prefix (x ∷ xs) ys h = All-cons P x xs (All-head P x (xs ++ ys) h) (all_prefix xs ys (All-tail P x (xs ++ ys) h))
 
-  -- and of those after it
+  -- if all elements of `xs ++ ys` have a property, all elements of `ys` have it
   pub all_back : (xs ys : List A) → All P (xs ++ ys) → All P ys
   all_back [] ys h = h
   all_back (x ∷ xs) ys h = all_back xs ys (All-tail P x (xs ++ ys) h)

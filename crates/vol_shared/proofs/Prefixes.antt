@@ -1,4 +1,4 @@
--- Facts about published volumes and what views know of them.
+-- Facts about published volumes and the log prefixes that views know.
 use Rattle.std.proofs.Common.{◌≡◌, ◌≢◌, ℕ, ◌+◌, ◌≤◌, List, [], ◌∷◌, ◌++◌, length, All, Option, None, Some, IfSome, refl, ap, sym, ◌∙◌, subst, arith, append_assoc, append-nil, length-append}
 use Rattle.std.proofs.lemmas.List.Elements.{All-append, All-cons, All-nil}
 use mathlib.Core.List.{IsPrefix}
@@ -35,7 +35,7 @@ use Rattle.vol_shared.specs.Published.{IsPublished}
 use Rattle.vol_shared.specs.Watch.{IsNewView, IsBehind, Covers}
 use Rattle.vol_shared.specs.declared.lock_rule.Knowledge.{Knowledge}
 
--- a volume that is published as it is
+-- all records of a volume are published in its first log
 pub published_first : (volume : Mounted) (log : List LogEntry) → log ≡ first_log volume → IsPublished log (stored_of volume)
 published_first volume log is = subst (λ (l : List LogEntry). IsPublished l (stored_of volume)) (sym is) (record {
   gone = [];
@@ -45,12 +45,12 @@ published_first volume log is = subst (λ (l : List LogEntry). IsPublished l (st
   starts = refl;
 })
 
--- the log's next record has the number of the volume's next
+-- the next record of the log has the same number as the next record of the volume
 pub published_number : (log : List LogEntry) (stored : Stored) → IsPublished log stored → number_of log ≡ next_number stored
 published_number log stored is =
     let longer = ap length is.records ∙ length-append is.gone stored.journal in omega (arith, longer, is.first)
 
--- and the state after its records is the one that the volume reads as
+-- if the log's state is the state after its records, the volume reads as this state
 pub published_state : (volume : Mounted) (log : List LogEntry) → IsConsistent volume → IsPublished log (stored_of volume)
     → state_of log ≡ after (start (origin_in log)) (history_of log) → state_of log ≡ reads_as volume.edition volume.image
 published_state volume log keeps is reads =
@@ -59,7 +59,7 @@ published_state volume log keeps is reads =
     ∙ (after-append (start (origin_in log)) is.gone volume.journal
     ∙ (ap (λ (s : State). after s volume.journal) (sym is.starts) ∙ sym keeps.reads)))
 
--- with one more record in both
+-- a volume is still published after one more record is added to its journal and to the log
 pub published_more : (old new : Stored) (log : List LogEntry) (entry : Record) → IsPublished log old → new.origin ≡ old.origin
     → new.journal ≡ old.journal ++ entry ∷ [] → IsPublished (log ++ Made entry ∷ []) new
 published_more old new log entry is origin journal = record {
@@ -76,7 +76,7 @@ published_more old new log entry is origin journal = record {
     longer [] e = absurd cc
     longer (x ∷ xs) e = absurd cc
 
--- a cut removes nothing from the log
+-- a volume is still published after its journal is cut
 pub published_cut : (old new : Stored) (log : List LogEntry) → IsPublished log old → IsCut old new → IsPublished log new
 published_cut old new log is cut = record {
   gone = is.gone ++ old.journal;
@@ -93,7 +93,7 @@ published_after_cut volume log keeps is =
     published_cut (stored_of volume) (stored_of (after_cut volume)) log is
     (record { edition = refl; bytes = refl; first = refl; starts = keeps.reads; journal = refl; image = refl; book = refl })
 
--- the receipt of an accepted call
+-- a receipt of an accepted call satisfies `IsAnswered`
 pub answered_call : (old new : Mounted) (book : Option Book) (call asked : Call) (done : Done) (at : ℕ) (receipt : Receipt) → Accepts old new call done
     → asked ≡ call → at ≡ old.first + length old.journal → receipt ≡ (record { at = at; asked = Change asked; outcome = Accepted done })
     → Agrees (origin_of new) new.journal receipt → IsAnswered (stored_with book old) (stored_with book new) receipt
@@ -111,7 +111,7 @@ answered_call old new book call asked done at receipt accepts same number is agr
       book = refl;
     }
 
--- the receipt of a refused call
+-- a receipt of a refusal or a query satisfies `IsAnswered`
 pub answered_refusal : (volume : Mounted) (book : Option Book) (receipt : Receipt) → record_of receipt.asked receipt.outcome ≡ []
     → receipt.at ≡ volume.first + length volume.journal → Agrees (origin_of volume) volume.journal receipt
     → IsAnswered (stored_with book volume) (stored_with book volume) receipt
@@ -134,7 +134,7 @@ next_where end at origin journal count (Question query) (Accepted done) agrees i
 next_where end at origin journal count (Question query) (Refused refusal) agrees is = omega (arith, is)
 next_where end at origin journal count (Question query) (Answered reply) agrees is = omega (arith, is)
 
--- the next record's number after a call or query was answered
+-- after a call or query was answered, the next record's number is the least number that the next receipt may have
 pub next_is : (found given : Stored) (receipt : Receipt) → IsAnswered found given receipt → next_number given ≡ next_of receipt.at receipt.outcome
 next_is found given receipt is =
     let first = ap (λ (o : Origin). o.first) is.origin in
@@ -142,7 +142,7 @@ next_is found given receipt is =
     let at = is.at in
     next_where (next_number given) receipt.at given.origin given.journal _ receipt.asked receipt.outcome is.agrees.1 (omega (arith, first, longer, at))
 
--- a volume covers the knowledge of a view that its log extends
+-- if the log extends the prefix that a view knows, the volume covers the view's knowledge
 pub covers_view : (last : Stored) (log : List LogEntry) (view : Watched) → IsPublished log last → IsBehind log view → Covers last view
 covers_view last log view is behind = record {
   gone = is.gone;
@@ -155,7 +155,7 @@ covers_view last log view is behind = record {
       (agree_on view.log log behind.goes_on (lib.ListN.get_or view.receipts k d) (behind.agree k d lt)));
 }
 
--- and a receipt of the view agrees with its journal, unless it is older than the last cut
+-- if the log extends the prefix that a view knows, a receipt of the view agrees with the journal, unless it is older than the last cut
 pub covers_receipt : (last : Stored) (log : List LogEntry) (view : Watched) → IsPublished log last → IsBehind log view → (receipt : Receipt)
     → AgreesIn view.log receipt → last.origin.first ≤ receipt.at → Agrees last.origin last.journal receipt
 covers_receipt last log view is behind receipt agrees le =
@@ -163,7 +163,7 @@ covers_receipt last log view is behind receipt agrees le =
     agrees_after_cut (origin_in log) last.origin is.gone last.journal receipt is.first is.starts le
     (subst (λ (l : List Record). Agrees (origin_in log) l receipt) is.records on)
 
--- the same for all views
+-- if the log extends the prefixes that all views know, the volume covers the knowledge of each
 pub all_covered : (last : Stored) (log : List LogEntry) (views : List Watched) → IsPublished log last → All (IsBehind log) views → All (Covers last) views
 all_covered last log views is all k d lt = covers_view last log _ is (all k d lt)
 
@@ -174,30 +174,30 @@ all_agree last log views is all k d lt = one (lib.ListN.get_or views k d) (all k
     one : (view : Watched) → IsBehind log view → All (λ r. last.origin.first ≤ r.at → Agrees last.origin last.journal r) view.receipts
     one view behind i e low le = covers_receipt last log view is behind (lib.ListN.get_or view.receipts i e) (behind.agree i e low) le
 
--- views of one log
+-- if all views are of the published log, each is of the log `book`
 pub own_views : (book : Book) (of : Option Book) (views : List Watched) → Some book ≡ of → All (λ v. of ≡ Some v.book) views → All (λ v. v.book ≡ book) views
 own_views book of views is all k d lt = same (is ∙ all k d lt)
   where
     same : {one other : Book} → Some one ≡ Some other → other ≡ one
     same e = cc
 
--- if nothing is published there is no view
+-- if nothing is published, there are no views
 pub no_views : (of : Option Book) (views : List Watched) (P : Watched → Type 0) → None ≡ of → All (λ v. of ≡ Some v.book) views → All P views
 no_views of views P is all k d lt = absurd (differ (is ∙ all k d lt))
   where
     differ : {one : Book} → None ≡ Some one → ⊥
     differ e = cc
 
--- all of a list, and one more
+-- if all elements of a list and one more element have a property, so do the elements of the longer list
 pub all_pushed : {A : Type 0} (P : A → Type 0) (xs : List A) (x : A) → All P xs → P x → All P (xs ++ x ∷ [])
 all_pushed P xs x all one = All-append P xs (x ∷ []) all (All-cons P x [] one (All-nil P))
 
--- a fact that follows for a value, if there is one
+-- if `P` implies `Q` and `P` holds for the value of an option, if any, so does `Q`
 pub some_map : {A : Type 0} (P Q : A → Type 0) (o : Option A) → ((x : A) → P x → Q x) → IfSome o P → IfSome o Q
 some_map P Q None f h = tt
 some_map P Q (Some x) f h = f x h
 
--- facts about the contents of the lock hold without the log
+-- the facts about a closed volume don't depend on its log
 pub settled_alone : (opened : Stored) (v : Knowledge) (last : Stored) → IsSettled opened v last → IsSettled opened v (unpublished last)
 settled_alone opened v last is = record {
   goes_on = (
@@ -216,7 +216,7 @@ settled_alone opened v last is = record {
   uncut = is.uncut;
 }
 
--- a view made of a published volume that was just opened
+-- a new view of the first log is a new view of the opened volume
 pub new_view : (volume : Mounted) (opened : Stored) (book : Book) (view : Watched) → unpublished opened ≡ stored_of volume → opened.book ≡ Some book
     → IsNew (record { book = book; log = first_log volume }) view → IsNewView opened view
 new_view volume opened book view same own is = record {
@@ -226,7 +226,7 @@ new_view volume opened book view same own is = record {
   receipts = is.receipts;
 }
 
--- the same for all of them
+-- all new views of the first log are new views of the opened volume
 pub all_new : (volume : Mounted) (opened : Stored) (whole : Reached) (views : List Watched) → unpublished opened ≡ stored_of volume → opened.book ≡ Some whole.book
     → whole.log ≡ first_log volume → All (IsNew whole) views → All (IsNewView opened) views
 all_new volume opened whole views same own log all k d lt =
@@ -235,7 +235,7 @@ all_new volume opened whole views same own log all k d lt =
     begun : {view : Watched} → IsNew whole view → IsNew (record { book = whole.book; log = first_log volume }) view
     begun is = record { book = is.book; log = is.log ∙ log; receipts = is.receipts }
 
--- new views are of the log that the volume is published in
+-- new views of an opened volume are of the log that it is published in
 pub own_of_new : (opened : Stored) (views : List Watched) → All (IsNewView opened) views → All (λ v. opened.book ≡ Some v.book) views
 own_of_new opened views all k d lt = own (all k d lt)
   where

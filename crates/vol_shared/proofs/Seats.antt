@@ -1,4 +1,4 @@
--- The table opens, seats are split and joined, and the facts once one seat represents all sessions.
+-- Opening the table, splitting and joining seats, and the facts once one seat represents all sessions.
 use Rattle.std.proofs.Common.{◌≡◌, ◌≢◌, ◌⊎◌, inl, inr, ℕ, zero, suc, ◌+◌, ◌-◌, ◌<◌, ◌≤◌, List, [], ◌∷◌, ◌++◌, length, set, false, Option, Some, All, sym, refl, ap, ◌∙◌, subst, append_assoc, append-nil, length-append, arith, ⊎_elim}
 use Rattle.std.proofs.lemmas.Bool.{cases_eq}
 use Rattle.std.proofs.lemmas.List.Elements.{All-append, All-nil}
@@ -25,7 +25,7 @@ use Rattle.vol_shared.specs.declared.lock_rule.TableStart.{TableStart}
 use Rattle.vol_shared.proofs.Lists.{begins_itself, longer_first, longer_second, longer_prefix, set_there, greatest_nil, greatest_cons, greatest_push, greatest_append, greatest_set, greatest_part, greatest_all}
 use Rattle.vol_shared.proofs.Steps.{cut_of, idle, shifts}
 
--- a seat that did nothing fits
+-- the knowledge of a seat that has done nothing satisfies `SeatFits`
 fresh_fits : (opened : Stored) (parts : ℕ) (last : Stored) (history : List Record) → BeginsWith history opened.journal → SeatFits opened last history (fresh parts opened)
 fresh_fits opened parts last history begins = record {
   same = λ e. refl;
@@ -35,7 +35,7 @@ fresh_fits opened parts last history begins = record {
   spent = λ e. (refl, refl, refl);
 }
 
--- a seat that represents no session fits
+-- the knowledge of a seat that represents no session satisfies `SeatFits`
 blank_fits : (opened last : Stored) (history : List Record) → SeatFits opened last history nobody
 blank_fits opened last history = record {
   same = λ e. absurd (omega arith);
@@ -45,7 +45,7 @@ blank_fits opened last history = record {
   spent = λ e. (refl, refl, refl);
 }
 
--- a volume continues itself
+-- a volume continues itself, with no record cut
 follows_itself : (opened : Stored) → Follows opened [] opened
 follows_itself opened = record {
   edition = refl;
@@ -55,7 +55,7 @@ follows_itself opened = record {
   around = around_same opened.origin.edition opened.image opened.image refl;
 }
 
--- at the start
+-- the table satisfies its rule when it is opened
 pub opens : (key : TableStart) (slots : List (Option Stored)) → slots ≡ Some key.stock ∷ [] → Locked key (opening (0 ∷ []) slots (first_knowledge key))
 opens key slots full = subst (λ (l : List (Option Stored)). Locked key (opening (0 ∷ []) l (first_knowledge key))) (sym full) record {
   last = key.stock;
@@ -79,7 +79,7 @@ opens key slots full = subst (λ (l : List (Option Stored)). Locked key (opening
         (fresh_fits key.stock key.sessions key.stock key.stock.journal (begins_itself key.stock.journal))
     only (suc id) v e = absurd (some-ne-none v (sym e))
 
--- one session is split off a seat that did nothing yet
+-- splitting a session off a seat that has done nothing preserves the rule
 pub splits : (key : TableStart) (id : ℕ) (v : Knowledge) (parts : ℕ) → 1 ≤ parts → v ≡ fresh parts key.stock → Splits (Locked key) id v (kept_part v) (given_part v)
 splits key id v parts some-parts is s kept at =
     subst (λ (x : Knowledge). Locked key record { words = s.words; homes = s.homes; views = set s.views id (kept_part x) ++ given_part x ∷ [] }) (sym is) record {
@@ -130,7 +130,7 @@ agree_prefix : (opened : Stored) (known history : List Record) (receipts : List 
 agree_prefix opened known history receipts prefix agree = subst (λ (l : List Record). All (Agrees opened.origin l) receipts) (sym prefix.1)
     (λ k d lt. agrees_grows opened.origin known prefix.0 _ (agree k d lt))
 
--- two seats are joined
+-- joining two seats that don't hold the volume preserves the rule
 pub joins : (key : TableStart) (id : ℕ) (v : Knowledge) (other : ℕ) (w : Knowledge) → 0 < v.parts → v.holds ≡ false → w.holds ≡ false
     → Joins (Locked key) id v other w (as_one v w) nobody
 joins key id v other w some-parts first-free second-free s kept at apart there = record {
@@ -195,7 +195,7 @@ joins key id v other w some-parts first-free second-free s kept at apart there =
 
 module _ (key : TableStart) (s : State (Option Stored) Knowledge) (kept : Locked key s) (id : ℕ) (v : Knowledge) (at : get_elem? s.views id ≡ some v)
     (all : v.parts ≡ key.sessions) where
-  -- the other seats represent no session
+  -- if one seat represents all sessions, the other seats represent none
   others_spent : (j : ℕ) (x : Knowledge) → j ≢ id → get_elem? s.views j ≡ some x → x.parts ≡ 0
   others_spent j x ne there =
       let h = shifts key s kept id v at (λ x. x.parts) nobody in
@@ -203,7 +203,7 @@ module _ (key : TableStart) (s : State (Option Stored) Knowledge) (kept : Locked
       let p = total_part (λ (x : Knowledge). x.parts) (set s.views id nobody) j x (set_else s.views id j nobody ne ∙ there) in
       omega arith
 
-  -- so they add nothing to a sum
+  -- seats that represent no session add nothing to a sum over all seats
   alone : (g : Knowledge → ℕ) → g nobody ≡ 0 → ((x : Knowledge) → (x.holds ≡ false) × (x.places ≡ []) × (x.cuts ≡ []) → g x ≡ 0) → total g s.views ≡ g v
   alone g none spent =
       let h = shifts key s kept id v at g nobody in
@@ -227,7 +227,7 @@ module _ (key : TableStart) (s : State (Option Stored) Knowledge) (kept : Locked
   agree_end : All (Agrees key.stock.origin (kept.gone ++ kept.last.journal)) v.receipts
   agree_end = agree_prefix key.stock v.history (kept.gone ++ kept.last.journal) v.receipts (kept.each id v at).prefix (kept.each id v at).agree
 
-  -- the facts at the end
+  -- if the seat that represents all sessions doesn't hold the volume, the last volume is in the slot, and satisfies `IsSettled`
   pub ends : v.holds ≡ false → (get_elem? s.homes 0 ≡ some (some (Some kept.last))) × IsSettled key.stock v kept.last
   ends free = (
     kept.home (kept.lock ∙ (alone hold_of refl (λ x spent. idle x spent.0) ∙ idle v free)),
@@ -240,7 +240,7 @@ module _ (key : TableStart) (s : State (Option Stored) Knowledge) (kept : Locked
     },
   )
 
--- the contents of the table at the end
+-- the slot of a table that ended contains the last volume, which satisfies `IsSettled`
 pub taken_at_end : (key : TableStart) (id : ℕ) (v : Knowledge) (words : List ℕ) (slots : List (Option Stored)) (found : Option Stored)
     → v.parts ≡ key.sessions → v.holds ≡ false → Final (Seen (Locked key) id v) words slots → get_elem? slots 0 ≡ some found
     → (last : Stored) × (found ≡ Some last) × IsSettled key.stock v last × (last.book ≡ key.stock.book)
@@ -249,7 +249,7 @@ taken_at_end key id v words slots found all free final there =
     let e = ends key final.0 kept id v final.1.1 all free in
     (kept.last, some-injective found (Some kept.last) (sym there ∙ final.4 0 (Some kept.last) e.0), e.1, kept.book)
 
--- the members of a list's last list follow the others
+-- the elements made from the last element of a list come after those made from the others
 pub last_joins : {A B : Type 0} (f : A → List B) (xs : List A) (x : A) (ys all : List B) → flat_map f (xs ++ x ∷ []) ++ ys ≡ all → flat_map f xs ++ (f x ++ ys) ≡ all
 last_joins f xs x ys all e =
     let a : flat_map f (xs ++ x ∷ []) ≡ flat_map f xs ++ f x = flat_map-append f xs (x ∷ []) ∙ ap (λ (l : List _). flat_map f xs ++ l) (append-nil (f x)) in

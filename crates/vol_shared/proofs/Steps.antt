@@ -1,4 +1,4 @@
--- Each step keeps the rule of the table.
+-- Each step preserves the rule of the table.
 use Rattle.std.proofs.Common.{◌≡◌, ◌≢◌, ℕ, ◌+◌, ◌-◌, ◌<◌, ◌≤◌, List, [], ◌∷◌, ◌++◌, length, set, slice_index, max, ◌==◌, Bool, true, false, cond, Option, Some, None, All, sym, refl, ap, ◌∙◌, subst, append_assoc, append-nil, length-append, arith, length-set, get_or-set_same, ⊎_elim}
 use Rattle.std.proofs.lemmas.List.Elements.{All-append, All-cons, All-nil}
 use mathlib.Core.Option.{some, some-injective, some-ne-none}
@@ -31,7 +31,7 @@ use Rattle.vol_shared.proofs.Agreement.{agrees_back, place_goes_on}
 abbrev pub cut_of : Knowledge → ℕ
 cut_of v = greatest_of v.cuts
 
--- 1 for a seat that holds, 0 for one that doesn't
+-- a seat that holds the volume counts as 1
 pub held : (v : Knowledge) → v.holds ≡ true → hold_of v ≡ 1
 held v e = ap (λ (b : Bool). cond {A = ℕ} b 1 0) e
 
@@ -41,12 +41,13 @@ idle v e = ap (λ (b : Bool). cond {A = ℕ} b 1 0) e
 hold_small : (v : Knowledge) → hold_of v ≤ 1
 hold_small v = grind arith
 
--- one word, set to its own value
+-- setting the only word to its own value changes nothing
 one_word : (words : List ℕ) → length words ≡ 1 → set words 0 (slice_index words 0) ≡ words
 one_word [] e = absurd (omega arith)
 one_word (x ∷ xs) e = refl
 
--- the effect of one seat's step while no other seat holds the volume: `last` and `gone` become `next` and `lost`, v becomes w
+-- the effect of one seat's step while no other seat holds the volume: `last` and `gone` become `next` and `lost`, and the seat's knowledge `v`
+-- becomes `w`
 pub record Moves (opened last : Stored) (gone : List Record) (v : Knowledge) (next : Stored) (lost : List Record) (w : Knowledge) : Type 0 where
   pub follows : Follows opened lost next
   pub book : next.book ≡ last.book
@@ -59,14 +60,14 @@ pub record Moves (opened last : Stored) (gone : List Record) (v : Knowledge) (ne
   pub fits : SeatFits opened next (lost ++ next.journal) w
 
 module _ (key : TableStart) (s : State (Option Stored) Knowledge) (kept : Locked key s) (id : ℕ) (v : Knowledge) (at : get_elem? s.views id ≡ some v) where
-  -- the sum of the weights of all seats once this one knows w
+  -- replacing the knowledge `v` of this seat by `w` changes a sum over all seats by the difference of their weights
   pub shifts : (g : Knowledge → ℕ) (w : Knowledge) → total g (set s.views id w) + g v ≡ total g s.views + g w
   shifts g w = total_set g s.views id v w at
 
   pub own : SeatFits key.stock kept.last (kept.gone ++ kept.last.journal) v
   own = kept.each id v at
 
-  -- if the word is the one that this seat makes, no other seat holds the volume
+  -- if the word is 1 exactly if this seat holds the volume, no other seat holds it
   others_idle : slice_index s.words 0 ≡ hold_of v → (j : ℕ) (x : Knowledge) → j ≢ id → get_elem? s.views j ≡ some x → x.holds ≡ true → ⊥
   others_idle alone j x ne there holds =
       let h = shifts hold_of nobody in
@@ -78,7 +79,7 @@ module _ (key : TableStart) (s : State (Option Stored) Knowledge) (kept : Locked
 
   module _ (next : Stored) (lost : List Record) (w : Knowledge) (alone : slice_index s.words 0 ≡ hold_of v)
       (moves : Moves key.stock kept.last kept.gone v next lost w) where
-    -- the knowledge of another seat is still right
+    -- the knowledge of every other seat still satisfies `SeatFits` after the step
     still : (j : ℕ) (x : Knowledge) → j ≢ id → get_elem? s.views j ≡ some x → SeatFits key.stock next (lost ++ next.journal) x
     still j x ne there =
         let f = kept.each j x there in
@@ -108,7 +109,7 @@ module _ (key : TableStart) (s : State (Option Stored) Knowledge) (kept : Locked
         let e = u.0 in
         u.1 ∙ kept.uncut (omega arith)
 
-    -- a step of a seat, while no other holds the volume, keeps the rule
+    -- a seat's step preserves the rule while no other seat holds the volume
     pub moved : (homes : List (mathlib.Core.Option.Option (Option Stored))) → (hold_of w ≡ 0 → get_elem? homes 0 ≡ some (some (Some next)))
         → Locked key record { words = set s.words 0 (hold_of w); homes = homes; views = set s.views id w }
     moved homes home =
@@ -138,7 +139,7 @@ module _ (key : TableStart) (s : State (Option Stored) Knowledge) (kept : Locked
   agree_more history prefix agree = subst (λ (l : List Record). All (Agrees key.stock.origin l) v.receipts) (sym prefix.1)
       (λ k d lt. agrees_grows key.stock.origin v.history prefix.0 _ (agree k d lt))
 
-  -- there are no more places than numbers
+  -- a seat has at most as many places as the number of the next record
   counted : length v.places ≤ next_number kept.last
   counted =
       let o = total_ones v.places in
@@ -147,7 +148,7 @@ module _ (key : TableStart) (s : State (Option Stored) Knowledge) (kept : Locked
       let b = below_ones (next_number kept.last) in
       omega arith
 
-  -- the volume that is taken continues what was known
+  -- the volume that a seat takes continues everything that the seat knew
   pub finds : 0 < v.parts → FindsVolume v kept.gone kept.last
   finds some-parts = record {
     follows = subst (λ (o : Stored). Follows o kept.gone kept.last) (sym (own.same some-parts)) kept.follows;
@@ -175,18 +176,18 @@ module _ (key : TableStart) (s : State (Option Stored) Knowledge) (kept : Locked
     };
   }
 
-  -- the volume is taken
+  -- taking the volume preserves the rule
   pub takes_it : slice_index s.words 0 ≡ 0 → 0 < v.parts → v.holds ≡ false
       → Locked key (stepped s 0 1 id [] (took v kept.last (kept.gone ++ kept.last.journal)) (takes 0 (Some kept.last)))
   takes_it z some-parts free =
       moved kept.last kept.gone (took v kept.last (kept.gone ++ kept.last.journal)) (z ∙ sym (idle v free)) (taking some-parts)
       (set s.homes 0 mathlib.Core.Option.none) (λ e. absurd (omega arith))
 
-  -- another holds the volume
+  -- failing to take the volume preserves the rule
   misses : Locked key (stepped s 0 (slice_index s.words 0) id [] v keeps)
   misses = subst (Locked key) (λ i. record { words = sym (one_word s.words kept.word) i; homes = s.homes; views = sym (set_again s.views id v at) i }) kept
 
-  -- while this seat holds the volume, no other does
+  -- while this seat holds the volume, no other seat does
   holder : v.holds ≡ true → slice_index s.words 0 ≡ hold_of v
   holder holds =
       let o = kept.one in
@@ -199,7 +200,7 @@ module _ (key : TableStart) (s : State (Option Stored) Knowledge) (kept : Locked
   pub cuts_low : cut_of v ≤ kept.last.origin.first
   cuts_low = let g = greatest_part cut_of s.views id v at in let k = kept.first in omega arith
 
-  -- if no byte changes, those that no call changes stay
+  -- if no byte of the volume changes, the bytes that no call changes are unchanged
   around_stays : (given : Stored) → given.image ≡ kept.last.image → KeepsAround key.stock given
   around_stays given same = subst (λ (bytes : List ℕ). StaysAround (geometry_of key.stock.origin.edition key.stock.image) key.stock.image bytes) (sym same) kept.follows.around
 
@@ -330,7 +331,7 @@ module _ (key : TableStart) (s : State (Option Stored) Knowledge) (kept : Locked
         };
       }
 
-  -- the volume is given back
+  -- giving the volume back preserves the rule
   pub gives_it : (given : Stored) (event : Event) → 0 < v.parts → v.holds ≡ true → 0 < length s.homes → MayGive v.found given event
       → Locked key (stepped s 0 0 id ((0, Some given) ∷ []) (gave v given event) gives)
   gives_it given nothing some-parts holds wide may =
@@ -349,7 +350,7 @@ module _ (key : TableStart) (s : State (Option Stored) Knowledge) (kept : Locked
       moved given (kept.gone ++ kept.last.journal) (gave v given cut) (holder holds) (giving_cut given some-parts mine.0 is)
       (set s.homes 0 (mathlib.Core.Option.some (Some given))) (λ e. set_here s.homes 0 (mathlib.Core.Option.some (Some given)) wide)
 
--- an attempt to take the volume
+-- an attempt to take the volume preserves the rule
 tries_free : (key : TableStart) (slots id : ℕ) (v : Knowledge) (st : Step (Option Stored)) → 0 < v.parts → v.holds ≡ false
     → Allows (Locked key) slots id (v, []) 0 (λ n. either (n == 0) 1 n) (Tries st (v, []))
 tries_free key slots id v st some-parts free s kept long at small =
@@ -376,7 +377,7 @@ slot_of : List (ℕ × Option Stored) → Option Stored
 slot_of [] = None
 slot_of (x ∷ xs) = x.1
 
--- the value taken out of the slot is the one that was found there
+-- the value taken out of the slot is the volume that was found there
 pub took_out : (before mid end : Me (Option Stored) Knowledge) (stored : Stored) (found : Option Stored) → Took before mid stored (Some stored)
     → mid.1 ≡ (0, found) ∷ rest mid.1 → end ≡ (mid.0, (0, None) ∷ rest mid.1) → (found ≡ Some stored) × Took before end stored None
 unfolding slot_of
@@ -386,7 +387,7 @@ took_out before mid end stored found took there changed =
       (took.0, took.1, changed ∙ ap (λ (m : Me (Option Stored) Knowledge). (m.0, (0, None) ∷ rest m.1)) e),
     )
 
--- two views of the slot that was taken last are one
+-- two values found in the slot that was taken last are equal
 pub slot_is : (held : List (ℕ × Option Stored)) (found other : Option Stored) → held ≡ (0, found) ∷ rest held → held ≡ (0, other) ∷ [] → found ≡ other
 unfolding slot_of
 slot_is held found other there here = sym (ap slot_of there) ∙ ap slot_of here

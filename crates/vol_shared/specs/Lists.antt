@@ -1,4 +1,4 @@
--- Prefixes of lists, and greatest values.
+-- Prefixes of lists, and greatest elements.
 use Rattle.std.specs.Prelude.{◌≡◌, ℕ, List, [], ◌∷◌, ◌++◌, length, max, nat_le, if◌then◌else◌}
 
 -- a list begins with another (this project)

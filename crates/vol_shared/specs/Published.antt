@@ -7,7 +7,8 @@ use Rattle.vol_views.specs.declared.history.LogEntry.{LogEntry}
 use Rattle.vol_views.specs.Logs.{history_of, origin_in}
 use Rattle.vol_shared.specs.Stored.{Stored}
 
--- all records of a volume are published: the log has those that were cut followed by the journal, which starts from the state that the former made (this project)
+-- all records of a volume are published: the log has the records that were cut followed by the journal, and the journal's origin is the state after
+-- the cut records (this project)
 pub record IsPublished (log : List LogEntry) (stored : Stored) : Type 0 where
   pub gone : List Record
   pub begun : log ≢ []

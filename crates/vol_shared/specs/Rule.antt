@@ -15,7 +15,8 @@ use Rattle.vol_shared.specs.declared.lock_rule.TableStart.{TableStart}
 abbrev pub hold_of : Knowledge → ℕ
 hold_of v = if v.holds then 1 else 0
 
--- a seat's knowledge is right: its receipts agree with the records that it knows, which the history begins with; a seat that holds the volume knows all records; one that represents no session did nothing (this project)
+-- a seat's knowledge is right: the history begins with the records that the seat knows, and its receipts agree with them; a seat that holds the
+-- volume knows all records; a seat that represents no session made no record and no cut, and doesn't hold the volume (this project)
 pub record SeatFits (opened last : Stored) (history : List Record) (v : Knowledge) : Type 0 where
   pub same : 0 < v.parts → v.opened ≡ opened
   pub prefix : BeginsWith history v.history
@@ -23,7 +24,9 @@ pub record SeatFits (opened last : Stored) (history : List Record) (v : Knowledg
   pub mine : v.holds ≡ true → (v.history ≡ history) × (v.found ≡ last)
   pub spent : v.parts ≡ 0 → (v.holds ≡ false) × (v.places ≡ []) × (v.cuts ≡ [])
 
--- the word is 1 while a seat holds the volume; otherwise the volume that was last given back is in the slot; it continues the one that was opened; the places of all seats are the numbers of the records made since, each once; the journal's first number is the greatest that a cut returned, or that of the start; the log that has the records stays (this project)
+-- the word is 1 while a seat holds the volume; otherwise the slot contains the volume that was last given back; this volume continues the opened one;
+-- the places of all seats are the numbers of the records made since, each once; the journal's first number is the greatest that a cut returned, or
+-- the number at the start; the log with the records is the same (this project)
 pub record Locked (key : TableStart) (s : State (Option Stored) Knowledge) : Type 0 where
   pub last : Stored
   pub gone : List Record

@@ -10,7 +10,7 @@ use Rattle.vol_views.specs.Views.{book_in}
 use Rattle.vol_shared.specs.Plays.{nobody}
 use Rattle.vol_shared.specs.declared.lock_rule.Knowledge.{Knowledge}
 
--- the identity of a shared volume: its table, and the log that has its records, if they are published (this project)
+-- the identity of a shared volume: its table, and the log with its records, if they are published (this project)
 pub record Identity : Type 0 where
   pub table : TableId
   pub book : Option Book
@@ -23,7 +23,7 @@ pub record Known : Type 0 where
   pub cuts : List ℕ
   pub receipts : List Receipt
 
--- a session that made no call or query yet (this project)
+-- a session that has made no call or query yet (this project)
 abbrev pub new_session : Identity → ℕ → Known
 new_session of next = record { of = of; next = next; places = []; cuts = []; receipts = [] }
 
@@ -32,7 +32,7 @@ abbrev pub knowledge_of : List Knowledge → Knowledge
 knowledge_of [] = nobody
 knowledge_of (v ∷ vs) = v
 
--- the callers' view of a session, from its parts (this project)
+-- the callers' view of a session, made from its parts (this project)
 abbrev pub known_by : TableId → ℕ → Knowledge → Known
 known_by table next v = record {
   of = record { table = table; book = v.opened.book };
@@ -42,7 +42,8 @@ known_by table next v = record {
   receipts = v.receipts;
 }
 
--- a session between two calls, and its progress in the volume's log: the prefix up to the least number that its next receipt may have (this project)
+-- a session between two calls, and its progress in the volume's log: the log prefix up to the least number that its next receipt may have (this
+-- project)
 pub record IsIdle (views : List Knowledge) (next count : ℕ) (reported : Option Reached) : Type 0 where
   pub one : views ≡ knowledge_of views ∷ []
   pub free : (knowledge_of views).holds ≡ false
@@ -52,7 +53,8 @@ pub record IsIdle (views : List Knowledge) (next count : ℕ) (reported : Option
   pub book : book_in reported ≡ (knowledge_of views).opened.book
   pub number : IfSome reported (λ t. number_of t.log ≡ next)
 
--- a session after it got a receipt: the receipt's number isn't below the least that it might have, and is added to the places if it is that of an accepted call (this project)
+-- a session after it got a receipt: the receipt's number isn't below the least that was allowed, and is added to the places if the call was accepted
+-- (this project)
 pub record Got (old new : Known) (receipt : Receipt) : Type 0 where
   pub at : old.next ≤ receipt.at
   pub next : new.next ≡ next_of receipt.at receipt.outcome
@@ -60,7 +62,7 @@ pub record Got (old new : Known) (receipt : Receipt) : Type 0 where
   pub cuts : new.cuts ≡ old.cuts
   pub receipts : new.receipts ≡ old.receipts ++ receipt ∷ []
 
--- a session after it cut the journal: its next receipt's number is at least that of the journal's first record (this project)
+-- a session after it cut the journal: the number of its next receipt is at least the number of the journal's first record (this project)
 pub record HasCut (old new : Known) (first : ℕ) : Type 0 where
   pub at : old.next ≤ first
   pub next : new.next ≡ first

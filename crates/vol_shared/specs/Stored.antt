@@ -1,4 +1,4 @@
--- The volume as the lock's rule sees it.
+-- The lock's contents in its rule.
 use Rattle.std.specs.Prelude.{◌≡◌, ℕ, ◌+◌, List, [], ◌++◌, length, Option, None}
 use Rattle.logbook.specs.Pages.{Book}
 use Rattle.vol_change.specs.Whole.{StaysAround}
@@ -12,7 +12,7 @@ use Rattle.vol_receipts.specs.declared.receipts.Origin.{Origin}
 use Rattle.vol_receipts.specs.declared.receipts.Receipt.{Receipt}
 use Rattle.vol_shared.specs.Lists.{BeginsWith}
 
--- the contents of the lock: the journal's origin, the journal, the image, and the log that has the records, if they are published (this project)
+-- the contents of the lock: the journal's origin, the journal, the image, and the log with the records, if they are published (this project)
 pub record Stored : Type 0 where
   pub origin : Origin
   pub journal : List Record
@@ -31,7 +31,7 @@ stored_of volume = stored_with None volume
 abbrev pub unpublished : Stored → Stored
 unpublished stored = record { origin = stored.origin; journal = stored.journal; image = stored.image; book = None }
 
--- the contents of no lock (this project)
+-- the contents of a lock that holds nothing (this project)
 abbrev pub nothing_stored : Stored
 nothing_stored = record { origin = record { edition = editions.V6; bytes = []; first = 0 }; journal = []; image = []; book = None }
 
@@ -39,11 +39,12 @@ nothing_stored = record { origin = record { edition = editions.V6; bytes = []; f
 abbrev pub next_number : Stored → ℕ
 next_number stored = stored.origin.first + length stored.journal
 
--- the bytes of a volume that no call changes are as they were (this project)
+-- the bytes of a volume that no call changes are unchanged (this project)
 abbrev pub KeepsAround : Stored → Stored → Type 0
 KeepsAround old new = StaysAround (geometry_of old.origin.edition old.image) old.image new.image
 
--- a volume continues another: `gone` are the records cut since, and the journal starts from the state that they made; the bytes that no call changes stay (this project)
+-- a volume continues another: `gone` are the records cut since then, and the journal starts from the state after them; the bytes that no call changes
+-- are unchanged (this project)
 pub record Follows (opened : Stored) (gone : List Record) (last : Stored) : Type 0 where
   pub edition : last.origin.edition ≡ opened.origin.edition
   pub first : last.origin.first ≡ opened.origin.first + length gone
@@ -51,7 +52,8 @@ pub record Follows (opened : Stored) (gone : List Record) (last : Stored) : Type
   pub begins : BeginsWith (gone ++ last.journal) opened.journal
   pub around : KeepsAround opened last
 
--- a volume continues another, whatever records were cut since; some receipts agree with these records followed by the journal, also those given before a cut (this project)
+-- a volume continues another with some cut records; the receipts agree with these records followed by the journal, including receipts given before a
+-- cut (this project)
 abbrev pub Continues : Stored → Stored → ((Receipt → Type 0) → Type 0) → Type 0
 Continues opened last are_true = (gone : List Record) × Follows opened gone last × are_true (Agrees opened.origin (gone ++ last.journal))
 
@@ -62,7 +64,8 @@ pub record IsUnchanged (old new : Stored) : Type 0 where
   pub image : new.image ≡ old.image
   pub book : new.book ≡ old.book
 
--- a volume's journal was cut: it is empty, and its origin is the image, which reads as the state that the removed records made; the image stays (this project)
+-- a volume's journal was cut: it is empty, and its origin is the image, which reads as the state after the removed records; the image is unchanged
+-- (this project)
 pub record IsCut (old new : Stored) : Type 0 where
   pub edition : new.origin.edition ≡ old.origin.edition
   pub bytes : new.origin.bytes ≡ old.image

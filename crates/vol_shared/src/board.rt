@@ -1,4 +1,4 @@
-//! The lock's table, a `Board`: it is made here, and its seat is split among the sessions.
+//! The lock's table, a `Board`, and the sharing out of its seat among the sessions.
 ghost use Rattle.std.specs.Prelude.{◌≡◌, ◌+◌, ◌<◌, ◌≤◌, [], ◌∷◌, ◌++◌, length, vec_len, vec_capacity, All, IsSome, IfOk, IfErr, IfSome};
 ghost use Rattle.vol_views.specs.Logs.{number_of};
 ghost use Rattle.vol_views.specs.Views.{book_in};
@@ -53,7 +53,7 @@ fn only(mut slots: Vec<Option<Stock>>) -> Stock
     slot.unwrap()
 }
 
-/// Splits a seat that represents `sessions` sessions, and adds these sessions to the list.
+/// Splits a seat that represents `sessions` sessions into one seat per session, and adds these sessions to the list.
 pub(crate) fn deal(
     lock: &Lock,
     mut place: SessionSeat,

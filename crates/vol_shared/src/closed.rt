@@ -59,19 +59,18 @@ impl Closed {
         volume
     }
 
-    /// Returns the number of records when the volume was opened plus the number of calls that sessions
-    /// counted as accepted. Includes records that were cut.
+    /// Returns the number of records when the volume was opened plus the number of calls that sessions counted as accepted. Includes records that
+    /// were cut.
     pub fn accepted(&self) -> u64
         ensures { result ≡ next_number (stored_of self.now) }
     {
         self.accepted
     }
 
-    /// True if a receipt agrees with the journal. Returns `Cut` if its number is below that of the journal's
-    /// first record, and `NoMemory` if an allocation was refused, which never happens for the receipt of an
-    /// accepted call.
+    /// True if a receipt agrees with the journal. Returns `Cut` if its number is below the number of the journal's first record, and `NoMemory` if an
+    /// allocation was refused, which never happens for the receipt of an accepted call.
     ///
-    /// Takes memory and costs what [`vol_receipts::confirm`] does.
+    /// Takes as much memory and time as [`vol_receipts::confirm`].
     pub fn confirm(&self, alloc: Global, receipt: &Receipt) -> Result<bool, ConfirmFault>
         ensures agrees { IfOk result (λ agrees. IsTrue agrees ↔ Agrees (origin_of self.now) self.now.journal receipt.now) }
         ensures cut { result ≡ Err ConfirmFault.Cut ↔ receipt.now.at < self.now.first }
@@ -80,9 +79,8 @@ impl Closed {
         confirm(&self.volume, alloc, receipt)
     }
 
-    /// Counts the receipts that agree with the journal, and those whose records were cut. To learn which they
-    /// are, pass [`Closed::volume`] to [`vol_receipts::find_all`]. Takes the memory and time of
-    /// [`vol_receipts::confirm_all`].
+    /// Counts the receipts that agree with the journal, and the receipts whose records were cut. To learn which they are, pass [`Closed::volume`] to
+    /// [`vol_receipts::find_all`]. Takes the memory and time of [`vol_receipts::confirm_all`].
     pub fn confirm_all(&self, alloc: Global, receipts: &[Receipt]) -> Result<Confirmed, AllocError>
         ensures { IfOk result (λ confirmed. AreCounted (origin_of self.now) self.now.journal receipts.now confirmed) }
     {

@@ -1,6 +1,5 @@
-//! A volume that threads share under one lock. Each thread calls it through a session of its own, and gets a
-//! receipt for each call and query. Views answer queries without the lock. After the volume is closed, each
-//! receipt can be compared with the journal.
+//! A volume that threads share under one lock. Each thread calls it through a session of its own, and gets a receipt for each call and query. Views
+//! answer queries without the lock. After the volume is closed, each receipt can be compared with the journal.
 #![tactic(auto)]
 
 mod board;

@@ -110,7 +110,7 @@ pub(crate) fn give_answered(
     place
 }
 
-/// Gives the volume back with a receipt, whose event the caller names.
+/// Gives the volume back with a receipt. The type `J` names the receipt's event.
 fn give_as<J: Telling>(lock: &Lock, place: &mut SessionSeat, stock: Stock, receipt: &Receipt)
     requires own { place.old.table_id ≡ lock.now.table_id }
     requires words { lock.now.table_id.words ≡ 1 }
@@ -123,7 +123,7 @@ fn give_as<J: Telling>(lock: &Lock, place: &mut SessionSeat, stock: Stock, recei
     ensures own { place.new.table_id ≡ place.old.table_id }
     ensures gave { place.new.me ≡ (gave place.old.me.0 stock J.event, []) }
 {
-    // Only the proof reads the receipt.
+    // Only the proof uses the receipt.
     let _ = receipt;
     give::<J>(lock, place, stock);
 }

@@ -78,7 +78,7 @@ impl Stock {
         self.volume.first() + self.volume.journal().len() as u64
     }
 
-    /// Returns a snapshot of it, for contracts alone.
+    /// Returns a snapshot of the contents, for contracts alone.
     pub(crate) fn kept(&self) -> LockedVolume
         ensures { result ≡ self.now }
     {
@@ -92,7 +92,7 @@ impl Stock {
         }
     }
 
-    /// Returns the progress for a session to keep: everything published, if anything is.
+    /// Returns the progress for a session to keep: the whole published log, if the volume is published.
     pub(crate) fn reported(&self) -> Option<LogPrefix>
         ensures book { book_in result ≡ self.now.book }
         ensures number { IfSome result (λ reported. number_of reported.log ≡ next_number self.now) }

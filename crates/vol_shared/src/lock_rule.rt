@@ -12,21 +12,21 @@ use vol_volume::Record;
 
 /// The knowledge of a seat. No value of it is made.
 pub struct Knowledge {
-    /// The number of sessions that it represents.
+    /// The number of sessions that the seat represents.
     pub parts: u64,
-    /// True while it holds the volume.
+    /// True while the seat holds the volume.
     pub holds: bool,
     /// The volume that was opened.
     pub opened: LockedVolume,
-    /// The volume that it last took or gave back.
+    /// The volume that the seat last took or gave back.
     pub found: LockedVolume,
-    /// All records of that volume since it was opened, including those that were cut.
+    /// All records of that volume since it was opened, including records that were cut.
     pub history: LinkedList<Record>,
-    /// The numbers of the records that its calls made, in order.
+    /// The numbers of the records that the seat's calls made, in order.
     pub places: LinkedList<u64>,
-    /// The numbers that its cuts returned, in order.
+    /// The numbers that the seat's cuts returned, in order.
     pub cuts: LinkedList<u64>,
-    /// Its receipts, in order.
+    /// The seat's receipts, in order.
     pub receipts: LinkedList<Receipt>,
 }
 
@@ -78,7 +78,7 @@ impl<J: Telling> Play<Option<Stock>, Knowledge> for Give<J> {
     ghost then = { Gives J.event };
 }
 
-/// Splits one session off a seat that did nothing yet.
+/// Splits one session off a seat that has done nothing yet.
 pub(crate) struct Deal;
 
 impl Split<Knowledge> for Deal {

@@ -1,5 +1,4 @@
-//! Views of a shared volume: made when it is opened, and compared with everything that was published when it
-//! is closed.
+//! The views of a shared volume: they are made when it is opened, and compared with everything that was published when it is closed.
 ghost use Rattle.std.specs.Prelude.{◌≡◌, ◌<◌, ◌≤◌, ◌^◌, Some, length, All, IfOk, IfErr};
 ghost use Rattle.vol_views.specs.Views.{IsNew};
 ghost use Rattle.vol_shared.specs.Stored.{stored_of, unpublished, next_number};
@@ -38,8 +37,7 @@ pub(crate) fn watch(
     Ok(all)
 }
 
-/// Ends publishing, if the volume is published, and returns the volume. Its contract says that the volume
-/// covers what the views know.
+/// Ends publishing, if the volume is published, and returns the volume. Its contract says that the volume covers everything that the views know.
 pub(crate) fn settle<R: Wait>(rt: &R, stock: Stock, views: &[View]) -> Volume
     requires { All (λ v. stock.book ≡ Some v.book) views.now }
     ensures stored { stored_of result ≡ unpublished stock }
@@ -57,21 +55,21 @@ pub(crate) fn settle<R: Wait>(rt: &R, stock: Stock, views: &[View]) -> Volume
     }
 }
 
-/// Compares all views with what is published of a volume, and ends publishing.
+/// Compares all views with the published log of a volume, and ends publishing.
 fn compare_all<R: Wait>(rt: &R, volume: &Volume, publisher: Publisher, views: &[View])
     requires own { All (λ v. v.book ≡ publisher.book) views.now }
     requires published { IsPublished publisher.log (stored_of volume.now) }
     ensures covers { All (Covers (stored_of volume.now)) views.now }
     ensures agree { All (λ v. All (λ r. volume.now.first ≤ r.at → Agrees (origin_of volume.now) volume.now.journal r) v.receipts) views.now }
 {
-    // Only the proof reads the volume.
+    // Only the proof uses the volume.
     let _ = volume;
     let mut publisher = publisher;
     compare(&mut publisher, views);
     publisher.end(rt);
 }
 
-/// Compares all views with what is published; its contract says that the log extends what each view knows.
+/// Compares all views with the published log; its contract says that the log extends the prefix that each view knows.
 fn compare(publisher: &mut Publisher, views: &[View])
     requires { All (λ v. v.book ≡ publisher.old.book) views.now }
     ensures same { publisher.new ≡ publisher.old }

@@ -68,7 +68,7 @@ fn together(volume: Volume, publisher: Publisher) -> Stock
     }
 }
 
-/// Makes a call whose result was foreseen, and publishes its record.
+/// Makes a call, whose acceptance and result are already known, and publishes its record.
 fn make_foreseen<R: Wait>(
     rt: &R,
     alloc: Global,
@@ -134,7 +134,7 @@ fn accepted(volume: &Volume, at: u64, asked: Call, done: Done) -> Receipt
     ensures receipt { result ≡ record { at = at; asked = Change asked; outcome = Accepted done } }
     ensures agrees { Agrees (origin_of volume.now) volume.now.journal result }
 {
-    // Only the contract reads the volume.
+    // Only the contract uses the volume.
     let _ = volume;
     Receipt {
         at,

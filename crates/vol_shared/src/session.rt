@@ -48,8 +48,7 @@ impl Informed for Session {
     }
 }
 
-/// Takes the volume for a session. The session's badge is replaced by its seat until the volume is given
-/// back.
+/// Takes the volume for a session. The session's badge is replaced by its seat until the volume is given back.
 pub(crate) fn lock_volume<R: Wait>(
     rt: &R,
     lock: &Lock,

@@ -149,10 +149,9 @@ impl Shared {
     /// Makes a call, waiting until no other session holds the volume. The receipt has a copy of the call,
     /// made before the volume is taken. If memory runs out, the call is handed back and nothing changes.
     ///
-    /// Takes memory for the copy and for the journal. Costs the wait, and what [`Volume::call`] does. If the
-    /// volume has views, takes memory for a second copy, which is published. Then an accepted call also costs
-    /// what [`Volume::refusal`] does, is made twice more, on the two copies that views read, and waits for
-    /// the views that still read the older one.
+    /// Takes memory for the copy and for the journal. Costs as much as [`Volume::call`], plus the wait. If the volume has views, takes memory for a
+    /// second copy, which is published. Then an accepted call also costs as much as [`Volume::refusal`], is made twice more, on the two copies that
+    /// views read, and waits for the views that still read the older copy.
     pub fn call<R: Wait>(
         &self,
         rt: &R,
@@ -191,7 +190,7 @@ impl Shared {
     /// Answers a query, waiting until no other session holds the volume. If memory for its reply runs out,
     /// the query is handed back and nothing changes.
     ///
-    /// Takes memory and costs what [`Volume::ask`] does, plus the wait.
+    /// Takes as much memory and time as [`Volume::ask`], plus the wait.
     pub fn ask<R: Wait>(
         &self,
         rt: &R,
@@ -223,11 +222,10 @@ impl Shared {
         }
     }
 
-    /// Cuts the journal, waiting until no other session holds the volume: removes its records, and adds their
-    /// number to the first record's number. Returns the new first number; no later receipt of this session
-    /// has a smaller one.
+    /// Cuts the journal, waiting until no other session holds the volume: removes its records, and adds their number to the number of its first
+    /// record. Returns the new first number; no later receipt of this session has a smaller number.
     ///
-    /// Takes no memory. Costs the wait, and what [`Volume::cut`] does.
+    /// Takes no memory. Costs as much as [`Volume::cut`], plus the wait.
     pub fn cut<R: Wait>(&self, rt: &R, session: &mut Session) -> u64
         requires { session.old.of ≡ self.now.of }
         ensures same { session.new.of ≡ session.old.of }
@@ -242,11 +240,9 @@ impl Shared {
         first
     }
 
-    /// Ends a shared volume that was opened without views, with all its sessions. If the journal was never
-    /// cut, the volume still has its origin, and its journal extends the one it was opened with. Each record
-    /// made since then belongs to one accepted call of one session. Each receipt agrees with all records,
-    /// those that were cut followed by the journal; it agrees with the journal alone unless it is older than
-    /// the last cut.
+    /// Ends a shared volume that was opened without views, with all its sessions. If the journal was never cut, the volume still has its origin, and
+    /// its journal extends the journal that it was opened with. Each record made since then belongs to one accepted call of one session. Each receipt
+    /// agrees with all records, including records that were cut; it agrees with the journal alone unless it is older than the last cut.
     ///
     /// Takes no memory.
     pub fn close(self, sessions: Vec<Session>) -> Closed
@@ -270,11 +266,10 @@ impl Shared {
         Closed::new(stock.into_volume(), records, calls)
     }
 
-    /// Ends a shared volume with all its sessions and views, as [`Shared::close`] does. The records extend
-    /// what each view knows. Each receipt of a view agrees with them; it agrees with the journal alone unless
-    /// it is older than the last cut.
+    /// Ends a shared volume with all its sessions and views, as [`Shared::close`] does. The records extend the log prefix that each view knows. Each
+    /// receipt of a view agrees with them; it agrees with the journal alone unless it is older than the last cut.
     ///
-    /// Takes no memory. Waits for views that still read.
+    /// Takes no memory. Waits for views that are still reading.
     pub fn close_with<R: Wait>(self, rt: &R, sessions: Vec<Session>, views: Vec<View>) -> Closed
         requires count { length sessions.items ≡ self.sessions }
         requires own { All (λ s. s.of ≡ self.of) sessions.items }

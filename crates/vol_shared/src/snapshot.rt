@@ -4,8 +4,8 @@ use std::snapshot::Snapshot;
 use vol_views::SeenPrefix;
 use vol_volume::Volume;
 
-/// A snapshot, for contracts alone, of the volume under the lock and the log prefix that has its records. At
-/// run time it only knows whether there is a log.
+/// A snapshot, for contracts alone, of the volume under the lock and of the log prefix with its records. At run time it only knows whether there is a
+/// log.
 #[derive(Drop)]
 pub struct LockedVolume {
     /// The volume.

@@ -7,11 +7,11 @@ use mathlib.Core.List.{IsPrefix}
 pub prefix_self : {A : Type 0} (xs : List A) → IsPrefix xs xs
 prefix_self xs = ([], append-nil xs)
 
--- and of itself with more after it
+-- a list is a prefix of itself with more elements after it
 pub prefix_more : {A : Type 0} (xs ys : List A) → IsPrefix xs (xs ++ ys)
 prefix_more xs ys = (ys, refl)
 
--- a prefix of a prefix is a prefix of the whole
+-- a prefix of a prefix of `zs` is a prefix of `zs`
 pub prefix_trans : {A : Type 0} (xs ys zs : List A) → IsPrefix xs ys → IsPrefix ys zs → IsPrefix xs zs
 prefix_trans xs ys zs p q = (p.0 ++ q.0, sym (append_assoc xs p.0 q.0) ∙ (ap (λ w. w ++ q.0) p.1 ∙ q.1))
 
@@ -25,7 +25,7 @@ prefix_either (x ∷ xs) (y ∷ ys) (z ∷ zs) p q =
     ⊎_elim (λ (r : IsPrefix xs ys). inl (r.0, cc (heads, r.1))) (λ (r : IsPrefix ys xs). inr (r.0, cc (heads, r.1)))
     (prefix_either xs ys zs (p.0, cc (p.1)) (q.0, cc (q.1)))
 
--- a prefix as long as the whole is the whole
+-- a prefix of `ys` that is at least as long as `ys` equals `ys`
 pub prefix_whole : {A : Type 0} (xs ys : List A) → IsPrefix xs ys → length ys ≤ length xs → xs ≡ ys
 prefix_whole [] [] p le = refl
 prefix_whole [] (y ∷ ys) p le = absurd (omega arith)

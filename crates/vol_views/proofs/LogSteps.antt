@@ -1,4 +1,4 @@
--- Each step keeps the rule.
+-- Each step preserves the rule of the log.
 use Rattle.std.proofs.Common.{◌≡◌, ℕ, zero, suc, ◌+◌, ◌<◌, ◌≤◌, ◌==◌, Bool, true, false, List, [], ◌∷◌, ◌++◌, length, refl, ap, sym, ◌∙◌, subst, arith, inl, None, length-append}
 use Rattle.std.proofs.lemmas.List.{append-nil}
 use Rattle.std.proofs.lemmas.Bool.{true≢false}
@@ -24,17 +24,17 @@ owns log key = (log, (nib may_write key 0, None))
 abbrev pub same : ℕ → ℕ
 same n = either (n == 0) 0 n
 
--- the cells of a log
+-- the words of a log: the first, then `made` words that entries took and `left` words that pens may write
 abbrev pub cells_of : ℕ → ℕ → List Cell
 cells_of made left = (made + left, true) ∷ words made left
 
--- a word that no entry took comes after those of all entries
+-- the word of a pen, which no entry took, comes after the words of all entries
 pub pen_last : (made left k : ℕ) → (cell (words made left) k).1 ≡ false → made ≤ k
 pen_last zero left k away = omega arith
 pen_last (suc made) left zero away = absurd (true≢false away)
 pen_last (suc made) left (suc k) away = let rest = pen_last made left k away in omega (arith, rest)
 
--- the owner's entry is appended to the whole log
+-- if the owner knows the whole log, its step appends the entry to the log
 append_goes : (log : List LogEntry) (entry : LogEntry) (made left : ℕ) → length log ≡ suc made
     → Goes IsKept shown moved 0 (owns log (suc made)) same (Appends (step 0 0 0 entry) (owns log (suc made))) (cells_of made (suc left)) log
 append_goes log entry made left counted =
@@ -64,7 +64,7 @@ append_at log seen entry n made (suc left) len counted begins low away =
     let at : n ≡ made = omega (arith, len, counted, ap length whole) in
     rw (whole, at) (append_goes log entry made left counted)
 
--- whatever the log is, the owner's step appends to all that the owner knows
+-- the owner's step appends the entry to everything that the owner knows, for any log
 pub append_moves : (seen : List LogEntry) (entry : LogEntry) (n : ℕ) → length seen ≡ suc n
     → Moves IsKept shown moved 0 (owns seen (suc n)) same (Appends (step 0 0 0 entry) (owns seen (suc n)))
 append_moves seen entry n len cs log kept begins away =
@@ -87,7 +87,7 @@ compare_at log seen entry n made left counted away =
       (omega (arith, all, last), refl),
     )
 
--- whatever the log is, the owner's comparison finds it no longer than the owner knows
+-- the owner's comparison finds that the log isn't longer than the owner knows, for any log
 pub compare_moves : (seen : List LogEntry) (entry : LogEntry) (n : ℕ)
     → Moves IsKept shown moved 0 (owns seen (suc n)) same (Compares (step 0 0 0 entry) (owns seen (suc n)))
 compare_moves seen entry n cs log kept begins away =
@@ -95,7 +95,7 @@ compare_moves seen entry n cs log kept begins away =
     let out = subst (λ c. (suc n < length c) × ((cell c (suc n)).1 ≡ false)) kept.cells_are (away refl) in
     subst P (sym kept.cells_are) (omega arith, refl, compare_at log seen entry n kept.made kept.left kept.counted out.1)
 
--- a number that is raised if it is the expected one
+-- the number after an attempt to raise it by one, which succeeds if it is the expected one
 abbrev pub raised : ℕ → ℕ → ℕ
 raised old n = either (n == old) (old + 1) n
 
@@ -126,7 +126,7 @@ add_goes log seen entry old made left counted false is =
       rw is tt,
     )
 
--- whatever the log is, a word is added if there are as many as expected
+-- a step adds a word if the log has as many words as expected, for any log
 pub add_moves : (seen : List LogEntry) (entry : LogEntry) (old : ℕ)
     → Moves IsKept shown moved 0 (seen, (no_nib, None)) (raised old) (Adds (step 0 old (old + 1) entry) (seen, (no_nib, None)))
 add_moves seen entry old cs log kept begins away =

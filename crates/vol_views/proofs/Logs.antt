@@ -14,35 +14,35 @@ use Rattle.vol_views.specs.States.{state_of}
 use Rattle.vol_views.proofs.States.{state_first, state_more, applied_next}
 use Rattle.vol_views.specs.Logs.{history_of, origin_in, number_of}
 
--- the records of two logs, one after the other
+-- the records of two logs, one after the other, are the records of the first followed by the records of the second
 pub history_append : (a b : List LogEntry) → history_of (a ++ b) ≡ history_of a ++ history_of b
 history_append [] b = refl
 history_append (Opened origin journal ∷ a) b = ap (λ w. journal ++ w) (history_append a b) ∙ sym (append_assoc journal (history_of a) (history_of b))
 history_append (Made entry ∷ a) b = ap (λ w. entry ∷ w) (history_append a b)
 
--- one more entry is one more record
+-- an entry of an accepted call adds its record to the log's records
 pub history_more : (log : List LogEntry) (entry : Record) → history_of (log ++ Made entry ∷ []) ≡ history_of log ++ entry ∷ []
 history_more log entry = history_append log (Made entry ∷ [])
 
--- with the same origin
+-- an entry of an accepted call doesn't change the log's origin
 pub origin_more : (log : List LogEntry) (entry : Record) → origin_in (log ++ Made entry ∷ []) ≡ origin_in log
 origin_more [] entry = refl
 origin_more (Opened origin journal ∷ log) entry = refl
 origin_more (Made first ∷ log) entry = refl
 
--- and the number is one more
+-- an entry of an accepted call raises the number of the next record by one
 pub number_more : (log : List LogEntry) (entry : Record) → number_of (log ++ Made entry ∷ []) ≡ number_of log + 1
 number_more log entry =
     let start_same = ap (λ o. o.first) (origin_more log entry) in
     let longer = ap length (history_more log entry) ∙ length-append (history_of log) (entry ∷ []) in
     omega (arith, start_same, longer)
 
--- the records with one more
+-- the state after a journal with one more record is one step after the state of the journal
 pub after_more : (state : State) (journal : List Record) (entry : Record) → after state (journal ++ entry ∷ []) ≡ step (after state journal) entry.call entry.done
 after_more state [] entry = refl
 after_more state (first ∷ journal) entry = after_more (step state first.call first.done) journal entry
 
--- a log whose state is the one after its records keeps this with one more record that may come next
+-- if a log's state is the state after its records, this is still true after one more record that may come next
 pub reads_more : (log : List LogEntry) (entry : Record) → state_of log ≡ after (start (origin_in log)) (history_of log) → MayFollow (state_of log) entry
     → state_of (log ++ Made entry ∷ []) ≡ after (start (origin_in (log ++ Made entry ∷ []))) (history_of (log ++ Made entry ∷ []))
 reads_more log entry reads may =
@@ -52,7 +52,7 @@ reads_more log entry reads may =
     ∙ (sym (after_more (start (origin_in log)) (history_of log) entry)
     ∙ rw (origin_more log entry, history_more log entry) refl)))
 
--- the log of a volume that is opened
+-- the log of a volume when it is opened has the number of the volume's next record
 pub number_first : (volume : Mounted) → number_of (first_log volume) ≡ volume.first + length volume.journal
 number_first volume = ap (λ w. volume.first + length w) (append-nil volume.journal)
 

@@ -1,4 +1,4 @@
--- Each step keeps the rule.
+-- Each step preserves the rule of the published version.
 use Rattle.std.proofs.Common.{◌≡◌, ◌≢◌, ℕ, ◌+◌, List, [], ◌∷◌, ◌++◌, set, fold, refl, ap, sym, ◌∙◌, subst, inl, ⊎_elim, Some}
 use Rattle.std.proofs.lemmas.List.{append-nil}
 use mathlib.Core.List.{IsPrefix}
@@ -27,13 +27,13 @@ use Rattle.vol_views.proofs.Logs.{number_more, reads_more, reads_first}
 abbrev Known : Published → List Reached → Type 0
 Known p known = (seat : ℕ) (prefix : Reached) → get_elem? known seat ≡ some prefix → Begins prefix p.prefix
 
--- a prefix that is known at one seat
+-- a reader may learn a prefix of the published log
 known_set : (p : Published) (known : List Reached) (seat : ℕ) (prefix : Reached) → Known p known → Begins prefix p.prefix → Known p (set known seat prefix)
 known_set p known seat prefix all begins j other at =
     ⊎_elim (λ (t : (j ≡ seat) × (prefix ≡ other)). subst (λ (r : Reached). Begins r p.prefix) t.1 begins)
     (λ (t : (j ≢ seat) × (get_elem? known j ≡ some other)). all j other t.1) (at_set known seat j prefix other at)
 
--- and at a new one
+-- a new reader may know a prefix of the published log
 known_more : (p : Published) (known : List Reached) (prefix : Reached) → Known p known → Begins prefix p.prefix → Known p (known ++ prefix ∷ [])
 known_more p known prefix all begins j other at =
     ⊎_elim (λ (e : get_elem? known j ≡ some other). all j other e) (λ (e : prefix ≡ other). subst (λ (r : Reached). Begins r p.prefix) e begins)
@@ -47,7 +47,7 @@ admits p known h = (h.0, known_more p known nothing_reached h.1 (inl refl))
 pub holds_first : (p : Published) → IsRight p → Holds p (nothing_reached ∷ [])
 holds_first p right = (right, known_more p [] nothing_reached (λ seat prefix at. absurd cc) (inl refl))
 
--- a version is entered
+-- when a reader enters the published version, its prefix extends the prefix that the reader knew
 pub enters : (seat : ℕ) (prefix : Reached) (p : Published) → TurnsAt Holds seat prefix p p Enters
 enters seat prefix p known h at = (
   p.prefix,
@@ -55,7 +55,7 @@ enters seat prefix p known h at = (
   (h.0, h.1 seat prefix at, refl),
 )
 
--- a version is shown
+-- showing a next version preserves the rule, if it is consistent with its log prefix, which extends the one shown before
 pub shows : (seat : ℕ) (prefix : Reached) (p next : Published) → IsRight next → p.prefix.book ≡ next.prefix.book → IsPrefix p.prefix.log next.prefix.log
     → TurnsAt Holds seat prefix p next (λ before shown then after. after ≡ then.prefix)
 shows seat prefix p next right book goes_on known h at =
@@ -65,13 +65,13 @@ shows seat prefix p next right book goes_on known h at =
       refl,
     )
 
--- the owner reports its log
+-- reporting the owner's log prefix to a reader preserves the rule
 pub forks : (seat : ℕ) (prefix : Reached) → Forks Holds seat prefix prefix prefix
 forks seat prefix p known h at =
     let begins = h.1 seat prefix at in
     (h.0, known_more p (set known seat prefix) prefix (known_set p known seat prefix h.1 begins) begins)
 
--- and a reader learns it
+-- a reader that learns a reported log prefix preserves the rule
 pub merges : (seat : ℕ) (prefix : Reached) (other : ℕ) (reported : Reached) → Merges Holds seat prefix other reported reported nothing_reached
 merges seat prefix other reported p known h at apart there =
     let begins : Begins reported p.prefix =
@@ -79,18 +79,18 @@ merges seat prefix other reported p known h at apart there =
     (at_set known seat other reported reported there) in
     (h.0, known_set p (set known seat reported) other nothing_reached (known_set p known seat reported h.1 begins) (inl refl))
 
--- the version that operations make may be shown
+-- showing the version that the operations make preserves the rule, if they satisfy `MayShow`
 pub may_show : (seat : ℕ) (prefix : Reached) (p next : Published) (operations : List Operation) → MayShow p operations → next ≡ fold absorbed p operations
     → TurnsAt Holds seat prefix p next (λ before shown then after. after ≡ then.prefix)
 may_show seat prefix p next operations may is =
     subst (λ (x : Published). TurnsAt Holds seat prefix p x (λ before shown then after. after ≡ then.prefix)) (sym is)
     (shows seat prefix p (fold absorbed p operations) may.right may.book may.goes_on)
 
--- with nothing pending, the next version may be shown
+-- with no pending operations, the version shown may be shown again
 pub shows_same : (p : Published) → IsRight p → MayShow p []
 shows_same p right = record { right = right; book = refl; goes_on = prefix_self p.prefix.log }
 
--- two operations that change nothing may be pending
+-- a version may be shown again after two operations that change nothing
 pub shows_empty : (p : Published) (prefix : Reached) (at : ℕ) (operations : List Operation) → IsRight p → p.at ≡ at → p.prefix ≡ prefix
     → operations ≡ empty_operation at prefix ∷ empty_operation at prefix ∷ [] → MayShow p operations
 shows_empty p prefix at operations right number same pending =
@@ -110,7 +110,7 @@ longer_some : (log : List LogEntry) (entry : LogEntry) → (log ++ entry ∷ [])
 longer_some [] entry e = absurd cc
 longer_some (first ∷ log) entry e = absurd cc
 
--- and so may a record that can come next
+-- a version may be shown after an operation that applies a record which can come next
 pub shows_record : (p : Published) (old new : Reached) (entry : Record) (at : ℕ) (operations : List Operation) → IsRight p → p.prefix ≡ old
     → new.book ≡ old.book → new.log ≡ old.log ++ Made entry ∷ [] → MayFollow (state_of old.log) entry → at ≡ number_of old.log + 1
     → operations ≡ (record { made = Some entry; at = at; prefix = new }) ∷ [] → MayShow p operations
@@ -127,7 +127,7 @@ shows_record p old new entry at operations right same book longer may number pen
       goes_on = rw (log, longer) (prefix_more old.log (Made entry ∷ []));
     })
 
--- a volume that is opened may be published
+-- the first version of an opened volume is consistent with its log prefix
 pub right_first : (volume : Mounted) (p : Published) → p.prefix.log ≡ first_log volume → p.version ≡ first_log volume → p.at ≡ number_of (first_log volume) → IsRight p
 right_first volume p log version number =
     record {
@@ -137,7 +137,7 @@ right_first volume p log version number =
       reads = rw log (reads_first volume);
     }
 
--- the version that is shown after these operations: the same, or one with the last one's prefix
+-- without operations, the version shown is the same as before
 pub shown_same : (p shown : Published) (operations : List Operation) → operations ≡ [] → shown ≡ fold absorbed p operations → shown ≡ p
 shown_same p shown operations pending is = is ∙ ap (λ os. fold absorbed p os) pending
 

@@ -23,17 +23,17 @@ taken_more : (state : State) (log : List LogEntry) (entry : LogEntry) → taken_
 taken_more state [] entry = refl
 taken_more state (first ∷ log) entry = taken_more (taken state first) log entry
 
--- a log with one more entry
+-- a log with one more entry makes the state after this entry
 pub state_more : (log : List LogEntry) (entry : LogEntry) → state_of (log ++ entry ∷ []) ≡ taken (state_of log) entry
 unfolding state_of
 state_more log entry = taken_more (start (record { edition = editions.V6; bytes = []; first = 0 })) log entry
 
--- the log of a volume that is opened
+-- the log of an opened volume makes the state after its journal
 pub state_first : (origin : Origin) (journal : List Record) → state_of (entries.Opened origin journal ∷ []) ≡ after (start origin) journal
 unfolding state_of
 state_first origin journal = refl
 
--- the test of an answer
+-- a result that passes `is_answer` is one that the call may have
 pub answer_is : (state : State) (call : Call) (done : Done) → is_answer state call done ≡ true → MayAnswer state call done
 answer_is state (Create cred now path perm) (Made i) e = e
 answer_is state (Create cred now path perm) (Wrote n) e = true≢false (sym e)
@@ -102,7 +102,7 @@ none_is : (refusal : Option Refusal) → is_none refusal ≡ true → refusal �
 none_is None e = refl
 none_is (Some r) e = absurd (true≢false (sym e))
 
--- the test of a record
+-- a record that passes `is_next` may come next
 pub next_is : (state : State) (entry : Record) → is_next state entry ≡ true → MayFollow state entry
 unfolding is_next
 next_is state entry e =
@@ -113,12 +113,12 @@ pub is_next_by : (state : State) (entry : Record) → MayFollow state entry → 
 unfolding is_next
 is_next_by state entry may = rw (may.accepted) (is_answered state entry.call entry.done may.answered)
 
--- a record that may come next makes its step
+-- applying a record that may come next makes its step
 pub applied_next : (state : State) (entry : Record) → MayFollow state entry → applied state entry ≡ step state entry.call entry.done
 unfolding applied
 applied_next state entry may = ap (λ b. if b then step state entry.call entry.done else state) (is_next_by state entry may)
 
--- and another changes nothing
+-- applying a record that may not come next changes nothing
 pub applied_else : (state : State) (entry : Record) → (MayFollow state entry → ⊥) → applied state entry ≡ state
 unfolding applied
 applied_else state entry not =

@@ -1,4 +1,4 @@
--- Facts about every version.
+-- Facts about all versions.
 use Rattle.std.proofs.Common.{◌≡◌, ◌↔◌, ℕ, Bool, true, false, List, [], ◌∷◌, ◌++◌, refl, ap, sym, ◌∙◌, IsTrue}
 use Rattle.std.proofs.lemmas.Bool.{true≢false}
 use Rattle.vol_layout.specs.Geometry.{geometry_of}
@@ -16,7 +16,7 @@ use Rattle.vol_views.specs.declared.history.LogEntry.TheVariants.{Made}
 use Rattle.vol_views.specs.States.{state_of}
 use Rattle.vol_views.proofs.States.{state_first, state_more, applied_next, applied_else}
 
--- a version that is made of a volume
+-- the version made from a volume is a sound image with the right geometry and free count, and reads as the state of the first log
 pub made_of : (volume : Mounted) (geometry : Geometry) (image : List ℕ) (free : ℕ) (log : List LogEntry) → IsConsistent volume
     → geometry ≡ geometry_of volume.edition volume.image → image ≡ volume.image
     → free ≡ free_count (geometry_of volume.edition volume.image) (shapes (geometry_of volume.edition volume.image) volume.image)
@@ -27,7 +27,7 @@ made_of volume geometry image free log consistent sizes same count begun =
     rw (sizes, same, count, begun)
     (consistent.image_sound, refl, refl, consistent.reads ∙ sym (state_first (origin_of volume) volume.journal))
 
--- the state of a version after a record was applied
+-- after a record is applied, the image reads as the state of the log with this record
 pub applied_reads : (geometry : Geometry) (old new : List ℕ) (log : List LogEntry) (entry : Record) (is_next : Bool)
     → state geometry old ≡ state_of log → IsTrue is_next ↔ MayFollow (state geometry old) entry
     → (is_next ≡ true → Performs geometry old new entry.call entry.done) → (is_next ≡ false → new ≡ old)

@@ -12,10 +12,10 @@ abbrev pub entries_of : Option Record → List LogEntry
 entries_of None = []
 entries_of (Some entry) = Made entry ∷ []
 
--- a published version after an operation (this project)
+-- the published version after an operation (this project)
 abbrev pub absorbed : Published → Operation → Published
 absorbed p o = record { version = p.version ++ entries_of o.made; at = o.at; prefix = o.prefix }
 
--- an operation that changes nothing, with a version's number and log prefix (this project)
+-- an operation that changes nothing, for a version with this number and log prefix (this project)
 abbrev pub empty_operation : ℕ → Reached → Operation
 empty_operation at prefix = record { made = None; at = at; prefix = prefix }

@@ -1,4 +1,4 @@
--- Knowledge of a volume's log.
+-- The parts of a volume's log that threads know.
 use Rattle.std.specs.Prelude.{ℕ, List}
 use Rattle.logbook.specs.Pages.{Book}
 use Rattle.vol_views.specs.declared.history.LogEntry.{LogEntry}

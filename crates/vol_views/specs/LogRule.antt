@@ -7,13 +7,13 @@ use Rattle.vol_receipts.specs.Agrees.{origin_of}
 use Rattle.vol_views.specs.declared.history.LogEntry.{LogEntry}
 use Rattle.vol_views.specs.declared.history.LogEntry.TheVariants.{Opened}
 
--- n words that entries took, then m words that pens may write (this project)
+-- `n` words that entries took, then `m` words that pens may write (this project)
 abbrev pub words : ℕ → ℕ → List Cell
 words zero zero = []
 words zero (suc m) = (0, false) ∷ words zero m
 words (suc n) m = (0, true) ∷ words n m
 
--- the first word is the number of words after it; each entry except the first took one of these, in order (this project)
+-- the first word's value is the number of words after it; each entry except the first took one of these words, in order (this project)
 pub record IsKept (cells : List Cell) (log : List LogEntry) : Type 0 where
   pub made : ℕ
   pub left : ℕ
@@ -24,7 +24,7 @@ pub record IsKept (cells : List Cell) (log : List LogEntry) : Type 0 where
 abbrev pub head_of : Book → Named
 head_of book = record { tracked = true; key = 0; book = book }
 
--- the log of a volume that is opened (this project)
+-- the log of a volume when it is opened (this project)
 abbrev pub first_log : Mounted → List LogEntry
 first_log volume = Opened (origin_of volume) volume.journal ∷ []
 
@@ -32,14 +32,14 @@ first_log volume = Opened (origin_of volume) volume.journal ∷ []
 abbrev pub no_entry : LogEntry
 no_entry = Opened (record { edition = editions.V6; bytes = []; first = 0 }) []
 
--- if there were as many words as expected, there is now one more, and the pen may write it (this project)
+-- if there were as many words as expected, one word was added, and the pen may write it (this project)
 abbrev pub Adds : Step LogEntry → View LogEntry ℕ → ℕ → View LogEntry ℕ → Type 0
 Adds st before found after = MatchBool (found == st.old) (after.1.0 ≡ nib may_make (st.old + 1) 0) (Unit {0})
 
--- the entry was appended to all entries seen before (this project)
+-- the entry was appended after all entries seen before (this project)
 abbrev pub Appends : Step LogEntry → View LogEntry ℕ → ℕ → View LogEntry ℕ → Type 0
 Appends st before found after = after.0 ≡ before.0 ++ st.ask ∷ []
 
--- the whole log was seen, and no entry took the pen's word (this project)
+-- all entries of the log were seen, and no entry took the pen's word (this project)
 abbrev pub Compares : Step LogEntry → View LogEntry ℕ → ℕ → View LogEntry ℕ → Type 0
 Compares st before found after = (length after.0 ≤ before.1.0.key) × (after.1.0 ≡ before.1.0)

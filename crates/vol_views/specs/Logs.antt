@@ -6,13 +6,13 @@ use Rattle.vol_receipts.specs.declared.receipts.Origin.{Origin}
 use Rattle.vol_views.specs.declared.history.LogEntry.{LogEntry}
 use Rattle.vol_views.specs.declared.history.LogEntry.TheVariants.{Opened, Made}
 
--- the records of a log: those of the journal that was opened, and those made since (this project)
+-- the records of a log: the journal of the volume that was opened, then the records made since (this project)
 abbrev pub history_of : List LogEntry → List Record
 history_of [] = []
 history_of (Opened origin journal ∷ log) = journal ++ history_of log
 history_of (Made entry ∷ log) = entry ∷ history_of log
 
--- the origin of a log's records, which is in its first entry (this project)
+-- the origin of a log's records, from its first entry (this project)
 abbrev pub origin_in : List LogEntry → Origin
 origin_in [] = record { edition = editions.V6; bytes = []; first = 0 }
 origin_in (Opened origin journal ∷ log) = origin

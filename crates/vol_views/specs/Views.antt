@@ -14,7 +14,7 @@ pub record Watched : Type 0 where
   pub log : List LogEntry
   pub receipts : List Receipt
 
--- one log extends another: the same origin, and the other's records come first (this project)
+-- the log `new` extends the log `old`: it has the same origin, and its records begin with all records of `old` (this project)
 pub record GoesOn (old new : List LogEntry) : Type 0 where
   pub origin : origin_in new ≡ origin_in old
   pub records : IsPrefix (history_of old) (history_of new)
@@ -23,13 +23,13 @@ pub record GoesOn (old new : List LogEntry) : Type 0 where
 abbrev pub AgreesIn : List LogEntry → Receipt → Type 0
 AgreesIn log receipt = Agrees (origin_in log) (history_of log) receipt
 
--- a view after it gave a receipt: the receipt agrees with what the view now knows, and is added to its receipts (this project)
+-- a view after it gave a receipt: the receipt agrees with the log prefix that the view now knows, and is added to the view's receipts (this project)
 pub record Sees (old new : Watched) (receipt : Receipt) : Type 0 where
   pub at : receipt.at ≡ number_of new.log
   pub agrees : AgreesIn new.log receipt
   pub receipts : new.receipts ≡ old.receipts ++ receipt ∷ []
 
--- a view that gave no receipt yet, and knows a whole log (this project)
+-- a view that has given no receipt yet and knows a whole log (this project)
 pub record IsNew (whole : Reached) (view : Watched) : Type 0 where
   pub book : view.book ≡ whole.book
   pub log : view.log ≡ whole.log

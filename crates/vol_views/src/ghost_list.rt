@@ -37,7 +37,7 @@ impl<T> Opening<(), T> for NoEntries {
     ghost log = { λ count about. [] };
 }
 
-/// The maker whose entry is its argument.
+/// A maker that uses its argument as the entry.
 pub(crate) struct Itself;
 
 impl<T> Plain<T, T, u64> for Itself {
@@ -48,14 +48,14 @@ impl<T> Plain<T, T, u64> for Itself {
     ghost state = { λ entry. None };
 }
 
-/// A list, and the argument from which the next entry is made.
+/// A list, and the argument that its next entry is made from.
 #[derive(Drop)]
 struct Grown<T, X> {
     list: GhostList<T>,
     about: Snapshot<X>,
 }
 
-/// An opening with a list's entries and the one that `M` makes.
+/// An opening with a list's entries followed by the entry that `M` makes.
 struct More<M> {
     marker: PhantomData<M>,
 }

@@ -57,9 +57,8 @@ impl Model for Permit {
 }
 
 impl Ledger {
-    /// Returns the owner of a new log, whose first entry is a volume as it is opened. Never returns `None`,
-    /// which no contract can say: `None` would mean that the log's first word had lost the number it was just
-    /// made with.
+    /// Returns the owner of a new log whose first entry is the opening of `volume`. It never returns `None`, but no contract can state this: `None`
+    /// would mean that the log's first word had lost the number that it was just given.
     ///
     /// Takes no memory.
     pub fn open(volume: &Volume) -> Option<Ledger>

@@ -1,7 +1,6 @@
-//! Queries without the volume's lock. A volume's history is a log, which exists only in proofs: one owner
-//! appends to it, and every thread may know a prefix of it. A version is a copy of the image to which records
-//! are applied one by one. A publisher shows each version, with the log prefix that it reflects, to readers
-//! that take no lock. Views answer queries from the published version and leave receipts.
+//! Queries without the volume's lock. A volume's history is a log, which exists only in proofs: one owner appends to it, and every thread may know a
+//! prefix of it. A version is a copy of the image to which records are applied one by one. A publisher shows each version to readers that take no
+//! lock, with the log prefix that the version reflects. Views answer queries from the published version and return receipts.
 #![tactic(auto)]
 
 mod ghost_list;

@@ -1,4 +1,4 @@
-//! Pens for words that later entries will take.
+//! Pens, each the right to write one word of the log that a later entry will take.
 ghost use Rattle.std.specs.Prelude.{◌≡◌, ◌+◌, ◌<◌, ◌^◌, IfSome};
 ghost use Rattle.logbook.specs.Pages.{nib, may_write};
 ghost use Rattle.vol_views.specs.LogRule.{head_of};
@@ -7,7 +7,7 @@ use crate::history::LogEntry;
 use crate::log_rule::{Add, Beginning, Compare, Head, Nothing, OneOwner};
 use logbook::{Offer, Pen};
 
-/// Returns a pen for the word after the first `words`, or `None` if their number differs.
+/// Returns a pen for a new word, the next after `words` words, or `None` if the log doesn't have `words` words.
 pub(crate) fn new_pen(head: &Head, seen: &Beginning, words: u64) -> Option<Pen>
     requires head { head.now ≡ head_of seen.now.book }
     requires room { words + 1 < 2 ^ 64 }

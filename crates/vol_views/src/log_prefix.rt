@@ -85,7 +85,7 @@ pub trait Informed {
 
     ghost next: { Self → ℕ };
 
-    /// Returns the last prefix that was reported, if any: one of the volume's log, up to a number.
+    /// Returns the last prefix of the volume's log that was reported, if any.
     fn reported(&self) -> Option<LogPrefix>
         ensures book { book_in result ≡ Self.book self.now }
         ensures next { IfSome result (λ reported. number_of reported.log ≡ Self.next self.now) };

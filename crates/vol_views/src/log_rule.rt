@@ -24,13 +24,13 @@ impl Rule<LogEntry, u64> for OneOwner {
     ghost moves = { λ ask before after answer. Unit {0} };
 }
 
-/// The word on which all steps are made: the number of words after it.
+/// The word that all steps act on. Its value is the number of words after it.
 pub(crate) type Head = Word<LogEntry, u64, OneOwner>;
 
 /// A prefix of the log that was observed.
 pub(crate) type Beginning = Seen<LogEntry, u64, OneOwner>;
 
-/// The gain of a step that gains nothing.
+/// A gain without conditions.
 pub(crate) struct Nothing;
 
 impl Gain<LogEntry, u64> for Nothing {
@@ -48,7 +48,7 @@ impl Opening<Volume, LogEntry> for Begin {
     ghost log = { λ count volume. first_log volume };
 }
 
-/// A step that adds a word and gives a pen for it.
+/// A step that adds a word and returns a pen for it.
 pub(crate) struct Add;
 
 impl Play<LogEntry, u64> for Add {

@@ -13,19 +13,18 @@ use vol_volume::Record;
 pub struct Published {
     /// The version.
     pub version: Version,
-    /// The number of records that it reflects, including those that were cut.
+    /// The number of records that the version reflects, including records that were cut.
     pub at: u64,
     /// The log prefix that it reflects.
     pub prefix: SeenPrefix,
 }
 
-/// An operation on the published version: a record to apply, if any, and the number and the prefix that
-/// belong with the result.
+/// An operation on the published version: a record to apply, if any, and the number and the log prefix of the resulting version.
 #[derive(Drop)]
 pub struct Operation {
     /// The record of an accepted call.
     pub made: Option<Record>,
-    /// The number of records that the result reflects, including those that were cut.
+    /// The number of records that the result reflects, including records that were cut.
     pub at: u64,
     /// The log prefix that the result reflects.
     pub prefix: SeenPrefix,

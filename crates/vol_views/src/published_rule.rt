@@ -5,7 +5,7 @@ use atomic_table::{Join, Split};
 use crossbeam_utils::rule::{Outcome, Protocol};
 use left_right::writer::Writer;
 
-/// The rule: the published version is right, and its log extends the prefix that each reader knows.
+/// The rule: the published version is consistent with its log prefix, and this prefix extends the one that each reader knows.
 pub struct OneHistory;
 
 impl Protocol<Published, SeenPrefix> for OneHistory {
@@ -37,7 +37,7 @@ impl Outcome<Published, SeenPrefix> for Enter {
     ghost then = { Enters };
 }
 
-/// Tells a reader the log that the owner knows.
+/// Tells a reader the log prefix that the owner knows.
 pub(crate) struct Tell;
 
 impl Split<SeenPrefix> for Tell {
@@ -46,7 +46,7 @@ impl Split<SeenPrefix> for Tell {
     ghost right = { λ known. known };
 }
 
-/// Makes a reader know the prefix reported to it.
+/// Makes a reader learn a log prefix that was reported to it.
 pub(crate) struct Learn;
 
 impl Join<SeenPrefix> for Learn {

@@ -77,13 +77,13 @@ impl Publisher {
         self.copies.published().at
     }
 
-    /// Does nothing; its contract says what every publisher keeps: its log has begun, and the state of the
-    /// log is the one after all its records.
+    /// Does nothing; its contract states the invariant of every publisher: its log isn't empty, and its log's state is the state after all its
+    /// records.
     pub fn check(&self)
         ensures begun { self.now.log ≢ [] }
         ensures reads { state_of self.now.log ≡ after (start (origin_in self.now.log)) (history_of self.now.log) }
     {
-        // Reading a field adds the facts that every publisher keeps to the proof.
+        // Reading a field makes the publisher's invariant available to the proof.
         let _ = &self.copies;
     }
 
@@ -95,7 +95,7 @@ impl Publisher {
         self.ledger.ready()
     }
 
-    /// Publishes the record of an accepted call, which must be able to come next.
+    /// Publishes the record of an accepted call. The record must be able to come next.
     ///
     /// Takes no memory. Waits until nobody reads the copy that was shown before the last one, and applies the
     /// record to both copies in turn.
@@ -122,7 +122,7 @@ impl Publisher {
         Publisher { ledger, copies }
     }
 
-    /// Returns a subscriber that knows the whole log, or `None` if all readers' seats were found in use.
+    /// Returns a subscriber that knows the whole log, or `None` if it finds no free reader's seat.
     ///
     /// Takes no memory; increments an owner count.
     pub fn subscriber(&mut self) -> Option<Subscriber>
@@ -165,7 +165,7 @@ fn next_number(volume: &Volume) -> Result<u64, AllocError>
     volume.first().checked_add(records).ok_or(AllocError)
 }
 
-/// Returns the first version that is published of a volume.
+/// Returns the first published version of a volume.
 fn first_version(
     alloc: Global,
     volume: &Volume,

@@ -1,4 +1,4 @@
-//! Prefixes of the log.
+//! Observed prefixes of the log.
 ghost use Rattle.std.specs.Prelude.{◌≡◌, ◌⊎◌};
 ghost use mathlib.Core.List.{IsPrefix};
 

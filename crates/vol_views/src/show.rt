@@ -9,8 +9,7 @@ use crate::published_rule::{Copies, Show};
 use std::sync::Wait;
 use std::thread;
 
-/// Adds an operation. There are never more than two, and there is room for two; no contract says so, and
-/// without room this would try again.
+/// Adds an operation. At most two are pending, and there is room for two, but no contract states this; without room this would try again forever.
 pub(crate) fn add<R: Wait>(rt: &R, copies: &mut Copies, operation: Operation)
     ensures desk { copies.new.desk ≡ copies.old.desk }
     ensures pending { drop copies.new.behind copies.new.log.items ≡ drop copies.old.behind copies.old.log.items ++ operation ∷ [] }

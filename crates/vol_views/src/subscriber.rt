@@ -1,4 +1,4 @@
-//! One thread's access to the published version. Learning is in `view.rt`.
+//! One thread's access to the published version. Learning a log prefix is in `view.rt`.
 ghost use Rattle.std.specs.Prelude.{◌≡◌, ◌≢◌, [], IfOk, IfErr};
 ghost use mathlib.Core.List.{IsPrefix};
 ghost use Rattle.vol_volume.specs.Answer.{Answers};
@@ -16,8 +16,7 @@ use std::marker::Model;
 use vol_dir::Refusal;
 use vol_volume::{Query, Reply};
 
-/// One thread's access to the published version. It takes no lock. Contracts see the log prefix that it last
-/// read or was given.
+/// One thread's access to the published version. It takes no lock. Contracts see the log prefix that it last read or was given.
 #[derive(Drop)]
 pub struct Subscriber {
     pub(crate) reader: Reader<Published, SeenPrefix, OneHistory>,
@@ -37,7 +36,7 @@ impl Model for Subscriber {
 /// A query's answer from the published version.
 #[derive(Drop)]
 pub struct Answered {
-    /// The number of records that the answer reflects, including those that were cut.
+    /// The number of records that the answer reflects, including records that were cut.
     pub at: u64,
     /// The log prefix of those records.
     pub prefix: SeenPrefix,
@@ -46,10 +45,10 @@ pub struct Answered {
 }
 
 impl Subscriber {
-    /// Runs a query on the published version. Returns only itself if it couldn't enter, which happens only
-    /// after the publisher has ended.
+    /// Runs a query on the published version. Returns only the subscriber if it couldn't enter the version, which happens only after the publisher
+    /// has ended.
     ///
-    /// Takes memory and costs what [`crate::Version::ask`] does, and never waits.
+    /// Takes as much memory and time as [`crate::Version::ask`], and never waits.
     pub fn ask(self, alloc: Global, query: &Query) -> Result<(Subscriber, Answered), Subscriber>
         ensures book { IfOk result (λ (subscriber, answered). subscriber.book ≡ self.book) }
         ensures goes_on { IfOk result (λ (subscriber, answered). IsPrefix self.log subscriber.log) }

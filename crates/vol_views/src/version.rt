@@ -16,9 +16,8 @@ use vol_dir::Refusal;
 use vol_layout::Geometry;
 use vol_volume::{Query, Record, Reply, Volume, apply, ask_image};
 
-/// A copy of a volume's image that replays records. It caches the geometry and the number of free blocks, so
-/// that a record doesn't recount them. Contracts see the volume that it was copied from and the records
-/// applied since; it always reads as the state that these make.
+/// A copy of a volume's image that replays records. It caches the geometry and the number of free blocks, so applying a record doesn't recount them.
+/// Contracts see the volume that it was copied from and the records applied since; it always reads as the state after these records.
 #[derive(Drop)]
 pub struct Version {
     geometry: Geometry,
@@ -62,10 +61,9 @@ impl Version {
         })
     }
 
-    /// Applies a record if it can come next, and returns true; else returns false and leaves the image as it
-    /// is.
+    /// Applies a record and returns true if the record can come next; otherwise returns false and leaves the image as it is.
     ///
-    /// Takes no memory. Costs what [`vol_volume::apply`] does.
+    /// Takes no memory. Costs as much as [`vol_volume::apply`].
     pub fn apply(&mut self, entry: &Record) -> bool
         ensures applied { self.new ≡ self.old ++ Made entry.now ∷ [] }
         ensures may_follow { IsTrue result ↔ MayFollow (state_of self.old) entry.now }
@@ -77,7 +75,7 @@ impl Version {
 
     /// Returns the reply to a query, or a refusal as [`Volume::ask`] does.
     ///
-    /// Takes memory and costs what [`vol_volume::ask_image`] does.
+    /// Takes as much memory and time as [`vol_volume::ask_image`].
     pub fn ask(&self, alloc: Global, query: &Query) -> Result<Reply, Refusal>
         ensures { Answers (state_of self.now).tree query.now result }
     {

@@ -22,9 +22,8 @@ use vol_volume::Query;
 /// The greatest number of views of a volume.
 pub const MOST_VIEWS: usize = 16;
 
-/// A view of a volume, for one thread at a time. It answers queries from the published version and takes no
-/// lock. An answer is never older than one it gave or learnt before. For contracts alone, it keeps its
-/// receipts.
+/// A view of a volume, for one thread at a time. It answers queries from the published version and takes no lock. No answer is older than an earlier
+/// answer of the view, or than the progress that it learned from a session. Contracts also see its receipts.
 #[derive(Drop)]
 pub struct View {
     subscriber: Option<Subscriber>,
@@ -51,15 +50,15 @@ pub enum ViewFault {
     /// Out of memory.
     #[error("out of memory")]
     NoMemory,
-    /// The published version couldn't be read, which happens only after publishing has ended, or the answer
-    /// was older than what the view knows and was dropped. Neither happens while the volume is shared, which
-    /// no contract can say. The caller may ask again, or use a session.
+    /// The published version couldn't be read, which happens only after publishing has ended, or the answer was older than the log prefix that the
+    /// view knows and was dropped. Neither happens while the volume is shared, but no contract can state this. The caller may ask again, or use a
+    /// session.
     #[error("what is published couldn't be read")]
     NotEntered,
 }
 
 impl View {
-    /// Returns a view that knows everything published, or `None` if all readers' seats were found in use.
+    /// Returns a view that knows the whole published log, or `None` if it finds no free reader's seat.
     ///
     /// Takes no memory; increments an owner count.
     pub fn new(publisher: &mut Publisher) -> Option<View>
@@ -74,11 +73,11 @@ impl View {
         })
     }
 
-    /// Answers a query from the published version, with a receipt. Returns `NoMemory` if memory for the reply
-    /// runs out, and `NotEntered` if the published version couldn't be read or is older than what the view
-    /// knows. After either error the receipts are unchanged; after `NotEntered` the whole view is.
+    /// Answers a query from the published version, with a receipt. Returns `NoMemory` if memory for the reply runs out, and `NotEntered` if the
+    /// published version couldn't be read or is older than the log prefix that the view knows. After either error the receipts are unchanged; after
+    /// `NotEntered` the whole view is.
     ///
-    /// Takes memory and costs what [`Subscriber::ask`] does, and never waits.
+    /// Takes as much memory and time as [`Subscriber::ask`], and never waits.
     #[tactic(auto, using(crate::proofs::Views::number_on))]
     pub fn ask(&mut self, alloc: Global, query: Query) -> Result<Receipt, (ViewFault, Query)>
         ensures book { self.new.book ≡ self.old.book }
@@ -106,8 +105,8 @@ impl View {
         }
     }
 
-    /// Returns the receipt of an answer, unless the answer is older than what the view knows, which never
-    /// happens (no contract can say so).
+    /// Returns the receipt of an answer. Returns `NoMemory` if memory for the reply ran out, and `NotEntered` if the answer is older than the log
+    /// prefix that the view knows; such an answer never occurs, but no contract can state this.
     fn take_over(&mut self, answered: Answered, query: Query) -> Result<Receipt, (ViewFault, Query)>
         requires book { answered.prefix.book ≡ self.old.book }
         requires begun { answered.prefix.log ≢ [] }
@@ -135,7 +134,7 @@ impl View {
         Ok(self.tell(at, Asked::Question(query), outcome))
     }
 
-    /// Makes a receipt for what the view now knows, and keeps it among the receipts.
+    /// Makes a receipt of an answer from the known log prefix, and adds it to the view's receipts.
     fn tell(&mut self, at: u64, asked: Asked, outcome: Outcome) -> Receipt
         requires at { at ≡ number_of self.old.log }
         requires answer { IsAnswer (after (start (origin_in self.old.log)) (history_of self.old.log)) asked outcome }
@@ -163,7 +162,7 @@ impl View {
         self.known = reported;
     }
 
-    /// Learns a session's progress: from now on each answer reflects everything that the session knows.
+    /// Learns a session's progress: each later answer reflects everything that the session knows.
     ///
     /// Takes no memory.
     #[tactic(auto, using(crate::proofs::Views::number_on))]
@@ -197,8 +196,8 @@ impl View {
         }
     }
 
-    /// Does nothing; its contract says that the published log extends what a view knows, with which all its
-    /// receipts agree.
+    /// Does nothing; its contract says that the published log extends the prefix that the view knows, and that all the view's receipts agree with
+    /// this prefix.
     pub fn is_covered(&self, publisher: &mut Publisher)
         requires { self.now.book ≡ publisher.old.book }
         ensures same { publisher.new ≡ publisher.old }

@@ -1,4 +1,4 @@
--- The checks that an accepted call passed, one after the other.
+-- The checks of an accepted call all passed.
 use Rattle.std.proofs.Common.{◌≡◌, ℕ, ◌+◌, ◌<◌, ◌≤◌, ◌∙◌, ap, refl, sym, Bool, true, false, not, nat_lt, nat_le, if◌then◌else◌, List, [], ◌∷◌, Option, None, Some, Ok, arith}
 use Rattle.std.specs.List.{list_any}
 use Rattle.std.specs.Option.{is_some}
@@ -16,23 +16,23 @@ use Rattle.vol_dir.specs.declared.cred.Cred.{Cred}
 use Rattle.vol_dir.specs.declared.refusal.Refusal.{Refusal}
 use Rattle.vol_dir.specs.declared.refusal.Refusal.TheVariants as refusals
 
--- a test that was passed
+-- if a list of checks gives no refusal, its first test is false and the others give no refusal
 passed : (test : Bool) (refusal : Refusal) (others : Option Refusal) → (if test then Some refusal else others) ≡ None
     → (test ≡ false) × (others ≡ None)
 passed true refusal others none = absurd (cc)
 passed false refusal others none = (refl, none)
 
--- one that checked the opposite
+-- if the negation of a test is false, the test is true
 not_not : (test : Bool) → not test ≡ false → test ≡ true
 not_not true e = refl
 not_not false e = sym e
 
--- a name that doesn't exist
+-- if no i-number was found for a name, the result is None
 none_there : (found : Option ℕ) → is_some found ≡ false → found ≡ None
 none_there None e = refl
 none_there (Some i) e = absurd (cc)
 
--- the first checks, of the caller's numbers and of the paths
+-- the first checks passed: of the caller's user and group numbers, and for zero bytes in the paths
 pub record PassesFirst (tree : Tree) (cred : Cred) (paths : List (List ℕ)) (rest : Option Refusal) : Type 0 where
   pub user : cred.uid ≤ (constants tree.geometry.edition).id_limit
   pub group : cred.gid ≤ (constants tree.geometry.edition).id_limit
@@ -51,24 +51,24 @@ first_passed tree cred paths others none =
     let ids = or_parts (nat_lt limit cred.uid) (nat_lt limit cred.gid) bad.0 in
     record { user = below limit cred.uid ids.0; group = below limit cred.gid ids.1; plain = zeros.0; others = zeros.1 }
 
--- the checks that were passed
+-- the checks of the parent and the last name passed
 parent_asked : (tree : Tree) (cred : Cred) (path : List ℕ) (bare : Refusal) (tests : ℕ → List ℕ → List (Bool × Refusal)) (d : ℕ) (name : List ℕ)
     → walk_parent tree cred path ≡ Some (Ok (d, name)) → of_parent (walk_parent tree cred path) bare tests ≡ None → first_of (tests d name) ≡ None
 parent_asked tree cred path bare tests d name walked none = ap (λ w. of_parent w bare tests) (sym walked) ∙ none
 
--- the rest is checked
+-- the checks of the node passed
 node_asked : (tree : Tree) (cred : Cred) (path : List ℕ) (others : ℕ → Option Refusal) (i : ℕ)
     → walk tree cred path ≡ Ok i → of_node (walk tree cred path) others ≡ None → others i ≡ None
 node_asked tree cred path others i walked none = ap (λ w. of_node w others) (sym walked) ∙ none
 
--- a new entry: the caller may own the node, and the directory takes the entry, with enough room for it
+-- a new entry may be added: the caller's numbers are valid, directory d takes the name, and there are enough free blocks
 pub record MayEnter (state : State) (cred : Cred) (d : ℕ) (name : List ℕ) (needed : ℕ) : Type 0 where
   pub user : cred.uid ≤ (constants state.tree.geometry.edition).id_limit
   pub group : cred.gid ≤ (constants state.tree.geometry.edition).id_limit
   pub takes : TakesName state d name
   pub room : needed ≤ free_in state
 
--- a new file
+-- an accepted Create may add its entry, and there is a free i-number
 pub create_passed : (state : State) (cred : Cred) (path : List ℕ) (d : ℕ) (name : List ℕ)
     → then_others state.tree cred (path ∷ []) (of_parent (walk_parent state.tree cred path) refusals.Exists (create_tests state cred)) ≡ None → walk_parent state.tree cred path ≡ Some (Ok (d, name))
     → MayEnter state cred d name (entry_need state d) × (has_free_number state.tree ≡ true)
@@ -92,7 +92,7 @@ create_passed state cred path d name none walked =
 above : (a b : ℕ) → nat_le a b ≡ false → b < a
 above a b e = grind (arith, nat_tests)
 
--- a new directory
+-- an accepted Mkdir may add its entry, there is a free i-number, and the parent's link count is below the limit
 pub mkdir_passed : (state : State) (cred : Cred) (path : List ℕ) (d : ℕ) (name : List ℕ)
     → then_others state.tree cred (path ∷ []) (of_parent (walk_parent state.tree cred path) refusals.Exists (mkdir_tests state cred)) ≡ None → walk_parent state.tree cred path ≡ Some (Ok (d, name))
     → MayEnter state cred d name (entry_need state d + 1) × (has_free_number state.tree ≡ true)
@@ -116,7 +116,7 @@ mkdir_passed state cred path d name none walked =
       above _ _ full.0,
     )
 
--- another name
+-- the source of an accepted Link isn't a directory, and the checks of the target's parent and last name pass
 link_asked : (state : State) (cred : Cred) (source target : List ℕ) (i : ℕ)
     → then_others state.tree cred (source ∷ target ∷ []) (of_node (walk state.tree cred source) (link_refusal state cred target)) ≡ None
     → walk state.tree cred source ≡ Ok i
@@ -152,7 +152,7 @@ link_passed state cred source target i d name none walked led =
       room = below _ _ room.0;
     }
 
--- removing a name
+-- the name of an accepted Unlink exists, and isn't for a directory
 pub unlink_passed : (state : State) (cred : Cred) (path : List ℕ) (d : ℕ) (name : List ℕ)
     → then_others state.tree cred (path ∷ []) (of_parent (walk_parent state.tree cred path) refusals.IsDirectory (unlink_tests state cred)) ≡ None
     → walk_parent state.tree cred path ≡ Some (Ok (d, name))
@@ -209,7 +209,7 @@ write_passed state cred path offset len i none walked =
     let room = passed _ _ _ great.1 in
     record { other = other.0; regular = regular.0; greatest = below _ _ great.0; room = below _ _ room.0 }
 
--- a new owner, whose numbers the edition has
+-- the new user and group numbers of an accepted Chown are within the edition's limit
 pub chown_passed : (state : State) (cred : Cred) (path : List ℕ) (uid gid : ℕ)
     → (if is_bad_id state.tree.geometry.edition uid gid then Some refusals.BadId
     else then_others state.tree cred (path ∷ []) (of_node (walk state.tree cred path) (λ i. first_of (chown_tests cred)))) ≡ None

@@ -30,7 +30,7 @@ directory_used e = cc
 special_used : kinds.Special ≢ kinds.Free
 special_used e = cc
 
--- a test that no number of a range passes
+-- if no number of a range passes a test, `list_any` is false
 none_passes : (test : ℕ → Bool) (a n : ℕ) → ((i : ℕ) → a ≤ i → i < a + n → test i ≡ false) → list_any test (range_with_len a n) ≡ false
 none_passes test a zero fails = refl
 none_passes test a (suc n) fails =
@@ -51,26 +51,26 @@ module _ (geometry : Geometry) (image : List ℕ) (files : Rules3To7 geometry im
   none_by i kinds.Special is known = sym (used_mode i kinds.Special is special_used)
   none_by i kinds.Odd is known = absurd (known refl)
 
-  -- an i-number of the volume has no node if its mode is 0
+  -- an i-number of the volume has no node exactly if its mode is 0
   none_is : (i : ℕ) → 1 ≤ i → i ≤ geometry.last_inode → is_none ((tree geometry image).nodes i) ≡ (mode_of geometry image i == 0)
   none_is i first last =
       ap is_none (node_inside geometry image i first last ∙ node_of_kind geometry image i (kind_at geometry image i) refl)
       ∙ none_by i (kind_at geometry image i) refl (files.sound.kinds.known i first last)
 
-  -- a free number has no node
+  -- an i-number for a new node has no node
   pub number_none : (i : ℕ) → IsFreeNumber geometry image i → is_none ((tree geometry image).nodes i) ≡ true
   number_none i free =
       let zero_mode : (mode_of geometry image i == 0) ≡ true = grind (arith, nat_tests, free.mode) in
       none_is i (omega (arith, free.above)) free.within ∙ zero_mode
 
-  -- an i-number can be taken if its i-node is free
+  -- an i-number of the volume may be given to a new node exactly if it is above the root's and its mode is 0
   number_is : (i : ℕ) → 1 ≤ i → i ≤ geometry.last_inode
       → is_free_number (tree geometry image) i ≡ (nat_lt (constants geometry.edition).root i && (nat_le i geometry.last_inode && (mode_of geometry image i == 0)))
   unfolding tree
   number_is i first last =
       ap (λ b. nat_lt (constants geometry.edition).root i && (nat_le i geometry.last_inode && b)) (none_is i first last)
 
-  -- a free number passes the test
+  -- an i-number for a new node passes the test `is_free_number`
   pub number_free : (i : ℕ) → IsFreeNumber geometry image i → is_free_number (tree geometry image) i ≡ true
   number_free i free =
       let above : nat_lt (constants geometry.edition).root i ≡ true = grind (arith, nat_tests, free.above) in
@@ -93,7 +93,7 @@ module _ (geometry : Geometry) (image : List ℕ) (files : Rules3To7 geometry im
             ] refl
       ] refl
 
-  -- some i-number is free for a new node if and only if an i-node above the root's is free
+  -- the state has an i-number for a new node if and only if the image has one
   pub any_free : (found : Bool) → IsTrue found ↔ ((i : ℕ) × IsFreeNumber geometry image i) → found ≡ has_free_number (tree geometry image)
   unfolding tree
   any_free true is =
@@ -104,7 +104,7 @@ module _ (geometry : Geometry) (image : List ℕ) (files : Rules3To7 geometry im
       sym (none_passes (is_free_number (tree geometry image)) 1 geometry.last_inode (λ i from to.
       number_used i from (omega arith) (λ free. let found : false ≡ true = is.1 (i, free) in cc)))
 
-  -- if some number can be taken, some i-node is free
+  -- if the state has an i-number for a new node, so does the image
   pub some_free : has_free_number (tree geometry image) ≡ true → ((i : ℕ) → IsFreeNumber geometry image i → ⊥) → ⊥
   unfolding tree
   some_free some none =
@@ -112,7 +112,7 @@ module _ (geometry : Geometry) (image : List ℕ) (files : Rules3To7 geometry im
       none_passes (is_free_number (tree geometry image)) 1 geometry.last_inode (λ i from to. number_used i from (omega arith) (none i))
       in true≢false (sym some ∙ all)
 
-  -- an i-number that passes the test is free
+  -- an i-number that passes the test `is_free_number` may be given to a new node
   pub free_of : (i : ℕ) → is_free_number (tree geometry image) i ≡ true → IsFreeNumber geometry image i
   unfolding tree
   free_of i passes =
@@ -123,16 +123,16 @@ module _ (geometry : Geometry) (image : List ℕ) (files : Rules3To7 geometry im
       let zero_mode : (mode_of geometry image i == 0) ≡ true = sym (none_is i (omega arith) high) ∙ rest.1 in
       record { above = low; within = high; mode = grind (arith, nat_tests) }
 
-  -- a recorded number, if there is one, is free
+  -- a recorded i-number that passes the test may be given to a new node
   pub recorded_free : (recorded : Option ℕ) → IfSome recorded (λ i. is_free_number (tree geometry image) i ≡ true)
       → IfSome recorded (λ i. IsFreeNumber geometry image i)
   recorded_free None passes = passes
   recorded_free (Some i) passes = free_of i passes
 
-  -- a free number is one that can be taken
+  -- if some i-number may be given to a new node, the state has one
   pub number_has : (i : ℕ) → IsFreeNumber geometry image i → has_free_number (tree geometry image) ≡ true
   number_has i free = sym (any_free true ((λ e. (i, free)), (λ found. refl)))
 
-  -- if no i-node is free, none can
+  -- if no i-number may be given to a new node, the state has none
   pub none_has : ((i : ℕ) → IsFreeNumber geometry image i → ⊥) → has_free_number (tree geometry image) ≡ false
   none_has none = sym (any_free false ((λ e. absurd cc), (λ found. absurd (none found.0 found.1))))

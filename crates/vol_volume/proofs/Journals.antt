@@ -1,4 +1,4 @@
--- Journals in parts, and the invariant under accepted calls.
+-- Journals in parts, and the invariant of volumes after accepted calls.
 use Rattle.std.proofs.Common.{◌≡◌, ◌↔◌, ℕ, List, [], ◌∷◌, ◌++◌, refl, ap, sym, ◌∙◌, subst, Result, Ok, Err}
 use Rattle.vol_layout.specs.Geometry.{geometry_of}
 use Rattle.vol_dir.specs.Tree.{State, state}
@@ -12,23 +12,23 @@ use Rattle.vol_volume.specs.declared.calls.Call.{Call}
 use Rattle.vol_volume.specs.declared.calls.Done.{Done}
 use Rattle.vol_volume.specs.declared.calls.Record.{Record}
 
--- a write of no bytes keeps the state, wherever its walk leads
+-- a write of no bytes doesn't change the state, wherever the walk of its path leads
 pub write_nothing : (state : State) (now offset : ℕ) (walked : Result ℕ Refusal) → on_node state walked (after_write state now offset []) ≡ state
 write_nothing state now offset (Ok i) = refl
 write_nothing state now offset (Err refusal) = refl
 
--- the second part continues from the state that the first leads to
+-- replaying a joined journal is replaying its first part and then its second
 pub after-append : (state : State) (front rest : List Record) → after state (front ++ rest) ≡ after (after state front) rest
 after-append state [] rest = refl
 after-append state (entry ∷ front) rest = after-append (step state entry.call entry.done) front rest
 
--- two legal parts are a legal journal
+-- a journal is legal if its first part is legal, and its second part is legal after the first
 pub legal-append : (state : State) (front rest : List Record) → IsLegal state front → IsLegal (after state front) rest → IsLegal state (front ++ rest)
 legal-append state [] rest first second = second
 legal-append state (entry ∷ front) rest first second =
     (first.0, legal-append (step state entry.call entry.done) front rest first.1 second)
 
--- both parts of a legal journal are legal
+-- if a journal is legal, its first part is legal, and its second part is legal after the first
 pub legal-parts : (state : State) (front rest : List Record) → IsLegal state (front ++ rest) → IsLegal state front × IsLegal (after state front) rest
 legal-parts state [] rest legal = (tt, legal)
 legal-parts state (entry ∷ front) rest legal =
@@ -36,17 +36,17 @@ legal-parts state (entry ∷ front) rest legal =
     legal-parts (step state entry.call entry.done) front rest legal.1
     in ((legal.0, parts.0), parts.1)
 
--- the journal is legal if and only if both parts are
+-- a journal is legal if and only if its first part is legal, and its second part is legal after the first
 pub legal-in-parts : (state : State) (front rest : List Record)
     → IsLegal state (front ++ rest) ↔ (IsLegal state front × IsLegal (after state front) rest)
 legal-in-parts state front rest = (legal-parts state front rest, λ both. legal-append state front rest both.0 both.1)
 
--- the state that an accepted call made of an image, by the sizes that it now states
+-- after a performed call, the image reads as the state after the step, with the geometry that its super-block has now
 pub reads_made : (edition : Edition) (old new : List ℕ) (call : Call) (done : Done) → Performs (geometry_of edition old) old new call done
     → reads_as edition new ≡ step (reads_as edition old) call done
 reads_made edition old new call done performed = ap (λ g. state g new) (sym performed.changes.ready.sizes) ∙ performed.changes.makes
 
--- an accepted call keeps a volume consistent; `now` is the state that the journal made before
+-- an accepted call keeps a volume consistent; `now` is the state after replaying the journal before the call
 keep_same : (now : State) (old : Mounted) (new : List ℕ) (call : Call) (done : Done) → IsConsistent old
     → now ≡ reads_as old.edition old.image
     → MayFollow now (record { call = call; done = done })
@@ -69,7 +69,7 @@ keep_same now old new call done was reads follows made performed = record {
       ∙ sym (after-append (reads_as old.edition old.base) old.journal (record { call = call; done = done } ∷ []));
 }
 
--- the invariant of every volume is kept
+-- an accepted call keeps the invariant of every volume
 pub kept_consistent : (old new : Mounted) (call : Call) (done : Done) → IsConsistent old → Accepts old new call done → IsConsistent new
 kept_consistent old new call done was accepts =
     let same : IsConsistent (record {

@@ -1,4 +1,4 @@
--- The bytes of i-nodes that are not in use, after each call.
+-- The unused bytes of i-nodes after each call.
 use Rattle.std.proofs.Common.{◌≡◌, ◌≢◌, ◌∙◌, sym, ap, refl, ℕ, ◌+◌, ◌-◌, ◌<◌, ◌≤◌, if◌then◌else◌, Bool, true, false, nat_le, List, [], ◌∷◌, length, slice_index, max, take, Option, None, Some, inl, inr, eq-eqb, arith}
 use Rattle.std.specs.Option.{option_map, is_none}
 use Rattle.std.proofs.lemmas.Bool.{cases_eq, true≢false}
@@ -20,16 +20,16 @@ use Rattle.vol_change.proofs.NodeEdits.{set_here}
 use Rattle.vol_change.proofs.SideStates.{set_beside}
 use Rattle.vol_volume.specs.Inodes.{is_free, KeepsInodes}
 
--- true if no node of a state has an i-number
+-- true if no node of a state has this i-number
 abbrev free_at : State → ℕ → Bool
 free_at state j = is_none (state.tree.nodes j)
 
--- a change of a node that may not exist
+-- changing an optional node doesn't change whether it exists
 mapped_free : (change : Node → Node) (node : Option Node) → is_none (option_map change node) ≡ is_none node
 mapped_free change None = refl
 mapped_free change (Some node) = refl
 
--- a change of a node makes and frees none
+-- changing a node doesn't change which i-numbers are free
 changed_free : (state : State) (i : ℕ) (change : Node → Node) (j : ℕ) → free_at (change_node i change state) j ≡ free_at state j
 changed_free state i change j = elim (cases_eq j i) [
   | inl e ↦
@@ -38,7 +38,7 @@ changed_free state i change j = elim (cases_eq j i) [
   | inr other ↦ ap is_none (set_beside state.tree.nodes i (option_map change (state.tree.nodes i)) j other)
 ]
 
--- nor does adding an entry
+-- adding an entry doesn't change which i-numbers are free
 added_free : (state : State) (now d : ℕ) (name : List ℕ) (i j : ℕ) → free_at (add_entry now d name i state) j ≡ free_at state j
 added_free state now d name i j =
     changed_free state d (λ node. record (modified now node) {
@@ -46,19 +46,19 @@ added_free state now d name i j =
       size = size_with_entry state d;
     }) j
 
--- or one that is removed
+-- removing an entry doesn't change which i-numbers are free
 removed_free : (state : State) (now d : ℕ) (name : List ℕ) (j : ℕ) → free_at (remove_entry now d name state) j ≡ free_at state j
 removed_free state now d name j =
     changed_free state d (λ node. record (modified now node) { content = change_names (λ names. remove names name) node.content }) j
 
--- or a link
+-- adding a link doesn't change which i-numbers are free
 link_free : (state : State) (now i j : ℕ) → free_at (add_link now i state) j ≡ free_at state j
 link_free state now i j = changed_free state i (λ node. record (stamped now node) { links = node.links + 1 }) j
 
 unlink_free : (state : State) (now i j : ℕ) → free_at (drop_link now i state) j ≡ free_at state j
 unlink_free state now i j = changed_free state i (λ node. record (stamped now node) { links = node.links - 1 }) j
 
--- or a write
+-- a write doesn't change which i-numbers are free
 write_free : (state : State) (now offset : ℕ) (bytes : List ℕ) (i j : ℕ) → free_at (after_write state now offset bytes i) j ≡ free_at state j
 write_free state now offset [] i j = refl
 write_free state now offset (byte ∷ bytes) i j =
@@ -67,17 +67,17 @@ write_free state now offset (byte ∷ bytes) i j =
       size = max node.size (offset + length (byte ∷ bytes));
     }) j
 
--- or shortening a file
+-- a truncation doesn't change which i-numbers are free
 truncate_free : (state : State) (now size i j : ℕ) → free_at (after_truncate state now size i) j ≡ free_at state j
 truncate_free state now size i j =
     changed_free state i (λ node. record (modified now node) { content = Body (take size (body_of node.content)); size = size }) j
 
 module _ (geometry : Geometry) (old new : List ℕ) where
-  -- the state that an image reads as determines which i-numbers are free
+  -- an i-number is free in the image exactly if it is free in the state that the image reads as
   free_as : (made : State) → state geometry new ≡ made → (j : ℕ) → is_free geometry new j ≡ free_at made j
   free_as made makes j = ap (λ s. free_at s j) makes
 
-  -- no i-node is taken or freed
+  -- if the same i-numbers are free and no unused byte changes, `KeepsInodes` holds
   inodes_same : ((j : ℕ) → is_free geometry new j ≡ is_free geometry old j)
       → ((j : ℕ) → 1 ≤ j → j ≤ geometry.last_inode → KeepsUnused geometry old new j) → KeepsInodes geometry old new
   inodes_same same kept = record {
@@ -86,7 +86,7 @@ module _ (geometry : Geometry) (old new : List ℕ) where
     unused = λ j first last stays. kept j first last;
   }
 
-  -- one is taken
+  -- if only i-number i is newly in use, with byte 51 set to 0, `KeepsInodes` holds
   inodes_made : (i : ℕ) → is_free geometry old i ≡ true → is_free geometry new i ≡ false
       → ((j : ℕ) → j ≢ i → is_free geometry new j ≡ is_free geometry old j)
       → (geometry.edition ≡ V7 → slice_index new (inode_place V7 i + 51) ≡ 0)
@@ -106,7 +106,7 @@ module _ (geometry : Geometry) (old new : List ℕ) where
     ];
   }
 
-  -- one is freed
+  -- if only i-number i is newly free, with its i-node cleared, `KeepsInodes` holds
   inodes_lost : (i : ℕ) → is_free geometry old i ≡ false → is_free geometry new i ≡ true
       → ((j : ℕ) → j ≢ i → is_free geometry new j ≡ is_free geometry old j) → IsCleared geometry new i
       → ((j : ℕ) → 1 ≤ j → j ≤ geometry.last_inode → j ≢ i → KeepsUnused geometry old new j) → KeepsInodes geometry old new
@@ -125,44 +125,44 @@ module _ (geometry : Geometry) (old new : List ℕ) where
     ];
   }
 
-  -- new permission bits
+  -- `KeepsInodes` holds after Chmod
   pub chmod_inodes : (now perm i : ℕ) → state geometry new ≡ at_time now (after_chmod (state geometry old) now perm i)
       → ((j : ℕ) → 1 ≤ j → j ≤ geometry.last_inode → KeepsUnused geometry old new j) → KeepsInodes geometry old new
   chmod_inodes now perm i makes kept =
       inodes_same (λ j. free_as _ makes j ∙ changed_free (state geometry old) i (with_permission_bits now perm) j) kept
 
-  -- a new owner
+  -- `KeepsInodes` holds after Chown
   pub chown_inodes : (now uid gid i : ℕ) → state geometry new ≡ at_time now (after_chown (state geometry old) now uid gid i)
       → ((j : ℕ) → 1 ≤ j → j ≤ geometry.last_inode → KeepsUnused geometry old new j) → KeepsInodes geometry old new
   chown_inodes now uid gid i makes kept =
       inodes_same (λ j. free_as _ makes j ∙ changed_free (state geometry old) i (with_owner now uid gid) j) kept
 
-  -- new times
+  -- `KeepsInodes` holds after Times
   pub times_inodes : (now atime mtime i : ℕ) → state geometry new ≡ at_time now (after_utime (state geometry old) now atime mtime i)
       → ((j : ℕ) → 1 ≤ j → j ≤ geometry.last_inode → KeepsUnused geometry old new j) → KeepsInodes geometry old new
   times_inodes now atime mtime i makes kept =
       inodes_same (λ j. free_as _ makes j ∙ changed_free (state geometry old) i (with_times now atime mtime) j) kept
 
-  -- bytes that are written
+  -- `KeepsInodes` holds after Write
   pub write_inodes : (now offset : ℕ) (bytes : List ℕ) (i : ℕ)
       → state geometry new ≡ at_time now (after_write (state geometry old) now offset bytes i)
       → ((j : ℕ) → 1 ≤ j → j ≤ geometry.last_inode → KeepsUnused geometry old new j) → KeepsInodes geometry old new
   write_inodes now offset bytes i makes kept =
       inodes_same (λ j. free_as _ makes j ∙ write_free (state geometry old) now offset bytes i j) kept
 
-  -- shortening a file
+  -- `KeepsInodes` holds after Truncate
   pub truncate_inodes : (now size i : ℕ) → state geometry new ≡ at_time now (after_truncate (state geometry old) now size i)
       → ((j : ℕ) → 1 ≤ j → j ≤ geometry.last_inode → KeepsUnused geometry old new j) → KeepsInodes geometry old new
   truncate_inodes now size i makes kept = inodes_same (λ j. free_as _ makes j ∙ truncate_free (state geometry old) now size i j) kept
 
-  -- another name
+  -- `KeepsInodes` holds after Link
   pub link_inodes : (now i d : ℕ) (name : List ℕ) → state geometry new ≡ at_time now (after_link (state geometry old) now i d name)
       → ((j : ℕ) → 1 ≤ j → j ≤ geometry.last_inode → KeepsUnused geometry old new j) → KeepsInodes geometry old new
   link_inodes now i d name makes kept =
       let was = state geometry old in
       inodes_same (λ j. free_as _ makes j ∙ (added_free (add_link now i was) now d name i j ∙ link_free was now i j)) kept
 
-  -- a new file
+  -- `KeepsInodes` holds after Create
   pub create_inodes : (cred : Cred) (now perm i d : ℕ) (name : List ℕ)
       → state geometry new ≡ at_time now (after_create (state geometry old) cred now perm i d name) → is_free geometry old i ≡ true
       → (geometry.edition ≡ V7 → slice_index new (inode_place V7 i + 51) ≡ 0)
@@ -176,7 +176,7 @@ module _ (geometry : Geometry) (old new : List ℕ) where
       (λ j other. free_as _ makes j ∙ (added_free put now d name i j ∙ ap is_none (set_beside was.tree.nodes i node j other)))
       zero kept
 
-  -- a new directory
+  -- `KeepsInodes` holds after Mkdir
   pub mkdir_inodes : (cred : Cred) (now perm i d : ℕ) (name : List ℕ)
       → state geometry new ≡ at_time now (after_mkdir (state geometry old) cred now perm i d name) → is_free geometry old i ≡ true
       → (geometry.edition ≡ V7 → slice_index new (inode_place V7 i + 51) ≡ 0)
@@ -192,7 +192,7 @@ module _ (geometry : Geometry) (old new : List ℕ) where
       ∙ (link_free last now d j ∙ (added_free put now d name i j ∙ ap is_none (set_beside was.tree.nodes i node j other))))
       zero kept
 
-  -- removing a directory
+  -- `KeepsInodes` holds after Rmdir
   pub rmdir_inodes : (now i d : ℕ) (name : List ℕ) → state geometry new ≡ at_time now (after_rmdir (state geometry old) now d name)
       → get (names_at (state geometry old).tree d) name ≡ Some i → is_free geometry old i ≡ false → IsCleared geometry new i
       → ((j : ℕ) → 1 ≤ j → j ≤ geometry.last_inode → j ≢ i → KeepsUnused geometry old new j) → KeepsInodes geometry old new
@@ -208,7 +208,7 @@ module _ (geometry : Geometry) (old new : List ℕ) where
       ∙ (ap is_none (set_beside low.tree.nodes i None j other) ∙ (unlink_free mid now d j ∙ removed_free was now d name j)))
       zero kept
 
-  -- removing a name, and with the last one its node
+  -- `KeepsInodes` holds after Unlink
   pub unlink_inodes : (now i d links : ℕ) (name : List ℕ) → state geometry new ≡ at_time now (after_unlink (state geometry old) now d name)
       → get (names_at (state geometry old).tree d) name ≡ Some i → is_free geometry old i ≡ false → 1 ≤ i → i ≤ geometry.last_inode
       → (node_at (state geometry old).tree i).links ≡ links → (links ≤ 1 → IsCleared geometry new i)

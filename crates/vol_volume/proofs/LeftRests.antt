@@ -1,4 +1,4 @@
--- The rest of the image that calls keep, once their paths are walked.
+-- The rest of the image, which a call leaves unchanged once its paths are walked.
 use Rattle.std.proofs.Common.{◌≡◌, ◌∙◌, ap, sym, subst, ℕ, ◌+◌, ◌<◌, ◌≤◌, nat_le, true, false, if◌then◌else◌, List, [], ◌∷◌, ◌*◌, ◌++◌, length, drop, IfSome, None, Some, Ok, inl, inr, refl, arith}
 use Rattle.std.proofs.lemmas.Bool.{cases_eq}
 use Rattle.std.proofs.lemmas.Bool.Decides.{nat_tests}
@@ -25,7 +25,7 @@ use Rattle.vol_volume.specs.declared.calls.Done.{Done}
 use Rattle.vol_volume.specs.declared.calls.Done.TheVariants.{Made, Plain}
 
 module _ (geometry : Geometry) (old new : List ℕ) where
-  -- everything besides the reach of a call is kept
+  -- if a call changes nothing outside its reach, `LeavesTheRest` holds
   left_beside : (call : Call) (done : Done) (reach : Reach) → reached_by geometry old call done ≡ reach
       → FreeBecomes geometry old new reach.listed → KeepsFilesBut geometry old new reach.file reach.other
       → IfSome reach.put (λ put. PutsInBody geometry old new reach.file (16 * put.0) put.1) → KeepsBytes geometry old new call
@@ -37,14 +37,14 @@ module _ (geometry : Geometry) (old new : List ℕ) where
     bytes = bytes;
   }
 
-  -- the slot, as it is found
+  -- a text put into the slot that was found is put into the slot of the definition, if the two are the same
   slot_put : (d found slot : ℕ) (bytes : List ℕ) → found ≡ slot → PutsInBody geometry old new d (16 * found) bytes
       → PutsInBody geometry old new d (16 * slot) bytes
   slot_put d found slot bytes is = subst (λ (s : ℕ). PutsInBody geometry old new d (16 * s) bytes) is
 
   module _ (cred : Cred) (now : ℕ) (path : List ℕ) where
     module _ (d : ℕ) (name : List ℕ) (walked : walk_parent (tree geometry old) cred path ≡ Some (Ok (d, name))) (slot : ℕ) where
-      -- a new file
+      -- `LeavesTheRest` holds after Create
       pub create_leaves : (perm made : ℕ) → slot ≡ new_slot (shapes geometry old d).slots
           → FreeBecomes geometry old new (drop (entry_need (state geometry old) d))
           → KeepsFilesBut geometry old new d made → PutsInBody geometry old new d (16 * slot) (slot_bytes name made)
@@ -56,7 +56,7 @@ module _ (geometry : Geometry) (old new : List ℕ) where
           (ap (λ w. reach_of_parent w (λ e text. with_entry geometry old e text made (takes e made (entry_need (state geometry old) e)))) walked)
           free files (slot_put d slot _ (slot_bytes name made) is bytes) tt
 
-      -- a new directory
+      -- `LeavesTheRest` holds after Mkdir
       pub mkdir_leaves : (perm made : ℕ) → slot ≡ new_slot (shapes geometry old d).slots
           → FreeBecomes geometry old new (drop (entry_need (state geometry old) d + 1))
           → KeepsFilesBut geometry old new d made → PutsInBody geometry old new d (16 * slot) (slot_bytes name made)
@@ -68,7 +68,7 @@ module _ (geometry : Geometry) (old new : List ℕ) where
           (ap (λ w. reach_of_parent w (λ e text. with_entry geometry old e text made (takes e made (entry_need (state geometry old) e + 1)))) walked)
           free files (slot_put d slot _ (slot_bytes name made) is bytes) tt
 
-      -- another name of the node at another path
+      -- `LeavesTheRest` holds after Link
       pub link_leaves : (source : List ℕ) (i : ℕ) → walk (tree geometry old) cred source ≡ Ok i → slot ≡ new_slot (shapes geometry old d).slots
           → FreeBecomes geometry old new (drop (entry_need (state geometry old) d))
           → KeepsFilesBut geometry old new d d → PutsInBody geometry old new d (16 * slot) (slot_bytes name i)
@@ -82,7 +82,7 @@ module _ (geometry : Geometry) (old new : List ℕ) where
           free files (slot_put d slot _ (slot_bytes name i) is bytes) tt
 
       module _ (i : ℕ) (named : get (names_at (tree geometry old) d) name ≡ Some i) (found : slot ≡ slot_named name (slots geometry old d)) where
-        -- removing a directory
+        -- `LeavesTheRest` holds after Rmdir
         pub rmdir_leaves : FreeBecomes geometry old new (λ blocks. blocks_freed geometry old i ++ blocks)
             → KeepsFilesBut geometry old new d i → PutsInBody geometry old new d (16 * slot) (0 ∷ 0 ∷ [])
             → LeavesTheRest geometry old new (Rmdir cred now path) Plain
@@ -93,14 +93,14 @@ module _ (geometry : Geometry) (old new : List ℕ) where
             ∙ ap (λ j. without_entry geometry old d name (removed geometry old d j)) (entry_is (state geometry old) d i name named))
             free files (slot_put d slot _ (0 ∷ 0 ∷ []) found bytes) tt
 
-        -- the reach of a call that removes a name
+        -- the reach of Unlink is `unlinked` with the entry removed
         unlink_reached : reached_by geometry old (Unlink cred now path) Plain ≡ without_entry geometry old d name (unlinked geometry old d i)
         unfolding reached_by
         unlink_reached =
             ap (λ w. reach_of_parent w (λ e text. without_entry geometry old e text (unlinked geometry old e (number_of_name (tree geometry old) e text)))) walked
             ∙ ap (λ j. without_entry geometry old d name (unlinked geometry old d j)) (entry_is (state geometry old) d i name named)
 
-        -- removing a name, and with the last one its node
+        -- `LeavesTheRest` holds after Unlink
         pub unlink_leaves : (links : ℕ) → (node_at (tree geometry old) i).links ≡ links
             → (links ≤ 1 → FreeBecomes geometry old new (λ blocks. blocks_freed geometry old i ++ blocks))
             → (1 < links → FreeBecomes geometry old new as_before) → (1 < links → KeepsContent geometry old new i)
@@ -130,7 +130,7 @@ module _ (geometry : Geometry) (old new : List ℕ) where
             ] refl
 
     module _ (i : ℕ) (walked : walk (tree geometry old) cred path ≡ Ok i) where
-      -- bytes that are written
+      -- `LeavesTheRest` holds after Write
       pub write_leaves : (offset : ℕ) (bytes : List ℕ) (done : Done)
           → FreeBecomes geometry old new (drop (need_in geometry.edition (shapes geometry old i) (touched offset (length bytes))))
           → KeepsFilesBut geometry old new i i → LeavesTheRest geometry old new (Write cred now path offset bytes) done
@@ -141,7 +141,7 @@ module _ (geometry : Geometry) (old new : List ℕ) where
           (ap (λ w. reach_of_node w (λ j. takes j j (need_in geometry.edition (shapes geometry old j) (touched offset (length bytes))))) walked)
           free files tt tt
 
-      -- shortening a file
+      -- `LeavesTheRest` holds after Truncate
       pub truncate_leaves : (left : ℕ) → FreeBecomes geometry old new (λ blocks. blocks_past geometry old i left ++ blocks)
           → KeepsFilesBut geometry old new i i → KeepsStored geometry old new i left → LeavesTheRest geometry old new (Truncate cred now path left) Plain
       unfolding reached_by KeepsBytes
@@ -149,7 +149,7 @@ module _ (geometry : Geometry) (old new : List ℕ) where
           left_beside (Truncate cred now path left) Plain (gives i i (blocks_past geometry old i left))
           (ap (λ w. reach_of_node w (λ j. gives j j (blocks_past geometry old j left))) walked) free files tt (rw walked stored)
 
-      -- new permission bits
+      -- `LeavesTheRest` holds after Chmod
       pub chmod_leaves : (perm : ℕ) → FreeBecomes geometry old new as_before
           → KeepsFilesBut geometry old new i i → ChangesInode geometry old new i → LeavesTheRest geometry old new (Chmod cred now path perm) Plain
       unfolding reached_by KeepsBytes
@@ -157,14 +157,14 @@ module _ (geometry : Geometry) (old new : List ℕ) where
           left_beside (Chmod cred now path perm) Plain (record { file = i; other = i; listed = as_before; put = None })
           (ap (λ w. reach_of_node w (λ j. record { file = j; other = j; listed = as_before; put = None })) walked) free files tt (rw walked inode)
 
-      -- a new owner
+      -- `LeavesTheRest` holds after Chown
       pub chown_leaves : (uid gid : ℕ) → FreeBecomes geometry old new as_before
           → KeepsFiles geometry old new → ChangesInode geometry old new i → LeavesTheRest geometry old new (Chown cred now path uid gid) Plain
       unfolding reached_by KeepsBytes
       chown_leaves uid gid free files inode =
           record { free = free; files = λ j low high _ _. files j low high; slot = tt; bytes = rw walked inode }
 
-      -- new times
+      -- `LeavesTheRest` holds after Times
       pub times_leaves : (atime mtime : ℕ) → FreeBecomes geometry old new as_before
           → KeepsFiles geometry old new → ChangesInode geometry old new i → LeavesTheRest geometry old new (Times cred now path atime mtime) Plain
       unfolding reached_by KeepsBytes

@@ -1,4 +1,4 @@
--- A file needs as many blocks as its shape does.
+-- The number of blocks that a file needs, computed from its shape, is the number computed from the image.
 use Rattle.std.proofs.Common.{◌≡◌, ℕ, ◌+◌, ◌*◌, ◌/◌, ◌^◌, ◌<◌, ◌≤◌, ◌∙◌, ap, sym, true, nat_lt, List, [], ◌∷◌, arith}
 use Rattle.std.specs.Prelude.{max}
 use Rattle.vol_layout.specs.Edition.{constants}
@@ -22,12 +22,12 @@ use Rattle.vol_change.specs.Ready.{entry_need}
 use Rattle.vol_volume.specs.Verdict.{write_need, is_too_great}
 use Rattle.vol_volume.proofs.NodeReadings.{tree_geometry, kind_of_directory}
 
--- the slots of a directory's shape
+-- the slots of a directory's shape are the names in its slots
 pub slots_are : (geometry : Geometry) (image : List ℕ) (d : ℕ) → IsDirectory geometry image d → (shapes geometry image d).slots ≡ names_in (slots geometry image d)
 slots_are geometry image d directory =
     ap (λ shape. shape.slots) (shape_is geometry image d (kind_of_directory geometry image d directory))
 
--- another entry needs as many blocks as a write of its slot
+-- an entry needs as many blocks as a write of its slot
 pub entry_need_is : (geometry : Geometry) (image : List ℕ) (d : ℕ) → IsDirectory geometry image d
     → entry_need (state geometry image) d ≡ need geometry image d (16 * new_slot (names_in (slots geometry image d))) 16
 unfolding tree
@@ -38,14 +38,14 @@ entry_need_is geometry image d directory =
     (ap (λ s. (new_slot s / 32) ∷ []) (slots_are geometry image d directory)
     ∙ sym (slot_block (new_slot (names_in (slots geometry image d)))))
 
--- and a write as many as its blocks need
+-- a write needs as many blocks as `need` computes from the image
 pub write_need_is : (geometry : Geometry) (image : List ℕ) (i offset len : ℕ) → 1 ≤ i → i ≤ geometry.last_inode
     → has_places (kind_at geometry image i) ≡ true → write_need (state geometry image) i offset len ≡ need geometry image i offset len
 unfolding tree
 write_need_is geometry image i offset len first last file =
     need_is geometry image i (touched offset len) (record { first = first; last = last; kind = file })
 
--- a directory with one more entry is too large if and only if its new size is
+-- the state's test for a directory that becomes too large is a test of its new size
 pub too_great_is : (geometry : Geometry) (image : List ℕ) (d : ℕ) → IsDirectory geometry image d
     → is_too_great (tree geometry image) (size_with_entry (state geometry image) d)
     ≡ nat_lt (constants geometry.edition).greatest (max (size_of geometry image d) (16 * new_slot (names_in (slots geometry image d)) + 16))
@@ -54,7 +54,7 @@ too_great_is geometry image d directory =
     ∙ (ap (λ n. nat_lt (constants geometry.edition).greatest (max n (16 * new_slot (shapes geometry image d).slots + 16))) (size_is geometry image d (kind_of_directory geometry image d directory))
     ∙ ap (λ s. nat_lt (constants geometry.edition).greatest (max (size_of geometry image d) (16 * new_slot s + 16))) (slots_are geometry image d directory))
 
--- the greatest size is one of 32 bits
+-- the greatest file size fits in 32 bits
 pub greatest_fits : (edition : Edition) → (constants edition).greatest < 2 ^ 32
 greatest_fits V6 = omega arith
 greatest_fits V7 = omega arith

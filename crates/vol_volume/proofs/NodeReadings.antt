@@ -21,17 +21,17 @@ use Rattle.vol_change.specs.Nodes.{no_node, node_at, names_at}
 use Rattle.vol_change.proofs.NodeLinks.{content_there, links_is}
 use Rattle.vol_volume.specs.Verdict.{is_device}
 
--- the node of an i-number of the volume, by the kind of its i-node
+-- the node of an i-number of the volume, read as an i-node of this kind
 abbrev node_by : Geometry → List ℕ → ℕ → Kind → Node
 node_by geometry image i kind = unwrap_or (option_map (node_with (inode_of geometry.edition image i)) (content_of geometry image i kind)) no_node
 
 module _ (geometry : Geometry) (image : List ℕ) where
-  -- the sizes of the tree are those of the image
+  -- the tree has the geometry of the image
   pub tree_geometry : (tree geometry image).geometry ≡ geometry
   unfolding tree
   tree_geometry = refl
 
-  -- the node that an i-node of some kind reads as
+  -- the node of an i-node of the given kind
   pub node_of_kind : (i : ℕ) (kind : Kind) → kind_at geometry image i ≡ kind
       → node_of geometry image i ≡ option_map (node_with (inode_of geometry.edition image i)) (content_of geometry image i kind)
   unfolding node_of
@@ -40,7 +40,7 @@ module _ (geometry : Geometry) (image : List ℕ) where
   pub node_is : (i : ℕ) (kind : Kind) → 1 ≤ i → i ≤ geometry.last_inode → kind_at geometry image i ≡ kind → node_at (tree geometry image) i ≡ node_by geometry image i kind
   node_is i kind first last is = ap (λ n. unwrap_or n no_node) (node_inside geometry image i first last ∙ node_of_kind i kind is)
 
-  -- a node is a directory if its i-node is one
+  -- if the i-node is a directory, so is the node
   pub directory_is : (i : ℕ) → 1 ≤ i → i ≤ geometry.last_inode → kind_at geometry image i ≡ kinds.Directory → is_directory (node_at (tree geometry image) i) ≡ true
   directory_is i first last is = ap is_directory (node_is i kinds.Directory first last is)
 
@@ -55,11 +55,11 @@ module _ (geometry : Geometry) (image : List ℕ) where
   directory_not i first last other =
       ap is_directory (node_is i (kind_at geometry image i) first last refl) ∙ no_directory_by i (kind_at geometry image i) other
 
-  -- a node is that of a special file if its i-node is
+  -- if the i-node is a special file, so is the node
   pub device_is : (i : ℕ) → 1 ≤ i → i ≤ geometry.last_inode → kind_at geometry image i ≡ kinds.Special → is_device (node_at (tree geometry image) i).content ≡ true
   device_is i first last is = ap (λ (n : Node). is_device n.content) (node_is i kinds.Special first last is)
 
-  -- and only there
+  -- if the node is a directory, so is the i-node
   directory_by : (i : ℕ) (kind : Kind) → kind_at geometry image i ≡ kind → is_directory (node_by geometry image i kind) ≡ true → kind_at geometry image i ≡ kinds.Directory
   directory_by i kinds.Free is found = absurd (false≢true found)
   directory_by i kinds.Regular is found = absurd (false≢true found)
@@ -88,19 +88,19 @@ module _ (geometry : Geometry) (image : List ℕ) where
   device_not i first last other =
       ap (λ (n : Node). is_device n.content) (node_is i (kind_at geometry image i) first last refl) ∙ no_device_by i (kind_at geometry image i) other
 
-  -- a directory is an i-node of that kind
+  -- a directory is an i-number of the volume whose kind is directory
   pub kind_of_directory : (d : ℕ) → IsDirectory geometry image d → IsKind geometry image d kinds.Directory
   kind_of_directory d directory = record { first = directory.first; last = directory.last; kind = directory.kind }
 
-  -- the names of a directory
+  -- the state's map of a directory has the names in its slots
   pub names_are : (d : ℕ) → IsDirectory geometry image d → names_at (tree geometry image) d ≡ names_of (slots geometry image d)
   names_are d directory = names_is geometry image d (kind_of_directory d directory)
 
-  -- if the node isn't a special file, the i-node isn't one either
+  -- if the node isn't a special file, neither is the i-node
   pub other_device : (i : ℕ) → 1 ≤ i → i ≤ geometry.last_inode → is_device (node_at (tree geometry image) i).content ≡ false → kind_at geometry image i ≢ kinds.Special
   other_device i first last other is = false≢true (sym other ∙ device_is i first last is)
 
-  -- an allocated i-node reads as its node
+  -- an i-node in use reads as the node of its i-number
   pub node_stored : (i : ℕ) → 1 ≤ i → Rules3To7 geometry image → IsInUse geometry image i
       → node_of geometry image i ≡ Some (node_at (tree geometry image) i)
   node_stored i first files used =
@@ -110,16 +110,16 @@ module _ (geometry : Geometry) (image : List ℕ) where
       node_of_kind i kind refl ∙ ap (option_map (node_with (inode_of geometry.edition image i))) stored.1 in
       is ∙ sym (ap (λ n. Some (unwrap_or n no_node)) (node_inside geometry image i first used.last ∙ is))
 
-  -- so its i-number has a node
+  -- an i-number in use has a node
   pub used_some : (i : ℕ) → 1 ≤ i → Rules3To7 geometry image → IsInUse geometry image i → is_none ((tree geometry image).nodes i) ≡ false
   used_some i first files used = ap is_none (node_inside geometry image i first used.last ∙ node_stored i first files used)
 
-  -- and its node has the links that it stores
+  -- a node in use has the link count of its i-node
   pub links_are : (i : ℕ) → 1 ≤ i → Rules3To7 geometry image → IsInUse geometry image i
       → (node_at (tree geometry image) i).links ≡ (inode_of geometry.edition image i).links
   links_are i first files used = links_is geometry image i files.sound.kinds first used.last used.allocated
 
-  -- and the owner
+  -- a node in use has the owner of its i-node
   pub owner_is : (i : ℕ) → 1 ≤ i → Rules3To7 geometry image → IsInUse geometry image i
       → (node_at (tree geometry image) i).uid ≡ (inode_of geometry.edition image i).uid
   owner_is i first files used =
@@ -129,7 +129,7 @@ module _ (geometry : Geometry) (image : List ℕ) where
       node_of_kind i kind refl ∙ ap (option_map (node_with (inode_of geometry.edition image i))) stored.1 in
       ap (λ n. (unwrap_or n no_node).uid) (node_inside geometry image i first used.last ∙ is)
 
-  -- and the size
+  -- a node in use has the size of its i-node
   pub size_is : (i : ℕ) → 1 ≤ i → Rules3To7 geometry image → IsInUse geometry image i
       → (node_at (tree geometry image) i).size ≡ size_of geometry image i
   size_is i first files used =
@@ -140,7 +140,7 @@ module _ (geometry : Geometry) (image : List ℕ) where
       ap (λ n. (unwrap_or n no_node).size) (node_inside geometry image i first used.last ∙ is)
       ∙ inode_size geometry.edition image (inode_place geometry.edition i)
 
-  -- of the kinds of an i-node in use, only a regular file is left
+  -- a kind that isn't free, odd, a directory or a special file is a regular file
   regular_by : (kind : Kind) → kind ≢ kinds.Free → kind ≢ kinds.Odd → kind ≢ kinds.Directory → kind ≢ kinds.Special → kind ≡ kinds.Regular
   regular_by kinds.Free used known directory special = absurd (used refl)
   regular_by kinds.Regular used known directory special = refl
@@ -154,11 +154,11 @@ module _ (geometry : Geometry) (image : List ℕ) where
   regular_left i first files used directory special =
       regular_by (kind_at geometry image i) used.allocated (files.sound.kinds.known i first used.last) directory special
 
-  -- an i-number in use is one of the volume
+  -- an i-number in use is at least 1
   pub used_first : (i : ℕ) → IsInUse geometry image i → 1 ≤ i
   used_first i used = let low : 1 ≤ (constants geometry.edition).root = root_first geometry.edition in omega (arith, low, used.first)
 
-  -- a node in use that is neither directory nor special file is that of a regular file
+  -- a node in use that is neither a directory nor a special file belongs to a regular file
   pub regular_file : (i : ℕ) → Rules3To7 geometry image → IsInUse geometry image i → is_directory (node_at (tree geometry image) i) ≡ false
       → is_device (node_at (tree geometry image) i).content ≡ false → kind_at geometry image i ≡ kinds.Regular
   regular_file i files used directory special =

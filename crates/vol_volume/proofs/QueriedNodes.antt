@@ -1,4 +1,4 @@
--- The nodes that queries read, as the i-nodes of a sound image.
+-- The nodes that queries read, computed from the i-nodes of a sound image.
 use Rattle.std.proofs.Common.{◌≡◌, ◌≢◌, ℕ, ◌%◌, List, refl, ap, sym}
 use Rattle.vol_layout.specs.Body.{body}
 use Rattle.vol_layout.specs.Inode.{inode_of}
@@ -15,7 +15,7 @@ use Rattle.vol_volume.specs.Answer.{stat_of}
 use Rattle.vol_volume.specs.declared.queries.Stat.{Stat}
 use Rattle.vol_volume.proofs.NodeReadings.{node_is, used_first}
 
--- the attributes of i-node i
+-- the attributes of i-node i as `Stat`, computed from its fields
 abbrev pub told : ℕ → ℕ → Kind → Inode → Stat
 told i permissions kind node = record {
   number = i;
@@ -30,7 +30,7 @@ told i permissions kind node = record {
   changed = node.changed;
 }
 
--- the attributes of an i-node of some kind are those of its node
+-- the attributes computed from an i-node of the given kind are the attributes of its node
 told_of : (geometry : Geometry) (image : List ℕ) (i : ℕ) (kind : Kind) → IsInUse geometry image i → kind_at geometry image i ≡ kind
     → kind ≢ kinds.Free → kind ≢ kinds.Odd
     → told i ((inode_of geometry.edition image i).mode.bits % 4096) kind (inode_of geometry.edition image i) ≡ stat_of i (node_at (tree geometry image) i)
@@ -40,13 +40,13 @@ told_of geometry image i kinds.Regular used is some known = sym (ap (stat_of i) 
 told_of geometry image i kinds.Directory used is some known = sym (ap (stat_of i) (node_is geometry image i kinds.Directory (used_first geometry image i used) used.last is))
 told_of geometry image i kinds.Special used is some known = sym (ap (stat_of i) (node_is geometry image i kinds.Special (used_first geometry image i used) used.last is))
 
--- the kind of an i-node that is used is known
+-- the kind of an i-node in use isn't odd
 known_kind : (geometry : Geometry) (image : List ℕ) (i : ℕ) → Rules3To7 geometry image → IsInUse geometry image i
     → kind_at geometry image i ≢ kinds.Odd
 known_kind geometry image i files used =
     files.sound.kinds.known i (used_first geometry image i used) used.last
 
--- the attributes of an i-node are those of its node
+-- the attributes computed from an i-node are the attributes of its node
 pub stat_is : (geometry : Geometry) (image : List ℕ) (i permissions : ℕ) (kind : Kind) (node : Inode) → Rules3To7 geometry image
     → IsInUse geometry image i → kind ≡ kind_at geometry image i → node ≡ inode_of geometry.edition image i → permissions ≡ node.mode.bits % 4096
     → told i permissions kind node ≡ stat_of i (node_at (tree geometry image) i)
@@ -54,7 +54,7 @@ stat_is geometry image i permissions kind node files used kind_is node_is permis
     rw (permissions_are, node_is, kind_is)
     (told_of geometry image i (kind_at geometry image i) used refl used.allocated (known_kind geometry image i files used))
 
--- the bytes of a regular file's node
+-- the bytes of a regular file's node are the bytes stored for its i-node
 pub body_is : (geometry : Geometry) (image : List ℕ) (i : ℕ) → IsInUse geometry image i → kind_at geometry image i ≡ kinds.Regular
     → body_of (node_at (tree geometry image) i).content ≡ body geometry image i
 body_is geometry image i used is = ap (λ node. body_of node.content) (node_is geometry image i kinds.Regular (used_first geometry image i used) used.last is)

@@ -1,4 +1,4 @@
--- No tree is a reason to refuse with NoMemory.
+-- No check refuses a call or a query with NoMemory.
 use Rattle.std.proofs.Common.{◌≡◌, ◌≢◌, ℕ, Bool, true, false, if◌then◌else◌, List, [], ◌∷◌, Option, None, Some, Result, Ok, Err, refl, ap, sym, ◌∙◌, subst, length}
 use Rattle.std.specs.List.{list_any}
 use Rattle.std.specs.Option.{option_map, option_map_or, ok_or}
@@ -25,40 +25,40 @@ abbrev is_memory : Refusal → Bool
 is_memory refusals.NoMemory = true
 is_memory _ = false
 
--- true if a result is NoMemory
+-- true if a result is the refusal NoMemory
 abbrev fails : {X : Type 0} → Result X Refusal → Bool
 fails (Ok x) = false
 fails (Err refusal) = is_memory refusal
 
--- true if a refusal, if any, is NoMemory
+-- true if an optional refusal is NoMemory
 abbrev says : Option Refusal → Bool
 says None = false
 says (Some refusal) = is_memory refusal
 
--- the map of a node that may be searched
+-- searching the map of a node isn't refused with NoMemory
 search_names : (names : Option Names) (granted : Bool)
     → fails (option_map_or (λ (names : Names). if granted then Ok names else Err refusals.Access) names (Err refusals.NotDirectory)) ≡ false
 search_names None granted = refl
 search_names (Some names) true = refl
 search_names (Some names) false = refl
 
--- and of a node, if there is one
+-- searching an optional node isn't refused with NoMemory
 search_option : (cred : Cred) (node : Option Node) → fails (option_map_or (search_node cred) node (Err refusals.NotDirectory)) ≡ false
 search_option cred None = refl
 search_option cred (Some node) = search_names (map_of node.content) (grants may_execute cred node)
 
--- the next step after a result
+-- if a result isn't NoMemory, and neither is the next step, both together aren't
 fails_and_then : {X Y : Type 0} (result : Result X Refusal) (next : X → Result Y Refusal) → fails result ≡ false
     → ((x : X) → fails (next x) ≡ false) → fails (and_then result next) ≡ false
 fails_and_then (Ok x) next first rest = rest x
 fails_and_then (Err refusal) next first rest = first
 
--- a name that is looked up
+-- looking up a name isn't refused with NoMemory
 fails_ok_or : (found : Option ℕ) → fails (ok_or found refusals.NoEntry) ≡ false
 fails_ok_or None = refl
 fails_ok_or (Some i) = refl
 
--- a walk over names
+-- a walk from a node isn't refused with NoMemory
 fails_walk_from : (tree : Tree) (cred : Cred) (i : ℕ) (names : List (List ℕ)) → fails (walk_from tree cred i names) ≡ false
 fails_walk_from tree cred i [] = refl
 fails_walk_from tree cred i (name ∷ names) =
@@ -67,12 +67,12 @@ fails_walk_from tree cred i (name ∷ names) =
     (search_option cred (tree.nodes i)) (λ map. fails_ok_or (get map name)))
     (λ next. fails_walk_from tree cred next names)
 
--- a walk
+-- a walk from the root isn't refused with NoMemory
 fails_walk : (tree : Tree) (cred : Cred) (path : List ℕ) → fails (walk tree cred path) ≡ false
 unfolding walk
 fails_walk tree cred path = fails_walk_from tree cred (root tree) (components path)
 
--- a parent walk
+-- a walk to the parent isn't refused with NoMemory
 fails_parent : (tree : Tree) (cred : Cred) (names : List (List ℕ) × List ℕ) → fails (parent_from tree cred names) ≡ false
 fails_parent tree cred names =
     fails_and_then (walk_from tree cred (root tree) names.0) (λ i. and_then (search tree cred i) (λ _. Ok (i, names.1)))
@@ -84,18 +84,18 @@ abbrev AreOther : List (Bool × Refusal) → Type 0
 AreOther [] = Unit {0}
 AreOther (test ∷ tests) = (is_memory test.1 ≡ false) × AreOther tests
 
--- a test before others
+-- a check followed by other checks doesn't give NoMemory if none of them does
 says_if : (test : Bool) (refusal : Refusal) (others : Option Refusal) → is_memory refusal ≡ false → says others ≡ false
     → says (if test then Some refusal else others) ≡ false
 says_if true refusal others first rest = first
 says_if false refusal others first rest = rest
 
--- the first of many tests
+-- the first refusal of a list of tests isn't NoMemory
 says_first : (tests : List (Bool × Refusal)) → AreOther tests → says (first_of tests) ≡ false
 says_first [] all = refl
 says_first (test ∷ tests) all = says_if test.0 test.1 (first_of tests) all.0 (says_first tests all.1)
 
--- the first checks of each call
+-- the first checks of a call, followed by others, don't give NoMemory
 says_then : (tree : Tree) (cred : Cred) (paths : List (List ℕ)) (others : Option Refusal) → says others ≡ false
     → says (then_others tree cred paths others) ≡ false
 says_then tree cred paths others rest =
@@ -103,13 +103,13 @@ says_then tree cred paths others rest =
     (if list_any has_zero paths then Some refusals.Invalid else others) refl
     (says_if (list_any has_zero paths) refusals.Invalid others refl rest)
 
--- the checks of a walk and its node
+-- a walk followed by the checks of its node doesn't give NoMemory
 says_node : (walked : Result ℕ Refusal) (others : ℕ → Option Refusal) → fails walked ≡ false → ((i : ℕ) → says (others i) ≡ false)
     → says (of_node walked others) ≡ false
 says_node (Ok i) others first rest = rest i
 says_node (Err refusal) others first rest = first
 
--- the checks of a parent walk, the parent and the last name
+-- a walk to the parent followed by the checks of the parent and the last name doesn't give NoMemory
 says_walked : (walked : Option (Result (ℕ × List ℕ) Refusal)) (bare : Refusal) (tests : ℕ → List ℕ → List (Bool × Refusal))
     → is_memory bare ≡ false → ((found : Result (ℕ × List ℕ) Refusal) → walked ≡ Some found → fails found ≡ false)
     → ((d : ℕ) (name : List ℕ) → AreOther (tests d name)) → says (of_parent walked bare tests) ≡ false
@@ -117,14 +117,14 @@ says_walked None bare tests first second rest = first
 says_walked (Some (Ok found)) bare tests first second rest = says_first (tests found.0 found.1) (rest found.0 found.1)
 says_walked (Some (Err refusal)) bare tests first second rest = second (Err refusal) refl
 
--- a parent walk of a path in parts
+-- the walk to the parent of a path, split into components, isn't refused with NoMemory
 parent_split : (tree : Tree) (cred : Cred) (names : Option (List (List ℕ) × List ℕ)) (found : Result (ℕ × List ℕ) Refusal)
     → option_map (parent_from tree cred) names ≡ Some found → fails found ≡ false
 parent_split tree cred None found e = absurd (cc)
 parent_split tree cred (Some names) found e =
     let same : parent_from tree cred names ≡ found = cc in subst (λ result. fails result ≡ false) same (fails_parent tree cred names)
 
--- the checks of a path, its parent and its last name
+-- the checks of a path, its parent and its last name don't give NoMemory
 says_parent : (tree : Tree) (cred : Cred) (path : List ℕ) (bare : Refusal) (tests : ℕ → List ℕ → List (Bool × Refusal))
     → is_memory bare ≡ false → ((d : ℕ) (name : List ℕ) → AreOther (tests d name))
     → says (of_parent (walk_parent tree cred path) bare tests) ≡ false
@@ -132,7 +132,7 @@ unfolding walk_parent
 says_parent tree cred path bare tests first rest =
     says_walked (walk_parent tree cred path) bare tests first (λ found e. parent_split tree cred (split_last (components path)) found e) rest
 
--- no verdict
+-- the verdict on a call isn't NoMemory
 says_verdict : (state : State) (call : Call) → says (verdict state call) ≡ false
 unfolding verdict
 says_verdict state (Create cred now path perm) =
@@ -174,7 +174,7 @@ says_verdict state (Times cred now path atime mtime) =
     (says_node (walk state.tree cred path) (λ i. first_of (owner_tests state.tree cred i)) (fails_walk state.tree cred path)
     (λ i. says_first (owner_tests state.tree cred i) (refl, tt)))
 
--- no refusal of a query
+-- the refusal of a query isn't NoMemory
 says_query : (tree : Tree) (query : Query) → says (query_refusal tree query) ≡ false
 unfolding query_refusal
 says_query tree (queries.Stat cred path) =
@@ -188,15 +188,15 @@ says_query tree (queries.List cred path) =
     (says_node (walk tree cred path) (λ i. first_of (list_tests tree cred i)) (fails_walk tree cred path)
     (λ i. says_first (list_tests tree cred i) (refl, (refl, tt))))
 
--- no state of a volume is a reason to refuse a call with NoMemory
+-- a call is never refused with NoMemory because of the state of a volume
 pub verdict_other : (state : State) (call : Call) → verdict state call ≢ Some refusals.NoMemory
 verdict_other state call e = false≢true (sym (says_verdict state call) ∙ ap says e)
 
--- nor is a query
+-- a query is never refused with NoMemory because of the tree
 pub query_other : (tree : Tree) (query : Query) → query_refusal tree query ≢ Some refusals.NoMemory
 query_other tree query e = false≢true (sym (says_query tree query) ∙ ap says e)
 
--- a call may be refused with its verdict
+-- a call may be refused with the refusal of its verdict
 pub refused_so : (state : State) (call : Call) (refusal : Refusal) → verdict state call ≡ Some refusal → Refuses state call refusal
 refused_so state call refusals.NotOwner says_so = says_so
 refused_so state call refusals.NoEntry says_so = says_so

@@ -1,4 +1,4 @@
--- A sound image keeps the rules that calls rely on, and has a number of free blocks.
+-- A sound image keeps the rules that calls rely on, and its number of free blocks is the one computed from its shapes.
 use Rattle.std.proofs.Common.{◌≡◌, ℕ, ◌<◌, ◌≤◌, true, List, arith, length, sym, subst, ◌∙◌}
 use Rattle.std.proofs.lemmas.Bool.Decides.{nat_tests}
 use Rattle.pdp_words.specs.Words.{word}
@@ -14,17 +14,17 @@ use Rattle.vol_judge.proofs.Parts.{sound_whole, sound_bounded, sound_fits, sound
 use Rattle.vol_change.proofs.FreeCounts.{free_blocks}
 use Rattle.vol_volume.specs.Stands.{Rules3To7And9}
 
--- a sound image has blocks 0 and 1
+-- a sound image has at least 1024 bytes
 pub sound_length : (edition : Edition) (image : List ℕ) → IsSound edition image → 1024 ≤ length image
 sound_length edition image sound = let whole : is_whole edition image ≡ true = sound_whole edition image sound in grind (arith, nat_tests)
 
--- and no more blocks than the edition's numbers, given that a word is below 65536
+-- the number of blocks of a sound image is within the edition's limit, given that a word is below 65536
 block_limit_by : (edition : Edition) (image : List ℕ) → IsSound edition image → word image 514 < 65536
     → block_count edition image ≤ (constants edition).number_limit
 block_limit_by V6 image sound low = omega arith
 block_limit_by V7 image sound low = let bounded : is_bounded V7 image ≡ true = sound_bounded V7 image sound in grind (arith, nat_tests)
 
--- so its geometry fits it
+-- the geometry of a sound image fits it
 pub sound_geometry_fits : (geometry : Geometry) (image : List ℕ) → geometry ≡ geometry_of geometry.edition image → IsSound geometry.edition image
     → word image 514 < 65536 → Fits geometry image
 sound_geometry_fits geometry image sizes sound low =
@@ -48,7 +48,7 @@ sound_count edition image count fits sound counted =
     counted files.blocks files.sound.free
     ∙ free_blocks (geometry_of edition image) image files.blocks files.sound (sound_covered edition image files.blocks sound files.sound.free)
 
--- and the number of its free blocks is the one that its shapes leave
+-- the number of free blocks of a sound image is the one computed from the shapes
 pub counts : (edition : Edition) (geometry : Geometry) (image : List ℕ) (count : ℕ) → geometry ≡ geometry_of edition image → Fits geometry image
     → IsSound edition image → ((blocks : List ℕ) → IsFree geometry image blocks → count ≡ length blocks)
     → count ≡ free_count geometry (shapes geometry image)

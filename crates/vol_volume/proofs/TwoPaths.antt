@@ -1,4 +1,4 @@
--- The first checks of a call with two paths: numbers of the user and group, and zero bytes in both.
+-- The first checks of a call with two paths: of the user and group numbers, and for zero bytes in both paths.
 use Rattle.std.proofs.Common.{◌≡◌, ℕ, Bool, true, false, ◌||◌, if◌then◌else◌, List, [], ◌∷◌, Option, None, Some, refl, sym}
 use Rattle.vol_layout.specs.Ids.{is_bad_id}
 use Rattle.vol_layout.specs.declared.geometry.Geometry.{Geometry}
@@ -31,7 +31,7 @@ left_by false false true others none is = cc
 left_by false false false others none is = refl
 
 module _ (geometry : Geometry) (image : List ℕ) (cred : Cred) (source target : List ℕ) (others : Option Refusal) where
-  -- a bad number or a zero byte of the source is refused first
+  -- a bad number or a zero byte in the source path is refused first
   pub source_refused : (refusal : Refusal)
       → Some refusal ≡ (if is_bad_id geometry.edition cred.uid cred.gid then Some refusals.BadId else if has_zero source then Some refusals.Invalid else None)
       → then_others (tree geometry image) cred (source ∷ target ∷ []) others ≡ Some refusal
@@ -39,14 +39,14 @@ module _ (geometry : Geometry) (image : List ℕ) (cred : Cred) (source target :
   source_refused refusal is =
       refused_by (is_bad_id geometry.edition cred.uid cred.gid) (has_zero source) (has_zero target) others refusal is
 
-  -- then a zero byte of the target
+  -- a zero byte in the target path is refused next
   pub target_refused :
       None ≡ (if is_bad_id geometry.edition cred.uid cred.gid then Some refusals.BadId else if has_zero source then Some refusals.Invalid else None)
       → has_zero target ≡ true → then_others (tree geometry image) cred (source ∷ target ∷ []) others ≡ Some refusals.Invalid
   unfolding tree
   target_refused none is = zero_by (is_bad_id geometry.edition cred.uid cred.gid) (has_zero source) (has_zero target) others none is
 
-  -- and then the rest is checked
+  -- if the first checks pass, the other checks decide
   pub rest_asked :
       None ≡ (if is_bad_id geometry.edition cred.uid cred.gid then Some refusals.BadId else if has_zero source then Some refusals.Invalid else None)
       → has_zero target ≡ false → then_others (tree geometry image) cred (source ∷ target ∷ []) others ≡ others

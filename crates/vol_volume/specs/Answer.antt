@@ -17,7 +17,7 @@ use Rattle.vol_volume.specs.declared.queries.Reply.{Reply}
 use Rattle.vol_volume.specs.declared.queries.Reply.TheVariants as replies
 use Rattle.vol_volume.specs.declared.queries.Stat.{Stat}
 
--- the kind of a node with some content (manual section 5, file system)
+-- the kind of a node with this content (manual section 5, file system)
 abbrev pub kind_of_content : Content → Kind
 kind_of_content (Body bytes) = kinds.Regular
 kind_of_content (Directory names) = kinds.Directory
@@ -38,14 +38,14 @@ stat_of i node = record {
   changed = node.changed;
 }
 
--- the checks of a node whose names are listed (Lions on access)
+-- the checks of a node before its names are listed (Lions on access)
 abbrev pub list_tests : Tree → Cred → ℕ → List (Bool × Refusal)
 list_tests tree cred i =
     (not (is_directory (node_at tree i)), refusals.NotDirectory)
     ∷ (not (grants may_read cred (node_at tree i)), refusals.Access)
     ∷ []
 
--- the refusal of a query: the first that applies, other than NoMemory (this project)
+-- the first refusal of a query that applies, other than NoMemory (this project)
 unfoldable pub query_refusal : Tree → Query → Option Refusal
 query_refusal tree (queries.Stat cred path) = then_others tree cred (path ∷ []) (of_node (walk tree cred path) (λ i. None))
 query_refusal tree (queries.Read cred path offset len) =
@@ -53,12 +53,12 @@ query_refusal tree (queries.Read cred path offset len) =
 query_refusal tree (queries.List cred path) =
     then_others tree cred (path ∷ []) (of_node (walk tree cred path) (λ i. first_of (list_tests tree cred i)))
 
--- the reply for the node that a walk leads to (Lions on namei)
+-- the reply for the node at the end of a walk, or the refusal of the walk (Lions on namei)
 abbrev pub reply_at : Result ℕ Refusal → (ℕ → Reply) → Result Reply Refusal
 reply_at (Err refusal) reply = Err refusal
 reply_at (Ok i) reply = Ok (reply i)
 
--- at most `len` bytes of a body from an offset on; none at or past its end (Lions on readi)
+-- at most `len` bytes of a body, starting at an offset; none at or past its end (Lions on readi)
 abbrev pub read_bytes : List ℕ → ℕ → ℕ → List ℕ
 read_bytes body offset len = take len (drop offset body)
 
@@ -78,13 +78,13 @@ refused_or None reply = reply
 abbrev pub answer : Tree → Query → Result Reply Refusal
 answer tree query = refused_or (query_refusal tree query) (reply_of tree query)
 
--- true if the reply to a query takes memory (this project)
+-- true if the reply to a query needs memory (this project)
 abbrev pub takes_memory : Query → Bool
 takes_memory (queries.Stat cred path) = false
 takes_memory (queries.Read cred path offset len) = true
 takes_memory (queries.List cred path) = true
 
--- a query returns its answer, or, if the reply takes memory and there is no other refusal, possibly NoMemory (this project)
+-- a query returns its answer; if the reply needs memory and nothing else refuses the query, it may return NoMemory instead (this project)
 abbrev pub Answers : Tree → Query → Result Reply Refusal → Type 0
 Answers tree query (Err refusals.NoMemory) = (takes_memory query ≡ true) × (query_refusal tree query ≡ None)
 Answers tree query result = result ≡ answer tree query

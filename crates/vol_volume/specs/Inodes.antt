@@ -1,4 +1,4 @@
--- The unused bytes of i-nodes, and what calls do to them.
+-- The unused bytes of i-nodes, and how calls change them.
 use Rattle.std.specs.Prelude.{◌≡◌, ℕ, ◌+◌, ◌≤◌, Bool, true, false, List, slice_index, is_none}
 use Rattle.vol_layout.specs.Inode.{inode_place}
 use Rattle.vol_dir.specs.Tree.{tree}
@@ -6,11 +6,12 @@ use Rattle.vol_change.specs.Unused.{IsCleared, KeepsUnused}
 use Rattle.vol_layout.specs.declared.edition.Edition.TheVariants.{V7}
 use Rattle.vol_layout.specs.declared.geometry.Geometry.{Geometry}
 
--- true if an i-number has no node (manual section 5, file system)
+-- true if there is no node with this i-number (manual section 5, file system)
 abbrev pub is_free : Geometry → List ℕ → ℕ → Bool
 is_free geometry image i = is_none ((tree geometry image).nodes i)
 
--- an i-node that became free is all zeros; byte 51, which the seventh edition doesn't use, is 0 in an i-node that was free and is now in use; in every other i-node the unused bytes, which are all bytes if it is free, are as they were (Lions on maknode, iput, ifree; ino.h; this project)
+-- an i-node that is freed becomes all zeros; byte 51, which the seventh edition doesn't use, is 0 in an i-node that was free and is now in use; in
+-- every other i-node the unused bytes, which are all bytes if it is free, are unchanged (Lions on maknode, iput, ifree; ino.h; this project)
 pub record KeepsInodes (geometry : Geometry) (old new : List ℕ) : Type 0 where
   pub cleared : (i : ℕ) → is_free geometry old i ≡ false → is_free geometry new i ≡ true → IsCleared geometry new i
   pub made : (i : ℕ) → is_free geometry old i ≡ true → is_free geometry new i ≡ false

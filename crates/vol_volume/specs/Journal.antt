@@ -1,4 +1,4 @@
--- The journal of accepted calls: which records may follow one another, and the volume that they lead to.
+-- The journal of accepted calls: the records that may follow one another, and the state that results from replaying them.
 use Rattle.std.specs.Prelude.{◌≡◌, true, List, [], ◌∷◌, length, None, Some}
 use Rattle.vol_dir.specs.Tree.{State}
 use Rattle.vol_volume.specs.Verdict.{verdict, is_free_number}
@@ -11,7 +11,7 @@ use Rattle.vol_volume.specs.declared.calls.Done.{Done}
 use Rattle.vol_volume.specs.declared.calls.Done.TheVariants.{Made, Wrote, Plain}
 use Rattle.vol_volume.specs.declared.calls.Record.{Record}
 
--- the possible answers of an accepted call: a new node may get any free i-number, and a write writes all bytes (this project)
+-- the possible answers to an accepted call: a new node may get any free i-number, and the answer to a write is the number of its bytes (this project)
 abbrev pub MayAnswer : State → Call → Done → Type 0
 MayAnswer state (Create cred now path perm) (Made i) = is_free_number state.tree i ≡ true
 MayAnswer state (Mkdir cred now path perm) (Made i) = is_free_number state.tree i ≡ true
@@ -25,22 +25,22 @@ MayAnswer state (Chown cred now path uid gid) Plain = Unit {0}
 MayAnswer state (Times cred now path atime mtime) Plain = Unit {0}
 MayAnswer state _ _ = ⊥
 
--- a record may come next: its call isn't refused, and may have its answer (this project)
+-- a record may come next: its call isn't refused, and its answer is possible (this project)
 pub record MayFollow (state : State) (entry : Record) : Type 0 where
   pub accepted : verdict state entry.call ≡ None
   pub answered : MayAnswer state entry.call entry.done
 
--- the state that records lead to (this project)
+-- the state after replaying some records (this project)
 abbrev pub after : State → List Record → State
 after state [] = state
 after state (entry ∷ entries) = after (step state entry.call entry.done) entries
 
--- each record in turn may come next (this project)
+-- each record may come next after those before it (this project)
 abbrev pub IsLegal : State → List Record → Type 0
 IsLegal state [] = Unit {0}
 IsLegal state (entry ∷ entries) = MayFollow state entry × IsLegal (step state entry.call entry.done) entries
 
--- a call may be refused with this refusal: with NoMemory if there is no other, else with the first that applies (this project)
+-- a call may be refused with this refusal: NoMemory if no check fails, else the refusal of the first check that fails (this project)
 abbrev pub Refuses : State → Call → Refusal → Type 0
 Refuses state call refusals.NoMemory = verdict state call ≡ None
 Refuses state call refusal = verdict state call ≡ Some refusal

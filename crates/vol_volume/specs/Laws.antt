@@ -20,20 +20,20 @@ use Rattle.vol_volume.specs.declared.queries.Query.{Query}
 abbrev pub KeepsConsistent : Type 0
 KeepsConsistent = (old new : Mounted) (call : Call) (done : Done) → IsConsistent old → Accepts old new call done → IsConsistent new
 
--- replaying a journal is replaying its first part and then its second (this project)
+-- replaying a journal is the same as replaying its first part and then its second (this project)
 abbrev pub LeadsInParts : Type 0
 LeadsInParts = (state : State) (front rest : List Record) → after state (front ++ rest) ≡ after (after state front) rest
 
--- a journal is legal if and only if its first part is, and its second part is from the state that the first leads to (this project)
+-- a journal is legal if and only if its first part is legal, and its second part is legal after the first is replayed (this project)
 abbrev pub IsLegalInParts : Type 0
 IsLegalInParts = (state : State) (front rest : List Record)
     → IsLegal state (front ++ rest) ↔ (IsLegal state front × IsLegal (after state front) rest)
 
--- no state of a volume is a reason to refuse a call with NoMemory (this project)
+-- a call is never refused with NoMemory because of the state of a volume (this project)
 abbrev pub HasMemory : Type 0
 HasMemory = (state : State) (call : Call) → verdict state call ≢ Some refusals.NoMemory
 
--- no tree is a reason to refuse a query with NoMemory (this project)
+-- a query is never refused with NoMemory because of the tree (this project)
 abbrev pub HasMemoryForQueries : Type 0
 HasMemoryForQueries = (tree : Tree) (query : Query) → query_refusal tree query ≢ Some refusals.NoMemory
 
@@ -42,6 +42,6 @@ abbrev pub WritesNothing : Type 0
 WritesNothing = (state : State) (cred : Cred) (now offset : ℕ) (path : List ℕ) (done : Done)
     → step state (Write cred now path offset []) done ≡ at_time now state
 
--- the empty path leads to the root, and so does a slash (this project)
+-- the empty path leads to the root, and so does `/` (this project)
 abbrev pub LeadsToRoot : Type 0
 LeadsToRoot = (tree : Tree) (cred : Cred) → (walk tree cred [] ≡ Ok (root tree)) × (walk tree cred (47 ∷ []) ≡ Ok (root tree))

@@ -5,7 +5,7 @@ use Rattle.vol_dir.specs.Tree.{free_count, shapes}
 use Rattle.vol_volume.specs.Volume.{Mounted, IsConsistent}
 use Rattle.vol_volume.specs.declared.volume.Parts.{Parts}
 
--- the volume made of these parts (this project)
+-- the volume with these parts (this project)
 abbrev pub held : Parts → Mounted
 held parts = record {
   edition = parts.geometry.edition;
@@ -15,7 +15,8 @@ held parts = record {
   first = parts.first;
 }
 
--- the invariant of parts between calls: the geometry is the image's, the volume is consistent, and the count of free blocks is right (this project)
+-- the invariant of the parts between calls: the geometry is the image's, the volume is consistent, and the count of free blocks is right (this
+-- project)
 abbrev pub IsKept : Parts → Type 0
 IsKept parts =
     (parts.geometry ≡ geometry_of parts.geometry.edition parts.current) × IsConsistent (held parts)

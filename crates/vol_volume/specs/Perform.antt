@@ -1,4 +1,4 @@
--- Carrying out an accepted call: the nodes to which its paths lead, and its result.
+-- An accepted call: the nodes at the ends of its paths, and its result.
 use Rattle.std.specs.Prelude.{◌≡◌, ℕ, false, List, Option, None, Some, Ok}
 use Rattle.vol_dir.specs.Entries.{IsDirectory, IsInUse, slots}
 use Rattle.vol_dir.specs.Names.{get}
@@ -19,19 +19,19 @@ use Rattle.vol_volume.specs.declared.calls.Done.TheVariants.{Made, Wrote, Plain}
 use Rattle.vol_volume.specs.declared.checked_calls.Caller.{Caller}
 use Rattle.vol_volume.specs.declared.checked_calls.found.EntryPlace.{EntryPlace}
 
--- a path leads to directory d and a last name (Lions on namei)
+-- a path leads to directory d and the last name `name` (Lions on namei)
 pub record LeadsToParent (geometry : Geometry) (image : List ℕ) (cred : Cred) (path : List ℕ) (d : ℕ) (name : List ℕ) : Type 0 where
   pub walked : walk_parent (tree geometry image) cred path ≡ Some (Ok (d, name))
   pub directory : IsDirectory geometry image d
   pub component : IsComponent name
   pub text : has_zero name ≡ false
 
--- a path leads to a node (Lions on namei)
+-- a path leads to node i (Lions on namei)
 pub record LeadsToNode (geometry : Geometry) (image : List ℕ) (cred : Cred) (path : List ℕ) (i : ℕ) : Type 0 where
   pub walked : walk (tree geometry image) cred path ≡ Ok i
   pub used : IsInUse geometry image i
 
--- the slot of a new entry of directory d, and the number of blocks that it needs (Lions on wdir)
+-- the slot for a new entry of directory d, and the number of blocks that the entry needs (Lions on wdir)
 pub record IsEntryPlace (geometry : Geometry) (image : List ℕ) (d : ℕ) (place : EntryPlace) : Type 0 where
   pub slot : place.slot ≡ new_slot (shapes geometry image d).slots
   pub needed : place.needed ≡ entry_need (state geometry image) d
@@ -66,7 +66,7 @@ recorded_number (Some (Made i)) = Some i
 recorded_number (Some (Wrote n)) = None
 recorded_number (Some Plain) = None
 
--- a call was made with this answer, and `free` blocks are free now (this project)
+-- a call was made with this answer, and `free` is now the number of free blocks (this project)
 pub record IsPerformed (geometry : Geometry) (old new : List ℕ) (call : Call) (done : Done) (free : ℕ) : Type 0 where
   pub performed : Performs geometry old new call done
   pub counted : free ≡ free_in (state geometry new)

@@ -1,4 +1,4 @@
--- The reach of an accepted call: the files that it may change, the bytes that it keeps, and its change of the free list.
+-- The effects of an accepted call on the disk: the files that it may change, the bytes that it keeps, and its change of the free list.
 use Rattle.std.specs.Prelude.{ℕ, nat_le, if◌then◌else◌, List, [], ◌∷◌, ◌++◌, length, drop, ◌+◌, ◌*◌, IfSome, IfOk, Option, None, Some, Result, Ok, Err}
 use Rattle.vol_layout.specs.declared.geometry.Geometry.{Geometry}
 use Rattle.vol_file.specs.Changes.{blocks_past}
@@ -19,55 +19,56 @@ use Rattle.vol_volume.specs.declared.calls.Call.{Call}
 use Rattle.vol_volume.specs.declared.calls.Call.TheVariants.{Create, Mkdir, Link, Unlink, Rmdir, Write, Truncate, Chmod, Chown, Times}
 use Rattle.vol_volume.specs.declared.calls.Done.{Done}
 
--- the files that a call may change, at most two, by their i-numbers; its change of the free list, whose first block is the next to be taken; and, if it changes a slot of the directory `file`, the slot and its new bytes (this project)
+-- the files that a call may change, at most two, by i-number; its change of the free list, whose first block is allocated next; and, if the call
+-- changes a slot of the directory `file`, the slot and its new bytes (this project)
 pub record Reach : Type 0 where
   pub file : ℕ
   pub other : ℕ
   pub listed : List ℕ → List ℕ
   pub put : Option (ℕ × List ℕ)
 
--- a call that changes no file; no file has i-number 0 (this project)
+-- the reach of a call that changes no file; no file has i-number 0 (this project)
 abbrev pub no_reach : Reach
 no_reach = record { file = 0; other = 0; listed = as_before; put = None }
 
--- a call that changes two files and takes the next `count` blocks (Lions on alloc)
+-- the reach of a call that changes at most two files and allocates the next `count` blocks (Lions on alloc)
 abbrev pub takes : ℕ → ℕ → ℕ → Reach
 takes file other count = record { file = file; other = other; listed = drop count; put = None }
 
--- a call that changes two files and frees blocks, the first of which is the next to be taken (Lions on free)
+-- the reach of a call that changes at most two files and frees blocks, the first of which is allocated next (Lions on free)
 abbrev pub gives : ℕ → ℕ → List ℕ → Reach
 gives file other blocks = record { file = file; other = other; listed = λ free. blocks ++ free; put = None }
 
--- a call that also changes a slot of a directory, from its first byte on (manual section 5, directories)
+-- a reach that also changes a slot of the directory, starting at its first byte (manual section 5, directories)
 abbrev pub with_slot : ℕ → List ℕ → Reach → Reach
 with_slot slot bytes reach = record { file = reach.file; other = reach.other; listed = reach.listed; put = Some (slot, bytes) }
 
--- a call that puts an entry for i-number i into directory d (Lions on wdir)
+-- a reach that also puts an entry for i-number i into directory d (Lions on wdir)
 abbrev pub with_entry : Geometry → List ℕ → ℕ → List ℕ → ℕ → Reach → Reach
 with_entry geometry image d name i = with_slot (new_slot (shapes geometry image d).slots) (slot_bytes name i)
 
--- a call that clears the i-number in the slot of a name in directory d; the name's bytes stay (Lions on unlink)
+-- a reach that also clears the i-number in the slot of a name in directory d; the bytes of the name stay (Lions on unlink)
 abbrev pub without_entry : Geometry → List ℕ → ℕ → List ℕ → Reach → Reach
 without_entry geometry image d name = with_slot (slot_named name (slots geometry image d)) (0 ∷ 0 ∷ [])
 
--- the reach of a call at the node that a walk leads to (this project)
+-- the reach of a call on the node at the end of a walk; if the walk is refused, no file changes (this project)
 abbrev pub reach_of_node : Result ℕ Refusal → (ℕ → Reach) → Reach
 reach_of_node (Err refusal) reach = no_reach
 reach_of_node (Ok i) reach = reach i
 
--- the reach of a call at the parent and the name that a walk leads to (this project)
+-- the reach of a call on the parent and the name at the end of a walk; if the walk is refused, no file changes (this project)
 abbrev pub reach_of_parent : Option (Result (ℕ × List ℕ) Refusal) → (ℕ → List ℕ → Reach) → Reach
 reach_of_parent None reach = no_reach
 reach_of_parent (Some (Err refusal)) reach = no_reach
 reach_of_parent (Some (Ok found)) reach = reach found.0 found.1
 
--- node i loses a name in directory d, and, with its last name, its blocks (Lions on unlink, iput)
+-- the reach if node i loses a name in directory d, and its blocks if that was its last name (Lions on unlink, iput)
 abbrev pub unlinked : Geometry → List ℕ → ℕ → ℕ → Reach
 unlinked geometry image d i =
     if nat_le (node_at (tree geometry image) i).links 1 then gives d i (blocks_freed geometry image i)
     else record { file = d; other = d; listed = as_before; put = None }
 
--- directory i loses its name in directory d, and its blocks (rmdir)
+-- the reach if directory i loses its name in directory d, and its blocks (rmdir)
 abbrev pub removed : Geometry → List ℕ → ℕ → ℕ → Reach
 removed geometry image d i = gives d i (blocks_freed geometry image i)
 
@@ -99,7 +100,8 @@ reached_by geometry image (Chmod cred now path perm) done =
 reached_by geometry image (Chown cred now path uid gid) done = no_reach
 reached_by geometry image (Times cred now path atime mtime) done = no_reach
 
--- the bytes that a call also keeps: Chmod, Chown and Times keep all but those of one i-node and of the super-block's time, and Truncate keeps what the kept blocks of its file store (Lions on itrunc; chmod, chown and utime, section 2 of the manual)
+-- the other bytes that a call keeps: Chmod, Chown and Times keep all bytes except those of one i-node and of the super-block's time, and Truncate
+-- keeps everything stored in the blocks that its file keeps (Lions on itrunc; chmod, chown and utime, section 2 of the manual)
 unfoldable pub KeepsBytes : Geometry → List ℕ → List ℕ → Call → Type 0
 KeepsBytes geometry old new (Create cred now path perm) = Unit {0}
 KeepsBytes geometry old new (Mkdir cred now path perm) = Unit {0}
@@ -112,7 +114,9 @@ KeepsBytes geometry old new (Chmod cred now path perm) = IfOk (walk (tree geomet
 KeepsBytes geometry old new (Chown cred now path uid gid) = IfOk (walk (tree geometry old) cred path) (ChangesInode geometry old new)
 KeepsBytes geometry old new (Times cred now path atime mtime) = IfOk (walk (tree geometry old) cred path) (ChangesInode geometry old new)
 
--- an accepted call takes only the next blocks of the free list, or puts the blocks that it frees in front of it, in that order; every file that it doesn't reach keeps its meaning and all bytes of its blocks, even those that no tree shows, past the file's size or after the end of a name; and of a directory's bytes it changes those of one slot only (this project)
+-- an accepted call only takes the next blocks of the free list, or puts the blocks that it frees in front of it, in that order; every file outside
+-- its reach keeps its content and all bytes of its blocks, even those past the file's size or after the end of a name; in a directory the call
+-- changes the bytes of one slot only (this project)
 pub record LeavesTheRest (geometry : Geometry) (old new : List ℕ) (call : Call) (done : Done) : Type 0 where
   pub free : FreeBecomes geometry old new (reached_by geometry old call done).listed
   pub files : KeepsFilesBut geometry old new (reached_by geometry old call done).file (reached_by geometry old call done).other

@@ -1,4 +1,4 @@
--- Assumptions about an image for the checks of a call and the answers to a query.
+-- Assumptions about an image for checking a call and answering a query.
 use Rattle.std.specs.Prelude.{ℕ, List}
 use Rattle.vol_layout.specs.Geometry.{Fits}
 use Rattle.vol_file.specs.Rules.{Rules3To7}

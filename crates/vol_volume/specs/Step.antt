@@ -10,18 +10,19 @@ use Rattle.vol_volume.specs.declared.calls.Call.TheVariants.{Create, Mkdir, Link
 use Rattle.vol_volume.specs.declared.calls.Done.{Done}
 use Rattle.vol_volume.specs.declared.calls.Done.TheVariants.{Made, Wrote, Plain}
 
--- the state changed at the node that a walk leads to, or unchanged if the walk is refused (this project)
+-- the state after a change at the node at the end of a walk; unchanged if the walk is refused (this project)
 abbrev pub on_node : State → Result ℕ Refusal → (ℕ → State) → State
 on_node state (Err refusal) change = state
 on_node state (Ok i) change = change i
 
--- the state changed at the parent and the name that a walk leads to, or unchanged if it leads to none (this project)
+-- the state after a change at the parent and the name at the end of a walk; unchanged if the walk is refused or the path has no components (this
+-- project)
 abbrev pub on_parent : State → Option (Result (ℕ × List ℕ) Refusal) → (ℕ → List ℕ → State) → State
 on_parent state None change = state
 on_parent state (Some (Err refusal)) change = state
 on_parent state (Some (Ok found)) change = change found.0 found.1
 
--- the i-number that a call made, or 0 if it made none (this project)
+-- the i-number of the node that a call created, or 0 if it created none (this project)
 abbrev pub made_number : Done → ℕ
 made_number (Made i) = i
 made_number (Wrote n) = 0

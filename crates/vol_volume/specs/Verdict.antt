@@ -1,4 +1,4 @@
--- The refusal of a call, if any. The checks run in a fixed order, and the first that fails gives the refusal.
+-- The refusal of a call, if any. The checks run in a fixed order, and the first that fails determines the refusal.
 use Rattle.std.specs.Prelude.{ℕ, ◌+◌, ◌==◌, ◌&&◌, ◌||◌, Bool, true, false, not, nat_lt, nat_le, if◌then◌else◌, List, [], ◌∷◌, ◌++◌, length, Option, None, Some, is_none, is_some, Result, Ok, Err}
 use Rattle.std.specs.List.{list_any, range_with_len}
 use Rattle.vol_layout.specs.Edition.{constants}
@@ -22,7 +22,7 @@ abbrev pub first_of : List (Bool × Refusal) → Option Refusal
 first_of [] = None
 first_of (test ∷ tests) = if test.0 then Some test.1 else first_of tests
 
--- true if a directory has a name (Lions on namei)
+-- true if a directory has this name (Lions on namei)
 abbrev pub has_name : Tree → ℕ → List ℕ → Bool
 has_name tree d name = is_some (get (names_at tree d) name)
 
@@ -30,13 +30,13 @@ has_name tree d name = is_some (get (names_at tree d) name)
 abbrev pub has_others : Tree → ℕ → Bool
 has_others tree d = list_any (λ (entry : List ℕ × ℕ). not (is_dots entry.0)) (names_at tree d)
 
--- true if the content of a node is a special file's (manual section 5, file system)
+-- true if the content belongs to a special file (manual section 5, file system)
 abbrev pub is_device : Content → Bool
 is_device (Device type addresses) = true
 is_device (Body bytes) = false
 is_device (Directory names) = false
 
--- true if a new node may get an i-number: above the root's, at most the last, and free (Lions on ialloc)
+-- true if a new node may get this i-number: it is above the root's, at most the last, and free (Lions on ialloc)
 abbrev pub is_free_number : Tree → ℕ → Bool
 is_free_number tree i = nat_lt (root tree) i && (nat_le i tree.geometry.last_inode && is_none (tree.nodes i))
 
@@ -44,7 +44,7 @@ is_free_number tree i = nat_lt (root tree) i && (nat_le i tree.geometry.last_ino
 abbrev pub has_free_number : Tree → Bool
 has_free_number tree = list_any (is_free_number tree) (range_with_len 1 tree.geometry.last_inode)
 
--- true if a size is past the greatest of a file (manual section 5, file system)
+-- true if a size is above the greatest size of a file (manual section 5, file system)
 abbrev pub is_too_great : Tree → ℕ → Bool
 is_too_great tree size = nat_lt (constants tree.geometry.edition).greatest size
 
@@ -52,7 +52,7 @@ is_too_great tree size = nat_lt (constants tree.geometry.edition).greatest size
 abbrev pub is_full : Tree → Node → Bool
 is_full tree node = nat_le (constants tree.geometry.edition).link_limit node.links
 
--- the number of blocks that a write of some bytes from an offset on into file i needs (Lions on bmap)
+-- the number of blocks needed to write some bytes into file i at an offset (Lions on bmap)
 abbrev pub write_need : State → ℕ → ℕ → ℕ → ℕ
 write_need state i offset len = need_in state.tree.geometry.edition (state.shapes i) (touched offset len)
 
@@ -60,18 +60,19 @@ write_need state i offset len = need_in state.tree.geometry.edition (state.shape
 abbrev pub is_above_free : State → ℕ → Bool
 is_above_free state needed = nat_lt (free_in state) needed
 
--- the first checks of every call and query (the numbers of the user and group, and zero bytes in its paths), and then the others (this project)
+-- the first checks of every call and query, of its user and group numbers and for zero bytes in its paths, followed by other checks (this project)
 abbrev pub then_others : Tree → Cred → List (List ℕ) → Option Refusal → Option Refusal
 then_others tree cred paths others =
     if is_bad_id tree.geometry.edition cred.uid cred.gid then Some refusals.BadId
     else if list_any has_zero paths then Some refusals.Invalid else others
 
--- the refusal of a walk, or else that of the checks of the node that it leads to (Lions on namei)
+-- the refusal of a walk, else the refusal of the checks of the node at its end (Lions on namei)
 abbrev pub of_node : Result ℕ Refusal → (ℕ → Option Refusal) → Option Refusal
 of_node (Err refusal) others = Some refusal
 of_node (Ok i) others = others i
 
--- the refusal of a path without components, else that of the walk to its parent, else that of the checks of the parent and the last name (Lions on namei)
+-- the refusal `bare` of a path without components, else the refusal of the walk to its parent, else the refusal of the checks of the parent and the
+-- last name (Lions on namei)
 abbrev pub of_parent : Option (Result (ℕ × List ℕ) Refusal) → Refusal → (ℕ → List ℕ → List (Bool × Refusal)) → Option Refusal
 of_parent None bare tests = Some bare
 of_parent (Some (Err refusal)) bare tests = Some refusal
@@ -108,7 +109,7 @@ link_tests state cred i d name =
     ∷ (is_above_free state (entry_need state d), refusals.NoSpace)
     ∷ []
 
--- the checks of the parent d and the name that is removed (Lions on unlink)
+-- the checks of the parent d and a name to be removed (Lions on unlink)
 abbrev pub unlink_tests : State → Cred → ℕ → List ℕ → List (Bool × Refusal)
 unlink_tests state cred d name =
     (not (has_name state.tree d name), refusals.NoEntry)
@@ -116,7 +117,7 @@ unlink_tests state cred d name =
     ∷ (is_directory (node_at state.tree (number_of_name state.tree d name)), refusals.IsDirectory)
     ∷ []
 
--- the checks of the parent d and the name of a directory that is removed (rmdir)
+-- the checks of the parent d and the name of a directory to be removed (rmdir)
 abbrev pub rmdir_tests : State → Cred → ℕ → List ℕ → List (Bool × Refusal)
 rmdir_tests state cred d name =
     (is_dots name, refusals.Invalid)
@@ -126,7 +127,7 @@ rmdir_tests state cred d name =
     ∷ (has_others state.tree (number_of_name state.tree d name), refusals.NotEmpty)
     ∷ []
 
--- the checks of a node whose bytes are used: that it is a regular file that grants a right (Lions on access)
+-- the checks of a node before its bytes are read or changed: it is a regular file that grants an access (Lions on access)
 abbrev pub body_tests : Tree → ℕ → Cred → ℕ → List (Bool × Refusal)
 body_tests tree right cred i =
     (is_directory (node_at tree i), refusals.IsDirectory)
@@ -134,7 +135,7 @@ body_tests tree right cred i =
     ∷ (not (grants right cred (node_at tree i)), refusals.Access)
     ∷ []
 
--- the checks of a file that some bytes are written to from an offset on (Lions on writei)
+-- the checks of a file before bytes are written to it at an offset (Lions on writei)
 abbrev pub write_tests : State → Cred → ℕ → ℕ → ℕ → List (Bool × Refusal)
 write_tests state cred offset len i =
     body_tests state.tree may_write cred i
@@ -142,12 +143,12 @@ write_tests state cred offset len i =
     ∷ (is_above_free state (write_need state i offset len), refusals.NoSpace)
     ∷ []
 
--- the checks of a file that is cut to its first `size` bytes (Lions on itrunc; that bytes may stay is this project's)
+-- the checks of a file before it is cut to its first `size` bytes (Lions on itrunc; that bytes may stay is this project's)
 abbrev pub truncate_tests : Tree → Cred → ℕ → ℕ → List (Bool × Refusal)
 truncate_tests tree cred size i =
     body_tests tree may_write cred i ++ (nat_lt (node_at tree i).size size, refusals.Invalid) ∷ []
 
--- the checks of a link once its source is found: that the source isn't a directory, and then the parent of the new name (Lions on link)
+-- the checks of a link whose source was found: the source isn't a directory, and then the checks of the parent of the new name (Lions on link)
 abbrev pub link_refusal : State → Cred → List ℕ → ℕ → Option Refusal
 link_refusal state cred target i =
     if is_directory (node_at state.tree i) then Some refusals.IsDirectory
@@ -157,15 +158,15 @@ link_refusal state cred target i =
 abbrev pub is_owner : Cred → Node → Bool
 is_owner cred node = cred.uid == 0 || cred.uid == node.uid
 
--- the checks of a node whose permission bits or times are changed (chmod and utime, section 2 of the manual)
+-- the checks of a node before its permission bits or times are changed (chmod and utime, section 2 of the manual)
 abbrev pub owner_tests : Tree → Cred → ℕ → List (Bool × Refusal)
 owner_tests tree cred i = (not (is_owner cred (node_at tree i)), refusals.NotOwner) ∷ []
 
--- the checks of a user who changes the owner of any node (chown, section 2 of the manual)
+-- the check of the user before the owner of a node is changed (chown, section 2 of the manual)
 abbrev pub chown_tests : Cred → List (Bool × Refusal)
 chown_tests cred = (not (cred.uid == 0), refusals.NotOwner) ∷ []
 
--- the refusal of a call: the first that applies, other than NoMemory (this project)
+-- the first refusal of a call that applies, other than NoMemory (this project)
 unfoldable pub verdict : State → Call → Option Refusal
 verdict state (Create cred now path perm) =
     then_others state.tree cred (path ∷ [])

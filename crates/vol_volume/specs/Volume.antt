@@ -1,4 +1,4 @@
--- A mounted volume, and what its calls ensure.
+-- A mounted volume, and the effects of its calls.
 use Rattle.std.specs.Prelude.{◌≡◌, ℕ, ◌+◌, List, [], ◌∷◌, ◌++◌, length, None}
 use Rattle.vol_layout.specs.Geometry.{geometry_of}
 use Rattle.vol_dir.specs.Tree.{State, state}
@@ -15,7 +15,8 @@ use Rattle.vol_volume.specs.declared.calls.Call.{Call}
 use Rattle.vol_volume.specs.declared.calls.Done.{Done}
 use Rattle.vol_volume.specs.declared.calls.Record.{Record}
 
--- a volume as contracts see it: its bytes, those that were mounted or left by the last cut, the calls accepted since, and the number of records cut before (this project)
+-- a volume as contracts see it: its image, the bytes that were mounted or the image at the last cut, the calls accepted since, and the number of
+-- records removed by cuts (this project)
 pub record Mounted : Type 0 where
   pub edition : Edition
   pub image : List ℕ
@@ -23,11 +24,12 @@ pub record Mounted : Type 0 where
   pub journal : List Record
   pub first : ℕ
 
--- the tree and the shapes that an image reads as (manual section 5, file system)
+-- the tree and the shapes of files that an image reads as (manual section 5, file system)
 abbrev pub reads_as : Edition → List ℕ → State
 reads_as edition image = state (geometry_of edition image) image
 
--- the invariant of every volume between calls: it is sound, and reads as exactly the tree that replaying the journal makes of the sound image that was mounted or left by the last cut (this project)
+-- the invariant of every volume between calls: the image is sound, and reads as exactly the tree that results from replaying the journal on the sound
+-- image that was mounted or left by the last cut (this project)
 pub record IsConsistent (volume : Mounted) : Type 0 where
   pub image_sound : IsSound volume.edition volume.image
   pub base_sound : IsSound volume.edition volume.base
@@ -35,7 +37,7 @@ pub record IsConsistent (volume : Mounted) : Type 0 where
   pub legal : IsLegal (reads_as volume.edition volume.base) volume.journal
   pub reads : reads_as volume.edition volume.image ≡ after (reads_as volume.edition volume.base) volume.journal
 
--- a volume just mounted (this project)
+-- a newly mounted volume (this project)
 abbrev pub mounted : Edition → List ℕ → Mounted
 mounted edition bytes = record { edition = edition; image = bytes; base = bytes; journal = []; first = 0 }
 
@@ -49,14 +51,14 @@ after_cut volume = record {
   first = volume.first + length volume.journal;
 }
 
--- an image after an accepted call (this project)
+-- the image after an accepted call (this project)
 pub record Performs (geometry : Geometry) (old new : List ℕ) (call : Call) (done : Done) : Type 0 where
   pub answered : MayAnswer (state geometry old) call done
   pub changes : Becomes geometry old new (step (state geometry old) call done)
   pub inodes : KeepsInodes geometry old new
   pub rest : LeavesTheRest geometry old new call done
 
--- a volume after a call that was accepted, made and recorded (this project)
+-- the volume after a call was accepted, made and recorded (this project)
 pub record Accepts (old new : Mounted) (call : Call) (done : Done) : Type 0 where
   pub accepted : verdict (reads_as old.edition old.image) call ≡ None
   pub performed : Performs (geometry_of old.edition old.image) old.image new.image call done

@@ -21,11 +21,11 @@ use vol_dir::{Access, Cred, Refusal, list_names};
 use vol_layout::i_list::{kind, size};
 use vol_layout::{Geometry, inode};
 
-/// Answers a query of a sound image with this geometry from the tree that the image reads as. NoMemory comes only
-/// from Read and List, if the reply cannot be allocated. [`Volume::ask`](crate::Volume::ask) lists the refusals.
+/// Answers a query from the tree that an image reads as. The image is sound and has this geometry. NoMemory comes only from Read and List, if the
+/// reply can't be allocated. [`Volume::ask`](crate::Volume::ask) lists the refusals.
 ///
-/// Stat takes no memory. Costs the walk of the path. Besides, Read costs as much as [`vol_file::read`], and List reads
-/// each slot and sorts the names.
+/// Stat takes no memory. All queries cost the walk of the path. In addition, Read costs as much as [`vol_file::read`], and List reads each slot and
+/// sorts the names.
 pub fn ask_image(
     alloc: Global,
     image: &Image,
@@ -128,7 +128,7 @@ fn stat(image: &Image, geometry: &Geometry, i: u16) -> Stat
     }
 }
 
-/// Checks that i-node `i`, which is in use, is a directory that grants read, so that its names may be listed.
+/// Checks that i-node `i`, which is in use, is a directory that grants read access, so that its names may be listed.
 fn list_tests(image: &Image, geometry: &Geometry, cred: Cred, i: u16) -> Result<(), Refusal>
     requires stands { Rules3To7And9 geometry.now image.now }
     requires used { IsInUse geometry.now image.now i }
@@ -142,7 +142,7 @@ fn list_tests(image: &Image, geometry: &Geometry, cred: Cred, i: u16) -> Result<
     )
 }
 
-/// Returns the bytes of the regular file `i` from byte `offset` on, at most `len`.
+/// Returns at most `len` bytes of the regular file `i`, starting at byte `offset`.
 fn read(
     alloc: Global,
     image: &Image,

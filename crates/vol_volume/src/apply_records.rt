@@ -11,11 +11,10 @@ use crate::checked_calls::{make, may_answer, stands};
 use pdp_words::Image;
 use vol_layout::Geometry;
 
-/// Applies a record to a sound image with this geometry and `free` free blocks, and returns true, if the record may come
-/// next; a new node gets the recorded i-number. Else returns false and changes nothing. The image stays sound, and `free`
-/// stays the number of its free blocks.
+/// Applies a record to a sound image with this geometry and `free` free blocks, and returns true, if the record may come next. A new node gets the
+/// recorded i-number. Otherwise returns false and changes nothing. The image stays sound, and `free` is then the number of its free blocks.
 ///
-/// Takes no memory, and doesn't count the free blocks. Costs what [`Volume::call`](crate::Volume::call) does.
+/// Takes no memory, and doesn't count the free blocks. Costs as much as [`Volume::call`](crate::Volume::call).
 pub fn apply(image: &mut Image, geometry: &Geometry, free: &mut u32, entry: &Record) -> bool
     requires sound { IsSound geometry.now.edition image.old }
     requires sizes { geometry.now ≡ geometry_of geometry.now.edition image.old }

@@ -1,18 +1,17 @@
-//! Calls, which change a volume, and the journal's records of them.
+//! Calls, which change a volume, and the records of them in the journal.
 use pdp_words::Bytes;
 use vol_dir::Cred;
 
-/// A call by a user at a given time in seconds, which becomes the time of the super-block and of what the call
-/// changes. Paths start at the root, with or without a leading slash.
+/// A call by a user at a given time in seconds, which becomes the time of the super-block and of the nodes that the call changes. Paths start at the
+/// root, with or without a leading slash.
 ///
-/// Each variant lists its refusals in the order in which they are checked. A walk is refused if it meets something
-/// that is not a directory (NotDirectory), a directory that doesn't grant execute (Access), or a directory without the
-/// name (NoEntry).
+/// Each variant lists its refusals in the order in which they are checked. A walk is refused if a component follows something that is not a directory
+/// (NotDirectory), a directory that doesn't grant execute (Access), or a directory without the name (NoEntry).
 #[derive(Clone, PartialEq, Eq, Drop)]
 pub enum Call {
-    /// Makes an empty regular file. Refused: a path without components (Exists); the walk to the parent; a name that
-    /// exists (Exists); a parent that doesn't grant write (Access), or that the new name would make larger than a file may
-    /// be (TooBig); no free i-number (NoInode); too few free blocks (NoSpace).
+    /// Creates an empty regular file. Refused: a path without components (Exists); the walk to the parent; a name that exists (Exists); a parent that
+    /// doesn't grant write (Access), or that the new name would make larger than a file may be (TooBig); no free i-number (NoInode); too few free
+    /// blocks (NoSpace).
     Create {
         /// The calling user, who owns the file.
         cred: Cred,
@@ -23,8 +22,8 @@ pub enum Call {
         /// Its permission bits; only those in octal 7777 count.
         perm: u16,
     },
-    /// Makes a directory with only `.` and `..`. Refused as Create is, and, between Access and TooBig, if the parent's
-    /// link count is at the limit (TooManyLinks).
+    /// Creates a directory with only `.` and `..`. Refused for the same reasons as Create and, between Access and TooBig, if the parent's link count
+    /// is at the limit (TooManyLinks).
     Mkdir {
         /// The calling user, who owns the directory.
         cred: Cred,
@@ -110,8 +109,8 @@ pub enum Call {
         /// The permission bits; only those in octal 7777 count.
         perm: u16,
     },
-    /// Changes the user and group of a node of any kind; its permission bits stay. Refused: a new user or group number
-    /// above the edition's limit (BadId, before all others); the walk; a user other than 0 (NotOwner).
+    /// Changes the user and group of a node of any kind; its permission bits don't change. Refused: a new user or group number above the edition's
+    /// limit (BadId, before all others); the walk; a user other than 0 (NotOwner).
     Chown {
         /// The calling user.
         cred: Cred,
@@ -124,8 +123,8 @@ pub enum Call {
         /// The new group.
         gid: u16,
     },
-    /// Sets the times of a node of any kind. In the seventh edition its i-node's change gets the time of the call, as in every
-    /// call. Refused: the walk; a user who is neither 0 nor the node's owner (NotOwner). (utime, section 2 of the manual.)
+    /// Sets the times of a node of any kind. In the seventh edition the time of its i-node's change becomes the time of the call, as in every call.
+    /// Refused: the walk; a user who is neither 0 nor the node's owner (NotOwner). (utime, section 2 of the manual.)
     Times {
         /// The calling user.
         cred: Cred,

@@ -1,5 +1,5 @@
-//! Calls, each in a module of its own: its checks, and the change that it makes. The checks walk each path once and
-//! search the last directory once, and the change uses what they found.
+//! Calls, each in a module of its own, with its checks and its change. The checks walk each path once and search the last directory once, and the
+//! change uses their results.
 ghost use Rattle.std.specs.Prelude.{◌≡◌, ◌↔◌, IsTrue, IfSome, IfOk, OnErr};
 ghost use Rattle.std.specs.Result.{result_err};
 ghost use Rattle.vol_layout.specs.Geometry.{geometry_of};
@@ -32,7 +32,7 @@ use vol_dir::{Cred, Refusal};
 use vol_layout::Geometry;
 use vol_layout::super_block::SUPER;
 
-/// The answer to a call that was made, and the number of free blocks after it.
+/// The answer to an accepted call, and the number of free blocks after it.
 #[derive(Clone, Copy)]
 pub(crate) struct Performed {
     /// The answer.
@@ -41,7 +41,7 @@ pub(crate) struct Performed {
     pub free: u32,
 }
 
-/// The caller: the user of a call, and its time.
+/// The user and the time of a call.
 #[derive(Clone, Copy)]
 pub(crate) struct Caller {
     /// The user and group.
@@ -50,8 +50,8 @@ pub(crate) struct Caller {
     pub moment: u32,
 }
 
-/// Returns the answer that a call would get, or the first refusal that applies, in the order of the definition
-/// `verdict`. NoMemory is not among them. `free` is the number of free blocks.
+/// Returns the answer that a call would get, or the first refusal that applies, in the order of the definition `verdict`. NoMemory is never returned.
+/// `free` is the number of free blocks.
 ///
 /// Costs the walks of the call's paths, and one search of the last directory. A new node costs a search for a free
 /// i-number, removing a directory costs a read of its slots, and a write costs one block-map lookup for each logical
@@ -137,8 +137,8 @@ pub(crate) fn check(
     }
 }
 
-/// Makes a call; if [`check`] refuses it, returns that refusal and changes nothing. `free` is the number of free blocks. A
-/// recorded answer, if given, becomes the answer.
+/// Makes a call. If [`check`] refuses it, returns the refusal and changes nothing. `free` is the number of free blocks. If a recorded answer is
+/// given, it becomes the answer.
 ///
 /// Costs one [`check`], and the change.
 pub(crate) fn make(
@@ -205,7 +205,7 @@ pub(crate) fn make(
     }
 }
 
-/// True if `done` may be the answer to the call, once it is accepted.
+/// True if `done` is a possible answer to the call, if the call is accepted.
 pub(crate) fn may_answer(image: &Image, geometry: &Geometry, call: &Call, done: Done) -> bool
     requires { Rules3To7And9 geometry.now image.now }
     ensures { IsTrue result ↔ MayAnswer (state geometry.now image.now) call.now done }
@@ -264,7 +264,7 @@ fn new_node(caller: Caller, permissions: u16) -> NewNode
     }
 }
 
-/// Returns the user and group that a node is given to.
+/// Returns the new user and group of a node as one value.
 fn new_owner(uid: u16, gid: u16) -> Cred
     ensures user { result.uid ≡ uid }
     ensures group { result.gid ≡ gid }
@@ -272,7 +272,7 @@ fn new_owner(uid: u16, gid: u16) -> Cred
     Cred { uid, gid }
 }
 
-/// Returns the recorded i-number, or `None` if there is none.
+/// Returns the i-number in a recorded answer, or `None` if there is none.
 fn recorded_number(recorded: Option<Done>) -> Option<u16>
     ensures { result ≡ recorded_number recorded }
 {
@@ -282,7 +282,7 @@ fn recorded_number(recorded: Option<Done>) -> Option<u16>
     }
 }
 
-/// Does nothing: the contract says what holds of a sound image.
+/// Does nothing. The contract states facts about a sound image.
 pub(crate) fn ready_stands(image: &Image, geometry: &Geometry)
     requires { Rules1To12 geometry.now image.now }
     ensures { Rules3To7And9 geometry.now image.now }
@@ -292,13 +292,12 @@ pub(crate) fn ready_stands(image: &Image, geometry: &Geometry)
     let _ = geometry;
 }
 
-/// Does nothing: the contract says what holds of a sound image with its own geometry.
+/// Does nothing. The contract states facts about a sound image with its own geometry.
 pub(crate) fn stands(image: &Image, geometry: &Geometry)
     requires sound { IsSound geometry.now.edition image.now }
     requires sizes { geometry.now ≡ geometry_of geometry.now.edition image.now }
     ensures { Rules3To7And9 geometry.now image.now }
 {
-    // No rule bounds the number of blocks in the sixth edition. It is a word, and reading it tells the proof that it
-    // is below 65536.
+    // No rule limits the number of blocks in the sixth edition. It is stored in a word, and reading this word shows the proof that it is below 65536.
     let _ = image.word(SUPER + 2);
 }

@@ -1,4 +1,4 @@
-//! Queries of an image that isn't mounted.
+//! Queries on an image that isn't mounted.
 ghost use Rattle.std.specs.Prelude.{OnOk, IfOk, IfErr};
 ghost use Rattle.vol_judge.specs.Sound.{IsSound};
 ghost use Rattle.vol_volume.specs.Answer.{Answers};
@@ -14,8 +14,8 @@ use vol_dir::Refusal;
 use vol_judge::examine;
 use vol_layout::Edition;
 
-/// Answers a query of the volume in an image, exactly as [`Volume::ask`](crate::Volume::ask) would once the same bytes
-/// are mounted. An unsound image is a fault, and the query isn't answered.
+/// Answers a query of the volume in an image, exactly as [`Volume::ask`](crate::Volume::ask) would if the same bytes were mounted. If the image is
+/// unsound, returns that fault and doesn't answer the query.
 ///
 /// Takes memory to judge the image and for the reply; the image isn't copied.
 pub fn ask(

@@ -1,5 +1,4 @@
-//! Laws about the definitions of calls and journals. These functions do nothing: the contract, which is proved, is
-//! the point.
+//! Laws about the definitions of calls and journals. These functions do nothing; only their contracts, which are proved, matter.
 ghost use Rattle.vol_volume.specs.Laws.{
   KeepsConsistent,
   LeadsInParts,
@@ -21,7 +20,7 @@ pub fn journals_come_in_parts()
     ensures legal { IsLegalInParts }
 {}
 
-/// The state of a volume is never a reason for NoMemory, in a call or in a query.
+/// A call or a query is never refused with NoMemory because of the state of the volume.
 pub fn no_verdict_is_want_of_memory()
     ensures calls { HasMemory }
     ensures queries { HasMemoryForQueries }
@@ -32,7 +31,7 @@ pub fn no_bytes_change_nothing()
     ensures { WritesNothing }
 {}
 
-/// The empty path is the root, and so is `/`.
+/// The empty path leads to the root, and so does `/`.
 pub fn the_empty_path_is_the_root()
     ensures { LeadsToRoot }
 {}

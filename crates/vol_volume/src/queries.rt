@@ -24,7 +24,7 @@ pub enum Query {
     Read {
         /// The user that the query runs as.
         cred: Cred,
-        /// The file's path.
+        /// The path of the file.
         path: Bytes,
         /// The position of the first byte to read, counted from 0.
         offset: u32,
@@ -45,7 +45,7 @@ pub enum Query {
 pub enum Reply {
     /// The attributes of a node.
     Stat(Stat),
-    /// The bytes read, none at or past the file's end.
+    /// The bytes read, up to the file's end.
     Bytes(Bytes),
     /// The names of a directory.
     Names(Listing),
@@ -56,9 +56,9 @@ pub enum Reply {
 pub struct Stat {
     /// The i-number.
     pub number: u16,
-    /// Regular, directory or special.
+    /// The kind of the node: regular, directory or special.
     pub kind: Kind,
-    /// The permission bits, those in octal 7777.
+    /// The permission bits in octal 7777.
     pub permissions: u16,
     /// The link count.
     pub links: u16,
@@ -76,7 +76,7 @@ pub struct Stat {
     pub changed: Option<u32>,
 }
 
-/// The names in a directory, `.` and `..` among them, each with its i-number. Contracts see it as a list.
+/// The names in a directory, including `.` and `..`, each with its i-number. Contracts treat it as a list.
 #[derive(Drop)]
 pub struct Listing {
     entries: Vec<(Bytes, u16)>,
@@ -91,7 +91,7 @@ impl Model for Listing {
 }
 
 impl Listing {
-    /// Wraps these names. Takes no memory.
+    /// Wraps a vector of names. Takes no memory.
     pub fn from_vec(entries: Vec<(Bytes, u16)>) -> Listing
         ensures { result ≡ entries.items }
     {

@@ -1,4 +1,4 @@
-//! Volumes with room for a record in the journal.
+//! Volumes with reserved room for a record in the journal.
 ghost use Rattle.std.specs.Prelude.{◌≡◌, IfOk, IfErr};
 ghost use Rattle.vol_volume.specs.Journal.{MayFollow};
 ghost use Rattle.vol_volume.specs.Volume.{Accepts, reads_as};
@@ -8,7 +8,7 @@ use crate::volume::{Parts, Volume, accept};
 use std::alloc::{AllocError, Global};
 use std::marker::Model;
 
-/// A volume whose journal has room for one more record, so that recording it takes no memory.
+/// A volume whose journal has room for one more record, so that adding it takes no memory.
 #[derive(Drop)]
 pub struct Reserved {
     parts: Parts,
@@ -27,7 +27,7 @@ impl Model for Reserved {
 }
 
 impl Volume {
-    /// Reserves room for one more record in the journal. If memory runs out, returns the volume as it was.
+    /// Reserves room for one more record in the journal. If memory runs out, returns the volume unchanged.
     pub fn reserve(self, alloc: Global) -> Result<Reserved, (AllocError, Volume)>
         ensures reserved { IfOk result (λ reserved. reserved ≡ self) }
         ensures handed_back { IfErr result (λ (error, same). same ≡ self) }
@@ -46,7 +46,7 @@ impl Reserved {
     /// Makes a call with its recorded answer, as [`Volume::redo`] does, and appends the record to the journal. The record
     /// must be one that may come next.
     ///
-    /// Takes no memory. Costs what [`Volume::call`] does.
+    /// Takes no memory. Costs as much as [`Volume::call`].
     pub fn redo(self, entry: Record) -> Volume
         requires { MayFollow (reads_as self.edition self.image) entry }
         ensures { Accepts self result entry.call entry.done }
@@ -59,7 +59,7 @@ impl Reserved {
         }
     }
 
-    /// Returns the volume as it was.
+    /// Returns the volume unchanged.
     pub fn release(self) -> Volume
         ensures { result ≡ self }
     {

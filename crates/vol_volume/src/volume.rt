@@ -34,7 +34,7 @@ pub enum MountFault {
     NoMemory,
 }
 
-/// A cut that would number the next record 2^64 or higher.
+/// The error of a cut after which the next record's number would be 2^64 or more.
 #[derive(Clone, Copy, Debug, Error)]
 #[error("too many records")]
 pub struct TooManyRecords;
@@ -44,20 +44,20 @@ pub struct TooManyRecords;
 pub(crate) struct Parts {
     /// The volume's geometry.
     pub(crate) geometry: Geometry,
-    /// The image as the calls have left it.
+    /// The image after all calls so far.
     pub(crate) current: Image,
-    /// The number of its free blocks.
+    /// The number of free blocks in the image.
     pub(crate) free: u32,
-    /// The bytes that were mounted or left by the last cut.
+    /// The bytes that were mounted, or the image at the last cut.
     pub(crate) base: Vec<u8>,
-    /// The calls accepted since then.
+    /// The calls accepted since the mount or the last cut.
     pub(crate) records: Vec<Record>,
-    /// The number of records that earlier cuts removed.
+    /// The number of records that cuts have removed.
     pub(crate) first: u64,
 }
 
-/// A mounted volume: a sound image, the bytes that were mounted or left by the last cut, and the journal of the
-/// calls accepted since. The image always reads as exactly the tree that replaying the journal on those bytes gives.
+/// A mounted volume: a sound image, the bytes that were mounted (or the image at the last cut), and the journal of the calls accepted since. The
+/// image always reads as exactly the tree that results from replaying the journal on those bytes.
 #[derive(Drop)]
 pub struct Volume {
     pub(crate) parts: Parts,
@@ -75,8 +75,8 @@ impl Model for Volume {
 }
 
 impl Volume {
-    /// Mounts the bytes of a volume, with an empty journal. Bytes past the volume's last block are kept. An unsound image
-    /// isn't mounted; each fault hands the same bytes back.
+    /// Mounts the bytes of a volume, with an empty journal. Bytes past the volume's last block are kept. An unsound image isn't mounted. If mounting
+    /// fails, the same bytes are handed back.
     ///
     /// Takes memory to judge the image, and for a copy of its bytes.
     pub fn mount(
@@ -97,7 +97,7 @@ impl Volume {
         }
     }
 
-    /// Mounts an image that was examined and found sound.
+    /// Mounts an image that was judged sound.
     fn mount_sound(
         alloc: Global,
         edition: Edition,
@@ -139,56 +139,55 @@ impl Volume {
         &self.parts.geometry
     }
 
-    /// Returns the number of free blocks. It is stored, so nothing is counted.
+    /// Returns the number of free blocks, which is stored, not counted.
     pub fn free_blocks(&self) -> u32
         ensures { result ≡ free_count (geometry_of self.now.edition self.now.image) (shapes (geometry_of self.now.edition self.now.image) self.now.image) }
     {
         self.parts.free
     }
 
-    /// Returns the bytes that were mounted or left by the last cut.
+    /// Returns the bytes that were mounted, or the image at the last cut.
     pub fn base(&self) -> &[u8]
         ensures { result.now ≡ self.now.base }
     {
         &self.parts.base
     }
 
-    /// Returns the image as the calls have left it.
+    /// Returns the image after all calls so far.
     pub fn image(&self) -> &Image
         ensures { result.now ≡ self.now.image }
     {
         &self.parts.current
     }
 
-    /// Returns the calls accepted since the mount or the last cut, in order.
+    /// Returns the records of the calls accepted since the mount or the last cut, in order.
     pub fn journal(&self) -> &[Record]
         ensures { result.now ≡ self.now.journal }
     {
         &self.parts.records
     }
 
-    /// Returns the number of records cut since the mount, which is the number of the journal's first record.
+    /// Returns the number of records removed by cuts since the mount, which is the number of the journal's first record.
     pub fn first(&self) -> u64
         ensures { result ≡ self.now.first }
     {
         self.parts.first
     }
 
-    /// Answers a query from the tree that the image reads as. BadId is checked first, then a path with a zero byte
-    /// (Invalid), then the walk of the path (NotDirectory, Access, NoEntry). Stat checks nothing more. Read then checks
-    /// that the node is a regular file (IsDirectory, NotRegular) that grants read (Access), and List that it is a directory
-    /// (NotDirectory) that grants read (Access). NoMemory comes last, and only from Read and List.
+    /// Answers a query from the tree that the image reads as. First BadId is checked, then a path with a zero byte (Invalid), then the walk of the
+    /// path (NotDirectory, Access, NoEntry). Stat checks nothing more. Read then checks that the node is a regular file (IsDirectory, NotRegular)
+    /// that grants read (Access), and List that it is a directory (NotDirectory) that grants read (Access). NoMemory comes last, and only from Read
+    /// and List.
     ///
-    /// Stat takes no memory, Read one buffer of exactly the bytes in its reply, List some for each name. Costs the walk
-    /// of the path. Besides, Read costs as much as [`vol_file::read`], and List reads each slot and sorts the names.
+    /// Stat takes no memory, Read one buffer of exactly the bytes in its reply, and List some memory for each name. All queries cost the walk of the
+    /// path. In addition, Read costs as much as [`vol_file::read`], and List reads each slot and sorts the names.
     pub fn ask(&self, alloc: Global, query: &Query) -> Result<Reply, Refusal>
         ensures { Answers (reads_as self.now.edition self.now.image).tree query.now result }
     {
         ask_image(alloc, &self.parts.current, &self.parts.geometry, query)
     }
 
-    /// Returns the refusal that [`Volume::call`] would meet first, other than NoMemory, or `None` if no check fails.
-    /// Changes nothing.
+    /// Returns the first refusal, other than NoMemory, that [`Volume::call`] would report, or `None` if no check fails. Changes nothing.
     ///
     /// Takes no memory. Costs the walks of the call's paths, and one search of the last directory. A new node costs a
     /// search for a free i-number, removing a directory costs a read of its slots, and a write costs one block-map lookup
@@ -199,10 +198,10 @@ impl Volume {
         refusal_of(&self.parts, call)
     }
 
-    /// Returns the answer that a call would get and be recorded with, or its first refusal other than NoMemory. Changes
-    /// nothing. The i-number of a new node is the one that [`Volume::call`] would use.
+    /// Returns the answer that a call would get and that would be recorded, or its first refusal other than NoMemory. Changes nothing. The i-number
+    /// of a new node is the one that [`Volume::call`] would use.
     ///
-    /// Takes no memory, and costs what [`Volume::refusal`] does.
+    /// Takes no memory. Costs as much as [`Volume::refusal`].
     pub fn foresee(&self, call: &Call) -> Result<Done, Refusal>
         ensures foreseen { IfOk result (λ done. MayFollow (reads_as self.now.edition self.now.image) (record { call = call.now; done = done })) }
         ensures refused { IfErr result (λ refusal. verdict (reads_as self.now.edition self.now.image) call.now ≡ Some refusal) }
@@ -210,18 +209,18 @@ impl Volume {
         foresee(&self.parts, call)
     }
 
-    /// Makes a call, if no check fails, appends it to the journal, and returns its answer. A refused call is handed back
-    /// and changes nothing. An accepted call takes blocks only from the front of the free list, or puts there the blocks
-    /// that it frees; every file that it doesn't change keeps all bytes of its blocks.
+    /// Makes a call if no check fails, appends it to the journal, and returns its answer. A refused call is handed back and changes nothing. An
+    /// accepted call takes blocks only from the front of the free list, and puts the blocks that it frees there. Every file that it doesn't change
+    /// keeps all bytes of its blocks.
     ///
-    /// The checks run in this order. BadId: the number of the user or the group is above the edition's limit. Invalid: a
-    /// path has a zero byte. Then the refusals that the variant of [`Call`] lists, in its order. NoMemory comes last,
-    /// before the first byte changes, and only if the journal cannot get room for one more record.
+    /// The checks run in this order. BadId: the user or group number is above the edition's limit. Invalid: a path has a zero byte. Then the refusals
+    /// that the variant of [`Call`] lists, in its order. NoMemory comes last, before the first byte changes, and only if the journal can't get room
+    /// for one more record.
     ///
-    /// Takes memory for the journal alone, even if the call is then refused. Costs one walk of each path, one search of the
-    /// last directory, and the change. A new node costs two searches of the i-list, unless a cached i-number is free. A
-    /// write costs a copy of its bytes, three block-map lookups for each block that it touches, and one for each stored
-    /// block between the old size and the offset. Freeing blocks costs a read of each place of the file.
+    /// Takes memory only for the journal, even if the call is then refused. Costs one walk of each path, one search of the last directory, and the
+    /// change. A new node costs two searches of the i-list, unless a cached i-number is free. A write costs a copy of its bytes, three block-map
+    /// lookups for each block that it touches, and one for each stored block between the old size and the offset. Freeing blocks costs a read of each
+    /// address in the file's block map.
     pub fn call(&mut self, alloc: Global, call: Call) -> Result<Done, (Refusal, Call)>
         ensures accepted { IfOk result (λ done. Accepts self.old self.new call done) }
         ensures refused { IfErr result (λ (refusal, same). Refuses (reads_as self.old.edition self.old.image) call refusal) }
@@ -237,11 +236,10 @@ impl Volume {
         accept(&mut self.parts, call, None)
     }
 
-    /// Makes a call with its recorded answer (a new node gets the recorded i-number), and appends the record to the
-    /// journal. The record must be one that may come next. If memory runs out, the record is handed back and nothing
-    /// changes.
+    /// Makes a call with its recorded answer, so that a new node gets the recorded i-number, and appends the record to the journal. The record must
+    /// be one that may come next. If memory runs out, hands the record back and changes nothing.
     ///
-    /// Takes memory for the journal alone. Costs what [`Volume::call`] does.
+    /// Takes memory only for the journal. Costs as much as [`Volume::call`].
     pub fn redo(&mut self, alloc: Global, entry: Record) -> Result<(), (AllocError, Record)>
         requires { MayFollow (reads_as self.old.edition self.old.image) entry }
         ensures accepted { IfOk result (λ _. Accepts self.old self.new entry.call entry.done) }
@@ -259,10 +257,10 @@ impl Volume {
         }
     }
 
-    /// Cuts the journal: drops its records, makes the present image the base, and adds their number to that of the first
-    /// record. The image stays. If a record's number would reach 2^64, nothing changes.
+    /// Cuts the journal: drops its records, makes the present image the base, and adds the number of dropped records to the number of the first
+    /// record. The image doesn't change. If a record's number would reach 2^64, nothing changes.
     ///
-    /// Takes no memory, and frees that of the journal. Costs a copy of the image's bytes, and dropping the journal.
+    /// Takes no memory, and frees the journal's memory. Costs a copy of the image's bytes, and dropping the journal.
     pub fn cut(&mut self) -> Result<(), TooManyRecords>
         ensures cut { OnOk result (self.new ≡ after_cut self.old) }
         ensures fault { OnErr result (2 ^ 64 ≤ self.old.first + length self.old.journal) }
@@ -279,17 +277,17 @@ impl Volume {
         self.parts.current.into_bytes()
     }
 
-    /// Does nothing: the contract says what every volume keeps.
+    /// Does nothing. The contract states the invariant of every volume.
     pub fn check(&self)
         ensures { IsConsistent self.now }
     {
-        // Reading a field tells the proof what every volume keeps.
+        // Reading a field gives the proof access to the invariant of the volume.
         let _ = &self.parts.geometry;
     }
 }
 
-/// Makes a call, if no check fails, and appends its record, for which the journal has room; else hands the call back
-/// and changes nothing. A recorded answer, if given, becomes the answer.
+/// Makes a call if no check fails, and appends its record to the journal, which has room for it. Otherwise hands the call back and changes nothing.
+/// If a recorded answer is given, it becomes the answer.
 pub(crate) fn accept(
     parts: &mut Parts,
     call: Call,
@@ -324,7 +322,7 @@ pub(crate) fn accept(
     Ok(done)
 }
 
-/// Cuts the journal, and keeps no room for records. If a record's number would reach 2^64, nothing changes.
+/// Cuts the journal and releases its memory. If a record's number would reach 2^64, nothing changes.
 fn cut_journal(parts: &mut Parts) -> Result<(), TooManyRecords>
     requires kept { IsKept parts.old }
     ensures kept { IsKept parts.new }
@@ -343,7 +341,7 @@ fn cut_journal(parts: &mut Parts) -> Result<(), TooManyRecords>
     Ok(())
 }
 
-/// Returns the refusal of a call when the journal is full and cannot grow: the first failing check, else NoMemory.
+/// Returns the refusal of a call when the journal is full and can't grow: the refusal of the first failing check, else NoMemory.
 fn refusal_without_room(parts: &Parts, call: &Call) -> Refusal
     requires kept { IsKept parts.now }
     requires full { vec_capacity parts.now.records < vec_len parts.now.records + 1 }

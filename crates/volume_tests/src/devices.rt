@@ -10,7 +10,7 @@ use std::fmt::Display;
 use std::io::{ErrorKind, Write};
 use std::process::Abort;
 
-/// Returns `len` bytes, which repeat after 251.
+/// Returns `len` bytes; the same 251 bytes are repeated.
 fn sample(rt: &impl Abort, alloc: Global, len: usize) -> Vec<u8> {
     let mut bytes = Vec::new(alloc);
     for n in 0..len {
@@ -34,8 +34,7 @@ fn a_load_fails_exactly_where_a_read_does(rt: HostRuntime) {
     }
 }
 
-/// Loads `bytes`, once for each read that can fail, the last of which finds the end, and twice more with a failure after
-/// that.
+/// Loads `bytes`, with a failure at each read in turn, the last of which finds the end; and twice more with a failure after that.
 fn check_loads(rt: &impl Abort, alloc: Global, bytes: &[u8], piece: usize)
     requires { 0 < piece }
 {
@@ -75,7 +74,7 @@ fn a_save_fails_exactly_where_a_write_does(rt: HostRuntime) {
     }
 }
 
-/// Saves `image`, once for each write that can fail, and twice more with a failure after the last.
+/// Saves `image`, with a failure at each write in turn, and twice more with a failure after the last write.
 fn check_saves(rt: &impl Abort, alloc: Global, image: &Image, piece: usize, mishap: WriteMishap)
     requires { 0 < piece }
 {
@@ -95,7 +94,7 @@ fn check_saves(rt: &impl Abort, alloc: Global, image: &Image, piece: usize, mish
     }
 }
 
-/// Checks whether a sink has failed, and that it has taken these bytes.
+/// Checks whether a sink has failed, and that these bytes were written to it.
 fn check_sink(
     rt: &impl Abort,
     sink: IntoWrite<ScriptedWriter>,

@@ -40,7 +40,7 @@ pub(crate) fn new_bytes(rt: &impl Abort, alloc: Global, edition: Edition) -> Vec
     mkfs(alloc, edition, 100, 2, 0, 0, MADE).expect(rt, "a new volume")
 }
 
-/// Returns such a volume, mounted.
+/// Returns a new volume of 100 blocks, mounted.
 pub(crate) fn new_volume(rt: &impl Abort, alloc: Global, edition: Edition) -> Volume {
     match Volume::mount(alloc, edition, new_bytes(rt, alloc, edition)) {
         Ok(volume) => volume,

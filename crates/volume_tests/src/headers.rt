@@ -1,5 +1,5 @@
-//! Headers of GNU tar 1.34 with fields that no command shows, from `tar --owner=3 --group=5 --mtime=@1000000000 -b1 -cf`
-//! with `--format=ustar` and `--format=gnu`. `tests/archives.sh` imports others.
+//! Headers of GNU tar 1.34 with fields that no command shows, from `tar --owner=3 --group=5 --mtime=@1000000000 -b1 -cf` with `--format=ustar` and
+//! `--format=gnu`. `tests/archives.sh` imports other headers.
 use crate::fixtures::{Piece, put_all};
 use std::alloc::Global;
 use std::process::Abort;
@@ -25,7 +25,7 @@ static POSIX_LONG: [Piece; 5] = [
     ),
 ];
 
-/// The header before that of the same directory, in GNU tar's format.
+/// The header that precedes the header of the same directory, in GNU tar's format.
 static GNU_LONG: [Piece; 3] = [
     (0, b"././@LongLink"),
     (
@@ -35,7 +35,7 @@ static GNU_LONG: [Piece; 3] = [
     GNU_MAGIC,
 ];
 
-/// Another name of a file, in GNU tar's format.
+/// A hard link to the file `readme`, in GNU tar's format.
 static GNU_LINK: [Piece; 3] = [
     (0, b"hard"),
     (
@@ -45,7 +45,7 @@ static GNU_LINK: [Piece; 3] = [
     GNU_MAGIC,
 ];
 
-/// A symbolic link to it, in GNU tar's format.
+/// A symbolic link to the file `readme`, in GNU tar's format.
 static GNU_SYMBOLIC: [Piece; 3] = [
     (0, b"sl"),
     (
@@ -77,7 +77,7 @@ static GNU_LARGE: [Piece; 5] = [
 /// The magic and the version of GNU tar.
 const GNU_MAGIC: Piece = (257, b"ustar  \x00");
 
-/// Checks a header that is read.
+/// Checks the fields that are read from a header.
 fn check_read(
     rt: &impl Abort,
     alloc: Global,
@@ -95,7 +95,7 @@ fn check_read(
     assert!(rt; !is_zeros(&block));
 }
 
-/// Returns the header of a member of user 3 and group 5.
+/// Returns the fields of a member that belongs to user 3 and group 5.
 fn header(flag: TypeFlag, permissions: u64) -> ReadHeader {
     ReadHeader {
         flag,

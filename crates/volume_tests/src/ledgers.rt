@@ -1,4 +1,4 @@
-//! The log, which has no size at run time: a test sees that its owner always gets the right to append.
+//! A log, which has no size at run time. The test checks that there is one permit to append for each entry.
 use crate::fixtures::{create, new_volume};
 use std::test::Fail;
 use vol_layout::Edition;

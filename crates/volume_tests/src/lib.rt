@@ -1,6 +1,6 @@
-//! Tests through public functions, of what no contract and no command shows: devices that fail at each of their calls, headers
-//! of another program, the words of faults; threads that wait for one another, with sessions, as checkers and as scripts;
-//! and what a log and a sweep are given.
+//! Tests of public functions, for properties that no contract states and no command shows: devices that fail at each of their calls, headers of
+//! another program, and the words of faults; threads that wait for one another, with sessions, as checkers and as scripts; and the arguments of a log and a
+//! sweep.
 #![tactic(auto)]
 
 #[cfg(test)]

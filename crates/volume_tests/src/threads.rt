@@ -16,7 +16,7 @@ use vol_volume::{Call, Query, Volume};
 /// The number of times a thread looks for the other's file.
 const TURNS: u32 = 20_000_000;
 
-/// The files of a thread: it makes the first, and waits for the second.
+/// The two files of a thread: it makes the first, and waits for the second.
 type Task = (&'static [u8], &'static [u8]);
 
 /// Opens a volume with two sessions.
@@ -95,7 +95,7 @@ fn stat(rt: &impl Abort, alloc: Global, path: &[u8]) -> Query {
     }
 }
 
-/// Does a task, and returns its receipts.
+/// Runs a task, and returns its receipts.
 fn perform<R: Wait + Abort>(
     rt: &R,
     alloc: Global,

@@ -1,4 +1,4 @@
-//! The texts of `block`.
+//! The help texts of `block`.
 
 pub const ABOUT: &str = "Shows what uses a block.";
 

@@ -1,4 +1,4 @@
-//! The texts of `df`.
+//! The help texts of `df`.
 
 pub const ABOUT: &str = "Shows how much of a volume is used, and how much is free.";
 

@@ -1,4 +1,4 @@
-//! The texts of `export`.
+//! The help texts of `export`.
 
 pub const ABOUT: &str =
     "Writes everything below a directory as a tar archive, even from an unsound image.";

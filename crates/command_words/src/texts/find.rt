@@ -1,4 +1,4 @@
-//! The texts of `find`.
+//! The help texts of `find`.
 
 pub const ABOUT: &str = "Prints the path of everything below a directory of a volume.";
 

@@ -1,4 +1,4 @@
-//! The texts of `free`.
+//! The help texts of `free`.
 
 pub const ABOUT: &str = "Shows the free list, link by link.";
 

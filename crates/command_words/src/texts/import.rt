@@ -1,4 +1,4 @@
-//! The texts of `import`.
+//! The help texts of `import`.
 
 pub const ABOUT: &str = "Adds the files and directories of a tar archive to a volume.";
 

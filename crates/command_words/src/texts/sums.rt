@@ -1,4 +1,4 @@
-//! The texts of `sums`.
+//! The help texts of `sums`.
 
 pub const ABOUT: &str =
     "Prints a manifest of everything below a directory, with the SHA-256 of each file.";

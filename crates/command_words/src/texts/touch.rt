@@ -1,4 +1,4 @@
-//! The texts of `touch`.
+//! The help texts of `touch`.
 
 pub const ABOUT: &str =
     "Sets the times of a file or directory of a volume, or makes an empty file.";

@@ -9,7 +9,7 @@ pub(crate) struct Found {
 }
 
 impl Found {
-    /// Counts a promise as broken unless it was kept.
+    /// Counts a promise as broken unless `kept` is true.
     pub(crate) fn wants(&mut self, kept: bool) {
         if !kept {
             self.broken = self.broken.saturating_add(1);

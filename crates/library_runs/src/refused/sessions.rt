@@ -1,4 +1,4 @@
-//! Runs over a shared volume with two sessions, and maybe a view.
+//! Runs over a shared volume with two sessions, with or without a view.
 ghost use Rattle.std.specs.Prelude.{◌≡◌, length, IfSome, None, Some, All};
 
 use crate::refused::found::Found;
@@ -34,10 +34,10 @@ const TURNS: [Turn; 2] = [
     },
 ];
 
-/// The receipts of a turn, if there was memory for them: those of the session, and that of the view.
+/// The receipts of a turn, two of the session and one of the view. A receipt is `None` if there was no memory for it.
 type Receipts = [Option<Receipt>; 3];
 
-/// The bytes of an unshared volume before the two calls and after each of them.
+/// The bytes of a volume that isn't shared: before the two calls, and after each of them.
 type Images = [Vec<u8>; 3];
 
 /// Opens a volume with two sessions, and with a view if `watched`. Both sessions take their turns. Closes the volume, and
@@ -65,7 +65,7 @@ pub(crate) fn share<R: Wait>(
     whole.then_some(())
 }
 
-/// Returns the bytes that the calls of both sessions leave of an unshared volume.
+/// Returns the bytes of a volume that isn't shared, before the calls of both sessions and after each of them.
 fn images(alloc: Global, found: &mut Found) -> Option<Images> {
     let mut volume = sixth(alloc, found)?;
     let new = copied(alloc, volume.image().as_bytes())?;
@@ -100,7 +100,7 @@ fn watch<R: Wait>(
     Some((shared.close_with(rt, sessions, views), turns))
 }
 
-/// Opens a volume with two sessions. If memory runs out, the same volume must be handed back.
+/// Opens a volume with two sessions. If memory runs out, the same volume must be returned.
 fn open(alloc: Global, found: &mut Found, volume: Volume) -> Option<(Shared, Vec<Session>)>
     ensures sessions { IfSome result (λ opened. (opened.0.sessions ≡ 2) × (length opened.1.items ≡ 2)) }
     ensures own { IfSome result (λ opened. All (λ s. s.of ≡ opened.0.of) opened.1.items) }
@@ -116,7 +116,7 @@ fn open(alloc: Global, found: &mut Found, volume: Volume) -> Option<(Shared, Vec
     }
 }
 
-/// Opens a volume with two sessions and a view. If memory runs out, the same volume must be handed back.
+/// Opens a volume with two sessions and a view. If memory runs out, the same volume must be returned.
 fn open_with<R: Wait>(
     rt: &R,
     alloc: Global,
@@ -145,7 +145,7 @@ fn check_same(found: &mut Found, volume: &Volume, bytes: &[u8]) {
     found.wants(volume.journal().is_empty());
 }
 
-/// Lets both sessions take their turns.
+/// Takes the turns of both sessions.
 #[tactic(auto, using(vol_shared::proofs::Prefixes::all_pushed, vol_shared::proofs::Lists::all_last, vol_shared::proofs::Lists::all_prefix))]
 fn take_turns<R: Wait>(
     rt: &R,
@@ -195,7 +195,7 @@ fn take<R: Wait>(
     [called, asked, seen]
 }
 
-/// Makes a session's file. If memory runs out, the same call must be handed back.
+/// Makes a session's file. If memory runs out, the same call must be returned.
 fn call<R: Wait>(
     rt: &R,
     alloc: Global,
@@ -218,7 +218,7 @@ fn call<R: Wait>(
     }
 }
 
-/// Makes a session's query. If memory runs out, the query must be handed back.
+/// Makes a session's query. If memory runs out, the query must be returned.
 fn ask<R: Wait>(
     rt: &R,
     alloc: Global,
@@ -240,7 +240,7 @@ fn ask<R: Wait>(
     }
 }
 
-/// Lets the view, if there is one, learn from a session and make a query.
+/// If there is a view, makes it learn from a session, and makes its query.
 #[tactic(auto, using(vol_shared::proofs::Prefixes::all_pushed, vol_shared::proofs::Lists::all_last, vol_shared::proofs::Lists::all_prefix))]
 fn look(
     alloc: Global,
@@ -268,7 +268,7 @@ fn look(
     receipt
 }
 
-/// Makes a view's query. If memory runs out, the query must be handed back. Only one that takes memory may run out of it.
+/// Makes a view's query. If memory runs out, the query must be returned. Only a query that takes memory may run out of it.
 fn ask_view(alloc: Global, found: &mut Found, view: &mut View, kind: Kind) -> Option<Receipt>
     ensures { view.new.book ≡ view.old.book }
 {
@@ -298,7 +298,7 @@ fn check(found: &mut Found, receipts: &Receipts, before: u64) -> u64 {
     records
 }
 
-/// True if a volume with `records` records may give this outcome to a call or query of a turn.
+/// True if this is a possible outcome of a call or query of a turn on a volume with `records` records.
 fn is_right(outcome: &Outcome, records: u64) -> bool {
     match outcome {
         Outcome::Accepted(done) => *done == Done::Made(if records == 0 { 32 } else { 31 }),
@@ -311,7 +311,7 @@ fn is_right(outcome: &Outcome, records: u64) -> bool {
     }
 }
 
-/// Checks that a volume has this number of records, and the bytes that these leave.
+/// Checks that a volume has this number of records, and the bytes that result from them.
 fn check_closed(found: &mut Found, closed: &Closed, records: u64, images: &Images) {
     found.wants(closed.accepted() == records);
     found.wants(closed.volume().journal().len() as u64 == records);
@@ -322,7 +322,7 @@ fn check_closed(found: &mut Found, closed: &Closed, records: u64, images: &Image
     });
 }
 
-/// Confirms the receipts of a turn. Returns `None` if one is missing; without a view, there is none of it.
+/// Confirms the receipts of a turn. Returns `None` if one is missing; without a view, its receipt doesn't count as missing.
 fn confirm_all(
     alloc: Global,
     found: &mut Found,

@@ -1,4 +1,4 @@
-//! A run over one volume, and the steps on volumes that other runs make too.
+//! A run over one volume, and steps on volumes that other runs share.
 
 use crate::refused::found::Found;
 use crate::steps::{Kind, bytes_of, copied, create, query, write};
@@ -10,7 +10,7 @@ use vol_volume::{Call, Done, MkfsFault, MountFault, Query, Reply, Volume, mkfs};
 /// The time of all calls.
 pub(crate) const NOW: u32 = 0x0A0B_0C0D;
 
-/// Changes and queries a volume, twice, and compares the bytes that both runs leave.
+/// Changes and queries a volume, does the same again with a second volume, and compares the resulting bytes.
 pub(crate) fn change(alloc: Global, found: &mut Found) -> Option<()> {
     let first = changed(alloc, found)?;
     let second = changed(alloc, found)?;
@@ -34,8 +34,7 @@ fn changed(alloc: Global, found: &mut Found) -> Option<Vec<u8>> {
     Some(volume.unmount())
 }
 
-/// Returns a new volume of the sixth edition of 20 blocks, mounted. If memory runs out, mounting must hand the same bytes
-/// back.
+/// Returns a new volume of the sixth edition of 20 blocks, mounted. If memory runs out, mounting must return the same bytes.
 pub(crate) fn sixth(alloc: Global, found: &mut Found) -> Option<Volume> {
     let bytes = made(alloc, found)?;
     let before = copied(alloc, &bytes)?;
@@ -71,7 +70,7 @@ pub(crate) fn make_file(
     make(alloc, found, volume, call, Done::Made(number))
 }
 
-/// Makes a call. If memory runs out, the image and the journal must stay, and the same call must be handed back.
+/// Makes a call. If memory runs out, the image and the journal must be unchanged, and the same call must be returned.
 fn make(
     alloc: Global,
     found: &mut Found,
@@ -103,7 +102,7 @@ pub(crate) fn copy_of(call: &Call) -> Option<Call> {
     call.clone().ok()
 }
 
-/// Makes a query on a volume whose root has the file `a` of 600 bytes. Only one that takes memory may run out of it.
+/// Makes a query on a volume whose root has the file `a` of 600 bytes. Only a query that takes memory may run out of it.
 fn ask(alloc: Global, found: &mut Found, volume: &Volume, kind: Kind) -> Option<()> {
     let query = asking(alloc, kind)?;
     let reply = match volume.ask(alloc, &query) {

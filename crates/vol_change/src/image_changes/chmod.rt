@@ -16,8 +16,8 @@ use crate::times::put_time;
 use pdp_words::Image;
 use vol_layout::Geometry;
 
-/// Sets the permission bits of node `i`, of any kind, to those bits of `permissions` that are in octal 7777, at time
-/// `moment` in seconds.
+/// Sets the permission bits of node `i`, of any kind, to those bits of `permissions` that are in octal 7777. The time of the call is `moment`, in
+/// seconds.
 pub fn chmod(image: &mut Image, geometry: &Geometry, i: u16, permissions: u16, moment: u32)
     requires ready { Rules1To12 geometry.now image.old }
     requires used { IsInUse geometry.now image.old i }

@@ -15,7 +15,8 @@ use crate::times::put_time;
 use pdp_words::Image;
 use vol_layout::Geometry;
 
-/// Gives node `i`, of any kind, to user `uid` and group `gid`, at time `moment` in seconds. Its permission bits stay.
+/// Changes the owner of node `i`, of any kind, to user `uid` and group `gid`. The time of the call is `moment`, in seconds. The permission bits don't
+/// change.
 pub fn chown(image: &mut Image, geometry: &Geometry, i: u16, uid: u16, gid: u16, moment: u32)
     requires ready { Rules1To12 geometry.now image.old }
     requires used { IsInUse geometry.now image.old i }

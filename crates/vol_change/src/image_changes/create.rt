@@ -1,4 +1,4 @@
-//! Making a file.
+//! Creating a file.
 ghost use Rattle.std.specs.Prelude.{◌≡◌, ◌≢◌, ℕ, ◌+◌, ◌≤◌, false, IfSome, slice_index, drop, ◌*◌};
 ghost use Rattle.vol_layout.specs.Edition.{constants};
 ghost use Rattle.vol_layout.specs.Inode.{inode_place};
@@ -21,10 +21,10 @@ use crate::times::put_time;
 use pdp_words::Image;
 use vol_layout::Geometry;
 
-/// Makes an empty regular file with `name` in directory `dir`, in the slot for a new entry, and returns its i-number: the
-/// recorded one if given, else a free one.
+/// Creates an empty regular file with `name` in directory `dir`, in the slot for a new entry. Returns its i-number: the recorded one if given, else a
+/// free one.
 ///
-/// Costs the write of the entry; the i-list is searched only if no cached i-number is free.
+/// Costs writing the entry. The i-list is searched only if no cached i-number is free.
 pub fn create(
     image: &mut Image,
     geometry: &Geometry,

@@ -1,4 +1,4 @@
-//! Adding a name.
+//! Adding a name to a node.
 ghost use Rattle.std.specs.Prelude.{◌≡◌, ◌≢◌, ℕ, ◌<◌, ◌≤◌, false, drop, ◌*◌};
 ghost use Rattle.vol_layout.specs.Edition.{constants};
 ghost use Rattle.vol_layout.specs.declared.mode.Kind.TheVariants as kinds;
@@ -21,10 +21,10 @@ use crate::times::put_time;
 use pdp_words::Image;
 use vol_layout::Geometry;
 
-/// Gives node `i`, which is not a directory, another `name` in directory `dir`, in the slot for a new entry, at time
-/// `moment` in seconds.
+/// Adds another name to node `i`, which is not a directory: `name` in directory `dir`, in the slot for a new entry. The time of the call is `moment`,
+/// in seconds.
 ///
-/// Costs the write of the entry.
+/// Costs writing the entry.
 pub fn link(
     image: &mut Image,
     geometry: &Geometry,

@@ -1,4 +1,4 @@
-//! Making a directory.
+//! Creating a directory.
 ghost use Rattle.std.specs.Prelude.{List, ◌∷◌, ◌≡◌, ◌≢◌, ℕ, ◌+◌, ◌<◌, ◌≤◌, false, [], IfSome, slice_index, drop, ◌*◌};
 ghost use Rattle.vol_layout.specs.Edition.{constants};
 ghost use Rattle.vol_layout.specs.Inode.{inode_place};
@@ -30,11 +30,10 @@ use crate::times::put_time;
 use pdp_words::Image;
 use vol_layout::Geometry;
 
-/// Makes a directory that has only `.` and `..`, with `name` in directory `dir`, in the slot for a new entry, and returns
-/// its i-number: the recorded one if given, else a free one. The blocks for the entry in `dir` are taken first, then the
-/// new directory's block.
+/// Creates a directory that has only `.` and `..`, with `name` in directory `dir`, in the slot for a new entry. Returns its i-number: the recorded
+/// one if given, else a free one. The blocks for the entry in `dir` are allocated first, then the new directory's block.
 ///
-/// Costs the writes of the entries; the i-list is searched only if no cached i-number is free.
+/// Costs writing the entries. The i-list is searched only if no cached i-number is free.
 pub fn mkdir(
     image: &mut Image,
     geometry: &Geometry,
@@ -77,8 +76,8 @@ pub fn mkdir(
     made
 }
 
-/// Adds the entries `.` and `..` to directory `i`, which has no slots; `..` names directory `dir`. Takes one block. The
-/// times and link counts stay.
+/// Adds the entries `.` and `..` to directory `i`, which has no slots; `..` is for directory `dir`. Allocates one block. Times and link counts don't
+/// change.
 fn add_dots(image: &mut Image, geometry: &Geometry, i: u16, dir: u16)
     requires rules { Rules3To8 geometry.now image.old }
     requires directory { IsDirectory geometry.now image.old i }

@@ -19,11 +19,10 @@ use crate::times::put_time;
 use pdp_words::Image;
 use vol_layout::Geometry;
 
-/// Removes directory `i`, which has only `.` and `..` and is `name` in its slot of directory `dir`, at time `moment` in
-/// seconds: frees its blocks, its i-node and its i-number. `dir` loses the link of `..`. Returns the number of blocks
-/// freed.
+/// Removes directory `i`, which has only `.` and `..`, and its entry `name` in directory `dir`. Frees its blocks, its i-node and its i-number; `dir`
+/// loses the link from `..`. Returns the number of blocks freed. The time of the call is `moment`, in seconds.
 ///
-/// Costs the write of the slot, and what freeing the node does.
+/// Costs writing the slot and freeing the node.
 pub fn rmdir(
     image: &mut Image,
     geometry: &Geometry,

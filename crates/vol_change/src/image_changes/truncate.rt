@@ -14,8 +14,8 @@ use crate::times::{put_time, touch};
 use pdp_words::Image;
 use vol_layout::Geometry;
 
-/// Cuts the regular file `i` to its first `size` bytes, at time `moment` in seconds. Keeps the blocks that these bytes
-/// need, frees the others and returns their number.
+/// Cuts the regular file `i` to its first `size` bytes. Keeps the blocks that these bytes need, frees the others and returns their number. The time
+/// of the call is `moment`, in seconds.
 ///
 /// Costs as much as [`vol_file::truncate`].
 pub fn truncate(image: &mut Image, geometry: &Geometry, i: u16, size: u32, moment: u32) -> u32

@@ -1,4 +1,4 @@
-//! Removing a name.
+//! Removing a name of a node.
 ghost use Rattle.std.specs.Prelude.{◌≡◌, ◌≢◌, ℕ, ◌<◌, ◌≤◌, Some, ◌++◌, [], ◌∷◌, ◌*◌, nat_le, if◌then◌else◌};
 ghost use Rattle.vol_layout.specs.Inode.{inode_of};
 ghost use Rattle.vol_layout.specs.declared.mode.Kind.TheVariants as kinds;
@@ -23,11 +23,10 @@ use pdp_words::Image;
 use vol_layout::Geometry;
 use vol_layout::i_list::inode;
 
-/// Removes `name`, a name of node `i`, which is not a directory, from its slot of directory `dir`, at time `moment` in
-/// seconds. With its last name the node is freed: its blocks, its i-node and its i-number. Returns the number of blocks
-/// freed.
+/// Removes the entry `name` of directory `dir`, which is for node `i`, not a directory. If this is the node's last name, frees the node: its blocks,
+/// its i-node and its i-number. Returns the number of blocks freed. The time of the call is `moment`, in seconds.
 ///
-/// Costs the write of the slot and, with the last name, what freeing the node does.
+/// Costs writing the slot and, if the name is the last one, freeing the node.
 pub fn unlink(
     image: &mut Image,
     geometry: &Geometry,

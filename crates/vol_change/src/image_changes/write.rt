@@ -15,8 +15,8 @@ use crate::times::{put_time, touch};
 use pdp_words::Image;
 use vol_layout::Geometry;
 
-/// Writes `bytes` to the regular file `i` from byte `offset` on, at time `moment` in seconds. A write of no bytes sets
-/// only the volume's time.
+/// Writes `bytes` to the regular file `i`, starting at byte `offset`. A write of no bytes sets only the volume's time. The time of the call is
+/// `moment`, in seconds.
 ///
 /// Costs as much as [`vol_file::write`].
 pub fn write(image: &mut Image, geometry: &Geometry, i: u16, offset: u32, bytes: &[u8], moment: u32)

@@ -18,7 +18,7 @@ use pdp_words::Image;
 use std::alloc::{AllocError, Global};
 use vol_layout::{Geometry, Slot};
 
-/// The entries `.` and `..` of a directory, each `None` if it doesn't exist.
+/// The i-numbers of the entries `.` and `..` of a directory, each `None` if there is no such entry.
 #[derive(Clone, Copy)]
 struct Dots {
     /// The i-number of the entry `.`.
@@ -27,18 +27,18 @@ struct Dots {
     up: Option<u16>,
 }
 
-/// The i-numbers that the directories name `..`, up to the first directory without an entry `.` for itself.
+/// The i-numbers in the `..` entries of the directories, up to the first directory without an entry `.` for itself.
 #[derive(Drop)]
 pub struct Ups {
-    /// The i-number that each directory names `..`, by i-number.
+    /// The i-number in the `..` entry of each directory, indexed by the directory's i-number.
     pub numbers: Vec<Option<u16>>,
     /// The first directory without an entry `.` for itself.
     pub nameless: Option<u16>,
 }
 
-/// Returns the first violation of rule 10 if rule 9 holds: the first directory without an entry `.` for itself or `..` for
-/// its parent. The root, which is its own parent, is checked whatever it is. Uses the `..` of each directory, and the
-/// directory that holds an entry for each directory.
+/// Returns the first violation of rule 10, if rule 9 holds: the first directory without an entry `.` for itself, or without an entry `..` for its
+/// parent. The root, which is its own parent, is checked even if it isn't a directory. `parents` has the directory that holds an entry for each
+/// directory.
 ///
 /// Costs a read of each i-node. Takes no memory.
 pub fn find_dots(
@@ -62,7 +62,7 @@ pub fn find_dots(
     None
 }
 
-/// Returns the violation of rule 10 by i-number `d`, a directory or the root. All directories before it have an entry `.`.
+/// Returns the violation of rule 10 by `d`, a directory or the root, if there is one. All directories before `d` have an entry `.` for themselves.
 fn find_wrong(
     image: &Image,
     geometry: &Geometry,
@@ -88,7 +88,7 @@ fn find_wrong(
     }
 }
 
-/// True if an i-number is that of a directory or of the root.
+/// True if i-number `d` is a directory or the root.
 fn needs_dots(image: &Image, geometry: &Geometry, d: u16) -> bool
     requires fits { Fits geometry.now image.now }
     requires first { 1 ≤ d }
@@ -98,7 +98,7 @@ fn needs_dots(image: &Image, geometry: &Geometry, d: u16) -> bool
     d == geometry.edition.constants().root || is_directory(image, geometry, d)
 }
 
-/// True if i-number `d` is that of a directory with an entry `.` for itself. All directories before it have one.
+/// True if `d` is a directory with an entry `.` for itself. All directories before `d` have one.
 fn names_itself(image: &Image, geometry: &Geometry, d: u16, ups: &Ups) -> bool
     requires fits { Fits geometry.now image.now }
     requires first { 1 ≤ d }
@@ -111,8 +111,8 @@ fn names_itself(image: &Image, geometry: &Geometry, d: u16, ups: &Ups) -> bool
     is_directory(image, geometry, d) && ups.nameless != Some(d)
 }
 
-/// True if directory `d` has an entry `..` for its parent, given the `..` of each directory and the directory that holds an
-/// entry for each.
+/// True if directory `d` has an entry `..` for its parent. `ups` has the i-number in the `..` of each directory, and `parents` the directory that
+/// holds an entry for it.
 fn names_parent(geometry: &Geometry, d: u16, ups: &[Option<u16>], parents: &[Option<u16>]) -> bool
     requires ups { d < length ups.now }
     requires parents { d < length parents.now }
@@ -130,12 +130,10 @@ fn names_parent(geometry: &Geometry, d: u16, ups: &[Option<u16>], parents: &[Opt
     }
 }
 
-/// Returns the i-numbers that directories name `..`, up to the first directory without an entry `.` for itself. Rule 9
-/// holds on the volume.
+/// Returns the i-number in the `..` of each directory, up to the first directory without an entry `.` for itself. Rule 9 must hold.
 ///
-/// Costs a read of each slot of each directory up to those two entries, except slots below blocks already found without
-/// entries. Takes memory for four bytes per i-number, and, if the directories claim more blocks than there are, for three
-/// bytes per block.
+/// Costs a read of the slots of each directory up to the later of `.` and `..`, except slots below blocks already found to have no entries. Takes
+/// four bytes per i-number, and three bytes per block if the directories claim more blocks than the volume has.
 pub fn find_ups(alloc: Global, image: &Image, geometry: &Geometry) -> Result<Ups, AllocError>
     requires fits { Fits geometry.now image.now }
     requires entries { HasEntries geometry.now image.now }
@@ -145,7 +143,7 @@ pub fn find_ups(alloc: Global, image: &Image, geometry: &Geometry) -> Result<Ups
     note_ups(alloc, image, geometry, &mut marks)
 }
 
-/// Does what [`find_ups`] does, with marks of blocks below which no slot has an entry.
+/// Does the work of [`find_ups`]. `marks` marks blocks below which no slot has an entry.
 fn note_ups(
     alloc: Global,
     image: &Image,
@@ -176,8 +174,8 @@ fn note_ups(
     })
 }
 
-/// Returns the entries `.` and `..` of directory `d`. Reads its slots up to these two entries, except those below marked
-/// blocks, which have no entries.
+/// Returns the i-numbers of the entries `.` and `..` of directory `d`. Reads the slots up to the later of the two, except slots below marked blocks,
+/// which have no entries.
 fn dots_in(image: &Image, geometry: &Geometry, d: u16, marks: &mut [bool]) -> Dots
     requires marks { MarksEmpty geometry.now image.now marks.old }
     requires fits { Fits geometry.now image.now }
@@ -201,7 +199,7 @@ fn dots_in(image: &Image, geometry: &Geometry, d: u16, marks: &mut [bool]) -> Do
     Dots { own, up }
 }
 
-/// Returns the i-number of a slot if it has this name, else `before`.
+/// Returns the i-number of a slot if the slot has this name, else `before`.
 fn noted(slot: &Slot, name: &[u8], before: Option<u16>) -> Option<u16>
     ensures { result ≡ if bytes_eq name.now (name_of slot.now.name) then Some slot.now.inode else before }
 {

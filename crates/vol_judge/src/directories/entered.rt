@@ -1,4 +1,4 @@
-//! The entries for each i-number, found in one pass over all directories.
+//! Collects the entries for each i-number in one pass over all directories.
 ghost use Rattle.std.specs.Prelude.{◌≡◌, ℕ, ◌+◌, IfNone, IfSome, IfOk, IsTrue, ◌↔◌, length};
 ghost use Rattle.vol_layout.specs.Geometry.{Fits};
 ghost use Rattle.vol_dir.specs.Entries.{IsDirectory};
@@ -18,19 +18,19 @@ use vol_layout::Geometry;
 /// The entries for each i-number, over all directories.
 #[derive(Drop)]
 pub struct Entered {
-    /// The directory that holds an entry for each directory, other than `.` and `..`, by i-number: the one that it names
-    /// `..`, if that has such an entry.
+    /// For each directory, by i-number, a directory that holds an entry for it other than `.` and `..`. If several hold one, it is the directory that
+    /// its own `..` is for, if that is among them.
     pub parents: Vec<Option<u16>>,
-    /// The first entry, other than `.` and `..`, for the root, or for a directory that has an earlier entry.
+    /// The first entry, other than `.` and `..`, that is for the root or isn't the first entry for a directory.
     pub again: Option<Finding>,
     /// The number of entries for each i-number.
     pub counts: Vec<u64>,
 }
 
-/// Returns the entries for each i-number, given the `..` of each directory.
+/// Returns the entries for each i-number. `ups` has the i-number in the `..` of each directory.
 ///
-/// Costs a read of each slot of each directory, except slots below blocks already found without entries. Takes memory for
-/// twelve bytes per i-number, and, if the directories claim more blocks than there are, for three bytes per block.
+/// Costs a read of each slot of each directory, except slots below blocks already found to have no entries. Takes twelve bytes per i-number, and
+/// three bytes per block if the directories claim more blocks than the volume has.
 pub fn find_entered(
     alloc: Global,
     image: &Image,
@@ -48,7 +48,7 @@ pub fn find_entered(
     note_entries(alloc, image, geometry, ups, &mut marks)
 }
 
-/// Does what [`find_entered`] does, with marks of blocks below which no slot has an entry.
+/// Does the work of [`find_entered`]. `marks` marks blocks below which no slot has an entry.
 fn note_entries(
     alloc: Global,
     image: &Image,
@@ -84,7 +84,7 @@ fn note_entries(
     })
 }
 
-/// Returns the first of two findings.
+/// Returns the first finding, or the second if there is no first.
 fn first_of(first: Option<Finding>, second: Option<Finding>) -> Option<Finding>
     ensures none { IfNone first (result ≡ second) }
     ensures some { IfSome first (λ _. result ≡ first) }
@@ -95,8 +95,8 @@ fn first_of(first: Option<Finding>, second: Option<Finding>) -> Option<Finding>
     }
 }
 
-/// Notes the directory that holds an entry for a directory, unless one is noted and the child doesn't name this one `..`.
-/// Returns the violation of rule 11 if the entry is for the root, or is not the first one.
+/// Notes the directory of this entry as the parent of the directory that the entry is for. A parent noted earlier is replaced only if the child's
+/// `..` is for the new one. Returns the violation of rule 11 if the entry is for the root or isn't the first entry for a directory.
 fn note_parent(
     image: &Image,
     geometry: &Geometry,
@@ -140,7 +140,7 @@ fn note_parent(
     None
 }
 
-/// True if a number is the i-number of a directory of the volume.
+/// True if `i` is the i-number of a directory of the volume.
 fn is_numbered_directory(image: &Image, geometry: &Geometry, i: u16) -> bool
     requires { Fits geometry.now image.now }
     ensures { IsTrue result ↔ IsDirectory geometry.now image.now i }

@@ -11,8 +11,7 @@ use pdp_words::Image;
 use vol_layout::i_list::{inode, kind};
 use vol_layout::{Geometry, Kind};
 
-/// Returns the first violation of rule 12: the first i-node whose link count is wrong, given the number of entries for each
-/// i-number.
+/// Returns the first violation of rule 12: the first i-node whose link count is wrong. `counts` has the number of entries for each i-number.
 ///
 /// Costs a read of each i-node. Takes no memory.
 pub fn find_link(image: &Image, geometry: &Geometry, counts: &[u64]) -> Option<Finding>
@@ -29,7 +28,7 @@ pub fn find_link(image: &Image, geometry: &Geometry, counts: &[u64]) -> Option<F
     None
 }
 
-/// True if i-node `i` is free or has this link count, and at least 1 from the root's i-number on.
+/// True if i-node `i` is free, or its link count is `count`, which must be at least 1 from the root's i-number on.
 fn is_counted(image: &Image, geometry: &Geometry, i: u16, count: u64) -> bool
     requires fits { Fits geometry.now image.now }
     requires first { 1 ≤ i }

@@ -14,9 +14,9 @@ use pdp_words::Image;
 use std::alloc::{AllocError, Global};
 use vol_layout::Geometry;
 
-/// Returns the first violation of rule 11: in the order of directories and slots, an entry other than `.` and `..` for the
-/// root or for a directory that has an earlier entry; then the first directory that isn't reached from the root. Uses the
-/// first of such entries, and the directory that holds an entry for each directory.
+/// Returns the first violation of rule 11. It is `again` if that is given: the first entry, other than `.` and `..`, that is for the root or isn't
+/// the first entry for a directory. Otherwise it is the first directory that can't be reached from the root. `parents` has the directory that holds
+/// an entry for each directory.
 ///
 /// Costs a few reads of each i-node. Takes memory for two bytes per i-number.
 pub fn find_tree(
@@ -37,8 +37,8 @@ pub fn find_tree(
     find_unreached(alloc, image, geometry, parents)
 }
 
-/// Returns the first directory that isn't reached from the root. Each has at most one entry; `parents` has the directory
-/// that holds it.
+/// Returns the first directory that can't be reached from the root. There is at most one entry for each directory, other than `.` and `..`, and
+/// `parents` has the directory that holds it.
 fn find_unreached(
     alloc: Global,
     image: &Image,
@@ -64,8 +64,8 @@ fn find_unreached(
     Ok(None)
 }
 
-/// True if the walk up from directory `d`, from parent to parent, reaches the root, not a directory without an entry or a
-/// cycle. It marks each directory with `d`, and ends at one that an earlier walk marked, since that one reached the root.
+/// True if the walk up from directory `d`, from parent to parent, reaches the root; false if it ends at a directory without a parent or in a cycle.
+/// It marks each directory with `d`, and ends at a directory that an earlier walk marked, since the earlier walk reached the root.
 fn goes_to_root(
     image: &Image,
     geometry: &Geometry,

@@ -14,8 +14,8 @@ use vol_layout::{Edition, Geometry};
 /// The number of blocks in the buffer through which a volume is written.
 const BUFFER_BLOCKS: u32 = 128;
 
-/// Writes all blocks of a new volume to `sink`; `first` has the first blocks and the root's. Fails only if the sink fails,
-/// and then the sink took exactly the first `written` bytes.
+/// Writes all blocks of a new volume to `sink`. `first` has blocks 0, 1 and 2, followed by the root's block. Fails only if the sink fails, after
+/// taking exactly the first `written` bytes.
 pub fn write_blocks<W: Sink>(
     sink: &mut W,
     first: &Image,
@@ -44,7 +44,7 @@ pub fn write_blocks<W: Sink>(
     Ok(())
 }
 
-/// Fills the front of `buffer` with the blocks `from..to` of a new volume; `first` has the first blocks and the root's.
+/// Fills the beginning of `buffer` with the blocks `from..to` of a new volume. `first` has blocks 0, 1 and 2, followed by the root's block.
 pub fn gather(first: &Image, geometry: &Geometry, from: u32, to: u32, buffer: &mut [u8])
     requires makeable { IsMakeable geometry.now }
     requires first { length first.now ≡ 2048 }
@@ -58,7 +58,7 @@ pub fn gather(first: &Image, geometry: &Geometry, from: u32, to: u32, buffer: &m
     }
 }
 
-/// Writes block `b` of a new volume from byte `at` on.
+/// Writes block `b` of a new volume to `buffer`, starting at byte `at`.
 fn put_block(buffer: &mut [u8], at: usize, first: &Image, geometry: &Geometry, b: u32)
     requires makeable { IsMakeable geometry.now }
     requires first { length first.now ≡ 2048 }
@@ -80,8 +80,8 @@ fn put_block(buffer: &mut [u8], at: usize, first: &Image, geometry: &Geometry, b
     }
 }
 
-/// True if block `b` is a chain block of the free list. They are as many blocks apart as an array has numbers, and the
-/// last is that far from the volume's end.
+/// True if block `b` is a chain block of the free list: one that stores an array of the numbers of free blocks. The distance between chain blocks,
+/// and from the last one to the volume's end, is the number of entries in an array.
 #[tactic(auto, unfolding(crate::specs::Mkfs::is_chain))]
 fn is_chain(geometry: &Geometry, b: u32) -> bool
     ensures { result ≡ is_chain geometry.now b }
@@ -90,8 +90,7 @@ fn is_chain(geometry: &Geometry, b: u32) -> bool
     geometry.zone_start < b && b < geometry.zone_end && (geometry.zone_end - b) % slots == 0
 }
 
-/// Returns the first chain block, or the volume's end if there is none. The super-block has the numbers of the free blocks
-/// up to it.
+/// Returns the first chain block, or the volume's end if there is none. The array in the super-block has the numbers of the free blocks up to it.
 #[tactic(auto, unfolding(crate::specs::Blank::first_chain), using(crate::proofs::BlankStacks::chain_within))]
 pub fn first_chain(geometry: &Geometry) -> u32
     requires { geometry.now.zone_start < geometry.now.zone_end }
@@ -101,8 +100,8 @@ pub fn first_chain(geometry: &Geometry) -> u32
     geometry.zone_start + (geometry.zone_end - geometry.zone_start - 1) % slots + 1
 }
 
-/// Writes a count and an array of the free list from byte `at` on, where number 0 is chain block `top`, or 0 if the
-/// volume ends there.
+/// Writes a count and an array of the free list, starting at byte `at`. Entry 0 of the array is the chain block `top`, or 0 if `top` is the volume's
+/// end.
 pub fn put_free_head(bytes: &mut [u8], at: usize, geometry: &Geometry, top: u32, count: u16)
     requires makeable { IsMakeable geometry.now }
     requires top { top ≤ geometry.now.zone_end }
@@ -119,7 +118,7 @@ pub fn put_free_head(bytes: &mut [u8], at: usize, geometry: &Geometry, top: u32,
     }
 }
 
-/// Returns number `j` of such an array: past the count are the numbers that the array before it has left there.
+/// Returns entry `j` of the array that [`put_free_head`] writes. The entries past the count are left over from the array before it.
 #[tactic(auto, unfolding(crate::specs::Blank::listed))]
 fn listed(geometry: &Geometry, top: u32, count: u16, j: u16) -> u32
     requires top { top ≤ geometry.now.zone_end }
@@ -140,7 +139,7 @@ fn listed(geometry: &Geometry, top: u32, count: u16, j: u16) -> u32
     }
 }
 
-/// Writes number `j` of the array that begins at byte `at`.
+/// Writes entry `j` of the array that begins at byte `at`.
 fn put_number(bytes: &mut [u8], edition: Edition, at: usize, j: u16, value: u32)
     requires room { at + (constants edition).number_bytes * (j + 1) ≤ length bytes.old }
     requires range { edition ≡ Edition.V6 → value < 65536 }

@@ -1,5 +1,4 @@
-//! The blocks of a new volume with content of their own: the boot block, the super-block, the first block of the i-list,
-//! and the root's block.
+//! The blocks of a new volume that aren't free: the boot block, the super-block, the first block of the i-list, and the root's block.
 ghost use Rattle.std.specs.Prelude.{◌≡◌, ℕ, ◌+◌, ◌-◌, ◌<◌, ◌≤◌, false, [], ◌∷◌, length, slice_index};
 ghost use Rattle.pdp_words.specs.Words.{SameOutside, word, long};
 ghost use Rattle.vol_layout.specs.Edition.{constants};
@@ -19,13 +18,13 @@ use vol_layout::slot::SLOT;
 use vol_layout::super_block::HEAD_BYTES;
 use vol_layout::{Edition, Geometry, Inode, Mode, Slot, Super, put_inode};
 
-/// The position of the root's block, after the first blocks: that in the smallest volume, of four blocks.
+/// The position of the root's block, after blocks 0, 1 and 2. It is the same as in the smallest volume, which has four blocks.
 const ROOT_PLACE: usize = FIRST_BLOCKS as usize * BLOCK;
 
-/// The number of bytes in these blocks.
+/// The number of bytes in blocks 0, 1 and 2 and the root's block.
 pub const FIRST_BYTES: usize = ROOT_PLACE + BLOCK;
 
-/// Turns zeros into the first blocks of a new volume, followed by the root's.
+/// Turns an image of zeros into blocks 0, 1 and 2 of a new volume, followed by the root's block.
 pub fn fill(image: &mut Image, geometry: &Geometry, uid: u16, gid: u16, now: u32)
     requires makeable { IsMakeable geometry.now }
     requires id { is_bad_id geometry.now.edition uid gid ≡ false }
@@ -42,7 +41,7 @@ pub fn fill(image: &mut Image, geometry: &Geometry, uid: u16, gid: u16, now: u32
     );
 }
 
-/// Writes the free list's head to a super-block of zeros. It stays empty if no block is free.
+/// Writes the head of the free list to a super-block of zeros. The head stays zero if no block is free.
 fn put_free_list(image: &mut Image, geometry: &Geometry)
     requires makeable { IsMakeable geometry.now }
     requires len { length image.old ≡ 2048 }
@@ -93,7 +92,7 @@ fn put_super(image: &mut Image, geometry: &Geometry, now: u32)
     super_block.put_time(image, now);
 }
 
-/// Writes the root's i-node, and its slots to the block after the first of the i-list.
+/// Writes the root's i-node, and its two slots to the block after the first block of the i-list.
 fn put_root(image: &mut Image, edition: Edition, node: &Inode)
     requires len { length image.old ≡ 2048 }
     requires storable { IsStorable edition node.now }

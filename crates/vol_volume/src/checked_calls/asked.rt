@@ -1,4 +1,4 @@
-//! Checks that calls share: tests of i-nodes, names and free blocks.
+//! Checks that several calls share: tests of i-nodes, names and free blocks.
 ghost use Rattle.std.specs.Prelude.{◌≡◌, ◌≢◌, ℕ, ◌*◌, ◌≤◌, if◌then◌else◌, Bool, true, false, List, [], ◌∷◌, None, Some, Ok, OnOk, IfOk, IfErr, IsTrue, ◌↔◌, MatchResult};
 ghost use Rattle.std.specs.Result.{result_err};
 ghost use Rattle.vol_layout.specs.Geometry.{Fits};
@@ -50,7 +50,7 @@ pub(crate) fn is_device(image: &Image, geometry: &Geometry, i: u16) -> bool
     kind(image, geometry, i) == Kind::Special
 }
 
-/// True if i-node `i`, which is in use, grants an access.
+/// True if i-node `i`, which is in use, grants the user this access.
 #[tactic(auto, using(crate::proofs::NodeReadings::node_stored))]
 pub(crate) fn is_granted(
     image: &Image,
@@ -76,7 +76,7 @@ pub(crate) fn is_full(image: &Image, geometry: &Geometry, i: u16) -> bool
     geometry.edition.constants().link_limit <= inode(image, geometry, i).links
 }
 
-/// True if a user may change i-node `i`, which is in use, as its owner: user 0 and the owner may.
+/// True if the user may change i-node `i`, which is in use, as its owner: user 0 and the owner may.
 #[tactic(auto, using(crate::proofs::NodeReadings::owner_is))]
 pub(crate) fn is_owner(image: &Image, geometry: &Geometry, i: u16, cred: Cred) -> bool
     requires stands { Rules3To7And9 geometry.now image.now }
@@ -86,7 +86,7 @@ pub(crate) fn is_owner(image: &Image, geometry: &Geometry, i: u16, cred: Cred) -
     cred.uid == 0 || cred.uid == inode(image, geometry, i).uid
 }
 
-/// Returns the entry of `name` in directory `dir`, or NoEntry if it has none.
+/// Returns the entry of `name` in directory `dir`, or NoEntry if the directory doesn't have the name.
 #[tactic(auto, using(crate::proofs::NodeReadings::names_are, vol_dir::proofs::WalkLaws::found_in_use))]
 pub(crate) fn entry_of(
     image: &Image,
@@ -108,7 +108,7 @@ pub(crate) fn entry_of(
     }
 }
 
-/// Returns the slot of directory `dir` for an entry of the new `name`, or Exists if it has the name.
+/// Returns the slot of directory `dir` for an entry of the new `name`, or Exists if the directory already has the name.
 #[tactic(auto, using(crate::proofs::NodeReadings::names_are))]
 pub(crate) fn vacant(
     image: &Image,
@@ -154,7 +154,7 @@ pub(crate) fn free_number(image: &Image, geometry: &Geometry) -> Result<u16, Ref
     }
 }
 
-/// True if i-number `i`, which may be any number, is free for a new node.
+/// True if i-number `i`, which may be any number, can be given to a new node.
 #[tactic(auto, using(crate::proofs::FreeNumbers::number_free, crate::proofs::FreeNumbers::free_of))]
 pub(crate) fn is_free_number(image: &Image, geometry: &Geometry, i: u16) -> bool
     requires { Rules3To7And9 geometry.now image.now }
@@ -163,7 +163,7 @@ pub(crate) fn is_free_number(image: &Image, geometry: &Geometry, i: u16) -> bool
     is_free_inode(image, geometry, i)
 }
 
-/// True if directory `dir`, with its next entry in `slot`, would be larger than the greatest file.
+/// True if directory `dir` would be larger than the greatest file after an entry is added in `slot`.
 #[tactic(auto, using(crate::proofs::NeedReadings::too_great_is))]
 pub(crate) fn is_too_great_with_entry(
     image: &Image,
@@ -181,7 +181,7 @@ pub(crate) fn is_too_great_with_entry(
         < u64::from(size(image, geometry, dir)).max(end)
 }
 
-/// Returns the number of blocks that the next entry of directory `dir` needs, in `slot`.
+/// Returns the number of blocks needed to add an entry to directory `dir` in `slot`.
 #[tactic(auto, using(crate::proofs::NeedReadings::entry_need_is, vol_dir::proofs::Searches::slots_low, vol_dir::proofs::NewEntries::new_within))]
 pub(crate) fn entry_need(image: &Image, geometry: &Geometry, dir: u16, slot: u32) -> u32
     requires fits { Fits geometry.now image.now }
@@ -206,7 +206,7 @@ pub(crate) fn refuse_if(is_met: bool, refusal: Refusal) -> Result<(), Refusal>
     if is_met { Err(refusal) } else { Ok(()) }
 }
 
-/// Runs the first checks of every call and query: its user and group numbers, and zero bytes in its path.
+/// Runs the first checks of every call and query: of its user and group numbers, and for zero bytes in its path.
 pub(crate) fn first_tests(geometry: &Geometry, cred: Cred, path: &[u8]) -> Result<(), Refusal>
     ensures { result_err result ≡ (if is_bad_id geometry.now.edition cred.uid cred.gid then Some Refusal.BadId
         else if has_zero path.now then Some Refusal.Invalid else None) }
@@ -218,7 +218,7 @@ pub(crate) fn first_tests(geometry: &Geometry, cred: Cred, path: &[u8]) -> Resul
     refuse_if(has_zero(path), Refusal::Invalid)
 }
 
-/// Returns the node that a path leads to, or the refusal of [`first_tests`] or of the walk.
+/// Returns the node at a path, or the refusal of [`first_tests`] or of the walk.
 pub(crate) fn find_node(
     image: &Image,
     geometry: &Geometry,
@@ -234,7 +234,7 @@ pub(crate) fn find_node(
     walk(image, geometry, cred, path)
 }
 
-/// Returns the node that a path leads to, if user 0 or its owner calls; else the first refusal that applies.
+/// Returns the node at a path if the caller is user 0 or the node's owner; else the first refusal that applies.
 pub(crate) fn find_owned(
     image: &Image,
     geometry: &Geometry,
@@ -251,7 +251,7 @@ pub(crate) fn find_owned(
     Ok(i)
 }
 
-/// Returns the parent that a path leads to, and its last component. A path without components is refused as `bare`.
+/// Returns the parent at a path, and the last component. A path without components is refused with `bare`.
 pub(crate) fn parent<'a>(
     image: &Image,
     geometry: &Geometry,
@@ -271,8 +271,8 @@ pub(crate) fn parent<'a>(
     walk_parent(image, geometry, cred, path).unwrap_or(Err(bare))
 }
 
-/// Returns the parent that a path leads to, and its last component, or the refusal of [`first_tests`] or of the walk. A
-/// path without components is refused as `bare`.
+/// Returns the parent at a path, and the last component, or the refusal of [`first_tests`] or of the walk. A path without components is refused with
+/// `bare`.
 pub(crate) fn find_parent<'a>(
     image: &Image,
     geometry: &Geometry,
@@ -289,7 +289,7 @@ pub(crate) fn find_parent<'a>(
     parent(image, geometry, cred, path, bare)
 }
 
-/// Checks that i-node `i`, which is in use, is a regular file that grants an access.
+/// Checks that i-node `i`, which is in use, is a regular file that grants this access.
 #[tactic(auto, using(crate::proofs::NodeReadings::regular_left))]
 pub(crate) fn body_tests(
     image: &Image,

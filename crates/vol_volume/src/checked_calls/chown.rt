@@ -16,7 +16,7 @@ use pdp_words::Image;
 use vol_dir::{Cred, Refusal};
 use vol_layout::{Geometry, is_bad_id};
 
-/// Checks the call; returns the node that `owner` gets, or the first refusal that applies.
+/// Checks the call. Returns the node whose owner changes, or the first refusal that applies.
 #[tactic(auto, using(crate::proofs::NodeReadings::tree_geometry))]
 pub(crate) fn check(
     image: &Image,
@@ -39,7 +39,7 @@ pub(crate) fn check(
     Ok(i)
 }
 
-/// Gives a node to `owner`, if no check fails.
+/// Changes the owner of a node to `owner`, if no check fails.
 #[tactic(auto, unfolding(crate::specs::Verdict::verdict))]
 pub(crate) fn make(
     image: &mut Image,

@@ -1,4 +1,4 @@
-//! The call that makes a file.
+//! The call that creates a file.
 ghost use Rattle.std.specs.Prelude.{◌≡◌, true, [], ◌∷◌, IfSome, IfOk, OnErr};
 ghost use Rattle.std.specs.Result.{result_err};
 ghost use Rattle.vol_dir.specs.Entries.{IsDirectory};
@@ -20,7 +20,7 @@ use vol_change::NewNode;
 use vol_dir::{Access, Cred, Refusal};
 use vol_layout::Geometry;
 
-/// Checks the parent and name of a new file; returns the place of its entry and its i-number.
+/// Checks the parent and name of a new file. Returns the position of its entry and its i-number.
 #[tactic(auto, using(crate::proofs::NeedReadings::slots_are))]
 fn create_tests(
     image: &Image,
@@ -52,7 +52,7 @@ fn create_tests(
     Ok((EntryPlace { slot, needed }, number))
 }
 
-/// Checks the call; returns the new entry and its i-number, or the first refusal that applies.
+/// Checks the call. Returns the new entry and its i-number, or the first refusal that applies.
 pub(crate) fn check<'a>(
     image: &Image,
     geometry: &Geometry,
@@ -73,7 +73,7 @@ pub(crate) fn check<'a>(
     Ok((NewEntry { dir, name, place }, number))
 }
 
-/// Makes a new file, if no check fails. A recorded i-number, if given, is the one that it gets.
+/// Creates a file, if no check fails. If a recorded i-number is given, the file gets it.
 #[tactic(auto, unfolding(crate::specs::Verdict::verdict))]
 pub(crate) fn make(
     image: &mut Image,

@@ -1,7 +1,7 @@
 //! The results of a call's checks, which its change uses.
 use vol_dir::Entry;
 
-/// The place of a new entry in its directory.
+/// The position of a new entry in its directory.
 #[derive(Clone, Copy)]
 pub(crate) struct EntryPlace {
     /// The slot, counted from 0.
@@ -17,7 +17,7 @@ pub(crate) struct NewEntry<'a> {
     pub dir: u16,
     /// The name, which the directory doesn't have yet.
     pub name: &'a [u8],
-    /// The place of the entry.
+    /// The position of the entry.
     pub place: EntryPlace,
 }
 

@@ -1,4 +1,4 @@
-//! The call that adds a name.
+//! The call that adds a name to a node.
 ghost use Rattle.std.specs.Prelude.{◌≡◌, false, [], ◌∷◌, IfOk, OnErr};
 ghost use Rattle.std.specs.Result.{result_err};
 ghost use Rattle.vol_dir.specs.Entries.{IsDirectory, IsInUse};
@@ -20,7 +20,7 @@ use pdp_words::Image;
 use vol_dir::{Access, Cred, Refusal, walk};
 use vol_layout::Geometry;
 
-/// Checks the parent of another name of i-node `i`, and the name; returns the place of its entry.
+/// Checks the parent and the name when a name is added to i-node `i`. Returns the position of its entry.
 #[tactic(auto, using(crate::proofs::NeedReadings::slots_are))]
 fn link_tests(
     image: &Image,
@@ -53,7 +53,7 @@ fn link_tests(
     Ok(EntryPlace { slot, needed })
 }
 
-/// Checks that i-node `i`, which is in use, may get another name; returns the new entry.
+/// Checks that another name may be added to i-node `i`, which is in use. Returns the new entry.
 fn check_target<'a>(
     image: &Image,
     geometry: &Geometry,
@@ -76,7 +76,7 @@ fn check_target<'a>(
     Ok(NewEntry { dir, name, place })
 }
 
-/// Checks the call; returns the node that gets the name and the new entry, or the first refusal that applies.
+/// Checks the call. Returns the node that gets the name and the new entry, or the first refusal that applies.
 #[tactic(auto, using(crate::proofs::NodeReadings::tree_geometry))]
 pub(crate) fn check<'a>(
     image: &Image,
@@ -101,7 +101,7 @@ pub(crate) fn check<'a>(
     Ok((i, entry))
 }
 
-/// Adds a name, if no check fails.
+/// Adds a name to a node, if no check fails.
 #[tactic(auto, unfolding(crate::specs::Verdict::verdict))]
 pub(crate) fn make(
     image: &mut Image,

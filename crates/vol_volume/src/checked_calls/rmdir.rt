@@ -19,7 +19,7 @@ use pdp_words::Image;
 use vol_dir::{Access, Cred, Entry, Refusal, is_dots};
 use vol_layout::Geometry;
 
-/// Checks the parent and name of a directory to remove; returns its entry.
+/// Checks the parent and name of a directory to remove. Returns its entry.
 fn rmdir_tests(
     image: &Image,
     geometry: &Geometry,
@@ -46,7 +46,7 @@ fn rmdir_tests(
     Ok(entry)
 }
 
-/// Checks the call; returns the directory's entry, or the first refusal that applies.
+/// Checks the call. Returns the directory's entry, or the first refusal that applies.
 pub(crate) fn check<'a>(
     image: &Image,
     geometry: &Geometry,

@@ -1,4 +1,4 @@
-//! Changing a node's times.
+//! The call that changes a node's times.
 ghost use Rattle.std.specs.Prelude.{◌≡◌, IfOk, OnErr};
 ghost use Rattle.std.specs.Result.{result_err};
 ghost use Rattle.vol_dir.specs.Tree.{state};

@@ -37,7 +37,7 @@ fn truncate_tests(
     refuse_if(size(image, geometry, i) < length, Refusal::Invalid)
 }
 
-/// Checks the call; returns the file, or the first refusal that applies.
+/// Checks the call. Returns the file, or the first refusal that applies.
 pub(crate) fn check(
     image: &Image,
     geometry: &Geometry,

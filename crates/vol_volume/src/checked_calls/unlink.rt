@@ -17,7 +17,7 @@ use pdp_words::Image;
 use vol_dir::{Access, Cred, Entry, Refusal};
 use vol_layout::Geometry;
 
-/// Checks the parent of a name to remove, and the node that it names; returns its entry.
+/// Checks the parent of a name to remove, and the named node. Returns the name's entry.
 fn unlink_tests(
     image: &Image,
     geometry: &Geometry,
@@ -42,7 +42,7 @@ fn unlink_tests(
     Ok(entry)
 }
 
-/// Checks the call; returns the entry of the name, or the first refusal that applies.
+/// Checks the call. Returns the entry of the name, or the first refusal that applies.
 pub(crate) fn check<'a>(
     image: &Image,
     geometry: &Geometry,

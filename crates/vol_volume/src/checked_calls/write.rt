@@ -20,7 +20,7 @@ use vol_dir::{Access, Cred, Refusal};
 use vol_file::need;
 use vol_layout::{Geometry, Kind};
 
-/// True if `len` bytes from byte `offset` on end past the greatest file size.
+/// True if `len` bytes at `offset` end past the greatest file size.
 fn is_too_great(geometry: &Geometry, offset: u32, len: usize) -> bool
     ensures { result ≡ nat_lt (constants geometry.now.edition).greatest (offset + len) }
 {
@@ -28,8 +28,8 @@ fn is_too_great(geometry: &Geometry, offset: u32, len: usize) -> bool
     greatest < len || greatest - len < offset as usize
 }
 
-/// Checks the end of a write of `len` bytes from byte `offset` of the regular file `i` on, and the free blocks; returns
-/// the number of blocks that it needs.
+/// Checks the end of a write of `len` bytes at `offset` of the regular file `i`, and the free blocks. Returns the number of blocks that the write
+/// needs.
 #[tactic(auto, using(crate::proofs::NeedReadings::write_need_is, crate::proofs::NodeReadings::tree_geometry))]
 fn room_tests(
     image: &Image,
@@ -56,8 +56,7 @@ fn room_tests(
     Ok(needed)
 }
 
-/// Checks that `len` bytes may be written from byte `offset` of i-node `i` on, which is in use; returns the number
-/// of blocks that the write needs.
+/// Checks that `len` bytes may be written at `offset` of i-node `i`, which is in use. Returns the number of blocks that the write needs.
 fn write_tests(
     image: &Image,
     geometry: &Geometry,
@@ -78,7 +77,7 @@ fn write_tests(
     room_tests(image, geometry, free, i, offset, len)
 }
 
-/// Checks the call; returns the file and the number of blocks needed, or the first refusal that applies.
+/// Checks the call. Returns the file and the number of blocks needed, or the first refusal that applies.
 pub(crate) fn check(
     image: &Image,
     geometry: &Geometry,
@@ -101,7 +100,7 @@ pub(crate) fn check(
     Ok(Target { inode, needed })
 }
 
-/// Writes `bytes` from byte `offset` on, if no check fails.
+/// Writes `bytes` at `offset`, if no check fails.
 #[tactic(auto, unfolding(crate::specs::Verdict::verdict))]
 pub(crate) fn make(
     image: &mut Image,

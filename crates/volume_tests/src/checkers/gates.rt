@@ -1,4 +1,4 @@
-// Gates: four workers that work at the same time, and each piece between two calls.
+// Tests of gates: four workers that work at the same time, and each piece of work between two calls of the gate.
 use crate::checkers::fixtures::{BLOCKS, check_report, sixth_image};
 use std::sync::atomic::{AtomicU64, Ordering};
 use vol_check::test_gate::Meeting;
@@ -15,7 +15,7 @@ fn four_workers_meet_before_their_first_pieces(rt: HostRuntime) {
     check_report(&rt, alloc, report, BLOCKS);
 }
 
-/// The unit in which calls are counted; the bits below represent the pieces.
+/// The unit in which calls are counted; the lower bits represent the pieces.
 const CALLS: u64 = 1 << 40;
 
 /// Counts the calls, and their pieces.

@@ -58,7 +58,7 @@ fn run_all<R: Threads + Abort + Sync>(
     thread::for_each_mut(rt, seats, threads, &run);
 }
 
-/// Returns the report of a sweep on an image, by these seats on `threads` threads.
+/// Returns the report on an image of a sweep with these seats on `threads` threads.
 fn swept<R: Threads + Abort + Sync>(
     rt: &R,
     alloc: Global,
@@ -77,7 +77,7 @@ fn swept<R: Threads + Abort + Sync>(
     sweep.finish(alloc, seats)
 }
 
-/// Checks the report of a sweep by `seats` seats, each with a thread.
+/// Checks the report of a sweep with `seats` seats, each on its own thread.
 fn check_swept<R: Threads + Abort + Sync>(
     rt: &R,
     alloc: Global,

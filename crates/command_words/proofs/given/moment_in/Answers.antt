@@ -1,4 +1,4 @@
--- The first word, if there is one, is the time that is meant; if it isn't a time, there is none.
+-- If the first word, if any, is a time, it is the time to use; if it isn't one, there is no time.
 use Rattle.std.proofs.Common.{ℕ, codes}
 use Rattle.command_words.specs.Invocations.{IsMomentGiven}
 use Rattle.command_words.proofs.Moments.{refused, written}

@@ -1,4 +1,4 @@
--- The first word, if there is one, is the number that is meant; if it isn't a number, the words aren't valid.
+-- The number is the one in the first word, if any; if it isn't a number, the words aren't valid.
 use Rattle.std.proofs.Common.{ℕ, Option, SomeIff, subst}
 use Rattle.std.specs.Str.Parse.{digits_value}
 use Rattle.command_words.specs.Invocations.{IsWordIfAny}

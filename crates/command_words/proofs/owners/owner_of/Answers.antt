@@ -1,4 +1,4 @@
--- The two parts of the word have the numbers; a word without a colon has none.
+-- The user and the group are the numbers of the word's two parts; a word without a colon has none.
 use Rattle.std.proofs.Common.{arith}
 use Rattle.std.proofs.lemmas.Str.Pattern.{split_once_first}
 use Rattle.command_words.proofs.OwnerWords.{no_colon, parts_missing, parts_named}

@@ -3,7 +3,7 @@ use Rattle.command_words.specs.Invocations.{are_distinct}
 use Rattle.command_words.proofs.FileWords.{HoldsNames, texts}
 use Rattle.command_words.proofs.several.repeated.Given as goal
 
--- those before this one are distinct, and are seen
+-- Invariant: the names so far are distinct, and are in the set.
 abbrev pub invariant-loop-name : goal.invariant-loop-name
 invariant-loop-name l = record {
   distinct : are_distinct (texts (take l.name-index l.names)) ≡ true;

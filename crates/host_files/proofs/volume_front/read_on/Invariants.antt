@@ -1,4 +1,4 @@
--- `read_on` has the bytes that the source lost after those that it had; the source hasn't failed.
+-- Invariant of `read_on`: the list has its old bytes, followed by those consumed from the source, and the source hasn't failed.
 use Rattle.std.proofs.Common.{◌≡◌, ◌-◌, ◌++◌, ◌≤◌, List, ℕ, length, max, false, vec_len}
 use Rattle.std.specs.Io.KnownBytes.{Consumes}
 use Rattle.host_files.proofs.volume_front.read_on.Given as goal

@@ -1,4 +1,4 @@
--- The bytes dropped so far, and `left`, are `most` together.
+-- Invariant of `skip`: the number of bytes dropped so far plus `left` is `most`.
 use Rattle.std.proofs.Common.{◌≡◌, ◌+◌, ℕ, List, length}
 use Rattle.std.specs.Io.KnownBytes.{Consumes}
 use Rattle.host_files.proofs.volume_front.skip.Given as goal

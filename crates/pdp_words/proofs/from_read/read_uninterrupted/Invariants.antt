@@ -1,4 +1,4 @@
--- The reads of `read_uninterrupted` that were interrupted consumed nothing.
+-- Invariant of `read_uninterrupted`: interrupted reads consume nothing.
 use Rattle.std.specs.Io.KnownBytes.{Keeps}
 use Rattle.pdp_words.proofs.from_read.read_uninterrupted.Given as goal
 

@@ -1,4 +1,4 @@
--- The writes of `write_uninterrupted` that were interrupted took nothing.
+-- Invariant of `write_uninterrupted`: interrupted writes write nothing.
 use Rattle.std.specs.Io.KnownBytes.{Keeps}
 use Rattle.pdp_words.proofs.into_write.write_uninterrupted.Given as goal
 

@@ -1,4 +1,5 @@
--- `load_with_capacity` has the bytes that the source lost, and the source has not failed; no vector is longer than 2^64.
+-- Invariant of `load_with_capacity`: the image has the bytes that the source has returned, and the source has not failed. No vector is longer than
+-- 2^64.
 use Rattle.std.proofs.Common.{◌≡◌, ◌-◌, ◌^◌, false, vec_len}
 use Rattle.std.specs.Io.KnownBytes.{Consumes}
 use Rattle.pdp_words.proofs.load_image.load_with_capacity.Given as goal

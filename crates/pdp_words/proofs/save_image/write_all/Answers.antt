@@ -6,7 +6,7 @@ use Rattle.std.proofs.KnownBytes.{Appends-trans}
 use Rattle.pdp_words.specs.Devices.{AppendsFront}
 use Rattle.pdp_words.proofs.save_image.write_all.Goals as goal
 
--- the first `n` bytes, and then `m` of the rest, are the first `n + m`
+-- appending the first `n` bytes, and then `m` of the remaining bytes, appends the first `n + m` bytes
 front_more : (a b c : Option (List ℕ)) (bytes rest : List ℕ) (n m : ℕ) → rest ≡ drop n bytes → AppendsFront a b bytes n → m ≤ length rest → Appends b c (take m rest)
     → AppendsFront a c bytes (n + m)
 front_more a b c bytes rest n m e (bound, front) fits more =

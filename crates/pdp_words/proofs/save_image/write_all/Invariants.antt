@@ -1,4 +1,4 @@
--- `write_all` gave the sink the first `at` bytes, and the sink fails no more than before.
+-- Invariant of `write_all`: the first `at` bytes have been written to the sink, and it has failed only if it had failed before.
 use Rattle.std.proofs.Common.{◌≡◌, ◌-◌, length}
 use Rattle.pdp_words.specs.Devices.{AppendsFront}
 use Rattle.pdp_words.proofs.save_image.write_all.Given as goal

@@ -4,7 +4,7 @@ use Rattle.unixvol.specs.Copies.{name_of}
 use Rattle.unixvol.specs.Runs.{GaveBytes}
 use Rattle.unixvol.proofs.copy.read_named.Given as goal
 
--- files gave the bytes read so far, and these have the names of the paths so far
+-- Invariant: the bytes of the new files so far were read from files, and their names are those of the paths so far.
 abbrev pub invariant-files : goal.invariant-files
 invariant-files g l =
     All (λ (file : NewFile). GaveBytes g.R.File.Read.remaining file.bytes.items) l.files.items

@@ -1,4 +1,4 @@
--- The line of the reason why an image isn't mounted.
+-- The line that reports why an image can't be mounted.
 use Rattle.std.proofs.Common.{[]}
 use Rattle.unixvol.proofs.mounted.mount_or_tell.Goals as goal
 

@@ -1,4 +1,4 @@
--- The run of a mounted server, whose saves a file took.
+-- The run of a mounted server, with its saves written to a file.
 use Rattle.std.proofs.Common.{◌≡◌, Ok, inl, inr, refl, rules}
 use Rattle.command_faults.proofs.Lines.{gets_nothing}
 use Rattle.host_files.specs.Save.{IsTaken}

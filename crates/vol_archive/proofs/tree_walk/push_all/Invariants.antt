@@ -2,7 +2,7 @@ use Rattle.std.proofs.Common.{◌≡◌, ◌++◌, length}
 use Rattle.std.specs.Prelude.{reverse}
 use Rattle.vol_archive.proofs.tree_walk.push_all.Given as goal
 
--- the entries that are left, and then those that are pending, stay
+-- Invariant: the entries left, followed by the pending ones, are the same as at the start.
 abbrev pub invariant-loop-entry : goal.invariant-loop-entry
 invariant-loop-entry l = l.entries.items ++ reverse l.pending.items ≡ l.initial.entries.items ++ reverse l.initial.pending.items
 

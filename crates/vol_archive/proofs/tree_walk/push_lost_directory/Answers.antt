@@ -8,7 +8,7 @@ use Rattle.vol_archive.specs.declared.met_entries.Role.TheVariants.{Directory}
 use Rattle.vol_archive.proofs.tree_walk.push_lost_directory.Goals as goal
 use Rattle.vol_archive.proofs.tree_walk.push_lost_directory.Goals.{then-not-is_empty+then-not-has_path+in_ok-from_slice+in_ok-push, else-not-is_empty}
 
--- the entries that were met, with a directory that has a path
+-- the visited entries followed by a directory with this path
 abbrev named : List MetEntry → ℕ → List ℕ → List MetEntry
 named founds start path = founds ++ record { path = path; inode = start; role = Directory } ∷ []
 

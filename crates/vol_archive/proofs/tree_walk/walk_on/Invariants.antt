@@ -5,7 +5,7 @@ use Rattle.vol_archive.specs.Marks.{AreFirsts}
 use Rattle.vol_archive.specs.declared.met_entries.MetEntry.{MetEntry}
 use Rattle.vol_archive.proofs.tree_walk.walk_on.Given as goal
 
--- the marks are those of what was met; and whatever the walk ends with from here, the whole walk does
+-- Invariant: the marks are those of the visited entries, and the rest of the walk from here ends as the whole walk does.
 abbrev pub invariant-entries : goal.invariant-entries
 invariant-entries l = record {
   firsts : AreFirsts l.geometry l.firsts.items l.founds.items;

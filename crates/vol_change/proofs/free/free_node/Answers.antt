@@ -5,7 +5,7 @@ use Rattle.vol_change.proofs.UnusedBytes.{unused_then, other_unused, low_unused,
 use Rattle.vol_change.proofs.free.free_node.Goals as goal
 use Rattle.vol_change.proofs.free.free_node.Goals.{After-give_inode}
 
--- the three steps
+-- the node is freed in three steps
 frees : (c : After-give_inode)
     → FreesNode c.args.geometry.now c.args.image.now c.free_blocks-given.new.image c.clear_inode.new.image c.give_inode.new.image c.args.i
 frees c = record {
@@ -30,14 +30,14 @@ returns-clause-changed c = record {
 pub returns-clause-graph : goal.returns-clause-graph
 returns-clause-graph c = freed_graph _ _ _ _ _ _ (frees c)
 
--- its i-node is all zeros
+-- the freed i-node is all zeros
 pub returns-clause-cleared : goal.returns-clause-cleared
 returns-clause-cleared c =
     let geometry = c.args.geometry.now in
     cleared_still geometry c.clear_inode.new.image c.give_inode.new.image c.args.i (cache_head geometry.edition) (cache_head geometry.edition + 202)
     (frees c).given (cache_low geometry.edition) (cleared_by geometry c.clear_inode.new.image c.args.i (frees c).zero)
 
--- and the others keep their unused bytes
+-- the unused bytes of other i-nodes don't change
 pub returns-clause-others : goal.returns-clause-others
 returns-clause-others c = λ j first last other.
     let geometry = c.args.geometry.now in

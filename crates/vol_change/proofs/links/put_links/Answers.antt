@@ -14,11 +14,11 @@ pub put_inode-requires-clause-storable : goal.put_inode-requires-clause-storable
 put_inode-requires-clause-storable c =
     storable_changed c.args.geometry.now.edition c.inode-node.result _ c.args.now c.inode-node.ensures.storable c.requires.limit refl refl refl refl c.stamp.ensures
 
--- the i-node that is put
+-- the i-node that is written
 abbrev put_node : After-put_inode → Inode
 put_node c = record c.inode-node.result { links = c.args.links; changed = c.stamp.result }
 
--- the image after the i-node is written
+-- the i-node is written, and no other byte changes
 puts : (c : After-put_inode) → PutsInode c.args.geometry.now c.args.image.now c.put_inode.new.image c.args.i (put_node c)
 puts c =
     puts_changed c.args.geometry.now c.args.image.now c.put_inode.new.image c.args.i c.inode-node.result (put_node c) c.requires.node.first c.requires.node.last

@@ -22,15 +22,15 @@ put_inode-requires-clause-storable c =
     (subst (λ node. node.links ≤ (constants c.args.geometry.now.edition).link_limit) (sym c.inode-node.ensures.value)
     (c.requires.node.rules.sound.sizes.links c.args.i c.requires.node.first c.requires.node.last c.requires.node.used)) refl refl refl refl c.stamp.ensures
 
--- the i-node that is put
+-- the i-node that is written
 abbrev put_node : After-put_inode → Inode
 put_node c = record c.inode-node.result { mode = c.with_permissions.result; changed = c.stamp.result }
 
--- the bits of its mode above the permissions stay
+-- the mode bits above the permissions don't change
 type_stays : (c : After-put_inode) → c.with_permissions.result.bits / 4096 ≡ c.inode-node.result.mode.bits / 4096
 type_stays c = let bits = c.with_permissions.ensures in omega (arith, bits)
 
--- and its kind
+-- the kind doesn't change
 kind_stays : (c : After-put_inode)
     → kind_of c.args.geometry.now.edition c.with_permissions.result.bits ≡ kind_of c.args.geometry.now.edition c.inode-node.result.mode.bits
 kind_stays c =
@@ -42,13 +42,13 @@ kind_stays c =
     (λ free. c.requires.node.used (sym (ap (kind_of geometry.edition) mode) ∙ free))
     (λ odd. c.requires.node.rules.sound.kinds.known c.args.i c.requires.node.first c.requires.node.last (sym (ap (kind_of geometry.edition) mode) ∙ odd))
 
--- the image after the i-node is written
+-- the i-node is written, and no other byte changes
 puts : (c : After-put_inode) → PutsInode c.args.geometry.now c.args.image.now c.put_inode.new.image c.args.i (put_node c)
 puts c =
     puts_permitted c.args.geometry.now c.args.image.now c.put_inode.new.image c.args.i c.inode-node.result (put_node c) c.requires.node.first c.requires.node.last
     c.inode-node.ensures.value c.put_inode.ensures.put c.put_inode.ensures.others (kind_stays c) (type_stays c) refl refl
 
--- its permission bits are the lowest twelve of those given
+-- the new permission bits are the lowest twelve of those given
 permitted : (c : After-put_inode) → c.with_permissions.result.bits % 4096 ≡ c.args.permissions % 4096
 permitted c = let bits = c.with_permissions.ensures in omega (arith, bits)
 
@@ -75,7 +75,7 @@ returns-clause-graph c =
     put_same c.args.geometry.now c.args.image.now c.put_inode.new.image c.args.i (put_node c) c.requires.node.rules (puts c)
     (ap (λ node. node.links) c.inode-node.ensures.value)
 
--- the node reads the same
+-- the i-node reads as before, except for its permission bits
 held : (c : After-put_inode) → KeepsReading c.args.geometry.now c.args.image.now c.put_inode.new.image c.args.i
 held c =
     put_reading c.args.geometry.now c.args.image.now c.put_inode.new.image c.args.i c.args.i (put_node c) c.requires.node.rules (puts c)

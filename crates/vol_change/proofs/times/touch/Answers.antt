@@ -17,11 +17,11 @@ put_inode-requires-clause-storable c =
     (subst (λ node. node.links ≤ (constants c.args.geometry.now.edition).link_limit) (sym c.inode-node.ensures.value)
     (c.requires.node.rules.sound.sizes.links c.args.i c.requires.node.first c.requires.node.last c.requires.node.used)) refl refl refl refl c.stamp.ensures
 
--- the i-node that is put
+-- the i-node that is written
 abbrev put_node : After-put_inode → Inode
 put_node c = record c.inode-node.result { modified = c.args.now; changed = c.stamp.result }
 
--- the image after the i-node is written
+-- the i-node is written, and no other byte changes
 puts : (c : After-put_inode) → PutsInode c.args.geometry.now c.args.image.now c.put_inode.new.image c.args.i (put_node c)
 puts c =
     puts_changed c.args.geometry.now c.args.image.now c.put_inode.new.image c.args.i c.inode-node.result (put_node c) c.requires.node.first c.requires.node.last

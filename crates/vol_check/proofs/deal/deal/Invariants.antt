@@ -3,7 +3,7 @@ use Rattle.count_table.specs.Tallies.{IsSeatAt}
 use Rattle.vol_check.specs.Seats.{IsFresh}
 use Rattle.vol_check.proofs.deal.deal.Given as goal
 
--- the first seat holds the parts that aren't dealt
+-- Invariant: the first seat holds the parts that are not split off yet.
 abbrev pub invariant-loop-k : goal.invariant-loop-k
 invariant-loop-k l = record {
   own : IsSeatAt l.tally l.first;

@@ -6,7 +6,7 @@ use Rattle.vol_check.specs.Slots.{entries_of}
 use Rattle.vol_check.proofs.Noted.{marked_over}
 use Rattle.vol_check.proofs.entry_counts.count_blocks.Given as goal
 
--- all entries are counted except those of the blocks left
+-- Invariant: all entries are counted except those of the blocks that are left.
 abbrev pub invariant-loop-n : goal.invariant-loop-n
 invariant-loop-n l = record {
   kept : KeepsDraws l.tally l.fn.seat l.seat;

@@ -8,7 +8,7 @@ use Rattle.vol_check.specs.Slots.{entries_of}
 use Rattle.vol_check.proofs.Noted.{marked_over}
 use Rattle.vol_check.proofs.entry_counts.stored_blocks.Given as goal
 
--- the blocks before b are found
+-- Invariant: the data blocks of the logical blocks before `b` are collected.
 abbrev pub invariant-loop-b : goal.invariant-loop-b
 invariant-loop-b l = record {
   numbers : LooksUp l.geometry l.image l.d l.numbers;

@@ -59,7 +59,7 @@ walk-preserved c =
           (λ weight. let t = total_cons (λ x. weight (mark (free_word g x) 1)) b met in omega arith),
     )
 
--- everything that was met is counted
+-- if all blocks that the walk passed are marked, the marks are those of the free list
 all_counted : (g : Geometry) (image : List ℕ) (tally : Tally) (old new : Seat (Unit {0}) SeatView) {met : List ℕ} {fault : Option (FreeFault × ℕ)}
     → Adds tally old new (λ weight. total (λ b. weight (mark (free_word g b) 1)) met) → free_walk g image ≡ record { met = met; fault = fault }
     → Adds tally old new (free_weight g image)

@@ -6,11 +6,11 @@ use Rattle.vol_reports.specs.Words.{free_word}
 use Rattle.vol_check.specs.Pieces.{Adds}
 use Rattle.vol_check.proofs.free_walk.walk.Given as goal
 
--- the blocks met are counted
+-- Invariant: the blocks that the walk passed are marked.
 abbrev pub invariant-walk : goal.invariant-walk
 invariant-walk l = (met : List ℕ) × HasMet l.geometry l.image l.marks l.walk met
     × Adds l.tally l.fn.seat l.seat (λ weight. total (λ b. weight (mark (free_word l.geometry b) 1)) met)
 
--- each step meets a block
+-- each step of the walk passes one more block
 abbrev pub decreases-walk : goal.decreases-walk
 decreases-walk l = l.geometry.zone_end - l.walk.met

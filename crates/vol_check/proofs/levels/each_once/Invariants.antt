@@ -4,7 +4,7 @@ use Rattle.vol_layout.specs.declared.geometry.Geometry.{Geometry}
 use Rattle.vol_check.specs.Levels.{IsNamed, by_times}
 use Rattle.vol_check.proofs.levels.each_once.Given as goal
 
--- the places of the blocks are those of the ones that are left, and of those found
+-- Invariant: the positions of the blocks are those of the blocks left plus those collected.
 abbrev pub invariant-loop-n : goal.invariant-loop-n
 invariant-loop-n l = record {
   named : (g : Geometry) → All (IsNamed g) l.fn.named.items → All (IsNamed g) l.named.items × All (IsNamed g) l.once.items;

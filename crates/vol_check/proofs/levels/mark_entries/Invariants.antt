@@ -6,7 +6,7 @@ use Rattle.vol_check.specs.Pieces.{place_weight}
 use Rattle.vol_check.specs.Levels.{IsNamed, below_all, KeepsDraws, AddsBut}
 use Rattle.vol_check.proofs.levels.mark_entries.Given as goal
 
--- the numbers found from the entries before j on are marked, except those below the blocks that were added
+-- Invariant: the numbers at and below the entries before `j` are marked, except those below the blocks that were added to `next`.
 abbrev pub invariant-loop-j : goal.invariant-loop-j
 invariant-loop-j l = record {
   kept : KeepsDraws l.tally l.fn.seat l.seat;

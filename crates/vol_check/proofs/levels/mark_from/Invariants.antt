@@ -5,7 +5,7 @@ use Rattle.vol_check.specs.Pieces.{place_weight}
 use Rattle.vol_check.specs.Levels.{IsNamed, below_all, KeepsDraws, AddsBut}
 use Rattle.vol_check.proofs.levels.mark_from.Given as goal
 
--- all numbers found from the number on are marked, except those below the blocks of this level
+-- Invariant: all numbers at and below `b` are marked, except those below the blocks of this level.
 abbrev pub invariant-loop-left : goal.invariant-loop-left
 invariant-loop-left l = record {
   kept : KeepsDraws l.tally l.fn.seat l.seat;

@@ -2,7 +2,8 @@ use Rattle.std.proofs.Common.{◌+◌, All, vec_len}
 use Rattle.vol_check.specs.Levels.{IsNamed, below_all, KeepsDraws, AddsBut}
 use Rattle.vol_check.proofs.levels.mark_level.Given as goal
 
--- all numbers below the blocks are marked, except those of the blocks not yet read, and those below the blocks found
+-- Invariant: all numbers below the blocks are marked, except those of the blocks not yet read, and those below the blocks collected for the next
+-- level.
 abbrev pub invariant-loop-n : goal.invariant-loop-n
 invariant-loop-n l = record {
   kept : KeepsDraws l.tally l.fn.seat l.seat;

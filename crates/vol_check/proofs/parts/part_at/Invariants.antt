@@ -1,7 +1,7 @@
 use Rattle.std.proofs.Common.{◌-◌, ◌<◌, ◌≤◌, length, slice_index}
 use Rattle.vol_check.proofs.parts.part_at.Given as goal
 
--- the piece is at `low` or later, and before `high`
+-- Invariant: the piece belongs to an i-number at or above `low` and below `high`.
 abbrev pub invariant-loop-high : goal.invariant-loop-high
 invariant-loop-high l = record {
   order : l.low < l.high;

@@ -2,7 +2,7 @@ use Rattle.std.proofs.Common.{◌≡◌, ℕ, ◌+◌, ◌-◌, ◌*◌, ◌<◌
 use Rattle.vol_check.specs.Parts.{parts_before}
 use Rattle.vol_check.proofs.parts.part_starts.Given as goal
 
--- the pieces of the i-numbers before i are counted
+-- Invariant: the pieces of the i-numbers before `i` are counted.
 abbrev pub invariant-loop-i : goal.invariant-loop-i
 invariant-loop-i l = record {
   wide : vec_len l.starts ≡ l.geometry.last_inode + 1;

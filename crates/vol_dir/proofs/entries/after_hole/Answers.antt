@@ -8,7 +8,7 @@ use Rattle.vol_dir.specs.declared.entries.Sought.TheVariants.{Named, Empty, Name
 use Rattle.vol_dir.proofs.ReadSlots.{entry_in_hole}
 use Rattle.vol_dir.proofs.entries.after_hole.Goals as goal
 
--- a search for anything else skips an empty slot
+-- a search that isn't for an empty slot skips empty slots
 empty_passed : (sought : Sought) → sought ≢ Empty → ((name : _) → sought ≢ NamedOrEmpty name) → is_sought sought None ≡ false
 empty_passed (Named name) other neither = refl
 empty_passed Empty other neither = absurd (other refl)

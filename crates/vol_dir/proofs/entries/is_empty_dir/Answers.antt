@@ -2,7 +2,7 @@ use Rattle.std.proofs.Common.{◌≡◌, ◌∙◌, sym, ap, not, refl, Bool, tr
 use Rattle.vol_dir.proofs.Searches.{others_are}
 use Rattle.vol_dir.proofs.entries.is_empty_dir.Goals as goal
 
--- a test negated twice
+-- the negation of a negation is the value itself
 not_not : (b : Bool) → b ≡ not (not b)
 not_not true = refl
 not_not false = refl

@@ -5,7 +5,7 @@ use Rattle.vol_dir.specs.Walk.{components, has_zero, IsComponent, parent_over}
 use Rattle.vol_dir.proofs.ParentLaws.{parent_walk}
 use Rattle.vol_dir.proofs.path_walk.parent_from.Given as goal
 
--- a walk over the name at hand and the rest from here is the whole walk
+-- Invariant: the walk from the current i-node along the next name and the rest is the whole walk.
 abbrev pub invariant-loop-next : goal.invariant-loop-next
 invariant-loop-next l = record {
   whole : parent_over (tree l.fn.geometry l.fn.image) l.fn.cred (l.fn.first ∷ components l.fn.rest) ≡ Some (parent_walk (tree l.geometry l.image) l.cred l.dir l.name (components l.rest));

@@ -5,7 +5,7 @@ use Rattle.vol_dir.specs.Entries.{HasEntries, IsInUse}
 use Rattle.vol_dir.specs.Walk.{components, walk_from, walk}
 use Rattle.vol_dir.proofs.path_walk.walk.Given as goal
 
--- a walk over the rest from here is the whole walk
+-- Invariant: the walk from the current i-node along the rest of the path is the whole walk.
 abbrev pub invariant-loop-name : goal.invariant-loop-name
 invariant-loop-name l = record {
   whole : walk_from (tree l.geometry l.image) l.cred l.i (components l.rest) ≡ walk (tree l.geometry l.image) l.cred l.path;

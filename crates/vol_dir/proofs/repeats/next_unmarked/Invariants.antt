@@ -3,7 +3,7 @@ use Rattle.std.specs.Prelude.{Option, Bool}
 use Rattle.vol_dir.specs.Repeats.{MarksSlots, PassSlots}
 use Rattle.vol_dir.proofs.repeats.next_unmarked.Given as goal
 
--- the slots before those of block b were read, and everything marked passes each test that they pass
+-- Invariant: the slots before logical block `b` have been read, and all slots below marked blocks pass each test that these slots pass.
 abbrev pub invariant-loop-b : goal.invariant-loop-b
 invariant-loop-b l = (test : Option (List ℕ × ℕ) → Bool) → test None ≡ true → MarksSlots test l.geometry l.image l.fn.marks
     → PassSlots test l.geometry l.image l.dir l.known l.from

@@ -5,7 +5,7 @@ use Rattle.vol_file.specs.Shape.{is_named}
 use Rattle.vol_file.specs.MissingBlocks.{missing_to}
 use Rattle.vol_file.proofs.blocks_needed.missing_on_way.Given as goal
 
--- the path is counted to the block that the first d entries lead to
+-- Invariant: `block` is the block reached by the first `d` entries, and the path down to it has been counted.
 abbrev pub invariant-loop-d : goal.invariant-loop-d
 invariant-loop-d l = record {
   block : l.block ≡ named l.geometry l.image l.i (place_to l.way.address l.way.entries l.d);

@@ -14,7 +14,7 @@ returns-then-len-eq0 c =
     let names = is_named c.args.geometry.now c.args.image.now c.args.i in
     sym (ap (λ n. need_of form names (touched c.args.offset n)) c.if-len-eq0.true ∙ need_nothing form names)
 
--- the count and the block for the addresses, if the block map is known by an equation
+-- the sum of the missing blocks and the block for the old addresses is the number of blocks needed
 summed : (form at : BlockMap) (names : List ℕ → Bool) (grows : Bool) (offset len last missing one : ℕ) → form ≡ at → 1 ≤ len
     → last ≡ (offset + (len - 1)) / 512 → grows ≡ grows_at form last → one ≡ (if grows then 1 else 0)
     → missing ≡ missing_from (grown_form form grows) (grown_names names grows) (offset / 512) (last + 1 - offset / 512)

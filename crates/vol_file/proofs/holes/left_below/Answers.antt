@@ -7,11 +7,11 @@ use Rattle.vol_file.specs.Holes.{blocks_left}
 use Rattle.vol_file.proofs.Subtrees.{few_pointers}
 use Rattle.vol_file.proofs.holes.left_below.Goals as goal
 
--- a product with at most 256 is below the next power
+-- a product of a number within a power of 256 and a number of at most 256 is within the next power
 next_power : (n left pointers : ℕ) → left ≤ 256 ^ n → pointers ≤ 256 → left * pointers ≤ 256 ^ suc n
 next_power n left pointers few h = rw (pow-suc 256 n) (mul-le-mul few h)
 
--- the powers for three levels
+-- powers of 256 for at most three levels are at most 2^24
 powers : (n : ℕ) → n ≤ 3 → 256 ^ n ≤ 16777216
 powers zero h = omega arith
 powers (suc zero) h = omega arith
@@ -27,7 +27,7 @@ overflow_mul-left c =
     let most = powers (suc n) (omega arith) in
     omega arith
 
--- the number taken off is less than one block's pointers
+-- the number of entries subtracted is less than the number of entries of one block
 taken_off : (left pointers j : ℕ) → 1 ≤ left → j < pointers → j + 1 ≤ left * pointers
 taken_off left pointers j some h =
     let least : 1 * pointers ≤ left * pointers = mul-le-mul some (omega arith) in
@@ -39,7 +39,7 @@ overflow_sub-left c =
     let same : (constants c.args.geometry.now.edition).pointers ≡ c.constants-pointers.result.pointers = ap (λ (of : Constants). of.pointers) (sym c.constants-pointers.ensures) in
     omega (arith, taken_off c.loop-level.left c.constants-pointers.result.pointers (get_or c.args.way.now.entries c.loop-level.level 0) c.loop-level.invariant.some (omega (arith, entry, same)))
 
--- one more level
+-- the number of logical blocks left, with one more level
 level_more : (pointers k left level d : ℕ) (entries : List ℕ) → d ≤ level → left ≡ blocks_left pointers (level - d) (place_to k entries level)
     → left * pointers - slice_index entries level ≡ blocks_left pointers (level + 1 - d) (place_to k entries (level + 1))
 level_more pointers k left level d entries low e =

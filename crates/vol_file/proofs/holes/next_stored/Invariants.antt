@@ -2,7 +2,7 @@ use Rattle.std.proofs.Common.{◌-◌, ◌≤◌}
 use Rattle.vol_file.specs.Holes.{IsHole}
 use Rattle.vol_file.proofs.holes.next_stored.Given as goal
 
--- no number is stored for the blocks before b
+-- Invariant: no block number is stored for the logical blocks before `b`.
 abbrev pub invariant-loop-b : goal.invariant-loop-b
 invariant-loop-b l = record {
   from : l.from ≤ l.b;

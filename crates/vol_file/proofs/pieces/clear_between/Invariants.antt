@@ -3,7 +3,7 @@ use Rattle.vol_file.specs.Rules.{Rules3To7With}
 use Rattle.vol_file.specs.Steps.{Rewrites, zeros_at}
 use Rattle.vol_file.proofs.pieces.clear_between.Given as goal
 
--- the bytes up to `at` are zero
+-- Invariant: the bytes before `at` have been cleared.
 abbrev pub invariant-loop-at : goal.invariant-loop-at
 invariant-loop-at l = record {
   from : l.from ≤ l.at;

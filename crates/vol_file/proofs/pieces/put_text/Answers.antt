@@ -13,7 +13,7 @@ put_piece-requires-clause-zone c =
     ((c.args.offset + c.loop-done.done) / 512) c.args.form (text_at c.args.offset c.args.text.now) c.requires.file c.requires.form before)
     ∙ c.requires.zone c.loop-done.done c.loop-done-test.true
 
--- a byte of a part of the text
+-- byte `n` of a part of the text is byte `d + n` of the text
 part_byte : (text : List ℕ) (m d n : ℕ) → n < m → get_or (take m (drop d text)) n 0 ≡ get_or text (d + n) 0
 part_byte text m d n h = get_or-take m (drop d text) n 0 h ∙ get_or-drop d text n 0
 

@@ -3,7 +3,7 @@ use Rattle.vol_file.specs.Rules.{Rules3To7With}
 use Rattle.vol_file.specs.Steps.{Rewrites, text_at}
 use Rattle.vol_file.proofs.pieces.put_text.Given as goal
 
--- the bytes up to done are put
+-- Invariant: the first `done` bytes have been written.
 abbrev pub invariant-loop-done : goal.invariant-loop-done
 invariant-loop-done l = record {
   within : l.done ≤ length l.text;

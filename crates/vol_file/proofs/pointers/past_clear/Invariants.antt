@@ -1,7 +1,7 @@
 use Rattle.std.proofs.Common.{◌≡◌, ℕ, ◌-◌, ◌<◌, ◌≤◌, slice_index}
 use Rattle.vol_file.proofs.pointers.past_clear.Given as goal
 
--- the bytes before `at` are 0
+-- Invariant: the bytes before `at` are 0.
 abbrev pub invariant-loop-at : goal.invariant-loop-at
 invariant-loop-at l = record {
   order : l.from ≤ l.at;

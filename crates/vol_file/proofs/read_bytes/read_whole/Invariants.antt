@@ -3,7 +3,7 @@ use Rattle.vol_layout.specs.Body.{body_byte}
 use Rattle.vol_file.specs.Runs.{LooksUp}
 use Rattle.vol_file.proofs.read_bytes.read_whole.Given as goal
 
--- the bytes up to done are read
+-- Invariant: the first `done` bytes have been read.
 abbrev pub invariant-loop-done : goal.invariant-loop-done
 invariant-loop-done l = record {
   own : LooksUp l.geometry l.image l.i l.numbers;

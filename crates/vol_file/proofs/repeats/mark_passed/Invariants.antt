@@ -5,7 +5,7 @@ use Rattle.vol_layout.specs.BlockMaps.{place_to}
 use Rattle.vol_file.specs.Repeats.{MarksPassed}
 use Rattle.vol_file.proofs.repeats.mark_passed.Given as goal
 
--- the block to which the first d entries lead, and the marks
+-- Invariant: `block` is the block reached by the first `d` entries, and everything below marked blocks passes the test.
 abbrev pub invariant-loop-d : goal.invariant-loop-d
 invariant-loop-d l = record {
   block : l.block ≡ named l.geometry l.image l.i (place_to l.way.address l.way.entries l.d);

@@ -26,7 +26,7 @@ put_number-requires-clause-room c =
     (reached_zone c.args.geometry.now may.old c.args.image.now may.i may.wanted c.args.j may.a may.p may.blocks c.args.m may.next)
     (next_index c.args.geometry.now may.old c.args.image.now may.i may.wanted c.args.j may.a may.p may.blocks c.args.m may.next)
 
--- the limit of the sixth edition
+-- the number of a block in the sixth edition is below 65536
 below_limit : (edition : Edition) (b : ℕ) → b < (constants edition).number_limit → edition ≡ V6 → b < 65536
 below_limit V6 b h v6 = h
 below_limit V7 b h v6 = absurd (cc)

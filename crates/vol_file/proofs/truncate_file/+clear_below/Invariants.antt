@@ -4,11 +4,11 @@ use Rattle.vol_file.specs.Clears.{Gains}
 use Rattle.vol_file.proofs.Nodes.{ClearsEntries}
 use Rattle.vol_file.proofs.truncate_file.+clear_below.Given as goal
 
--- each level is below the one before
+-- The number of levels decreases with each recursive call.
 abbrev pub decreases-clear_below : goal.decreases-clear_below
 decreases-clear_below l = l.level
 
--- the entries from j on are cleared, and `given` blocks are freed
+-- Invariant: entry `j` and the later entries are cleared, and `given` blocks have been freed.
 abbrev pub invariant-loop-j : goal.invariant-loop-j
 invariant-loop-j l = record {
   few : l.j ≤ (constants l.geometry.edition).pointers;
@@ -16,6 +16,6 @@ invariant-loop-j l = record {
   counted : Gains l.geometry l.fn.image l.image l.given;
 }
 
--- each step clears one entry
+-- The number of entries left decreases with each step.
 abbrev pub decreases-loop-j : goal.decreases-loop-j
 decreases-loop-j l = l.j

@@ -5,7 +5,7 @@ use Rattle.vol_file.specs.Clears.{Gains}
 use Rattle.vol_file.proofs.Nodes.{ClearsAddresses}
 use Rattle.vol_file.proofs.truncate_file.clear_addresses.Given as goal
 
--- the addresses from k on are cleared, and `given` blocks are freed
+-- Invariant: address `k` and the later addresses are cleared, and `given` blocks have been freed.
 abbrev pub invariant-loop-k : goal.invariant-loop-k
 invariant-loop-k l = record {
   few : l.k ≤ first_count (form_at l.geometry l.fn.image l.i);
@@ -13,6 +13,6 @@ invariant-loop-k l = record {
   counted : Gains l.geometry l.fn.image l.image l.given;
 }
 
--- each step clears one address
+-- The number of addresses left decreases with each step.
 abbrev pub decreases-loop-k : goal.decreases-loop-k
 decreases-loop-k l = l.k

@@ -9,14 +9,14 @@ use Rattle.vol_file.specs.Runs.{LooksUp}
 use Rattle.vol_file.specs.Visits.{IsBlock, Visits}
 use Rattle.vol_file.proofs.visit.read_range.Goals as goal
 
--- one more number at the end of a range
+-- a range with one more number is the range followed by that number
 range_suc : (a n : ℕ) → range_with_len a (suc n) ≡ range_with_len a n ++ (a + n) ∷ []
 range_suc a zero = let here : a ≡ a + 0 = omega arith in ap (λ k. k ∷ []) here
 range_suc a (suc n) =
     let here : a + 1 + n ≡ a + suc n = omega arith in
     ap (λ xs. a ∷ xs) (range_suc (a + 1) n) ∙ ap (λ k. a ∷ (range_with_len (a + 1) n ++ k ∷ [])) here
 
--- the range up to the number after b
+-- the range up to `b` inclusive is the range up to `b` followed by `b`
 range_to : (a b : ℕ) → a < b + 1 → range_with_len a (b + 1 - a) ≡ range_with_len a (b - a) ++ b ∷ []
 range_to a b h =
     let more : b + 1 - a ≡ suc (b - a) = omega arith in

@@ -4,7 +4,7 @@ use Rattle.vol_free.specs.Stack.{IsFree}
 use Rattle.vol_free.specs.Rebuild.{unused_from, KeepsUsed}
 use Rattle.vol_free.proofs.free_list.rebuild.Given as goal
 
--- the blocks from b on that have no mark are the free ones, and the others are as they were
+-- Invariant: the free blocks are the unmarked blocks at or after `b`, and the other blocks are unchanged.
 abbrev pub invariant-loop-b : goal.invariant-loop-b
 invariant-loop-b l = record {
   low : l.geometry.zone_start ≤ l.b;

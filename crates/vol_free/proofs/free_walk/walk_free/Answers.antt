@@ -5,7 +5,7 @@ use Rattle.vol_free.specs.Walk.{HasMet, AreZoned}
 use Rattle.vol_free.proofs.FreeWalks.{met_most, met_one, zoned_last, zoned_more}
 use Rattle.vol_free.proofs.free_walk.walk_free.Goals as goal
 
--- one more block
+-- after a block is appended to the list, the walk has visited the list
 met_next : (c : goal.In_ok-push-in-Some-Ok) → HasMet c.args.geometry.now c.args.image.now c.next.new.marks c.next.new.self (c.in-Some-Ok.b ∷ reverse c.walk.met.items)
 met_next c =
     let g = c.args.geometry.now in

@@ -2,7 +2,7 @@ use Rattle.std.proofs.Common.{◌≡◌, ℕ, ◌<◌, ◌≤◌, IfSome, None}
 use Rattle.vol_free.specs.Numbers.{IsFreeNumber}
 use Rattle.vol_free.proofs.i_numbers.next_listed.Given as goal
 
--- the last i-number found is free, and if none was found none below i is
+-- Invariant: the last i-number found is free; if none was found, no i-number below `i` is free.
 abbrev pub invariant-loop-i : goal.invariant-loop-i
 invariant-loop-i l = record {
   few : l.count ≤ 100;

@@ -4,7 +4,7 @@ use Rattle.vol_layout.specs.Super.{cache_head}
 use Rattle.vol_free.specs.Numbers.{IsFreeNumber}
 use Rattle.vol_free.proofs.i_numbers.take_listed.Given as goal
 
--- the cache alone has changed, the last i-number found was free, and if none was found none below i is
+-- Invariant: only the cache has changed, and the last i-number found was free; if none was found, no i-number below `i` is free.
 abbrev pub invariant-loop-i : goal.invariant-loop-i
 invariant-loop-i l = record {
   same : SameOutside l.fn.image l.image (cache_head l.geometry.edition) (cache_head l.geometry.edition + 202);

@@ -3,7 +3,7 @@ use Rattle.vol_import.specs.Plan.{steps_of}
 use Rattle.vol_import.proofs.Steps.{texts}
 use Rattle.vol_import.proofs.draft.steps_of.Given as goal
 
--- the steps so far, and those that are left, are all
+-- Invariant: the steps so far and the steps left are all steps of the path.
 abbrev pub invariant-loop-step : goal.invariant-loop-step
 invariant-loop-step l = texts l.steps.items ++ steps_of l.left ≡ steps_of l.fn.path
 

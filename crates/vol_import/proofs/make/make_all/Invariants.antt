@@ -2,7 +2,7 @@ use Rattle.std.proofs.Common.{length}
 use Rattle.vol_import.proofs.MadeCalls.{GoesOn}
 use Rattle.vol_import.proofs.make.make_all.Given as goal
 
--- the result of the calls left from here is the result of all calls from the start
+-- Invariant: making the calls left, from here, has the same result as making all calls from the start.
 abbrev pub invariant-calls : goal.invariant-calls
 invariant-calls l = GoesOn l.initial.volume l.fn.calls.items l.volume l.left.items
 

@@ -6,16 +6,16 @@ use Rattle.vol_inspect.specs.declared.uses.Use.TheVariants as uses
 use Rattle.vol_inspect.proofs.cell_groups.cells.Goals.{then-left-eq0+in_ok-push, else-left-eq0}
 use Rattle.vol_inspect.proofs.cell_groups.cells.Goals as goal
 
--- the blocks that are left begin with one
+-- the uses that are left begin with the one at index `i`
 split : (us : List Use) (i : ℕ) → i < length us → drop i us ≡ get_or us i uses.Boot ∷ drop (i + 1) us
 split us i low = drop-cons us i uses.Boot low ∙ ap (λ n. get_or us i uses.Boot ∷ drop n us) (sym (add-one i))
 
--- a cell is full
+-- a full cell is finished, and the next use starts a new cell
 full : (blocks left : ℕ) (best u : Use) (us : List Use) → left ≡ 0 → cells_from blocks left best (u ∷ us) ≡ best ∷ cells_from blocks (blocks - 1) u us
 unfolding cells_from
 full blocks left best u us none = ap (λ n. cells_from blocks n best (u ∷ us)) none
 
--- a cell takes one more block
+-- a cell that isn't full takes one more use
 takes : (blocks left : ℕ) (best u : Use) (us : List Use) → left ≢ 0 → cells_from blocks left best (u ∷ us) ≡ cells_from blocks (left - 1) (more_telling best u) us
 unfolding cells_from
 takes blocks left best u us some =

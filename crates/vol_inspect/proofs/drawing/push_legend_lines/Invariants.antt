@@ -4,6 +4,6 @@ use Rattle.std.specs.String.{string_bytes}
 use Rattle.vol_inspect.specs.Pictures.{legend_line}
 use Rattle.vol_inspect.proofs.drawing.push_legend_lines.Given as goal
 
--- the lines so far have been added
+-- Invariant: the lines so far have been added.
 abbrev pub invariant-loop-one : goal.invariant-loop-one
 invariant-loop-one l = string_bytes l.text ≡ string_bytes l.initial.text ++ flat_map (legend_line l.coloured) (take l.one-index l.all)

@@ -8,7 +8,7 @@ use Rattle.vol_free.proofs.FreeWalks.{met_most, met_one, zoned_last}
 use Rattle.vol_inspect.specs.FreeChain.{link_of, links_met, shown_from, shown_link}
 use Rattle.vol_inspect.proofs.free_chain.chain.Goals as goal
 
--- no mark is set
+-- an element of a list of false is false
 clear : (n b : ℕ) → get_or (replicate n false) b false ≡ false
 clear zero b = refl
 clear (suc n) zero = refl
@@ -23,7 +23,7 @@ walk-init c =
       c.in_ok-push_link.ensures ∙ ap (λ ls. map shown_link ls ++ link_of c.args.geometry.now.edition c.args.image.now 1 ∷ []) c.new-links.ensures.items,
     )
 
--- one more block
+-- after a step that finds a block, the walk has passed this block too
 met_next : (g : Geometry) (image : List ℕ) (old seen new : List Bool) (walk next : FreeWalk) {found : Result ℕ (FreeFault × ℕ)} {b : ℕ} {met : List ℕ}
     → seen ≡ old → found ≡ Ok b → StepFinds g image seen new walk next (Some found) → HasMet g image old walk met → HasMet g image new next (b ∷ met)
 met_next g image old seen new walk next {met = met} is block finds w =

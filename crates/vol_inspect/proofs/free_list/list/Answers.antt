@@ -15,7 +15,7 @@ pub walk-init : goal.walk-init
 unfolding listed_in
 walk-init c = ([], c.new-walk.ensures c.args.marks.now c.requires.marks c.requires.clear, λ x low. c.requires.absent x)
 
--- one more block
+-- after a step that finds a block, the walk has passed this block too
 met_one : (g : Geometry) (image : List ℕ) (old new : List Bool) (walk next : FreeWalk) {found : Result ℕ (FreeFault × ℕ)} {b : ℕ} {met : List ℕ}
     → found ≡ Ok b → StepFinds g image old new walk next (Some found) → HasMet g image old walk met → HasMet g image new next (b ∷ met)
 met_one g image old new walk next {met = met} is finds w = subst (λ r. StepFinds g image old new walk next (Some r)) is finds met w

@@ -4,7 +4,7 @@ use Rattle.vol_judge.specs.Steps.{rank}
 use Rattle.vol_inspect.specs.Lost.{NamedBefore}
 use Rattle.vol_inspect.proofs.lost.named_inodes.Given as goal
 
--- the i-nodes that the entries before the place name are noted
+-- Invariant: the i-numbers of the entries before `place` are marked.
 abbrev pub invariant-loop-entry : goal.invariant-loop-entry
 invariant-loop-entry l = record {
   first : 1 ≤ l.place.directory;

@@ -4,11 +4,11 @@ use Rattle.vol_inspect.specs.Owners.{AreDead, is_block}
 use Rattle.vol_inspect.proofs.Gatherings.{entries_before}
 use Rattle.vol_inspect.proofs.owners.+find_from.Given as goal
 
--- each level is below the one before
+-- each call is for a smaller level
 abbrev pub decreases-find_from : goal.decreases-find_from
 decreases-find_from l = l.level
 
--- the entries before j don't lead to the block
+-- Invariant: the entries before `j` don't lead to the block.
 abbrev pub invariant-loop-j : goal.invariant-loop-j
 invariant-loop-j l = record {
   dead : AreDead l.geometry l.image l.b l.dead;

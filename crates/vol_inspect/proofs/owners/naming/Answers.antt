@@ -29,7 +29,7 @@ find_from-found-requires-clause-room c =
     let few : c.levels.result ≤ 3 = omega (arith, c.levels.ensures, most) in
     address_room c.args.geometry.now.edition c.levels.result c.first_logical-logical.result few c.first_logical-logical.ensures.bound
 
--- what a search found below address k
+-- the search below address `k` has the result of the search in its blocks
 at_address : (g : Geometry) (image : List ℕ) (i k b level logical m : ℕ) (form : BlockMap) (found : Option Extent) → form ≡ form_at g image i
     → level ≡ levels form k → logical ≡ first_at form k → m ≡ address_at g.edition image (inode_place g.edition i) k
     → found ≡ find (is_block b) (holdings_from g image level logical m) → found ≡ find (is_block b) (address_holdings g image i k)

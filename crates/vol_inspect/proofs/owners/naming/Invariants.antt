@@ -4,7 +4,7 @@ use Rattle.vol_inspect.specs.Owners.{AreDead, is_block}
 use Rattle.vol_inspect.proofs.Gatherings.{addresses_before}
 use Rattle.vol_inspect.proofs.owners.naming.Given as goal
 
--- the addresses before k don't lead to the block
+-- Invariant: the addresses before `k` don't lead to the block.
 abbrev pub invariant-loop-k : goal.invariant-loop-k
 invariant-loop-k l = record {
   dead : AreDead l.geometry l.image l.b l.dead;

@@ -4,7 +4,7 @@ use Rattle.vol_layout.specs.BlockPointers.{form_at}
 use Rattle.vol_inspect.specs.Owners.{AreDead, naming, owner_by}
 use Rattle.vol_inspect.proofs.owners.push_nodes.Given as goal
 
--- the owners so far have been added
+-- Invariant: the owners so far have been added.
 abbrev pub invariant-loop-before : goal.invariant-loop-before
 invariant-loop-before l = record {
   dead : AreDead l.geometry l.image l.b l.dead;

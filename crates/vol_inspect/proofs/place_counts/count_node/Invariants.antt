@@ -5,7 +5,7 @@ use Rattle.vol_layout.specs.BlockPointers.{form_at}
 use Rattle.vol_inspect.specs.PlaceCounts.{Counts, IsTally, found_at}
 use Rattle.vol_inspect.proofs.place_counts.count_node.Given as goal
 
--- the blocks found from the addresses before k on were counted
+-- Invariant: the blocks of the addresses before `k` are counted.
 abbrev pub invariant-loop-k : goal.invariant-loop-k
 invariant-loop-k l = record {
   counted : Counts l.geometry (λ c e. sum_by (λ k. found_at l.geometry l.image (levels (form_at l.geometry l.image l.i) k)

@@ -5,7 +5,7 @@ use Rattle.vol_file.specs.Rules.{kind_at}
 use Rattle.vol_reports.specs.Icheck.{is_kind}
 use Rattle.vol_inspect.proofs.super_report.free_inodes.Given as goal
 
--- the free i-nodes so far are counted
+-- Invariant: the free i-nodes so far are counted.
 abbrev pub invariant-loop-before : goal.invariant-loop-before
 invariant-loop-before l = record {
   counted : l.count ≡ count_by (λ i. is_kind kinds.Free (kind_at l.geometry l.image i)) (range_with_len 1 l.before);

@@ -4,7 +4,7 @@ use Rattle.std.specs.String.{string_bytes}
 use Rattle.vol_inspect.specs.Texts.{array_item}
 use Rattle.vol_inspect.proofs.texts.push_words.Given as goal
 
--- the numbers so far have been added
+-- Invariant: the numbers so far have been added.
 abbrev pub invariant-loop-k : goal.invariant-loop-k
 invariant-loop-k l = string_bytes l.text ≡ string_bytes l.initial.text
     ++ flat_map (λ k. array_item l.name (get_or l.numbers k 0) k) (range_with_len 0 l.k)

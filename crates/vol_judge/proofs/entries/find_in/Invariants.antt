@@ -4,7 +4,7 @@ use Rattle.vol_dir.specs.Repeats.{MarksEmpty}
 use Rattle.vol_judge.specs.DirectoryNames.{HasEntriesBelow, HoldsNamesBelow}
 use Rattle.vol_judge.proofs.entries.find_in.Given as goal
 
--- rule 9 holds below slot `from`, and the names of the entries there are collected
+-- Invariant: the slots below `from` keep rule 9, and `names` has the names of their entries.
 abbrev pub invariant-loop-s : goal.invariant-loop-s
 invariant-loop-s l = record {
   whole : size_of l.geometry l.image l.d % 16 ≡ 0;

@@ -13,7 +13,7 @@ use Rattle.vol_judge.proofs.free_list.find_fault.Goals as goal
 pub walk-init : goal.walk-init
 walk-init c = ([], c.new-walk.ensures c.args.free.now c.requires.free_room c.requires.clear, clear_none c.args.named.now)
 
--- one more block
+-- the walk has met one more block
 met_next : (c : goal.After-first_named-first) → HasMet c.args.geometry.now c.args.image.now c.next.new.marks c.next.new.self (c.in-Some-Ok.b ∷ c.walk.invariant.0)
 met_next c =
     met_one c.args.geometry.now c.args.image.now c.walk.free c.next.new.marks c.walk.walk c.next.new.self c.in-Some-Ok.field-0-is c.in-Some-Ok.ensures
@@ -53,7 +53,7 @@ returns-in-Some-Err-clause-fault c =
     let fault = ap (λ (k : Walked). k.fault) (end.2 c.walk.invariant.0 c.walk.invariant.1) in
     (fault, fault_breaks g image fault)
 
--- at the end of the list the blocks met are the free ones
+-- at the end of the free list, the blocks met are the free blocks
 all_met : (g : Geometry) (image met : List ℕ) → free_walk g image ≡ record { met = met; fault = None } → IsFree g image (reverse met)
 all_met g image met walk =
     no_fault_free g image (reverse met) (ap (λ (k : Walked). k.fault) walk) (reverse-reverse met ∙ sym (ap (λ (k : Walked). k.met) walk))

@@ -4,7 +4,7 @@ use Rattle.vol_judge.proofs.FileBlocks.{addresses_from}
 use Rattle.vol_judge.specs.OutsideBlocks.{first_outside}
 use Rattle.vol_judge.proofs.outside_blocks.outside_in.Given as goal
 
--- nothing is found from the addresses before k on
+-- Invariant: all addresses at and below the i-node's addresses before k are in the data zone.
 abbrev pub invariant-loop-k : goal.invariant-loop-k
 invariant-loop-k l = record {
   addresses : first_outside l.geometry (addresses_from l.geometry l.image l.i l.k) ≡ None;

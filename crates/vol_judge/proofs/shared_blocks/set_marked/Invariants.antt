@@ -1,7 +1,7 @@
 use Rattle.std.proofs.Common.{◌≡◌, ◌≢◌, ℕ, ◌<◌, true, false, length, slice_index, slice_index_or}
 use Rattle.vol_judge.proofs.shared_blocks.set_marked.Given as goal
 
--- the flags set so far are those of the marks below k that aren't 0
+-- Invariant: of the flags below k, exactly those whose mark isn't 0 are set.
 abbrev pub invariant-loop-k : goal.invariant-loop-k
 invariant-loop-k l = record {
   room : length l.flags ≡ length l.marks;

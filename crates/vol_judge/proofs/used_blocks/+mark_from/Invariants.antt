@@ -4,11 +4,11 @@ use Rattle.vol_judge.specs.Marks.{ExtendsMarks, KnowsMarked}
 use Rattle.vol_judge.proofs.BlocksFrom.{entries_from}
 use Rattle.vol_judge.proofs.used_blocks.+mark_from.Given as goal
 
--- each level is below the one before
+-- The number of levels decreases with each call.
 abbrev pub decreases-mark_from : goal.decreases-mark_from
 decreases-mark_from l = l.level
 
--- the blocks found from the entries before j on are marked
+-- Invariant: the data blocks at and below the entries before j are marked.
 abbrev pub invariant-loop-j : goal.invariant-loop-j
 invariant-loop-j l = record {
   entries : ExtendsMarks l.geometry (entries_from l.geometry l.image (l.level - 1) l.b l.j) l.fn.marks l.marks;
@@ -16,6 +16,6 @@ invariant-loop-j l = record {
   within : l.j ≤ (constants l.geometry.edition).pointers;
 }
 
--- a later entry each time
+-- The entry number j increases with each step.
 abbrev pub decreases-loop-j : goal.decreases-loop-j
 decreases-loop-j l = (constants l.geometry.edition).pointers - l.j

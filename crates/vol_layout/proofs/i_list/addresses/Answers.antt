@@ -6,11 +6,11 @@ use Rattle.vol_layout.specs.Edition.{constants}
 use Rattle.vol_layout.specs.Inode.{address_at, addresses_at}
 use Rattle.vol_layout.proofs.i_list.addresses.Goals as goal
 
--- an item of a list in which one was set is that one, or unchanged
+-- an item of a list after one item was set to `x` is `x` or its old value
 each_set : (xs : List ℕ) (k j x : ℕ) → k < length xs → (P : ℕ → Type 0) → P x → P (get_or xs j 0) → P (get_or (set xs k x) j 0)
 each_set xs k j x room P new old = grind (arith, common_steps)
 
--- a list that is 0 from the eighth item on stays so if a 0 is set
+-- setting an item of the first eight, or setting a later item to 0, leaves all items after the first eight 0
 none_set : (xs : List ℕ) (k j x : ℕ) → k < length xs → (8 ≤ k → x ≡ 0) → 8 ≤ j → get_or xs j 0 ≡ 0 → get_or (set xs k x) j 0 ≡ 0
 none_set xs k j x room zero h old = grind (arith, common_steps)
 

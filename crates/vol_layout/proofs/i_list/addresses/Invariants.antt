@@ -4,7 +4,7 @@ use Rattle.vol_layout.specs.Inode.{address_at}
 use Rattle.vol_layout.specs.declared.edition.Edition.TheVariants.{V6}
 use Rattle.vol_layout.proofs.i_list.addresses.Given as goal
 
--- the addresses below k are read, and each is within the edition's limit; in the sixth edition the last five are 0
+-- Invariant: the addresses below `k` have been read, and each is within the edition's limit; in the sixth edition the last five are 0.
 abbrev pub invariant-loop-k : goal.invariant-loop-k
 invariant-loop-k l = record {
   len : length l.all ≡ 13;

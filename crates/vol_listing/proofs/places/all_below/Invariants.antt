@@ -5,7 +5,7 @@ use Rattle.vol_listing.specs.Places.{Descends, AllBelow}
 use Rattle.vol_listing.specs.declared.places.ListedNode.{ListedNode}
 use Rattle.vol_listing.proofs.places.all_below.Given as goal
 
--- the places so far, followed by whatever the pending ones give, are all
+-- Invariant: the directories so far, followed by those that descending into the pending ones finds, are all directories.
 abbrev pub invariant-places : goal.invariant-places
 invariant-places l =
     (rest : List ListedNode) → Descends (tree l.geometry l.image) (reverse l.pending.items) rest

@@ -4,7 +4,8 @@ use Rattle.vol_dir.specs.Tree.{tree}
 use Rattle.vol_listing.specs.Places.{below}
 use Rattle.vol_listing.proofs.places.push_below.Given as goal
 
--- the directories that are left, and then those that are pending, stay
+-- Invariant: the subdirectories that are not pushed yet, followed by the pending directories from the top of the stack, are all subdirectories,
+-- followed by those that were pending before.
 abbrev pub invariant-directories : goal.invariant-directories
 invariant-directories l =
     l.below.items ++ reverse l.pending.items ≡ below (tree l.geometry l.image) l.fn.place ++ reverse l.initial.pending.items

@@ -3,7 +3,7 @@ use Rattle.sha2.specs.Hashers.{Holds256}
 use Rattle.vol_layout.specs.Body.{body, body_size}
 use Rattle.vol_listing.proofs.sums.sum_of_body.Given as goal
 
--- the hasher holds the body up to `hashed`
+-- Invariant: the hasher has the first `hashed` bytes of the body.
 abbrev pub invariant-pieces : goal.invariant-pieces
 invariant-pieces l = (l.hashed ≤ body_size l.geometry l.image l.i) × Holds256 l.hasher (take l.hashed (body l.geometry l.image l.i))
 

@@ -4,6 +4,6 @@ use Rattle.vol_dir.specs.Tree.{tree}
 use Rattle.vol_listing.specs.Sums.{met_line}
 use Rattle.vol_listing.proofs.sums.sums_text.Given as goal
 
--- the lines of the entries so far have been added
+-- Invariant: the lines of the entries so far have been added.
 abbrev pub invariant-founds : goal.invariant-founds
 invariant-founds l = l.text.items ≡ flat_map (met_line (tree l.geometry l.image)) (take l.found-index l.founds)

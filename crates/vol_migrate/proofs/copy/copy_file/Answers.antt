@@ -1,4 +1,4 @@
--- Holes are carried as they are, and each stored block is carried.
+-- Holes are passed, and each stored block is copied.
 use Rattle.std.proofs.Common.{◌≡◌, ◌∙◌, ap, subst, ◌+◌, arith}
 use Rattle.vol_layout.specs.BlockPointers.{form_at}
 use Rattle.vol_file.specs.Changes.{whole_blocks}

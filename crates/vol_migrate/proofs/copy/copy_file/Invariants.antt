@@ -1,4 +1,4 @@
--- All blocks before the next that has one are carried.
+-- Invariant: all blocks before the next stored one are copied.
 use Rattle.std.proofs.Common.{◌≢◌, ◌-◌, ◌≤◌, ◌<◌}
 use Rattle.vol_layout.specs.BlockPointers.{form_at, stored}
 use Rattle.vol_file.specs.Runs.{LooksUp}

@@ -1,4 +1,4 @@
--- Each file is carried, and other i-nodes are passed.
+-- Each file is copied, and other i-nodes are passed.
 use Rattle.std.proofs.Common.{◌≡◌, ◌∙◌, sym, subst, ℕ, List, ◌+◌, arith}
 use Rattle.vol_migrate.specs.Stages.{IsStage}
 use Rattle.vol_migrate.proofs.StageLaws.{stage_pass}

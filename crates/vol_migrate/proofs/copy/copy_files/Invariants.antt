@@ -1,4 +1,4 @@
--- All files before are carried.
+-- Invariant: all files before `i` are copied.
 use Rattle.vol_migrate.specs.Stages.{CarriesTo}
 use Rattle.vol_migrate.proofs.copy.copy_files.Given as goal
 

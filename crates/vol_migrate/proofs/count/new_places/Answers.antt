@@ -1,4 +1,4 @@
--- The places of the path that are new, by the region in which the logical block lies.
+-- The new positions on the path, for each region in which the logical block may be.
 use Rattle.std.proofs.Common.{sym, arith}
 use Rattle.vol_migrate.proofs.NewPlaces.{need_direct, need_single, need_double, need_triple}
 use Rattle.vol_migrate.proofs.count.new_places.Goals as goal

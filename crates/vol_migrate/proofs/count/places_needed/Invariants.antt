@@ -1,4 +1,4 @@
--- The files before have been counted.
+-- Invariant: the needs of the files before `i` are added.
 use Rattle.std.proofs.Common.{◌≡◌, ◌*◌, ◌≤◌}
 use Rattle.vol_migrate.specs.Stages.{need_before}
 use Rattle.vol_migrate.proofs.count.places_needed.Given as goal

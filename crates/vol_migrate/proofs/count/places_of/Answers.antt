@@ -1,4 +1,4 @@
--- An i-node that isn't a file needs none.
+-- An i-node that isn't a file needs no blocks.
 use Rattle.std.proofs.Common.{◌∙◌, sym, arith}
 use Rattle.vol_migrate.proofs.FileShapes.{bare_need}
 use Rattle.vol_migrate.proofs.count.places_of.Goals as goal

@@ -1,4 +1,4 @@
--- Each logical block that has a block adds the places that are new on its path; holes add none.
+-- Each stored logical block adds the new positions on its path; holes add none.
 use Rattle.std.proofs.Common.{◌≡◌, ◌∙◌, sym, ap, subst, ◌+◌, ◌-◌, true, arith}
 use Rattle.vol_layout.specs.BlockPointers.{form_at}
 use Rattle.vol_file.specs.Changes.{whole_blocks}

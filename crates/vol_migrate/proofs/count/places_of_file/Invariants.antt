@@ -1,4 +1,4 @@
--- The places of the logical blocks that were passed are counted, and the next is known.
+-- Invariant: the positions of the logical blocks before `passed` are counted.
 use Rattle.std.proofs.Common.{◌≡◌, ◌-◌, ◌*◌, ◌≤◌, true}
 use Rattle.vol_layout.specs.BlockPointers.{form_at}
 use Rattle.vol_file.specs.Holes.{IsNextStored}

@@ -1,4 +1,4 @@
--- Each i-node that is used is put, and no other.
+-- Each used i-node is written, and no other.
 use Rattle.std.proofs.Common.{◌≡◌, subst, refl, ℕ, ◌+◌, arith}
 use Rattle.vol_file.proofs.Alone.{fits_len}
 use Rattle.vol_migrate.specs.Stages.{HasInodesBelow}

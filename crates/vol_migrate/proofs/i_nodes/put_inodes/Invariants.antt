@@ -1,4 +1,4 @@
--- The i-nodes before are put, and everything else is as it was.
+-- Invariant: the i-nodes before `i` are written, and all other bytes are unchanged.
 use Rattle.std.proofs.Common.{◌*◌}
 use Rattle.pdp_words.specs.Words.{SameOutside}
 use Rattle.vol_migrate.specs.Stages.{HasInodesBelow}

@@ -1,4 +1,4 @@
--- The i-node is put if it is used.
+-- The i-node is written if it is used.
 use Rattle.std.proofs.Common.{◌≡◌, ◌∙◌, ap, sym, subst, refl, ◌+◌, slice_index, arith}
 use Rattle.vol_layout.specs.Inode.{inode_place, raised_inode}
 use Rattle.vol_layout.specs.declared.i_node.Inode.{Inode}

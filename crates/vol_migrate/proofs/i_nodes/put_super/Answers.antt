@@ -1,4 +1,4 @@
--- The bytes that aren't written stay.
+-- The bytes that aren't written are unchanged.
 use Rattle.std.proofs.Common.{◌≡◌, ◌∙◌, ap, ℕ, ◌+◌, List, get_or, inl, inr, arith}
 use Rattle.std.proofs.lemmas.Bool.{cases_lt}
 use Rattle.pdp_words.specs.Words.{SameOutside}
@@ -7,7 +7,7 @@ use Rattle.vol_layout.specs.declared.edition.Edition.TheVariants.{V7}
 use Rattle.vol_mkfs.specs.Mkfs.{sizes_bytes, IsNoneOf}
 use Rattle.vol_migrate.proofs.i_nodes.put_super.Goals as goal
 
--- a byte other than those written stays
+-- a byte outside the bytes written is unchanged
 kept : {old new : List ℕ} (at count k : ℕ) → SameOutside old new at (at + count) → IsNoneOf at count k → get_or new k 0 ≡ get_or old k 0
 kept at count k same none =
     elim (cases_lt k at) [

@@ -1,4 +1,4 @@
--- The files are carried to a volume that has all i-nodes, and then the free list is rebuilt.
+-- The files are copied to a volume that has all i-nodes, and then the free list is rebuilt.
 use Rattle.std.proofs.Common.{◌≡◌, ◌∙◌, sym, ap, subst, ◌*◌, replicate, false, arith}
 use Rattle.vol_layout.specs.Geometry.{geometry_of}
 use Rattle.vol_judge.specs.Sound.{KeepsRules}

@@ -1,4 +1,4 @@
--- No check fails.
+-- All checks pass.
 use Rattle.std.proofs.Common.{sym, subst}
 use Rattle.vol_dir.specs.Tree.{state}
 use Rattle.vol_mkfs.specs.Mkfs.{IsMakeable}

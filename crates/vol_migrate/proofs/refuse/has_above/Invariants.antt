@@ -1,4 +1,4 @@
--- None was found before.
+-- Invariant: no i-number before passes the test.
 use Rattle.std.proofs.Common.{◌≡◌, ◌-◌, false}
 use Rattle.std.specs.List.{list_any, range_with_len}
 use Rattle.vol_dir.specs.Tree.{tree}

@@ -1,4 +1,4 @@
--- By the kind of the node.
+-- The answer follows from the kind of the node.
 use Rattle.std.proofs.Common.{◌∙◌, sym, ap}
 use Rattle.vol_migrate.proofs.Refused.{node_here, is_node}
 use Rattle.vol_migrate.proofs.refuse.is_node.Goals as goal

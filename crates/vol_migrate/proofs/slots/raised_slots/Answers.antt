@@ -1,4 +1,4 @@
--- Each slot is put raised.
+-- Each slot is raised and written.
 use Rattle.std.proofs.Common.{◌≡◌, ◌∙◌, ap, ◌*◌, length, arith}
 use Rattle.vol_layout.specs.Slot.{slot_at}
 use Rattle.vol_layout.specs.declared.slot.Slot.{Slot}

@@ -1,4 +1,4 @@
--- The slots before are raised.
+-- Invariant: the slots before `s` are raised.
 use Rattle.std.proofs.Common.{◌≡◌, ℕ, ◌*◌, ◌<◌, get_or}
 use Rattle.vol_migrate.specs.Stages.{raised_byte}
 use Rattle.vol_migrate.proofs.slots.raised_slots.Given as goal

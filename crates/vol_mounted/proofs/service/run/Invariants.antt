@@ -1,4 +1,4 @@
--- `run` has taken a request each turn, sent the replies of the turns, and saved their images.
+-- Invariant of `run`: it has taken one request each turn, sent the replies of the turns, and saved their images.
 use Rattle.std.proofs.Common.{◌≡◌, ℕ, List, length}
 use Rattle.vol_serve.specs.Messages.{Grows}
 use Rattle.vol_mounted.specs.Services.{requests_of, replies_of, images_of, Stores}

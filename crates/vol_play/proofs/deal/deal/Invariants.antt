@@ -7,7 +7,7 @@ use Rattle.vol_play.specs.Players.{InPairs, IsDealt, wants_session, wants_view}
 use Rattle.vol_play.specs.declared.prepare.Player.{Player}
 use Rattle.vol_play.proofs.deal.deal.Given as goal
 
--- there is a session or a view for each script that is left; the players so far, and those of these scripts, are all
+-- Invariant: there is a session or a view for each remaining script; the players so far, followed by the players of these scripts, are all players.
 abbrev pub invariant-scripts : goal.invariant-scripts
 invariant-scripts l = record {
   left : length l.sessions.items + count_by wants_session l.fn.prepared.items ≡ length l.fn.sessions.items + count_by wants_session l.script-iterator.rest.items;

@@ -2,7 +2,7 @@ use Rattle.std.proofs.Common.{◌≡◌, ◌+◌, ◌≤◌, ◌++◌, length, m
 use Rattle.vol_play.specs.Players.{played_by, sessions_of, views_of}
 use Rattle.vol_play.proofs.gather.gather.Given as goal
 
--- the parts of the players so far, followed by those of the players that are left, are the parts of all
+-- Invariant: the sessions, views and results of the players so far, followed by the ones of the remaining players, are all of them.
 abbrev pub invariant-players : goal.invariant-players
 invariant-players l = record {
   sessions : l.sessions.items ++ sessions_of l.player-iterator.rest.items ≡ l.fn.sessions.items ++ sessions_of l.fn.players.items;

@@ -5,7 +5,7 @@ use Rattle.vol_scripts.specs.declared.played.Played.{Played}
 use Rattle.vol_play.specs.Steps.{CameInTurn, CameOfQuery, CameOfView}
 use Rattle.vol_play.proofs.queries.play_queries.Given as goal
 
--- the results of the queries that are left follow those so far, whose receipts the view has
+-- Invariant: the results of the remaining queries follow the results so far, and the view has the receipts so far.
 abbrev pub invariant-queries : goal.invariant-queries
 invariant-queries l = record {
   book : l.view.book ≡ l.fn.view.book;

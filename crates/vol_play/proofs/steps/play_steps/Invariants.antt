@@ -3,7 +3,7 @@ use Rattle.vol_scripts.specs.declared.played.Played.{Played}
 use Rattle.vol_play.specs.Steps.{CameInTurn, CameOf, known_after_all}
 use Rattle.vol_play.proofs.steps.play_steps.Given as goal
 
--- the results of the steps that are left follow those so far, whose steps the session has run
+-- Invariant: the results of the remaining steps follow the results so far, and the session has run the steps so far.
 abbrev pub invariant-steps : goal.invariant-steps
 invariant-steps g l = record {
   own : l.session.of ≡ l.shared.of;

@@ -3,7 +3,7 @@ use Rattle.vol_volume.specs.Volume.{reads_as}
 use Rattle.vol_removal.proofs.TakenPaths.{TakesOn}
 use Rattle.vol_removal.proofs.plan.calls_for.Given as goal
 
--- if some calls remove the pending paths, they and then the calls so far, in reverse, remove the path
+-- Invariant: calls that remove the pending paths, followed by the calls so far in reverse, remove `path`.
 abbrev pub invariant-paths : goal.invariant-paths
 invariant-paths l = TakesOn (reads_as l.volume.edition l.volume.image).tree l.now l.fn.path l.pending.items l.calls.items
 

@@ -3,7 +3,7 @@ use Rattle.std.specs.List.{count_by}
 use Rattle.vol_reports.specs.Climb.{Climbs}
 use Rattle.vol_reports.proofs.climb.climb.Given as goal
 
--- the climb so far; each step marks one more directory
+-- Invariant: the climb so far is in progress at directory `at`.
 abbrev pub invariant-loop-at : goal.invariant-loop-at
 invariant-loop-at l = Climbs l.root l.naming l.turn l.d l.at l.marks l.way.items
 

@@ -2,7 +2,7 @@ use Rattle.std.proofs.Common.{◌≡◌, ◌++◌}
 use Rattle.vol_reports.specs.Climb.{trail}
 use Rattle.vol_reports.proofs.climb.push_names.Given as goal
 
--- the remaining names are put after the path
+-- Invariant: the path and the names still in `way` make the whole path.
 abbrev pub invariant-loop-entry : goal.invariant-loop-entry
 invariant-loop-entry l = l.path.items ++ trail l.way.items ≡ l.initial.path.items ++ trail l.initial.way.items
 

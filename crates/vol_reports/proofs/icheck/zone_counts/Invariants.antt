@@ -4,7 +4,7 @@ use Rattle.count_table.specs.Tallies.{items_of}
 use Rattle.vol_reports.specs.FromWords.{is_used_in, is_met_in, is_lost_in}
 use Rattle.vol_reports.proofs.icheck.zone_counts.Given as goal
 
--- the blocks before b are counted
+-- Invariant: the blocks before `b` are counted.
 abbrev pub invariant-loop-b : goal.invariant-loop-b
 invariant-loop-b l = record {
   used : l.counts.used ≡ count_by (is_used_in l.geometry (items_of l.words)) (range_with_len l.geometry.zone_start (l.b - l.geometry.zone_start));

@@ -3,7 +3,7 @@ use Rattle.vol_reports.specs.Dcheck.{link_count, wants_entry}
 use Rattle.vol_reports.specs.declared.inode_link_counts.LinkCount.{LinkCount}
 use Rattle.vol_reports.proofs.inode_link_counts.link_counts.Given as goal
 
--- the link counts of the i-numbers before the next have been added
+-- Invariant: the link counts of the i-numbers up to `before` have been added.
 abbrev pub invariant-loop-before : goal.invariant-loop-before
 invariant-loop-before l = record {
   wide : length l.links.items ≡ l.before;

@@ -3,7 +3,7 @@ use Rattle.vol_judge.specs.Directories.{root_of}
 use Rattle.vol_reports.specs.Climb.{AreBefore, path_in, seen_pair}
 use Rattle.vol_reports.proofs.ncheck.paths_of.Given as goal
 
--- the paths of the entries before k have been added
+-- Invariant: the paths of the entries before `k` have been added.
 abbrev pub invariant-loop-k : goal.invariant-loop-k
 invariant-loop-k l = record {
   room : length l.marks.items ≡ length l.naming;

@@ -3,7 +3,7 @@ use Rattle.std.specs.String.{string_bytes}
 use Rattle.vol_scripts.specs.Endings.{scripts_text}
 use Rattle.vol_scripts.proofs.ending.lines_of.Given as goal
 
--- the appended lines, followed by those of the scripts that are left, are the lines of all
+-- Invariant: the appended lines, followed by the lines of the remaining scripts, are the lines of all scripts.
 abbrev pub invariant-scripts : goal.invariant-scripts
 invariant-scripts l = record {
   number : l.number ≡ l.played-index + 1;

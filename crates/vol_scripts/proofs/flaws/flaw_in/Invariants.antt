@@ -3,7 +3,7 @@ use Rattle.vol_scripts.specs.Flaws.{flaw_from, flaw_in}
 use Rattle.vol_scripts.proofs.PieceLemmas.{space}
 use Rattle.vol_scripts.proofs.flaws.flaw_in.Given as goal
 
--- the line has the flaw of the words that are left, and they end where it does
+-- Invariant: the first flaw of the line is the first flaw of the remaining words, and they end where the line ends.
 abbrev pub invariant-words : goal.invariant-words
 invariant-words l = record {
   flaw : flaw_in l.fn.command l.line ≡ flaw_from l.at l.wanted l.words;

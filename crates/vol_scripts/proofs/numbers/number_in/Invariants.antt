@@ -3,7 +3,7 @@ use Rattle.vol_scripts.specs.Numbers.{number_in}
 use Rattle.vol_scripts.proofs.DigitLemmas.{number_after}
 use Rattle.vol_scripts.proofs.numbers.number_in.Given as goal
 
--- the word has the value of the number so far with the digits that are left
+-- Invariant: the value of the word is the value of the number so far after the remaining digits are appended.
 abbrev pub invariant-digits : goal.invariant-digits
 invariant-digits l = record {
   same : number_in l.radix l.most l.word ≡ number_after l.radix l.most l.number (drop l.byte-index l.word);

@@ -3,7 +3,7 @@ use Rattle.vol_scripts.specs.Scripts.{scripts_in, scripts_from}
 use Rattle.vol_scripts.proofs.ReadingLemmas.{after_scripts}
 use Rattle.vol_scripts.proofs.read.read_scripts.Given as goal
 
--- the scripts read so far, followed by those that are left, are all; at most 16 of the former are for views
+-- Invariant: the scripts so far, followed by the remaining ones, are all scripts; at most 16 of the scripts so far are for views.
 abbrev pub invariant-scripts : goal.invariant-scripts
 invariant-scripts l = record {
   most : l.views ≤ 16;

@@ -3,7 +3,7 @@ use Rattle.std.specs.String.{string_bytes}
 use Rattle.vol_scripts.specs.Report.{lines_text}
 use Rattle.vol_scripts.proofs.report.push_lines.Given as goal
 
--- the appended lines, followed by those of the steps that are left, are the lines of all
+-- Invariant: the appended lines, followed by the lines of the remaining steps, are the lines of all steps.
 abbrev pub invariant-steps : goal.invariant-steps
 invariant-steps l = record {
   line : l.line ≡ l.came-index + 1;

@@ -1,4 +1,4 @@
--- `put_entries` has put the entries before `slot`, and the rest fit in the room that is left.
+-- Invariant of `put_entries`: it has put the entries before `slot`, and the remaining ones are limited to the room that is left.
 use Rattle.std.proofs.Common.{◌≡◌, ◌-◌, ◌^◌, ◌≤◌, ◌++◌, vec_len, vec_capacity}
 use Rattle.vol_dir.specs.Entries.{entry_at, slot_count}
 use Rattle.vol_dir.specs.Tree.{tree}

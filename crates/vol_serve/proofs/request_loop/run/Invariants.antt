@@ -1,4 +1,4 @@
--- `run` has taken a request each turn, and sent their replies.
+-- Invariant of `run`: it has taken one request each turn, and sent the replies.
 use Rattle.std.proofs.Common.{◌≡◌, ℕ, List, length}
 use Rattle.std.specs.List.{filter_map}
 use Rattle.vol_serve.specs.Answers.{reply_to}

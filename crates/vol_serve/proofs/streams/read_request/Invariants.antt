@@ -1,4 +1,4 @@
--- The reads of `read_request` that are tried again consumed nothing.
+-- Invariant of `read_request`: the reads that are repeated consumed nothing.
 use Rattle.std.specs.Io.KnownBytes.{Keeps}
 use Rattle.vol_serve.proofs.streams.read_request.Given as goal
 

@@ -1,4 +1,4 @@
--- The writes of `write_reply` that were interrupted took nothing.
+-- Invariant of `write_reply`: the writes that a signal interrupted wrote nothing.
 use Rattle.std.specs.Io.KnownBytes.{Keeps}
 use Rattle.vol_serve.proofs.streams.write_reply.Given as goal
 

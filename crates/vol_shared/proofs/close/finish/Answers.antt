@@ -7,7 +7,7 @@ use Rattle.vol_shared.specs.Stored.{Stored}
 use Rattle.vol_shared.proofs.close.finish.Goals as goal
 use Rattle.vol_shared.proofs.close.finish.Goals.{After-free}
 
--- the volume at the end
+-- the slot contains the last volume, which satisfies `IsSettled`
 at_end : (c : After-free) → (last : Stored) × (c.take-slot.result ≡ Some last) × IsSettled c.args.board.shared.key.stock c.args.place.me.0 last
     × (last.book ≡ c.args.board.shared.key.stock.book)
 at_end c =

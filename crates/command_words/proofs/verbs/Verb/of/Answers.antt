@@ -1,4 +1,4 @@
--- The search went through all commands and found none with the name.
+-- The search compared all commands, and none has this name.
 use Rattle.std.proofs.Common.{◌≢◌, ℕ, List, arith, rules}
 use Rattle.std.specs.List.{AllWithin}
 use Rattle.std.proofs.lemmas.Option.{MatchOption-at_none}
@@ -10,7 +10,7 @@ use Rattle.command_words.specs.declared.verbs.Verb.{Verb}
 use Rattle.command_words.specs.declared.verbs.Verb.TheVariants as verbs
 use Rattle.command_words.proofs.verbs.Verb.of.Goals as goal
 
--- a property of each command in the list is one of each command
+-- if a property holds for each command in the list, it holds for every command
 each : (text : List ℕ) → AllWithin (λ (verb : Verb). text ≢ verb_name verb) all_verbs 0 31 → (verb : Verb) → text ≢ verb_name verb
 each text none verbs.Cat = none 0 verbs.Cat (omega arith) (omega arith)
 each text none verbs.Ls = none 1 verbs.Cat (omega arith) (omega arith)

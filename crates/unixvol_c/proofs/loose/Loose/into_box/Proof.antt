@@ -1,4 +1,4 @@
--- `into_box` passes the ownership of the parts to `from_raw`.
+-- `into_box` passes the ownership of its parts to `from_raw`.
 use mathlib.Core.Path.{◌≡◌, refl, sym, subst, ap}
 use mathlib.Core.List.{List, [], ◌∷◌, ◌++◌}
 use lib.Dec.{T}

@@ -15,7 +15,7 @@ use Rattle.unixvol_c.proofs.open_volume.OpenVolume.TheSendSync.{the_send as kept
 use Rattle.unixvol_c.specs.Held.{held_owns}
 use Rattle.unixvol_c.specs.contracts.sealed.Sealed.{the_row, the_type}
 
--- the volume held has no key of a thread
+-- the volume in a handle has no key of a thread
 held_keyless : (alloc : Global) (p : Ptr) (h : Option Kept.the_row.Denot) → Keyless (held_owns alloc p h)
 held_keyless alloc p None = tt
 held_keyless alloc p (Some x) = (lies Kept.the_row kept p x, heap.frees.frees alloc (raw (lone Kept.the_row.mir)) p)

@@ -1,4 +1,4 @@
--- `into_loose` moves two fields together with their ownership.
+-- `into_loose` moves both fields, with their ownership.
 use Rattle.std.proofs.lemmas.Bool.{false≢true}
 use mathlib.Core.Path.{◌≡◌, refl, sym, subst}
 use mathlib.Core.List.{List, [], ◌∷◌, ◌++◌}

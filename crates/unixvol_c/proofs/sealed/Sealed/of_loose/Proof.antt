@@ -1,4 +1,4 @@
--- `of_loose` moves two fields together with their ownership.
+-- `of_loose` moves both fields, with their ownership.
 use mathlib.Core.Path.{refl, sym, subst}
 use mathlib.Core.List.{List, [], ◌∷◌, ◌++◌}
 use seplogic.Ra.Ura.{Ura}

@@ -78,7 +78,7 @@ add_name-requires-2-clause-room c =
     dot_there c.args.geometry.now c.args.image.now c.add_name.new.image c.args.i c.requires.directory c.requires.empty c.add_name.ensures.changed.makes c.add_name.ensures.beside in
     dot_dot_room c.args.geometry.now c.add_name.new.image c.args.i _ c.add_name.ensures.changed.keeps.rules dotted.is dotted.has
 
--- `.` takes a block, and `..` takes none
+-- one block is taken: `.` needs one, and `..` needs none
 taken : (c : After-add_name-2) → FreeBecomes c.args.geometry.now c.args.image.now c.add_name-2.new.image (drop 1)
 taken c = λ blocks free.
     let geometry = c.args.geometry.now in
@@ -91,7 +91,7 @@ taken c = λ blocks free.
     (dot_dot_need geometry mid c.args.i _ dotted.has)
     (c.add_name-2.ensures.changed.free _ (c.add_name.ensures.changed.free blocks free)))
 
--- the other files stay
+-- the content of other nodes doesn't change
 stays : (c : After-add_name-2) (j : ℕ) → 1 ≤ j → j ≤ c.args.geometry.now.last_inode → j ≢ c.args.i
     → KeepsContent c.args.geometry.now c.args.image.now c.add_name-2.new.image j
 stays c j first last other =

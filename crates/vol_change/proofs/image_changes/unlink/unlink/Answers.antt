@@ -66,7 +66,7 @@ put_time-requires c = record {
   ];
 }
 
--- the entry is removed
+-- the entry is removed from the directory
 leaves : (c : After-put_time)
     → LeavesEntry c.args.geometry.now c.args.image.now c.leave.new.image c.args.dir c.args.i c.args.name.now c.args.moment
 leaves c = record {
@@ -79,7 +79,7 @@ leaves c = record {
   beside = c.leave.ensures.beside;
 }
 
--- the name is removed, before the time of the volume is set
+-- before the volume's time is set, the state is `after_unlink`
 unlinked : (c : After-put_time)
     → HasMade c.args.geometry.now c.args.image.now c.if-inode-le1.image
     (after_unlink (state c.args.geometry.now c.args.image.now) c.args.moment c.args.dir c.args.name.now)
@@ -100,11 +100,11 @@ unlinked c = elim c.if-inode-le1.branch [
       (leaves c) c.requires.other most w.drop_link.ensures.changed.keeps w.drop_link.ensures.changed.makes w.drop_link.ensures.graph)
 ]
 
--- the node that is freed, or stays, is not the directory
+-- the named node isn't the directory
 apart : (c : After-put_time) → c.args.i ≢ c.args.dir
 apart c same = c.requires.other (ap (kind_at c.args.geometry.now c.args.image.now) same ∙ c.requires.directory.kind)
 
--- with its last link its blocks return to the free list
+-- if the node loses its last link, its blocks are put on the free list
 freed : (c : After-put_time) → (inode_of c.args.geometry.now.edition c.args.image.now c.args.i).links ≤ 1 → 1 ≤ c.args.i
     → c.args.i ≤ c.args.geometry.now.last_inode
     → FreeBecomes c.args.geometry.now c.leave.new.image c.if-inode-le1.image (λ blocks. blocks_freed c.args.geometry.now c.args.image.now c.args.i ++ blocks)
@@ -122,14 +122,14 @@ freed c last low high = elim c.if-inode-le1.branch [
       absurd (omega (arith, most, last, same))
 ]
 
--- a test for the last link
+-- the test for the last link passes
 last_test : (n : ℕ) → n ≤ 1 → nat_le n 1 ≡ true
 last_test n few = grind (arith, nat_tests)
 
 more_test : (n : ℕ) → 1 < n → nat_le n 1 ≡ false
 more_test n many = grind (arith, nat_tests)
 
--- their number
+-- the result is the number of blocks freed
 counted : (c : After-put_time) → c.if-inode-le1.given
     ≡ (if nat_le (inode_of c.args.geometry.now.edition c.args.image.now c.args.i).links 1
     then place_count c.args.geometry.now.edition (shapes c.args.geometry.now c.args.image.now c.args.i) else 0)
@@ -153,7 +153,7 @@ counted c =
           w.given-is ∙ sym (ap (λ b. if b then blocks else 0) many)
     ]
 
--- with another it stays, and so does the free list
+-- if the node has another link, only its link count and its time change
 stays : (c : After-put_time) → 1 < (inode_of c.args.geometry.now.edition c.args.image.now c.args.i).links
     → Changed c.args.geometry.now c.leave.new.image c.if-inode-le1.image IsAny (drop_link c.args.moment c.args.i (state c.args.geometry.now c.leave.new.image)) as_before
 stays c more = elim c.if-inode-le1.branch [
@@ -166,7 +166,7 @@ stays c more = elim c.if-inode-le1.branch [
   | else-inode-le1 w ↦ rw w.image-is w.drop_link.ensures.changed
 ]
 
--- all other files stay
+-- the content of other nodes doesn't change
 files : (c : After-put_time) (j : ℕ) → 1 ≤ j → j ≤ c.args.geometry.now.last_inode → j ≢ c.args.i
     → KeepsContent c.args.geometry.now c.leave.new.image c.if-inode-le1.image j
 files c j low high other = elim c.if-inode-le1.branch [
@@ -174,7 +174,7 @@ files c j low high other = elim c.if-inode-le1.branch [
   | else-inode-le1 w ↦ rw w.image-is (w.drop_link.ensures.changed.content j low high tt)
 ]
 
--- with its last link the i-node is cleared
+-- if the node loses its last link, its i-node is cleared
 cleared : (c : After-put_time) → (inode_of c.args.geometry.now.edition c.args.image.now c.args.i).links ≤ 1
     → IsCleared c.args.geometry.now c.if-inode-le1.image c.args.i
 cleared c last = elim c.if-inode-le1.branch [
@@ -187,7 +187,7 @@ cleared c last = elim c.if-inode-le1.branch [
       absurd (omega (arith, most, last, same))
 ]
 
--- if it has another, its unused bytes stay
+-- if the node has another link, its unused bytes don't change
 unused : (c : After-put_time) → 1 < (inode_of c.args.geometry.now.edition c.args.image.now c.args.i).links → 1 ≤ c.args.i
     → c.args.i ≤ c.args.geometry.now.last_inode → KeepsUnused c.args.geometry.now c.leave.new.image c.if-inode-le1.image c.args.i
 unused c more low high = elim c.if-inode-le1.branch [
@@ -200,7 +200,7 @@ unused c more low high = elim c.if-inode-le1.branch [
   | else-inode-le1 w ↦ rw w.image-is (w.drop_link.ensures.unused c.args.i low high)
 ]
 
--- and so do the others
+-- the unused bytes of other i-nodes don't change
 others : (c : After-put_time) (j : ℕ) → 1 ≤ j → j ≤ c.args.geometry.now.last_inode → j ≢ c.args.i
     → KeepsUnused c.args.geometry.now c.leave.new.image c.if-inode-le1.image j
 others c j low high other = elim c.if-inode-le1.branch [

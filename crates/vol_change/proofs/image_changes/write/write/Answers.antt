@@ -66,7 +66,7 @@ record Left (geometry : Geometry) (old new : List ℕ) (i offset moment : ℕ) (
   pub files : (j : ℕ) → 1 ≤ j → j ≤ geometry.last_inode → j ≢ i → KeepsContent geometry old new j
   pub unused : (j : ℕ) → 1 ≤ j → j ≤ geometry.last_inode → KeepsUnused geometry old new j
 
--- by some bytes, and by none
+-- before the volume's time is set, `Left` holds, whether there are bytes to write or not
 left : (c : After-put_time) → Left c.args.geometry.now c.args.image.now c.if-not-is_empty.image c.args.i c.args.offset c.args.moment c.args.bytes.now
 left c =
     let geometry = c.args.geometry.now in

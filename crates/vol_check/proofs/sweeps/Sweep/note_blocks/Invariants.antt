@@ -3,7 +3,7 @@ use Rattle.vol_check.specs.Notes.{Notes}
 use Rattle.vol_check.proofs.Noted.{marked_over, kept_over}
 use Rattle.vol_check.proofs.sweeps.Sweep.note_blocks.Given as goal
 
--- the slots of the blocks before b are noted
+-- Invariant: the slots of the blocks before `b` are marked, and their entries kept.
 abbrev pub invariant-loop-b : goal.invariant-loop-b
 invariant-loop-b l = record {
   low : l.from ≤ l.b;

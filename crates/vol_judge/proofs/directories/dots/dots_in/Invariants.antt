@@ -4,7 +4,7 @@ use Rattle.vol_dir.specs.Repeats.{MarksEmpty}
 use Rattle.vol_judge.specs.InodeMarks.{IsNamedUpTo}
 use Rattle.vol_judge.proofs.directories.dots.dots_in.Given as goal
 
--- the slots below `from` are read
+-- Invariant: the i-numbers of the entries `.` and `..` in the slots below `from` are noted.
 abbrev pub invariant-loop-s : goal.invariant-loop-s
 invariant-loop-s l = record {
   own : IsNamedUpTo l.geometry l.image l.d l.from dot l.own;

@@ -5,7 +5,7 @@ use Rattle.vol_judge.specs.Steps.{rank}
 use Rattle.vol_judge.specs.DirectoryTree.{NotesParentsBefore, HasOnceBefore, IsEnteredAgain}
 use Rattle.vol_judge.proofs.directories.entered.note_entries.Given as goal
 
--- the entries before the position are noted
+-- Invariant: the entries before the position are noted in `parents` and counted in `counts`, and `again` is the first violation among them.
 abbrev pub invariant-loop-entry : goal.invariant-loop-entry
 invariant-loop-entry l = record {
   first : 1 ≤ l.place.directory;

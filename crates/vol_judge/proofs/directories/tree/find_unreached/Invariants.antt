@@ -4,7 +4,7 @@ use Rattle.vol_judge.specs.Directories.{IsReached}
 use Rattle.vol_judge.specs.Reach.{AreWalked}
 use Rattle.vol_judge.proofs.directories.tree.find_unreached.Given as goal
 
--- the directories below d are reached
+-- Invariant: the directories before d can be reached from the root.
 abbrev pub invariant-loop-d : goal.invariant-loop-d
 invariant-loop-d l = record {
   walked : AreWalked l.geometry l.image l.d l.walks.items;

@@ -1,4 +1,4 @@
--- Addresses that are zero can be stored.
+-- Zero addresses can be stored.
 use Rattle.std.proofs.Common.{rules, arith}
 use Rattle.vol_layout.specs.Inode.IsStorable.{in_v7}
 use Rattle.vol_layout.proofs.NewInodes.{zeros_at}

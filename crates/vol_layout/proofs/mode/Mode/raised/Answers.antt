@@ -1,4 +1,4 @@
--- The bits of the type and of the permissions make the mode.
+-- A mode is the sum of its type bits and its permission bits.
 use Rattle.std.proofs.Common.{◌∙◌, ap, inl, inr}
 use Rattle.vol_layout.specs.Inode.{kind_of, permissions_of}
 use Rattle.vol_layout.specs.declared.edition.Edition.TheVariants.{V7}

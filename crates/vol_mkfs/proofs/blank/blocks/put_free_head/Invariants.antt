@@ -4,7 +4,7 @@ use Rattle.vol_layout.specs.Edition.{number}
 use Rattle.vol_mkfs.specs.Blank.{listed}
 use Rattle.vol_mkfs.proofs.blank.blocks.put_free_head.Given as goal
 
--- the count and the numbers before number j are written, and nothing else
+-- Invariant: the count and the entries before entry j are written, and no other bytes have changed.
 abbrev pub invariant-loop-j : goal.invariant-loop-j
 invariant-loop-j l = record {
   count : word l.bytes l.at ≡ l.count;

@@ -3,7 +3,7 @@ use Rattle.std.specs.Io.KnownBytes.{Appends}
 use Rattle.vol_mkfs.specs.Blank.{volume_bytes}
 use Rattle.vol_mkfs.proofs.blank.blocks.write_blocks.Given as goal
 
--- the sink took the blocks before block `next`, and fails no more than before
+-- Invariant: the sink took the blocks before block `next`, and has failed only if it had at the beginning.
 abbrev pub invariant-loop-next : goal.invariant-loop-next
 invariant-loop-next g l = record {
   within : l.next ≤ l.geometry.zone_end;

@@ -52,7 +52,7 @@ returns-clause-before c k h =
     (inode_place c.volume_of.result.edition i + (constants c.volume_of.result.edition).inode_bytes)) is c.put_inode.ensures.others) in
     c.put_bytes-2.ensures.others.below k (omega arith) ∙ (c.put_bytes.ensures.others.below k (omega arith) ∙ others.below k h)
 
--- the bytes around the root's i-node stay when it is put
+-- writing the root's i-node changes no other bytes
 node_others : (of edition : Edition) (i : ℕ) (old new : List ℕ) → of ≡ edition → i ≡ (constants edition).root
     → SameOutside old new (inode_place of i) (inode_place of i + (constants of).inode_bytes)
     → SameOutside old new (inode_place edition (constants edition).root) (inode_place edition (constants edition).root + (constants edition).inode_bytes)

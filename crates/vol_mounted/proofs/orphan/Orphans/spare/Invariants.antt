@@ -1,4 +1,4 @@
--- `spare` has counted the files so far.
+-- Invariant: `spare` is reduced by the bytes of the files so far.
 use Rattle.std.proofs.Common.{◌≡◌, ◌-◌, drop}
 use Rattle.vol_mounted.specs.Orphans.{held_by}
 use Rattle.vol_mounted.proofs.orphan.Orphans.spare.Given as goal

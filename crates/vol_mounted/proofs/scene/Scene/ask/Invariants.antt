@@ -1,4 +1,4 @@
--- None of the calls so far was refused.
+-- Invariant: none of the calls so far was refused.
 use Rattle.std.proofs.Common.{◌≡◌, drop}
 use Rattle.vol_dir.specs.Tree.{state}
 use Rattle.vol_mounted.specs.Plans.{first_refused}

@@ -1,4 +1,4 @@
--- `climb` has gone up `step` directories.
+-- Invariant of `climb`: the path of node `i` is that of node `at` followed by `path`, with `step` steps fewer left.
 use Rattle.std.proofs.Common.{◌≡◌, ◌-◌, [], length}
 use Rattle.vol_mounted.specs.Paths.{climb}
 use Rattle.vol_mounted.proofs.table.NodeTable.climb.Given as goal

@@ -14,7 +14,7 @@ new-requires-clause-counted c =
     let same = ap next_number c.into_volume.ensures.stored in
     omega arith
 
--- the facts about the end, as the clauses state them
+-- the closed volume satisfies `IsSettled` for the knowledge of all sessions
 at_end : (c : After-new) → IsSettled c.args.self.stored c.gather-place.result.0.me.0 (stored_of c.new.result)
 at_end c =
     let v = c.gather-place.result.0.me.0 in

@@ -15,7 +15,7 @@ new-requires-clause-counted g c =
     let same = ap next_number c.settle-volume.ensures.stored in
     omega arith
 
--- the facts about the end, as the clauses state them
+-- the closed volume satisfies `IsSettled` for the knowledge of all sessions
 at_end : (g : _) (c : After-drop-views g) → IsSettled c.args.self.stored c.gather-place.result.0.me.0 (stored_of c.new.result)
 at_end g c =
     let v = c.gather-place.result.0.me.0 in

@@ -12,7 +12,7 @@ use Rattle.vol_volume.proofs.FirstTests.{first_some, first_none}
 use Rattle.vol_volume.proofs.NodeReadings.{used_first, size_is}
 use Rattle.vol_volume.proofs.checked_calls.truncate.truncate_tests.Goals as goal
 
--- the refusal by one check
+-- the refusal of a list with a single check
 refused_by : (result : Result (Unit {0}) Refusal) (test : Bool) (refusal : Refusal)
     → MatchResult result (λ done. test ≡ false) (λ error. (test ≡ true) × (error ≡ refusal))
     → result_err result ≡ (if test then Some refusal else None)

@@ -32,7 +32,8 @@ explains 1 'unixvol: 2 NoEntry' 'unixvol: /usr/x: no file or directory has this 
 explains 1 'unixvol: 2 NoEntry' 'unixvol: none: no file or directory has this name' ls 6 "$image" none
 explains 1 'unixvol: 2 NoEntry' "unixvol: /none/a: a directory on the way to it isn't there" put 6 "$image" /none/a hello
 explains 1 'unixvol: 2 NoEntry' "unixvol: /none/a: a directory on the way to it isn't there" mkdir 6 "$image" /none/a
-explains 1 'unixvol: 2 NoEntry' 'unixvol: i-node 99: there is no i-node of this number, or it is free' cat 6 "$image" 99
+explains 1 'unixvol: 2 NoEntry' 'unixvol: i-node 99: there is no i-node of this number, it is free, or the path leads to none' cat 6 "$image" 99
+explains 1 'unixvol: 2 NoEntry' 'unixvol: /usr/x: there is no i-node of this number, it is free, or the path leads to none' cat 6 "$image" /usr/x
 explains 1 'unixvol: 2 NoEntry' 'unixvol: i-node 9999: there is no i-node of this number, or the path leads to none' inode 6 "$image" 9999
 explains 1 'unixvol: 2 NoEntry' "unixvol: /x to /y: the first path leads to nothing, or the directory for the second name isn't there" mv 6 "$image" /x /y
 explains 1 'unixvol: 2 NoEntry' "unixvol: /x to /y: the first path leads to nothing, or the directory for the second name isn't there" ln 6 "$image" /x /y

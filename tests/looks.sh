@@ -119,7 +119,7 @@ has 'export to a full device' '3 unixvol: cannot write -' "$? $(cat error)"
 head -c 600 "$linux" > short
 for command in export super df free find map; do refuses 1 'unixvol: unsound, rule 1' "$command" 7 short; done
 refuses 1 'unixvol: unsound, rule 1' inode 7 short 2
-refuses 1 'unixvol: unsound, rule 1' inode 7 short /
+for command in inode cat; do refuses 1 'unixvol: unsound, rule 1' "$command" 7 short /; done
 refuses 1 'unixvol: unsound, rule 1' sums 7 short
 refuses 6 'unixvol: unsound, rule 1' export --status 7 short
 for row in '0 --' '0 --status' '1 --'  '6 --status'; do
@@ -146,6 +146,21 @@ dd if="$linux" bs=512 skip="$block" count=1 status=none | head -c "$(field 10)" 
 "$program" get 7 "$linux" /etc/motd > wanted
 cmp -s body wanted
 has 'the bytes in the block of an i-node' 0 $?
+
+# A file by its path, as its i-node has it.
+for node in 92 /etc/motd; do
+    runs cat 7 "$linux" "$node"
+    cmp -s output body
+    has "the file $node" 0 $?
+done
+runs cat 7 "$linux" 2
+cp output root
+runs cat 7 "$linux" /
+cmp -s output root
+has 'the slots of the root by its path' 0 $?
+refuses 1 'unixvol: 2 NoEntry' cat 7 "$linux" /x
+refuses 1 'unixvol: 20 NotDirectory' cat 7 "$linux" /etc/motd/x
+
 runs inode 7 "$linux" --json 92
 has 'an i-node as JSON' "92 file $(field 10) $block" "$(python3 -c 'import json, sys; it = json.load(sys.stdin); print(it["i-node"], it["kind"], it["size"], it["addr"][0])' < output)"
 refuses 1 'unixvol: 2 NoEntry' inode 7 "$linux" 97

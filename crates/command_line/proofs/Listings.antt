@@ -147,7 +147,7 @@ to_names_given given depth none is =
 asks_listing : (clock : Option ℕ) (given : Words) (edition : Edition) (image path : List ℕ) (invocation : Invocation) → bytes_eq (codes "ls") (verb_name (verb_of invocation)) ≡ true
     → the_word given (codes "EDITION") ≡ word_of edition → the_word given (codes "IMAGE") ≡ image → the_word given (codes "PATH") ≡ path → HasNoOptions given
     → IsGiven clock given invocation → IsListing edition image path invocation
-asks_listing clock given edition image path (invocations.Cat volume ino) test e_is i_is p_is none is = absurd (true≢false (sym test))
+asks_listing clock given edition image path (invocations.Cat volume node) test e_is i_is p_is none is = absurd (true≢false (sym test))
 asks_listing clock given edition image path (invocations.Mkfs i volume) test e_is i_is p_is none is = absurd (true≢false (sym test))
 asks_listing clock given edition image path (invocations.Migrate old new migration) test e_is i_is p_is none is = absurd (true≢false (sym test))
 asks_listing clock given edition image path (invocations.Get volume p) test e_is i_is p_is none is = absurd (true≢false (sym test))
@@ -218,7 +218,7 @@ word_names V7 = refl
 listing_asks : (clock : Option ℕ) (met : Option (List ℕ × List Row)) (edition : Edition) (image path : List ℕ) (invocation : Invocation)
     → seen met ≡ words_of edition image path → IsListing edition image path invocation → MetAsks clock met invocation
 listing_asks clock None edition image path invocation is listed = absurd (cc)
-listing_asks clock (Some met) edition image path (invocations.Cat volume ino) is listed = absurd listed
+listing_asks clock (Some met) edition image path (invocations.Cat volume node) is listed = absurd listed
 listing_asks clock (Some met) edition image path (invocations.Mkfs i volume) is listed = absurd listed
 listing_asks clock (Some met) edition image path (invocations.Migrate old new migration) is listed = absurd listed
 listing_asks clock (Some met) edition image path (invocations.Get volume p) is listed = absurd listed

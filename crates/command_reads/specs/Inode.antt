@@ -10,22 +10,15 @@ use Rattle.vol_listing.specs.Json.{count}
 use Rattle.command_reads.specs.Json.{counts, count_or_null, extent_data}
 use Rattle.vol_inspect.specs.Inspect.{InspectsInode}
 use Rattle.vol_inspect.specs.declared.fault.InspectFault.{InspectFault}
-use Rattle.vol_dir.specs.Access.{user}
-use Rattle.vol_dir.specs.Tree.{tree}
-use Rattle.vol_dir.specs.Walk.{walk}
-use Rattle.vol_dir.specs.declared.refusal.Refusal.{Refusal}
-use Rattle.vol_layout.specs.Geometry.{geometry_read}
 use Rattle.vol_layout.specs.declared.edition.Edition.{Edition}
-use Rattle.vol_layout.specs.declared.geometry.Geometry.{Geometry}
-use Rattle.vol_layout.specs.declared.geometry.GeometryFault.{GeometryFault}
 use Rattle.command_faults.specs.Streams.{Streams}
 use Rattle.command_faults.specs.declared.fault.Fault.{Fault}
-use Rattle.command_faults.specs.declared.fault.Fault.TheVariants as faults
-use Rattle.command_reads.specs.Faults.{uninspected, unmeasured}
+use Rattle.command_reads.specs.Faults.{uninspected}
+use Rattle.command_reads.specs.Node.{node_fault, number_of}
 use Rattle.command_reads.specs.Print.{IsTold, PrintsOne}
 use Rattle.command_reads.specs.declared.looks.OutputForm.{OutputForm}
 use Rattle.command_reads.specs.declared.looks.NodeName.{NodeName}
-use Rattle.command_reads.specs.declared.looks.NodeName.TheVariants as nodes
+use Rattle.command_reads.specs.declared.node.NodeFault.{NodeFault}
 use Rattle.command_reads.specs.declared.looks.OutputForm.TheVariants as forms
 
 -- an i-node: its fields by their names in the manual, its kind and its permissions, and its extents; the sixth edition has no time of change (this project)
@@ -92,34 +85,15 @@ IsInodeText edition image number form text =
 abbrev pub IsInodeFault : Edition → List ℕ → ℕ → Fault → Type 0
 IsInodeFault edition image number fault = (why : InspectFault) × InspectsInode edition image number (Err why) × (fault ≡ uninspected why)
 
--- the number that a walk leads to, or its fault (this project)
-abbrev pub walked_number : Result ℕ Refusal → Result ℕ Fault
-walked_number (Ok number) = Ok number
-walked_number (Err refusal) = Err (faults.Refused refusal)
-
--- the number that a path leads to in an image whose geometry was read (this project)
-abbrev pub number_under : List ℕ → List ℕ → Result Geometry GeometryFault → Result ℕ Fault
-number_under image path (Ok geometry) = walked_number (walk (tree geometry image) user path)
-number_under image path (Err fault) = Err (unmeasured fault)
-
--- the number of the i-node that a path leads to, walked by user 0 (Lions on namei)
-abbrev pub number_at : Edition → List ℕ → List ℕ → Result ℕ Fault
-number_at edition image path = number_under image path (geometry_read edition image)
-
--- the number of an i-node by its name (this project)
-abbrev pub number_of : Edition → List ℕ → NodeName → Result ℕ Fault
-number_of edition image (nodes.Number number) = Ok number
-number_of edition image (nodes.Path path) = number_at edition image path.now
-
--- the i-node with a number is shown, or a fault is reported (this project)
+-- the i-node with a number is shown, or the reason why not is reported (this project)
 abbrev pub ShowsNumber : Edition → List ℕ → ℕ → OutputForm → Streams → ℕ → Type 0
 ShowsNumber edition image number form streams status =
     PrintsOne (IsInodeText edition image number form) (IsInodeFault edition image number) streams status
 
--- the i-node whose number was found is shown, or a fault is reported (this project)
-abbrev pub ShowsFound : Edition → List ℕ → OutputForm → Streams → ℕ → Result ℕ Fault → Type 0
+-- the i-node whose number was found is shown, or the reason why there is none is reported (this project)
+abbrev pub ShowsFound : Edition → List ℕ → OutputForm → Streams → ℕ → Result ℕ NodeFault → Type 0
 ShowsFound edition image form streams status (Ok number) = ShowsNumber edition image number form streams status
-ShowsFound edition image form streams status (Err fault) = IsTold streams fault status
+ShowsFound edition image form streams status (Err fault) = IsTold streams (node_fault fault) status
 
 -- an i-node is shown, or a fault is reported (this project)
 abbrev pub ShowsInode : Edition → List ℕ → NodeName → OutputForm → Streams → ℕ → Type 0

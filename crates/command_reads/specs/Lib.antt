@@ -26,6 +26,7 @@ pub mod Laws
 pub mod Look
 pub mod Ls
 pub mod Map
+pub mod Node
 pub mod Print
 pub mod Queries
 pub mod Remarks

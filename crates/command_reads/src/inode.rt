@@ -2,20 +2,20 @@
 ghost use Rattle.std.specs.Prelude.{◌≡◌, IfErr, IfOk, OnOk, string_bytes};
 ghost use Rattle.serde_json.specs.View.{members_view, view};
 ghost use Rattle.command_faults.specs.Streams.{streams, ErrorStream, Hears};
-ghost use Rattle.command_reads.specs.Inode.{inode_data, inode_json, inode_in, with_mode, with_owner, with_times, with_places, IsInodeText, IsInodeFault, ShowsInode, ShowsNumber, number_at, number_of};
+ghost use Rattle.command_reads.specs.Inode.{inode_data, inode_json, inode_in, with_mode, with_owner, with_times, with_places, IsInodeText, IsInodeFault, ShowsInode, ShowsNumber};
 ghost use Rattle.command_reads.specs.Json.{count_or_null};
 
-use crate::faults::{uninspected, unmeasured};
+use crate::faults::uninspected;
 use crate::json::list;
 use crate::looks::{NodeName, OutputForm};
+use crate::node::number_of;
 use crate::print::finish;
 use command_faults::{Ending, Fault};
 use pdp_words::{Image, Sink};
 use serde_json::{Map, Value, put};
 use std::alloc::{AllocError, Global};
-use vol_dir::{Cred, walk};
 use vol_inspect::{InodeReport, inspect_inode, kind_name};
-use vol_layout::{Edition, Geometry};
+use vol_layout::Edition;
 use vol_listing::json::{line, put_count};
 
 /// Shows an i-node of an image. The image must keep rules 1 and 2, and may be any bytes otherwise. The status is 0; 1 if the image breaks one of
@@ -37,31 +37,7 @@ pub(crate) fn show_inode<O: Sink>(
     let image = Image::from_bytes(image);
     match number_of(edition, &image, node) {
         Ok(number) => show_number(alloc, edition, &image, number, form, output),
-        Err(fault) => Ending::from(fault),
-    }
-}
-
-/// Returns the number of an i-node. A path is walked as user 0.
-fn number_of(edition: Edition, image: &Image, node: NodeName<'_>) -> Result<u16, Fault>
-    ensures { result ≡ number_of edition image.now node.entry }
-{
-    match node {
-        NodeName::Number(number) => Ok(number),
-        NodeName::Path(path) => number_at(edition, image, path.as_bytes()),
-    }
-}
-
-/// Returns the number of the i-node that a path leads to.
-fn number_at(edition: Edition, image: &Image, path: &[u8]) -> Result<u16, Fault>
-    ensures { result ≡ number_at edition image.now path.now }
-{
-    let geometry = match Geometry::read(edition, image) {
-        Ok(geometry) => geometry,
-        Err(fault) => return Err(unmeasured(fault)),
-    };
-    match walk(image, &geometry, Cred::ROOT, path) {
-        Ok(number) => Ok(number),
-        Err(refusal) => Err(Fault::Refused(refusal)),
+        Err(fault) => Ending::from(fault.as_fault()),
     }
 }
 

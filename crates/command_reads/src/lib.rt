@@ -17,6 +17,7 @@ pub mod laws;
 pub mod looks;
 mod ls;
 mod map;
+pub mod node;
 mod print;
 mod remarks;
 pub mod show;

@@ -55,7 +55,7 @@ node_value (nodes.Path path) word is = inl is.1
 -- the words of an invocation are valid for its command's arguments
 pub values_given : (clock : Option ℕ) (given : Words) (invocation : Invocation) → IsGiven clock given invocation
     → AreValues clock given (arguments_of (verb_of invocation))
-values_given clock given (invocations.Cat volume ino) is = (edition_value volume.edition _ is.0.0, (tt, (is.1.0, tt)))
+values_given clock given (invocations.Cat volume node) is = (edition_value volume.edition _ is.0.0, (tt, (node_value node _ is.1, tt)))
 values_given clock given (invocations.Mkfs image volume) is = (
   edition_value volume.edition _ is.1.0,
   (

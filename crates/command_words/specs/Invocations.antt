@@ -192,7 +192,7 @@ copying_verb (copies.Get folder paths) = verbs.Get
 
 -- the command of an invocation (this project)
 abbrev pub verb_of : Invocation → Verb
-verb_of (invocations.Cat volume ino) = verbs.Cat
+verb_of (invocations.Cat volume node) = verbs.Cat
 verb_of (invocations.Mkfs image volume) = verbs.Mkfs
 verb_of (invocations.Migrate old new migration) = verbs.Migrate
 verb_of (invocations.Get volume path) = verbs.Get
@@ -373,7 +373,7 @@ IsServingGiven given (servings.Changes is_mine) =
 
 -- the words describe this invocation (this project)
 abbrev pub IsGiven : Option ℕ → Words → Invocation → Type 0
-IsGiven clock given (invocations.Cat volume ino) = IsVolumeGiven given volume × IsNumberGiven 65535 (the_word given (codes "INO")) ino
+IsGiven clock given (invocations.Cat volume node) = IsVolumeGiven given volume × IsNodeGiven (the_word given (codes "INO")) node
 IsGiven clock given (invocations.Mkfs image volume) = IsMadeGiven given (codes "IMAGE") image × IsNewVolumeGiven clock given volume
 IsGiven clock given (invocations.Migrate old new migration) = (old.now ≡ the_word given (codes "OLD"))
     × IsMadeGiven given (codes "NEW") new × IsMigrationGiven clock given migration

@@ -26,6 +26,10 @@ edition = (codes "EDITION", kinds.Edition, needs.Once)
 abbrev pub word : List ℕ → Argument
 word name = (name, kinds.Text, needs.Once)
 
+-- the argument `INO` of a command that also takes a path (this project)
+abbrev pub node : Argument
+node = (codes "INO", kinds.Node, needs.Once)
+
 -- an argument for a 16-bit number (this project)
 abbrev pub number : List ℕ → Argument
 number name = (name, kinds.Word, needs.Once)
@@ -114,14 +118,14 @@ verb_name verbs.Serve = codes "serve"
 
 -- the words of a command, in order (this project)
 abbrev pub arguments_of : Verb → List Argument
-arguments_of verbs.Cat = on_volume (number (codes "INO") ∷ [])
+arguments_of verbs.Cat = on_volume (node ∷ [])
 arguments_of verbs.Ls = on_volume (maybe_path ∷ lettered (codes "long") 108 ∷ lettered (codes "recursive") 82
     ∷ lettered (codes "directory") 100 ∷ option (codes "json") ∷ [])
 arguments_of verbs.Get = on_volume (word (codes "PATH") ∷ more_words ∷ valued (codes "output") 111 values.Folder ∷ [])
 arguments_of verbs.Find = on_volume (maybe_path ∷ valued (codes "name") 103 values.Pattern ∷ [])
 arguments_of verbs.Export = on_volume (maybe_path ∷ option (codes "lost") ∷ option (codes "status") ∷ [])
 arguments_of verbs.Sums = on_volume (maybe_path ∷ option (codes "json") ∷ [])
-arguments_of verbs.Inode = on_volume ((codes "INO", kinds.Node, needs.Once) ∷ option (codes "json") ∷ [])
+arguments_of verbs.Inode = on_volume (node ∷ option (codes "json") ∷ [])
 arguments_of verbs.Super = on_volume (option (codes "json") ∷ [])
 arguments_of verbs.Free = on_volume (option (codes "json") ∷ [])
 arguments_of verbs.Block = on_volume (long_number (codes "BLOCK") ∷ [])

@@ -1,6 +1,6 @@
 //! Invocations: a command with its arguments read.
 use command_changes::{Change, Migration};
-use command_reads::Look;
+use command_reads::{Look, NodeName};
 use vol_check::Checker;
 use vol_layout::Edition;
 use vol_mkfs::NewVolume;
@@ -75,10 +75,10 @@ pub enum Serving {
 /// A command with its arguments.
 #[derive(Drop)]
 pub enum Invocation<'a> {
-    /// Print the body of i-node `ino` of the volume in a file.
+    /// Print the body of an i-node of the volume in a file.
     Cat {
         volume: VolumeFile<'a>,
-        ino: u16,
+        node: NodeName<'a>,
     },
     /// Print a file of the volume in a file.
     Get {

@@ -113,13 +113,6 @@ const NEW_IMAGE: Parameter = Parameter {
     help: texts::NEW_IMAGE,
 };
 
-const INO: Parameter = Parameter {
-    name: "INO",
-    kind: WordKind::Word,
-    need: Need::Once,
-    help: texts::INO,
-};
-
 const NODE: Parameter = Parameter {
     name: "INO",
     kind: WordKind::Node,
@@ -498,8 +491,8 @@ const NEW: Parameter = Parameter {
     help: texts::NEW_IMAGE,
 };
 
-/// The words that `cat` takes.
-pub static CAT_WORDS: [Parameter; 3] = [EDITION, IMAGE, INO];
+/// The words of `cat`.
+pub static CAT_WORDS: [Parameter; 3] = [EDITION, IMAGE, NODE];
 
 /// The words that `ls` takes.
 pub static LS_WORDS: [Parameter; 7] = [EDITION, IMAGE, LISTED, LONG, ALL_BELOW, ITSELF, JSON];

@@ -76,8 +76,8 @@ fn read_cat<'a, G: Given<'a>>(given: &G) -> Result<Invocation<'a>, WordFault<'a>
     ensures refused { IfErr result (TellsOf (IsOneWrong None (G.words given.now) (arguments_of verbs.Cat))) }
 {
     let volume = volume_in(given)?;
-    let ino = word_in(given, "INO")?;
-    Ok(Invocation::Cat { volume, ino })
+    let node = node_in(given)?;
+    Ok(Invocation::Cat { volume, node })
 }
 
 /// Reads the words of `ls`.

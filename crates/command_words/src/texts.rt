@@ -22,11 +22,12 @@ set the variable UNIXVOL_EXPLAIN to 0 to turn that off.";
 
 pub const EXPLAIN: &str = "Explain a fault in a second line";
 
-pub const CAT_ABOUT: &str = "Prints the bytes of a file or directory, given its i-number.";
+pub const CAT_ABOUT: &str = "Prints the bytes of a file or directory, given its i-number or path.";
 
 pub const CAT_MORE: &str = "\
-Example:
+Examples:
   unixvol cat 6 disk.img 1
+  unixvol cat 7 disk.img /etc/passwd
 
 The i-node's bytes are printed to standard output; missing blocks read as zeros. The bytes of a directory are its
 slots.
@@ -39,7 +40,8 @@ Status:
      `truncate -s SIZE IMAGE` adds zeros: SIZE is 512 for each block, so 2048000 for 4,000 blocks
      `unixvol: unsound, rule 2`: the sizes in the super-block contradict one another
      (a volume of the other edition usually breaks one of these two rules)
-     `unixvol: 2 NoEntry`: there is no such i-node, or it is free
+     `unixvol: 2 NoEntry`: there is no such i-node, it is free, or the path leads to none
+     `unixvol: 20 NotDirectory`: the path leads through a file
      `unixvol: 102 NotRegular`: it is a special file, or its mode is not one of the edition's
   2  the command line is wrong
   3  `unixvol: cannot read IMAGE`, or `unixvol: cannot write -`: standard output failed
@@ -50,8 +52,6 @@ pub const EDITION: &str = "The volume's edition of Unix";
 pub const EDITIONS: &str = "6 for the Sixth, 7 for the Seventh";
 
 pub const IMAGE: &str = "The disk image, a file that holds one volume";
-
-pub const INO: &str = "The file's i-number, a decimal number up to 65535";
 
 pub const NODE: &str = "The file's i-number, or a path that begins with a slash";
 

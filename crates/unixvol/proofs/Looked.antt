@@ -16,7 +16,9 @@ use Rattle.vol_layout.specs.declared.edition.Edition.{Edition}
 use Rattle.command_reads.specs.Check.{Checks, verdict_status}
 use Rattle.command_reads.specs.Export.{ExportsBelow, ExportsFrom, ExportsTo, told_status, unstarted_status, whole, broken, short, unbegun}
 use Rattle.command_reads.specs.declared.looks.ExportOptions.{ExportOptions}
-use Rattle.command_reads.specs.Inode.{ShowsFound, number_of}
+use Rattle.command_reads.specs.Inode.{ShowsFound}
+use Rattle.command_reads.specs.Node.{node_fault, number_of}
+use Rattle.command_reads.specs.declared.node.NodeFault.{NodeFault}
 use Rattle.command_reads.specs.Look.{Looks}
 use Rattle.command_reads.specs.declared.looks.OutputForm.{OutputForm}
 use Rattle.command_reads.specs.Print.{IsBrokenOff, IsTold, PrintsOne, PrintsWith}
@@ -123,10 +125,10 @@ ends_checks edition image graded form streams status (inl found) =
     (verdict_few graded (is_ok (geometry_read edition image)) found.sound) found.prints
 ends_checks edition image graded form streams status (inr told) = ends_told (if graded then 6 else 4) streams no_memory status (most_few graded) told
 
-ends_found : (edition : Edition) (image : List ℕ) (form : OutputForm) (streams : Streams) (status : ℕ) (found : Result ℕ Fault)
+ends_found : (edition : Edition) (image : List ℕ) (form : OutputForm) (streams : Streams) (status : ℕ) (found : Result ℕ NodeFault)
     → ShowsFound edition image form streams status found → IsEndWithin 4 streams status
 ends_found edition image form streams status (Ok number) shows = ends_one _ _ streams status shows
-ends_found edition image form streams status (Err fault) told = ends_told 4 streams fault status (omega arith) told
+ends_found edition image form streams status (Err fault) told = ends_told 4 streams (node_fault fault) status (omega arith) told
 
 ends_sums : (edition : Edition) (image path : List ℕ) (form : OutputForm) (streams : Streams) (status : ℕ) → Sums edition image path form streams status
     → IsEndWithin 4 streams status

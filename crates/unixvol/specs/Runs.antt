@@ -19,7 +19,8 @@ use Rattle.command_changes.specs.Changes.{Changes}
 use Rattle.command_changes.specs.declared.changes.Change.{Change}
 use Rattle.command_changes.specs.declared.changes.Change.TheVariants as changes
 use Rattle.command_reads.specs.Checkers.{Checks}
-use Rattle.command_reads.specs.Cat.{PrintsFile, IsNoWriters, cat_status, file_of}
+use Rattle.command_reads.specs.Cat.{PrintsNode, IsNoWriters, cat_status}
+use Rattle.command_reads.specs.Node.{number_of}
 use Rattle.command_faults.specs.Streams.{Gets, Streams}
 use Rattle.command_changes.specs.Mkfs.{mkfs_line_at}
 use Rattle.command_changes.specs.Migrate.{MigratesVolume}
@@ -30,6 +31,7 @@ use Rattle.vol_play.specs.Play.{PlaysVolume}
 use Rattle.command_faults.specs.declared.answer.Answer.{Answer}
 use Rattle.command_reads.specs.declared.cat.CatFault.{CatFault}
 use Rattle.command_reads.specs.declared.cat.CatFault.TheVariants.{Writer}
+use Rattle.command_reads.specs.declared.looks.NodeName.{NodeName}
 use Rattle.command_words.specs.declared.invocation.Invocation.{Invocation}
 use Rattle.command_words.specs.declared.invocation.Invocation.TheVariants as invocations
 use Rattle.command_words.specs.declared.invocation.Work.{Work}
@@ -100,19 +102,18 @@ abbrev pub status_after : Result (Unit {0}) CatFault → ℕ
 status_after (Ok done) = 0
 status_after (Err fault) = cat_status fault
 
--- the output of `cat`, whether standard output failed, and the status: if the image isn't read, nothing is printed; otherwise, `cat` prints from an
--- image that was read from a file, standard output failed if the fault is the writer's, and is otherwise as before (this project)
-abbrev pub PrintsBody : (ℕ → Type 0) → (List ℕ → Type 0) → Option (List ℕ) → Option (List ℕ) → Bool → Bool → Edition → ℕ → ℕ → Type 0
-PrintsBody unread shown old new had_failed failed edition i status =
+-- `cat` prints: nothing if a file isn't read; or, from an image that a file gave, its output, whether standard output failed (if its fault is a writer's, and otherwise no more than before), and the status (this project)
+abbrev pub PrintsBody : (ℕ → Type 0) → (List ℕ → Type 0) → Option (List ℕ) → Option (List ℕ) → Bool → Bool → Edition → NodeName → ℕ → Type 0
+PrintsBody unread shown old new had_failed failed edition node status =
     (unread status × Keeps old new × (failed ≡ had_failed))
-    ⊎ ((image : List ℕ) × (result : Result (Unit {0}) CatFault) × shown image × PrintsFile old new image i (file_of edition image i) result
+    ⊎ ((image : List ℕ) × (result : Result (Unit {0}) CatFault) × shown image × PrintsNode old new edition image (number_of edition image node) result
     × (IsErrAnd result (λ fault. (count : ℕ) × (fault ≡ Writer count)) → failed ≡ true) × (IsNoWriters result → failed ≡ had_failed)
     × (status ≡ status_after result))
 
 -- `cat` runs: its output, and the status, which is 0 only if standard output didn't fail (this project)
-abbrev pub RunsCat : Streams → HostFiles → Edition → ℕ → ℕ → Type 0
-RunsCat streams files edition i status =
-    PrintsBody files.unread (files.shown edition) streams.old streams.new streams.had_failed streams.failed edition i status × (status ≡ 0 → streams.failed ≡ streams.had_failed) × streams.said []
+abbrev pub RunsCat : Streams → HostFiles → Edition → NodeName → ℕ → Type 0
+RunsCat streams files edition node status =
+    PrintsBody files.unread (files.shown edition) streams.old streams.new streams.had_failed streams.failed edition node status × (status ≡ 0 → streams.failed ≡ streams.had_failed) × streams.said []
 
 -- `mkfs` runs: nothing is printed; the status is 1 exactly if its numbers can't be a volume's, with the line for that; any other line is the one for
 -- out of memory, with its status; and if it succeeds, the volume was written to a file (this project)
@@ -269,7 +270,7 @@ IsPlainCommand _ = Unit {0}
 
 -- a plain command runs: its output, the bytes read from files and written to them, and the status; other commands aren't run here (this project)
 abbrev pub Runs : Streams → HostFiles → ℕ → Invocation → Type 0
-Runs streams files status (invocations.Cat volume i) = RunsCat streams files volume.edition i status
+Runs streams files status (invocations.Cat volume node) = RunsCat streams files volume.edition node status
 Runs streams files status (invocations.Get volume path) = RunsGetOne streams files volume.edition path.now status
 Runs streams files status (invocations.Mkfs image volume) = RunsMkfs streams files.taken volume status
 Runs streams files status (invocations.Migrate old new migration) = RunsMigrate streams files migration status

@@ -19,6 +19,7 @@ use command_changes::mkfs::make_volume;
 use command_faults::Ending;
 use command_faults::status::DONE;
 use command_line::{Invocation, MadeFile, VolumeFile};
+use command_reads::NodeName;
 use command_reads::cat::print_file;
 use host_files::{ImageFiles, UpTo, noted_writer};
 use pdp_words::{Image, IntoWrite, Sink};
@@ -81,8 +82,8 @@ fn carry_out<R: ImageFiles + Clock + Eprint + AllocGlobal, O: Sink>(
         → Ends (streams O.contents O.failed output.old output.new errors) result.status }
 {
     match invocation {
-        Invocation::Cat { volume, ino } => Ending {
-            status: run_cat(host, output, volume, ino),
+        Invocation::Cat { volume, node } => Ending {
+            status: run_cat(host, output, volume, node),
             fault: None,
         },
         Invocation::Get { volume, path } => run_get(host, output, volume, path),
@@ -100,15 +101,15 @@ fn carry_out<R: ImageFiles + Clock + Eprint + AllocGlobal, O: Sink>(
     }
 }
 
-/// Prints the body of i-node `ino` of the volume in a file, and returns the exit status.
+/// Prints the body of an i-node of the volume in a file, and returns the exit status.
 fn run_cat<R: ImageFiles + Eprint + AllocGlobal, O: Sink>(
     host: &Surroundings<'_, R>,
     output: &mut O,
     volume: VolumeFile<'_>,
-    ino: u16,
+    node: NodeName<'_>,
 ) -> u8
     ensures shown { PrintsBody (IsUnread R.File.remaining) (Gave (UpTo.Volume volume.entry.edition) R.File.remaining) (O.contents output.old) (O.contents output.new)
-        (O.failed output.old) (O.failed output.new) volume.entry.edition ino result }
+        (O.failed output.old) (O.failed output.new) volume.entry.edition node.entry result }
     ensures whole { result ≡ 0 → O.failed output.new ≡ O.failed output.old }
     ensures silent { result ≢ 0 → result ≢ 3 → Keeps (O.contents output.old) (O.contents output.new) }
     ensures within { result ≤ 4 }
@@ -117,9 +118,9 @@ fn run_cat<R: ImageFiles + Eprint + AllocGlobal, O: Sink>(
         Ok(image) => Image::from_bytes(image),
         Err(status) => return status,
     };
-    match print_file(volume.edition, ino, &image, output) {
+    match print_file(volume.edition, node, &image, output) {
         Ok(()) => DONE,
-        Err(fault) => explain_cat(host, fault, Subject::of_cat(volume, ino)),
+        Err(fault) => explain_cat(host, fault, Subject::of_cat(volume, node)),
     }
 }
 

@@ -259,7 +259,7 @@ fn words_of(refusal: Refusal, verb: Verb) -> &'static str {
 /// Returns the meaning of NoEntry for a command.
 fn no_entry(verb: Verb) -> &'static str {
     match verb {
-        Verb::Cat => "there is no i-node of this number, or it is free",
+        Verb::Cat => "there is no i-node of this number, it is free, or the path leads to none",
         Verb::Inode => "there is no i-node of this number, or the path leads to none",
         Verb::Put | Verb::Mkdir => "a directory on the way to it isn't there",
         Verb::Import => {

@@ -88,8 +88,8 @@ impl<'a> Subject<'a> {
     }
 
     /// Returns the subject of `cat`.
-    pub fn of_cat(volume: VolumeFile<'a>, ino: u16) -> Subject<'a> {
-        Subject::new(volume, Verb::Cat, About::Inode(ino))
+    pub fn of_cat(volume: VolumeFile<'a>, node: NodeName<'a>) -> Subject<'a> {
+        Subject::new(volume, Verb::Cat, about_node(node))
     }
 
     /// Returns the subject of a command that shows part of the image in a file.
@@ -97,14 +97,7 @@ impl<'a> Subject<'a> {
         let (verb, about) = match look {
             Look::Export { path, .. } => (Verb::Export, About::Path(path)),
             Look::Sums { path, .. } => (Verb::Sums, About::Path(path)),
-            Look::Inode {
-                node: NodeName::Number(number),
-                ..
-            } => (Verb::Inode, About::Inode(number)),
-            Look::Inode {
-                node: NodeName::Path(path),
-                ..
-            } => (Verb::Inode, About::Path(path)),
+            Look::Inode { node, .. } => (Verb::Inode, about_node(node)),
             Look::Super { .. } => (Verb::Super, About::Image),
             Look::Free { .. } => (Verb::Free, About::Image),
             Look::Block { .. } => (Verb::Block, About::Image),
@@ -158,6 +151,14 @@ impl<'a> Subject<'a> {
             Work::Play { scripts, .. } => (Verb::Play, About::Scripts(scripts)),
         };
         Subject::new(volume, verb, about)
+    }
+}
+
+/// Returns an i-node by its name, as the part of the image that a command works on.
+fn about_node(node: NodeName<'_>) -> About<'_> {
+    match node {
+        NodeName::Number(number) => About::Inode(number),
+        NodeName::Path(path) => About::Path(path),
     }
 }
 

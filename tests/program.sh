@@ -596,21 +596,31 @@ prints none rm 6 volumes/special /terminal 1
 lists volumes/special / '    1 .' '    1 ..'
 
 # Free lists that are rebuilt. `made` has the list that `mkfs` makes, which is also the one that `salvage` makes.
-# salvages LABEL AT HEX: `ls` refuses a copy of `made` with these bytes from byte AT on, and `salvage` restores `made`
+# foresees LABEL ADDED TAKEN EDITION IMAGE: `salvage -n` reports these numbers of blocks, and changes nothing
+foresees() {
+    cp "$5" before
+    echo "free list: $2 blocks added, $3 taken away" > wanted
+    prints wanted salvage "$4" "$5" -n
+    saves "$1, after salvage -n" "$5" before
+}
+# salvages LABEL AT HEX ADDED TAKEN: `ls` refuses a copy of `made` with these bytes from byte AT on, `salvage -n` reports these numbers of
+# blocks, and `salvage` restores `made`, in which the blocks 5 to 19 are free
 salvages() {
     changed made damaged "$2" "$3"
     chmod 640 damaged
     runs ls 6 damaged /
     has "the status of ls of $1" 1 "$(cat status)"
+    foresees "$1" "$4" "$5" 6 damaged
     prints none salvage 6 damaged
     saves "$1, salvaged" damaged made
     has "the permissions of $1" 640 "$(stat -c %a damaged)"
 }
-salvages 'a volume that lost a block' 516 '0F 00'
-salvages 'a volume with a free block that the root has' 520 '04 00'
-salvages 'a volume with too long a free list' 516 '65 00'
-salvages 'a volume with a free block outside of the data' 520 '14 00'
+salvages 'a volume that lost a block' 516 '0F 00' 1 0
+salvages 'a volume with a free block that the root has' 520 '04 00' 1 1
+salvages 'a volume with too long a free list' 516 '65 00' 15 0
+salvages 'a volume with a free block outside of the data' 520 '14 00' 1 0
 cp made damaged
+foresees 'a volume with a free list that was right' 0 0 6 damaged
 prints none salvage 6 damaged
 saves 'a volume with a free list that was right' damaged made
 { cat made; echo tail; } > longer
@@ -620,6 +630,7 @@ saves 'an image with bytes behind the volume, salvaged' damaged longer
 prints none mkfs 7 made7 100 2 0 0 168496141
 changed made7 damaged 25602 '00 00 32 00' # block 50, which has the rest of the list, names itself as the next such block
 refuses 1 'unixvol: unsound, rule 6' ls 7 damaged /
+foresees 'a volume with a free list that goes round' 0 0 7 damaged # the blocks 5 to 99 come before the fault
 prints none salvage 7 damaged
 saves 'a volume with a free list that goes round, salvaged' damaged made7
 # A volume with files, cached i-numbers and bytes past the end of a file: everything except the free list stays.
@@ -649,6 +660,7 @@ cp twice before
 touch -d '2001-02-03 04:05:06.789' twice
 stood=$(stat -c '%i %y' twice)
 refuses 1 'unixvol: unsound, rule 7' salvage 6 twice
+refuses 1 'unixvol: unsound, rule 7' salvage 6 twice -n
 saves 'a volume with a block of two files' twice before
 has 'a volume that was not salvaged' "$stood" "$(stat -c '%i %y' twice)"
 changed made damaged 1026 '05'
@@ -657,6 +669,7 @@ put damaged 516 '0F 00'
 refuses 1 'unixvol: unsound, rule 12' salvage 6 damaged
 refuses 1 'unixvol: unsound, rule 1' salvage 6 none
 refuses 3 'unixvol: cannot read missing' salvage 6 missing
+refuses 3 'unixvol: cannot read missing' salvage 6 missing --dry-run
 refuses 3 'unixvol: cannot write pipe' salvage 6 pipe
 changed made damaged 516 '0F 00'
 cp damaged before

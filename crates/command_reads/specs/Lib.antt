@@ -30,5 +30,6 @@ pub mod Node
 pub mod Print
 pub mod Queries
 pub mod Remarks
+pub mod Salvage
 pub mod Sums
 pub mod SuperBlock

@@ -20,6 +20,7 @@ mod map;
 pub mod node;
 mod print;
 mod remarks;
+mod salvage;
 pub mod show;
 mod statuses;
 mod sums;

@@ -184,6 +184,7 @@ look_verb (looks.Find path name) = verbs.Find
 look_verb (looks.Map picture) = verbs.Map
 look_verb (looks.Check graded form) = verbs.Check
 look_verb (looks.List path listing) = verbs.Ls
+look_verb looks.Salvage = verbs.Salvage
 
 -- the command that copies files (this project)
 abbrev pub copying_verb : Copying → Verb
@@ -263,7 +264,7 @@ IsChangeGiven clock given (changes.Chown path uid gid now) = IsPathGiven (given 
     × IsMomentGiven clock (given (codes "NOW")) now
 IsChangeGiven clock given (changes.Touch path now) =
     IsPathGiven (given (codes "PATH")) path.now × IsMomentGiven clock (given (codes "NOW")) now
-IsChangeGiven clock given changes.Salvage = Unit {0}
+IsChangeGiven clock given changes.Salvage = is_set (given (codes "dry-run")) ≡ false
 
 -- the words choose this format of a report: JSON if its option is given (this project)
 abbrev pub IsFormGiven : Words → OutputForm → Type 0
@@ -304,6 +305,7 @@ IsLookGiven given (looks.Map picture) = IsPictureGiven given picture
 IsLookGiven given (looks.Check graded form) = (graded ≡ is_set (given (codes "status"))) × IsFormGiven given form
 IsLookGiven given (looks.List path listing) = (path.now ≡ the_word given (codes "PATH")) × AreLinesGiven given listing.lines
     × IsDepthGiven given listing.depth
+IsLookGiven given looks.Salvage = is_set (given (codes "dry-run")) ≡ true
 
 -- the words of `put` for several files, in order (this project)
 abbrev pub put_words : Words → List (List ℕ)

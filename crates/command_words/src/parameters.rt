@@ -463,6 +463,13 @@ const MINE: Parameter = Parameter {
     help: texts::MINE,
 };
 
+const DRY_RUN: Parameter = Parameter {
+    name: "dry-run",
+    kind: WordKind::Flag,
+    need: Need::Flag(Some('n')),
+    help: texts::salvage::DRY_RUN,
+};
+
 const SCRIPT: Parameter = Parameter {
     name: "SCRIPT",
     kind: WordKind::Scripts,
@@ -546,7 +553,7 @@ pub static TOUCH_WORDS: [Parameter; 4] = [EDITION, IMAGE, TOUCHED, CALL_NOW];
 pub static CHECK_WORDS: [Parameter; 4] = [EDITION, IMAGE, CHECK_GRADED, JSON];
 
 /// The words that `salvage` takes.
-pub static VOLUME_WORDS: [Parameter; 2] = [EDITION, IMAGE];
+pub static SALVAGE_WORDS: [Parameter; 3] = [EDITION, IMAGE, DRY_RUN];
 
 /// The words that `play` takes.
 pub static PLAY_WORDS: [Parameter; 4] = [EDITION, IMAGE, SCRIPT, JOURNAL];

@@ -566,6 +566,12 @@ fn read_salvage<'a, G: Given<'a>>(given: &G) -> Result<Invocation<'a>, WordFault
     ensures refused { IfErr result (TellsOf (IsOneWrong None (G.words given.now) (arguments_of verbs.Salvage))) }
 {
     let volume = volume_in(given)?;
+    if flag_in(given, "dry-run") {
+        return Ok(Invocation::Look {
+            volume,
+            look: Look::Salvage,
+        });
+    }
     Ok(Invocation::Change {
         volume,
         change: Change::Salvage,

@@ -6,6 +6,7 @@ pub mod export;
 pub mod find;
 pub mod free;
 pub mod import;
+pub mod salvage;
 pub mod sums;
 pub mod touch;
 
@@ -555,26 +556,6 @@ Status:
      `unixvol: 104 BadId`: UID or GID is above the edition's highest
      `unixvol: 2 NoEntry`: there is no such file or directory
      `unixvol: 20 NotDirectory`: PATH leads through something that isn't a directory
-  2  the command line is wrong
-  3  `unixvol: cannot read IMAGE`, `unixvol: cannot write IMAGE`
-  4  `unixvol: 12 NoMemory`";
-
-pub const SALVAGE_ABOUT: &str = "Rebuilds the free list of a volume, if nothing else is wrong.";
-
-pub const SALVAGE_MORE: &str = "\
-Example:
-  unixvol salvage 7 disk.img
-
-The new free list has every data block that no file or directory uses. Files and directories stay as they are, and
-so does the time of the volume. All other requirements of the rules must hold, so that the volume is sound
-afterwards; if one doesn't, nothing is written. A correct free list is rebuilt too.
-
-IMAGE is written only if everything succeeded: a new file is written beside it and then takes its place.
-
-Status:
-  0  the free list was rebuilt, and the volume was saved
-  1  `unixvol: unsound, rule N`: this is the first rule that the volume breaks, apart from what the rules require
-     of the free list; `unixvol check` says what breaks it
   2  the command line is wrong
   3  `unixvol: cannot read IMAGE`, `unixvol: cannot write IMAGE`
   4  `unixvol: 12 NoMemory`";

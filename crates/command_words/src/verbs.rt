@@ -6,7 +6,7 @@ use crate::parameters::{
     BLOCK_WORDS, CAT_WORDS, CHECK_WORDS, CHECKER_WORDS, CHMOD_WORDS, CHOWN_WORDS, EXPORT_WORDS,
     FIND_WORDS, GET_WORDS, IMPORT_WORDS, INODE_WORDS, LS_WORDS, MAP_WORDS, MIGRATE_WORDS,
     MKDIR_WORDS, MKFS_WORDS, NAMES_WORDS, PLAY_WORDS, PUT_WORDS, Parameter, RM_WORDS, RMDIR_WORDS,
-    SERVE_WORDS, SUMS_WORDS, SUPER_WORDS, TOUCH_WORDS, VOLUME_WORDS,
+    SALVAGE_WORDS, SERVE_WORDS, SUMS_WORDS, SUPER_WORDS, TOUCH_WORDS,
 };
 use crate::texts;
 
@@ -145,7 +145,7 @@ impl Verb {
             Verb::Block => &BLOCK_WORDS,
             Verb::Map => &MAP_WORDS,
             Verb::Check => &CHECK_WORDS,
-            Verb::Salvage => &VOLUME_WORDS,
+            Verb::Salvage => &SALVAGE_WORDS,
             Verb::Icheck | Verb::Dcheck | Verb::Ncheck => &CHECKER_WORDS,
             Verb::Mkfs => &MKFS_WORDS,
             Verb::Put => &PUT_WORDS,
@@ -211,7 +211,7 @@ impl Verb {
             Verb::Chmod => texts::CHMOD_ABOUT,
             Verb::Chown => texts::CHOWN_ABOUT,
             Verb::Touch => texts::touch::ABOUT,
-            Verb::Salvage => texts::SALVAGE_ABOUT,
+            Verb::Salvage => texts::salvage::ABOUT,
             Verb::Play => texts::PLAY_ABOUT,
             Verb::Migrate => texts::MIGRATE_ABOUT,
             Verb::Serve => texts::SERVE_ABOUT,
@@ -248,7 +248,7 @@ impl Verb {
             Verb::Chmod => texts::CHMOD_MORE,
             Verb::Chown => texts::CHOWN_MORE,
             Verb::Touch => texts::touch::MORE,
-            Verb::Salvage => texts::SALVAGE_MORE,
+            Verb::Salvage => texts::salvage::MORE,
             Verb::Play => texts::PLAY_MORE,
             Verb::Migrate => texts::MIGRATE_MORE,
             Verb::Serve => texts::SERVE_MORE,

@@ -204,6 +204,7 @@ IsSeen files edition (looks.Block block) image = files.shown edition image
 IsSeen files edition (looks.Df form) image = files.shown edition image
 IsSeen files edition (looks.Find path name) image = files.shown edition image
 IsSeen files edition (looks.Map picture) image = files.shown edition image
+IsSeen files edition looks.Salvage image = files.shown edition image
 
 -- part of an image is shown: nothing is done; or it is shown from an image that was read from a file (this project)
 abbrev pub RunsLook : Streams → HostFiles → Screen → Edition → Look → ℕ → Type 0
@@ -332,6 +333,7 @@ highest_status (looks.Df form) = 4
 highest_status (looks.Find path name) = 4
 highest_status (looks.Map picture) = 4
 highest_status (looks.List path listing) = 4
+highest_status looks.Salvage = 4
 
 -- work with several threads runs to its end, from the contents of the program's two streams: their contents afterwards, whether they failed, and the
 -- status of the run, which is also the exit status unless that is 3 (this project)

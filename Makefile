@@ -8,7 +8,7 @@ PREFIX ?= /usr/local
 .PHONY: help run install uninstall build library test library-test bench faults wrong-bodies manual release verify
 
 # The test scripts that the gate runs the built program through.
-ROWS = program words volumes looks checks checkers changes trees many_trees archives migrations plays explaining serve mount manual readme lessons release
+ROWS = program words volumes looks identify checks checkers changes trees many_trees archives migrations plays explaining serve mount manual readme lessons release
 
 help:
 	@echo 'Without the Rattle toolchain:'

@@ -28,7 +28,7 @@ _unixvol() {
     while [[ ${before[0]:-} == -* ]]; do before=("${before[@]:1}"); done
     command=${before[0]:-}
     if [ -z "$command" ]; then
-        mapfile -t COMPREPLY < <(compgen -W 'cat ls get find export sums inode super free block df map check icheck dcheck ncheck mkfs put import rm rmdir mkdir ln mv chmod chown touch salvage play migrate serve help --explain -h --help -V --version' -- "$current")
+        mapfile -t COMPREPLY < <(compgen -W 'cat ls get find export sums inode super free block df map check icheck dcheck ncheck mkfs put import rm rmdir mkdir ln mv chmod chown touch salvage play migrate serve identify help --explain -h --help -V --version' -- "$current")
         return
     fi
     case $command in
@@ -63,6 +63,7 @@ _unixvol() {
         play) kinds='edition file file...' options='--journal --explain -h --help' ;;
         migrate) kinds='file file any any any' options='--new --explain -h --help' ;;
         serve) kinds='edition file' options='--read-only --mine --explain -h --help' ;;
+        identify) kinds='file...' options='--explain -h --help' ;;
     esac
     if [[ $current == -* ]]; then
         mapfile -t COMPREPLY < <(compgen -W "$options" -- "$current")

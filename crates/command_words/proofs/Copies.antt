@@ -64,6 +64,7 @@ puts clock given (invocations.Cat volume node) put is = absurd (true≢false (sy
 puts clock given (invocations.Mkfs i volume) put is = absurd (true≢false (sym put))
 puts clock given (invocations.Migrate old new migration) put is = absurd (true≢false (sym put))
 puts clock given (invocations.Serve volume serving) put is = absurd (true≢false (sym put))
+puts clock given (invocations.Identify images) put is = absurd (true≢false (sym put))
 
 -- every invocation of `get` reads one file or several
 gets : (clock : Option ℕ) (given : Words) (invocation : Invocation) → is_get (verb_of invocation) ≡ true → IsGiven clock given invocation → IsGot given
@@ -104,6 +105,7 @@ gets clock given (invocations.Cat volume node) got is = absurd (true≢false (sy
 gets clock given (invocations.Mkfs i volume) got is = absurd (true≢false (sym got))
 gets clock given (invocations.Migrate old new migration) got is = absurd (true≢false (sym got))
 gets clock given (invocations.Serve volume serving) got is = absurd (true≢false (sym got))
+gets clock given (invocations.Identify images) got is = absurd (true≢false (sym got))
 
 -- if the words put neither one file nor several, `put` has no invocation
 no_put : (clock : Option ℕ) (given : Words) → (IsPut clock given → ⊥) → AsksForNothing clock verbs.Put given

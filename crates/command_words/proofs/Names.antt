@@ -37,7 +37,8 @@ named text =
     (cond (bytes_eq text (codes "touch")) verbs.Touch
     (cond (bytes_eq text (codes "salvage")) verbs.Salvage
     (cond (bytes_eq text (codes "play")) verbs.Play
-    (cond (bytes_eq text (codes "migrate")) verbs.Migrate verbs.Serve)))))))))))))))))))))))))))))
+    (cond (bytes_eq text (codes "migrate")) verbs.Migrate
+    (cond (bytes_eq text (codes "serve")) verbs.Serve verbs.Identify))))))))))))))))))))))))))))))
 
 -- the command with a command's name is this command
 named_by_its_name : (verb : Verb) → named (verb_name verb) ≡ verb
@@ -72,6 +73,7 @@ named_by_its_name verbs.Salvage = refl
 named_by_its_name verbs.Play = refl
 named_by_its_name verbs.Migrate = refl
 named_by_its_name verbs.Serve = refl
+named_by_its_name verbs.Identify = refl
 
 -- commands with the same name are equal
 pub verb_name-injective : (one other : Verb) → verb_name one ≡ verb_name other → one ≡ other

@@ -109,6 +109,7 @@ values_given clock given (invocations.Work volume (works.Check checkers.Names wo
 values_given clock given (invocations.Work volume (works.Play scripts journal)) is =
     (edition_value volume.edition _ is.0.0, (tt, (scripts_value scripts.items _ is.1.0 is.1.1 is.1.2, (tt, tt))))
 values_given clock given (invocations.Serve volume serving) is = (edition_value volume.edition _ is.0.0, (tt, (tt, (tt, tt))))
+values_given clock given (invocations.Identify images) is = (tt, tt)
 
 -- if all words are valid, none of them is wrong
 none_wrong : (clock : Option ℕ) (given : Words) (row : List Argument) → AreValues clock given row → IsOneWrong clock given row → ⊥

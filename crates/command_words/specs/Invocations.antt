@@ -202,6 +202,7 @@ verb_of (invocations.Look volume look) = look_verb look
 verb_of (invocations.Copy volume copying) = copying_verb copying
 verb_of (invocations.Work volume work) = work_verb work
 verb_of (invocations.Serve volume serving) = verbs.Serve
+verb_of (invocations.Identify images) = verbs.Identify
 
 -- the words name this volume (this project)
 abbrev pub IsVolumeGiven : Words → VolumeFile → Type 0
@@ -385,6 +386,7 @@ IsGiven clock given (invocations.Look volume look) = IsVolumeGiven given volume 
 IsGiven clock given (invocations.Copy volume copying) = IsVolumeGiven given volume × IsCopyGiven clock given copying
 IsGiven clock given (invocations.Work volume work) = IsVolumeGiven given volume × IsWorkGiven given work
 IsGiven clock given (invocations.Serve volume serving) = IsVolumeGiven given volume × IsServingGiven given serving
+IsGiven clock given (invocations.Identify images) = map (λ image. image.now) images.items ≡ given (codes "IMAGE")
 
 -- the command, with the words for its arguments, is read as this invocation (this project)
 abbrev pub AsksFor : Option ℕ → Verb → Words → Invocation → Type 0

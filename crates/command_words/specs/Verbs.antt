@@ -115,6 +115,7 @@ verb_name verbs.Salvage = codes "salvage"
 verb_name verbs.Play = codes "play"
 verb_name verbs.Migrate = codes "migrate"
 verb_name verbs.Serve = codes "serve"
+verb_name verbs.Identify = codes "identify"
 
 -- the words of a command, in order (this project)
 abbrev pub arguments_of : Verb → List Argument
@@ -155,6 +156,7 @@ arguments_of verbs.Play = on_volume ((codes "SCRIPT", kinds.Scripts, needs.Sever
 arguments_of verbs.Migrate =
     word (codes "OLD") ∷ word (codes "NEW") ∷ long_number (codes "FSIZE") ∷ number (codes "IBLOCKS") ∷ moment ∷ option (codes "new") ∷ []
 arguments_of verbs.Serve = on_volume (option (codes "read-only") ∷ option (codes "mine") ∷ [])
+arguments_of verbs.Identify = (codes "IMAGE", kinds.Text, needs.Several) ∷ []
 
 -- all commands, in the order in which the help lists them (this project)
 abbrev pub all_verbs : List Verb
@@ -162,7 +164,7 @@ all_verbs =
     verbs.Cat ∷ verbs.Ls ∷ verbs.Get ∷ verbs.Find ∷ verbs.Export ∷ verbs.Sums ∷ verbs.Inode ∷ verbs.Super ∷ verbs.Free ∷ verbs.Block
     ∷ verbs.Df ∷ verbs.Map ∷ verbs.Check ∷ verbs.Icheck ∷ verbs.Dcheck ∷ verbs.Ncheck ∷ verbs.Mkfs ∷ verbs.Put ∷ verbs.Import ∷ verbs.Rm
     ∷ verbs.Rmdir ∷ verbs.Mkdir ∷ verbs.Ln ∷ verbs.Mv ∷ verbs.Chmod ∷ verbs.Chown ∷ verbs.Touch ∷ verbs.Salvage ∷ verbs.Play ∷ verbs.Migrate
-    ∷ verbs.Serve ∷ []
+    ∷ verbs.Serve ∷ verbs.Identify ∷ []
 
 -- no command has this name (this project)
 abbrev pub IsNoCommand : List ℕ → Type 0

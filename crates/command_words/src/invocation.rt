@@ -121,4 +121,8 @@ pub enum Invocation<'a> {
         volume: VolumeFile<'a>,
         serving: Serving,
     },
+    /// Guess what the images in these files are.
+    Identify {
+        images: Vec<&'a str>,
+    },
 }

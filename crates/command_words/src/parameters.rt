@@ -484,6 +484,13 @@ const JOURNAL: Parameter = Parameter {
     help: texts::JOURNAL,
 };
 
+const IMAGES: Parameter = Parameter {
+    name: "IMAGE",
+    kind: WordKind::Text,
+    need: Need::Several,
+    help: texts::identify::IMAGES,
+};
+
 const OLD: Parameter = Parameter {
     name: "OLD",
     kind: WordKind::Text,
@@ -564,7 +571,10 @@ pub static MIGRATE_WORDS: [Parameter; 6] = [OLD, NEW, BLOCKS, LIST_BLOCKS, MIGRA
 /// The words that `serve` takes.
 pub static SERVE_WORDS: [Parameter; 4] = [EDITION, IMAGE, READ_ONLY, MINE];
 
-/// The words that `import` takes.
+/// The words of `identify`.
+pub static IDENTIFY_WORDS: [Parameter; 1] = [IMAGES];
+
+/// The words of `import`.
 pub static IMPORT_WORDS: [Parameter; 6] = [EDITION, IMAGE, IMPORTED, CALL_NOW, SKIP_SPECIAL, OWNER];
 
 /// The words that `export` takes.

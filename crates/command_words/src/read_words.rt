@@ -67,6 +67,7 @@ pub fn read<'a, G: Given<'a>>(
         Verb::Play => read_play(alloc, given),
         Verb::Migrate => read_migrate(given, clock),
         Verb::Serve => read_serve(given),
+        Verb::Identify => read_identify(alloc, given),
     }
 }
 
@@ -614,6 +615,18 @@ fn read_serve<'a, G: Given<'a>>(given: &G) -> Result<Invocation<'a>, WordFault<'
         volume,
         serving: serving_in(given),
     })
+}
+
+/// Reads the words of `identify`.
+fn read_identify<'a, G: Given<'a>>(
+    alloc: Global,
+    given: &G,
+) -> Result<Invocation<'a>, WordFault<'a>>
+    ensures read { IfOk result (AsksFor None verbs.Identify (G.words given.now)) }
+    ensures refused { IfErr result (TellsOf (IsOneWrong None (G.words given.now) (arguments_of verbs.Identify))) }
+{
+    let images = given.all(alloc, "IMAGE")?;
+    Ok(Invocation::Identify { images })
 }
 
 /// Returns how a volume is served.

@@ -5,6 +5,7 @@ pub mod df;
 pub mod export;
 pub mod find;
 pub mod free;
+pub mod identify;
 pub mod import;
 pub mod salvage;
 pub mod sums;

@@ -4,9 +4,9 @@ ghost use Rattle.command_words.specs.Verbs.{IsNoCommand, argument_of, arguments_
 
 use crate::parameters::{
     BLOCK_WORDS, CAT_WORDS, CHECK_WORDS, CHECKER_WORDS, CHMOD_WORDS, CHOWN_WORDS, EXPORT_WORDS,
-    FIND_WORDS, GET_WORDS, IMPORT_WORDS, INODE_WORDS, LS_WORDS, MAP_WORDS, MIGRATE_WORDS,
-    MKDIR_WORDS, MKFS_WORDS, NAMES_WORDS, PLAY_WORDS, PUT_WORDS, Parameter, RM_WORDS, RMDIR_WORDS,
-    SALVAGE_WORDS, SERVE_WORDS, SUMS_WORDS, SUPER_WORDS, TOUCH_WORDS,
+    FIND_WORDS, GET_WORDS, IDENTIFY_WORDS, IMPORT_WORDS, INODE_WORDS, LS_WORDS, MAP_WORDS,
+    MIGRATE_WORDS, MKDIR_WORDS, MKFS_WORDS, NAMES_WORDS, PLAY_WORDS, PUT_WORDS, Parameter,
+    RM_WORDS, RMDIR_WORDS, SALVAGE_WORDS, SERVE_WORDS, SUMS_WORDS, SUPER_WORDS, TOUCH_WORDS,
 };
 use crate::texts;
 
@@ -44,10 +44,11 @@ pub enum Verb {
     Play,
     Migrate,
     Serve,
+    Identify,
 }
 
 /// All commands, in the order in which the help lists them.
-pub static VERBS: [Verb; 31] = [
+pub static VERBS: [Verb; 32] = [
     Verb::Cat,
     Verb::Ls,
     Verb::Get,
@@ -79,6 +80,7 @@ pub static VERBS: [Verb; 31] = [
     Verb::Play,
     Verb::Migrate,
     Verb::Serve,
+    Verb::Identify,
 ];
 
 impl Verb {
@@ -118,6 +120,7 @@ impl Verb {
             Verb::Play => "play",
             Verb::Migrate => "migrate",
             Verb::Serve => "serve",
+            Verb::Identify => "identify",
         }
     }
 
@@ -160,6 +163,7 @@ impl Verb {
             Verb::Play => &PLAY_WORDS,
             Verb::Migrate => &MIGRATE_WORDS,
             Verb::Serve => &SERVE_WORDS,
+            Verb::Identify => &IDENTIFY_WORDS,
         }
     }
 
@@ -215,6 +219,7 @@ impl Verb {
             Verb::Play => texts::PLAY_ABOUT,
             Verb::Migrate => texts::MIGRATE_ABOUT,
             Verb::Serve => texts::SERVE_ABOUT,
+            Verb::Identify => texts::identify::ABOUT,
         }
     }
 
@@ -252,6 +257,7 @@ impl Verb {
             Verb::Play => texts::PLAY_MORE,
             Verb::Migrate => texts::MIGRATE_MORE,
             Verb::Serve => texts::SERVE_MORE,
+            Verb::Identify => texts::identify::MORE,
         }
     }
 }

@@ -1,4 +1,4 @@
-//! `cat`, `get`, `mkfs` and `migrate`, which print all of their output or nothing: opening and saving their files.
+//! `cat`, `get`, `mkfs`, `migrate` and `identify`, which print all or nothing: the files they open and save.
 ghost use Rattle.std.specs.Prelude.{◌≡◌, ◌≢◌, ◌≤◌, ℕ, Bool, List, Option, IfOk};
 ghost use Rattle.std.specs.Io.KnownBytes.{Keeps};
 ghost use Rattle.std.specs.Process.{exit_status};
@@ -8,6 +8,7 @@ ghost use Rattle.host_files.specs.Save.{IsTaken};
 
 use crate::explain::{explain_cat, explain_command_line, finish, tell_fault};
 use crate::host::Surroundings;
+use crate::identify::run_identify;
 use crate::looks::run_get;
 use crate::read::{read_stamped, read_volume};
 use crate::save::{save_made, save_migrated};
@@ -93,6 +94,7 @@ fn carry_out<R: ImageFiles + Clock + Eprint + AllocGlobal, O: Sink>(
             new,
             migration,
         } => run_migrate(host, old, new, migration),
+        Invocation::Identify { images } => run_identify(host, output, &images),
         Invocation::Look { .. }
         | Invocation::Change { .. }
         | Invocation::Copy { .. }

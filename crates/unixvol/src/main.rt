@@ -6,6 +6,7 @@ mod commands;
 mod copy;
 mod explain;
 mod host;
+mod identify;
 mod line_meanings;
 mod looks;
 mod meanings;

@@ -1,28 +1,13 @@
-//! Compressed archives, which `import` doesn't read.
-
-/// The first bytes of compressed files, each with a message.
-static MAGICS: [(&[u8], &str); 5] = [
-    (
-        b"\x1F\x8B",
-        "it is a gzip file: `gzip -dc` prints the archive in it",
-    ),
-    (
-        b"BZh",
-        "it is a bzip2 file: `bzip2 -dc` prints the archive in it",
-    ),
-    (
-        b"\xFD7zXZ\0",
-        "it is an xz file: `xz -dc` prints the archive in it",
-    ),
-    (
-        b"\x28\xB5\x2F\xFD",
-        "it is a zstd file: `zstd -dc` prints the archive in it",
-    ),
-    (b"PK\x03\x04", "it is a zip file, and no archive of tar"),
-];
+//! Archives that are compressed, which `import` doesn't read.
+use vol_identify::{Packing, packing_of};
 
 /// Returns the message for a compressed file, which is recognized by its first bytes.
 pub fn packed_words(bytes: &[u8]) -> Option<&'static str> {
-    let found = MAGICS.iter().find(|magic| bytes.starts_with(magic.0))?;
-    Some(found.1)
+    match packing_of(bytes)? {
+        Packing::Gzip => Some("it is a gzip file: `gzip -dc` prints the archive in it"),
+        Packing::Bzip2 => Some("it is a bzip2 file: `bzip2 -dc` prints the archive in it"),
+        Packing::Xz => Some("it is an xz file: `xz -dc` prints the archive in it"),
+        Packing::Zstd => Some("it is a zstd file: `zstd -dc` prints the archive in it"),
+        Packing::Zip => Some("it is a zip file, and no archive of tar"),
+    }
 }

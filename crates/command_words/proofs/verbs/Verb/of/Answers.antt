@@ -10,8 +10,8 @@ use Rattle.command_words.specs.declared.verbs.Verb.{Verb}
 use Rattle.command_words.specs.declared.verbs.Verb.TheVariants as verbs
 use Rattle.command_words.proofs.verbs.Verb.of.Goals as goal
 
--- if a property holds for each command in the list, it holds for every command
-each : (text : List ℕ) → AllWithin (λ (verb : Verb). text ≢ verb_name verb) all_verbs 0 31 → (verb : Verb) → text ≢ verb_name verb
+-- a property of each command in the list is one of each command
+each : (text : List ℕ) → AllWithin (λ (verb : Verb). text ≢ verb_name verb) all_verbs 0 32 → (verb : Verb) → text ≢ verb_name verb
 each text none verbs.Cat = none 0 verbs.Cat (omega arith) (omega arith)
 each text none verbs.Ls = none 1 verbs.Cat (omega arith) (omega arith)
 each text none verbs.Get = none 2 verbs.Cat (omega arith) (omega arith)
@@ -43,6 +43,7 @@ each text none verbs.Salvage = none 27 verbs.Cat (omega arith) (omega arith)
 each text none verbs.Play = none 28 verbs.Cat (omega arith) (omega arith)
 each text none verbs.Migrate = none 29 verbs.Cat (omega arith) (omega arith)
 each text none verbs.Serve = none 30 verbs.Cat (omega arith) (omega arith)
+each text none verbs.Identify = none 31 verbs.Cat (omega arith) (omega arith)
 
 pub returns-clause-none : goal.returns-clause-none
 returns-clause-none c none =

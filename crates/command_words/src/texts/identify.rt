@@ -1,0 +1,32 @@
+//! The texts of `identify`.
+
+pub const ABOUT: &str = "Guesses what images are whose edition isn't known.";
+
+pub const MORE: &str = "\
+Example:
+  unixvol identify pack.img other.img
+
+Each image has a line: its path, and what it looks like. That is a guess by a few bytes; nothing is changed. All
+other commands must be told the edition. The first of these that fits is printed:
+
+  looks empty: it has no bytes but zeros
+  looks packed by NAME                               gzip, bzip2, xz, zstd or zip, by the first bytes
+  looks like an archive of tar                       the first block is a header of POSIX, GNU tar or V7's tar
+  looks like a volume of edition N, with B blocks, sound
+  looks like .., which breaks rule R                 the first that `unixvol check` says is broken
+  looks like .., with each pair of bytes exchanged   `dd conv=swab` exchanges them again
+  looks like a volume of ext2, ext3 or ext4
+  looks like .., cut off after C                     only the first C blocks are there
+  looks like a larger pack: at block K begins ..     `dd skip=K count=B` copies this volume
+  looks like nothing that unixvol knows
+
+A volume has sizes that fit (rules 1 and 2), and a free list that can begin so or a root that is a directory. One
+that is swapped, cut off or further on has all three. If both editions fit, the sixth is named.
+
+Status:
+  0  all images were read
+  2  the command line is wrong
+  3  `unixvol: cannot read IMAGE`: the others were read; or `unixvol: cannot write -`: standard output failed
+  4  `unixvol: 12 NoMemory`";
+
+pub const IMAGES: &str = "The disk images, one or more";

@@ -1,0 +1,105 @@
+#!/usr/bin/env bash
+# Runs `identify` of the built program on images made byte by byte, on samples, and on files of other programs.
+# Usage: tests/identify.sh PROGRAM. It prints a line for each row that fails, and ends with 'N passed, N failed'.
+. "$(dirname "$0")/rows.sh"
+
+# looks FILE TEXT: FILE, and only it, has a line with this text
+looks() {
+    printf '%s\n' "$1: $2" > line
+    prints line identify "$1"
+}
+
+# A volume of each edition with 8 blocks, by hand: the sizes, the free list (the end, then blocks 7, 6, 5 and 4), the root's i-node and its slots.
+image six.img 4096
+put six.img 512 '0100 0800 0500 0000 0700 0600 0500 0400'
+put six.img 1024 'edc1 02 00 00 00 2000 0300'
+put six.img 1536 '0100 2e'
+put six.img 1552 '0100 2e2e'
+image seven.img 4096
+put seven.img 512 '0300 00000800 0500 00000000 00000700 00000600 00000500 00000400'
+put seven.img 1088 'ed41 0200 0000 0000 00002000 000300'
+put seven.img 1536 '0200 2e'
+put seven.img 1552 '0200 2e2e'
+for row in 'six 6' 'seven 7'; do
+    read -r name edition <<< "$row"
+    volume="a volume of edition $edition, with 8 blocks"
+    looks "$name.img" "looks like $volume, sound"
+    dd if="$name.img" of=swapped.img conv=swab status=none
+    looks swapped.img "looks like $volume, with each pair of bytes exchanged"
+    head -c 2100 "$name.img" > cut.img
+    looks cut.img "looks like $volume, cut off after 4"
+    head -c 1535 "$name.img" > cut.img
+    looks cut.img 'looks like nothing that unixvol knows'
+    for before in 1 3 200; do
+        { head -c $((512 * before)) /dev/zero | tr '\0' y && cat "$name.img"; } > pack.img
+        looks pack.img "looks like a larger pack: at block $before begins $volume"
+    done
+    head -c -1 pack.img > short.img
+    looks short.img 'looks like nothing that unixvol knows'
+    { head -c 100 /dev/zero | tr '\0' x && cat "$name.img"; } > moved.img
+    looks moved.img 'looks like nothing that unixvol knows'
+    # A volume whose free list or root can't be right is still one, but not if both can't.
+    links=$((edition == 6 ? 1026 : 1090))
+    mode=$((edition == 6 ? 1024 : 1088))
+    count=$((edition == 6 ? 516 : 518))
+    changed "$name.img" broken.img $links 03
+    looks broken.img "looks like $volume, which breaks rule 12"
+    changed "$name.img" broken.img $mode 0000
+    looks broken.img "looks like $volume, which breaks rule 3"
+    changed "$name.img" broken.img $count 6500
+    looks broken.img "looks like $volume, which breaks rule 6"
+    put broken.img $mode 0000
+    looks broken.img 'looks like nothing that unixvol knows'
+done
+for file in "$samples"/lessons/rule_{03,04,05,06,07,08,09,10,11,12}.v[67]; do
+    [ -e "$file" ] || continue
+    edition=${file##*.v}
+    rule=$(sed 's/.*rule_0*\([0-9]*\)\.v.$/\1/' <<< "$file")
+    at=$((edition == 6 ? 514 : 516))
+    looks "$file" "looks like a volume of edition $edition, with $(od -An -tu2 -j $at -N 2 "$file" | tr -d ' ') blocks, which breaks rule $rule"
+done
+
+# What is no volume.
+: > nothing
+looks nothing 'looks empty: it has no bytes but zeros'
+image zeros 5000
+looks zeros 'looks empty: it has no bytes but zeros'
+echo hello > text
+looks text 'looks like nothing that unixvol knows'
+seq 10000 > numbers
+looks numbers 'looks like nothing that unixvol knows'
+for format in ustar gnu pax v7; do
+    tar --format=$format -cf archive text
+    looks archive 'looks like an archive of tar'
+done
+put archive 0 78
+looks archive 'looks like nothing that unixvol knows'
+gzip -c six.img > packed
+looks packed 'looks packed by gzip'
+for row in 'bzip2 425a68' 'xz fd377a585a00' 'zstd 28b52ffd' 'zip 504b0304'; do
+    image packed 4096
+    put packed 0 "${row#* }"
+    looks packed "looks packed by ${row% *}"
+done
+image linux.img 4096
+put linux.img 1080 53ef
+looks linux.img 'looks like a volume of ext2, ext3 or ext4'
+
+# Several images, and some that can't be read: the others have their lines.
+printf '%s\n' 'six.img: looks like a volume of edition 6, with 8 blocks, sound' 'text: looks like nothing that unixvol knows' > lines
+prints lines identify six.img text
+echo 'unixvol: cannot read missing' > line
+runs identify six.img missing text
+wants 'an image that is missing' 3 lines line
+runs identify missing
+wants 'only one that is missing' 3 none line
+misread 'error: the following required arguments were not provided' identify
+helps identify --help
+[ ! -e /dev/full ] || {
+    "$program" identify six.img > /dev/full 2> error
+    has 'the status of a full disk' 3 $?
+    has 'the line of a full disk' 'unixvol: cannot write -' "$(cat error)"
+}
+
+echo "$passed passed, $failed failed"
+[ "$failed" = 0 ]

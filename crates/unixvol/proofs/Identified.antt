@@ -1,5 +1,6 @@
 -- The end of a run of `identify`.
-use Rattle.std.proofs.Common.{◌≡◌, ◌∙◌, ◌⊎◌, ◌∷◌, ℕ, List, [], Bool, true, false, inl, inr, arith}
+use Rattle.std.proofs.Common.{◌≡◌, ◌<◌, ◌∙◌, ◌⊎◌, ◌∷◌, ℕ, List, [], Bool, true, false, inl, inr, length, map, refl, arith}
+use Rattle.std.specs.Borrow.{Bor}
 use Rattle.command_reads.specs.Print.{PrintsWith}
 use Rattle.command_faults.specs.Streams.{Streams}
 use Rattle.unixvol.specs.Runs.{AreIdentified, Ends, HostFiles, RunsIdentify, status_with}
@@ -36,3 +37,9 @@ ends_identified streams files paths status (inl none) =
     record { within = omega (arith, none.0); silent = λ _ _. none.1; whole = λ e. absurd (omega (arith, none.0, e)) }
 ends_identified streams files paths status (inr printed) =
     ends_lines streams printed.0 printed.1 status (identified_status files paths printed.0 printed.1 printed.2) printed.3
+
+-- no files have no lines
+pub identified_none : (files : HostFiles) (images : List (Bor (List ℕ))) → length images < 1
+    → AreIdentified files (map (λ (image : Bor (List ℕ)). image.now) images) [] 0
+identified_none files [] few = (refl, refl)
+identified_none files (image ∷ more) few = absurd (omega (arith, few))

@@ -82,7 +82,7 @@ manual_page() {
 kind() {
     case $1 in
         EDITION) echo edition ;;
-        IMAGE | FILE | SCRIPT | OLD | NEW | FOLDER) echo file ;;
+        IMAGE | FILE | SCRIPT | OLD | NEW | FOLDER | COPY) echo file ;;
         PATH | FROM | TO | DIR) echo path ;;
         *) echo any ;;
     esac

@@ -59,7 +59,7 @@ _unixvol() {
         chmod) kinds='edition file path any any' options='--explain -h --help' ;;
         chown) kinds='edition file path any any any' options='--explain -h --help' ;;
         touch) kinds='edition file path any' options='--explain -h --help' ;;
-        salvage) kinds='edition file' options='-n --dry-run --explain -h --help' ;;
+        salvage) kinds='edition file' options='-o --output -n --dry-run --explain -h --help' valued='-o=file --output=file' others='' ;;
         play) kinds='edition file file...' options='--journal --explain -h --help' ;;
         migrate) kinds='file file any any any' options='--new --explain -h --help' ;;
         serve) kinds='edition file' options='--read-only --mine --explain -h --help' ;;

@@ -682,6 +682,38 @@ prints none salvage 6 leads
 has 'a link to a volume that was salvaged' damaged "$(readlink leads)"
 saves 'what a link leads to, salvaged' damaged made
 
+# `salvage -o` leaves its volume as it is, and makes another file or replaces it.
+changed made damaged 520 '04 00' # block 4 is free, and block 19 isn't
+cp damaged before
+ln -s damaged leads_to_it
+ln damaged second_name
+stood=$(stat -c '%i %y' damaged)
+echo 'free list: 1 blocks added, 1 taken away' > wanted
+prints wanted salvage 6 damaged -o salvaged
+saves 'a volume salvaged into a new file' salvaged made
+echo something > salvaged
+chmod 640 salvaged
+prints wanted salvage 6 damaged --output=salvaged
+saves 'a volume salvaged into a file that was there' salvaged made
+has 'the permissions of a file that a salvaged volume replaced' 640 "$(stat -c %a salvaged)"
+for path in damaged ./damaged "$folder/damaged" leads_to_it second_name; do
+    refuses 3 "unixvol: cannot write $path" salvage 6 damaged -o "$path"
+    refuses 3 'unixvol: cannot write damaged' salvage 6 "$path" -o damaged
+done
+rm -f salvaged leads_to_it second_name
+prints wanted salvage 6 damaged -n -o salvaged
+refuses 3 'unixvol: cannot write no/folder' salvage 6 damaged -o no/folder
+refuses 3 'unixvol: cannot write /dev/full' salvage 6 damaged -o /dev/full
+refuses 3 'unixvol: cannot read missing' salvage 6 missing -o salvaged
+refuses 1 'unixvol: unsound, rule 7' salvage 6 twice -o salvaged
+has 'the file of a volume that was not salvaged' none "$([ -e salvaged ] && echo some || echo none)"
+saves 'a volume that was salvaged into another file' damaged before
+has 'a volume that was only read' "$stood" "$(stat -c '%i %y' damaged)"
+"$program" salvage 6 damaged -o salvaged > /dev/full 2> error
+has 'salvage -o to a full device' '3 unixvol: cannot write -' "$? $(cat error)"
+saves 'a volume salvaged without a report' salvaged made
+misread 'error: a value is required' salvage 6 damaged -o
+
 # The findings of `icheck`, whatever the number of threads.
 edition=6
 mapfile -t made_lines < <(totals 0 1 0 0 1 15 0)

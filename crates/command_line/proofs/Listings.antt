@@ -150,6 +150,7 @@ asks_listing : (clock : Option ℕ) (given : Words) (edition : Edition) (image p
 asks_listing clock given edition image path (invocations.Cat volume node) test e_is i_is p_is none is = absurd (true≢false (sym test))
 asks_listing clock given edition image path (invocations.Mkfs i volume) test e_is i_is p_is none is = absurd (true≢false (sym test))
 asks_listing clock given edition image path (invocations.Migrate old new migration) test e_is i_is p_is none is = absurd (true≢false (sym test))
+asks_listing clock given edition image path (invocations.Salvage volume copy) test e_is i_is p_is none is = absurd (true≢false (sym test))
 asks_listing clock given edition image path (invocations.Get volume p) test e_is i_is p_is none is = absurd (true≢false (sym test))
 asks_listing clock given edition image path (invocations.Serve volume serving) test e_is i_is p_is none is = absurd (true≢false (sym test))
 asks_listing clock given edition image path (invocations.Identify images) test e_is i_is p_is none is = absurd (true≢false (sym test))
@@ -223,6 +224,7 @@ listing_asks clock None edition image path invocation is listed = absurd (cc)
 listing_asks clock (Some met) edition image path (invocations.Cat volume node) is listed = absurd listed
 listing_asks clock (Some met) edition image path (invocations.Mkfs i volume) is listed = absurd listed
 listing_asks clock (Some met) edition image path (invocations.Migrate old new migration) is listed = absurd listed
+listing_asks clock (Some met) edition image path (invocations.Salvage volume copy) is listed = absurd listed
 listing_asks clock (Some met) edition image path (invocations.Get volume p) is listed = absurd listed
 listing_asks clock (Some met) edition image path (invocations.Serve volume serving) is listed = absurd listed
 listing_asks clock (Some met) edition image path (invocations.Identify images) is listed = absurd listed

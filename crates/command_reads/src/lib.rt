@@ -18,7 +18,7 @@ pub mod looks;
 mod ls;
 mod map;
 pub mod node;
-mod print;
+pub mod print;
 mod remarks;
 mod salvage;
 pub mod show;

@@ -38,7 +38,7 @@ pub(crate) fn finish_bytes<O: Sink>(text: Result<Vec<u8>, Fault>, output: &mut O
 }
 
 /// Prints a text, and returns a status for it.
-pub(crate) fn print_with<O: Sink>(text: &[u8], status: u8, output: &mut O) -> Ending
+pub fn print_with<O: Sink>(text: &[u8], status: u8, output: &mut O) -> Ending
     ensures { (errors : ErrorStream) → Hears errors result.fault
         → PrintsWith status (streams O.contents O.failed output.old output.new errors) text.now result.status }
 {

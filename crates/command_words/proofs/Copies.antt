@@ -63,6 +63,7 @@ puts clock given (invocations.Look volume looks.Salvage) put is = absurd (true�
 puts clock given (invocations.Cat volume node) put is = absurd (true≢false (sym put))
 puts clock given (invocations.Mkfs i volume) put is = absurd (true≢false (sym put))
 puts clock given (invocations.Migrate old new migration) put is = absurd (true≢false (sym put))
+puts clock given (invocations.Salvage volume copy) put is = absurd (true≢false (sym put))
 puts clock given (invocations.Serve volume serving) put is = absurd (true≢false (sym put))
 puts clock given (invocations.Identify images) put is = absurd (true≢false (sym put))
 
@@ -104,6 +105,7 @@ gets clock given (invocations.Look volume looks.Salvage) got is = absurd (true�
 gets clock given (invocations.Cat volume node) got is = absurd (true≢false (sym got))
 gets clock given (invocations.Mkfs i volume) got is = absurd (true≢false (sym got))
 gets clock given (invocations.Migrate old new migration) got is = absurd (true≢false (sym got))
+gets clock given (invocations.Salvage volume copy) got is = absurd (true≢false (sym got))
 gets clock given (invocations.Serve volume serving) got is = absurd (true≢false (sym got))
 gets clock given (invocations.Identify images) got is = absurd (true≢false (sym got))
 

@@ -197,6 +197,7 @@ verb_of (invocations.Cat volume node) = verbs.Cat
 verb_of (invocations.Mkfs image volume) = verbs.Mkfs
 verb_of (invocations.Migrate old new migration) = verbs.Migrate
 verb_of (invocations.Get volume path) = verbs.Get
+verb_of (invocations.Salvage volume copy) = verbs.Salvage
 verb_of (invocations.Change volume change) = change_verb change
 verb_of (invocations.Look volume look) = look_verb look
 verb_of (invocations.Copy volume copying) = copying_verb copying
@@ -265,7 +266,7 @@ IsChangeGiven clock given (changes.Chown path uid gid now) = IsPathGiven (given 
     × IsMomentGiven clock (given (codes "NOW")) now
 IsChangeGiven clock given (changes.Touch path now) =
     IsPathGiven (given (codes "PATH")) path.now × IsMomentGiven clock (given (codes "NOW")) now
-IsChangeGiven clock given changes.Salvage = is_set (given (codes "dry-run")) ≡ false
+IsChangeGiven clock given changes.Salvage = (is_set (given (codes "dry-run")) ≡ false) × IsLeftOut given (codes "output")
 
 -- the words choose this format of a report: JSON if its option is given (this project)
 abbrev pub IsFormGiven : Words → OutputForm → Type 0
@@ -381,6 +382,8 @@ IsGiven clock given (invocations.Mkfs image volume) = IsMadeGiven given (codes "
 IsGiven clock given (invocations.Migrate old new migration) = (old.now ≡ the_word given (codes "OLD"))
     × IsMadeGiven given (codes "NEW") new × IsMigrationGiven clock given migration
 IsGiven clock given (invocations.Get volume path) = IsVolumeGiven given volume × IsOnePathGiven given path.now
+IsGiven clock given (invocations.Salvage volume copy) = IsVolumeGiven given volume × (is_set (given (codes "dry-run")) ≡ false)
+    × IsFirstWord given (codes "output") copy.now
 IsGiven clock given (invocations.Change volume change) = IsVolumeGiven given volume × IsChangeGiven clock given change
 IsGiven clock given (invocations.Look volume look) = IsVolumeGiven given volume × IsLookGiven given look
 IsGiven clock given (invocations.Copy volume copying) = IsVolumeGiven given volume × IsCopyGiven clock given copying

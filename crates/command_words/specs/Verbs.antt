@@ -151,7 +151,7 @@ arguments_of verbs.Mv = on_volume (word (codes "FROM") ∷ word (codes "TO") ∷
 arguments_of verbs.Chmod = on_volume (path needs.Once ∷ (codes "PERM", kinds.Permissions, needs.Once) ∷ moment ∷ [])
 arguments_of verbs.Chown = on_volume (path needs.Once ∷ number (codes "UID") ∷ number (codes "GID") ∷ moment ∷ [])
 arguments_of verbs.Touch = on_volume (path needs.Once ∷ moment ∷ [])
-arguments_of verbs.Salvage = on_volume (lettered (codes "dry-run") 110 ∷ [])
+arguments_of verbs.Salvage = on_volume (valued (codes "output") 111 values.Copy ∷ lettered (codes "dry-run") 110 ∷ [])
 arguments_of verbs.Play = on_volume ((codes "SCRIPT", kinds.Scripts, needs.Several) ∷ option (codes "journal") ∷ [])
 arguments_of verbs.Migrate =
     word (codes "OLD") ∷ word (codes "NEW") ∷ long_number (codes "FSIZE") ∷ number (codes "IBLOCKS") ∷ moment ∷ option (codes "new") ∷ []

@@ -96,6 +96,11 @@ pub enum Invocation<'a> {
         new: MadeFile<'a>,
         migration: Migration,
     },
+    /// Make a salvaged volume in the file `copy` from the one in a file.
+    Salvage {
+        volume: VolumeFile<'a>,
+        copy: &'a str,
+    },
     /// Change the volume in a file.
     Change {
         volume: VolumeFile<'a>,

@@ -58,6 +58,8 @@ pub enum ValueName {
     Directory,
     /// A folder outside it.
     Folder,
+    /// A file outside it, to make.
+    Copy,
     /// A user and a group.
     Owner,
     /// A pattern for names.
@@ -70,6 +72,7 @@ impl ValueName {
         match self {
             ValueName::Directory => "DIR",
             ValueName::Folder => "FOLDER",
+            ValueName::Copy => "COPY",
             ValueName::Owner => "UID:GID",
             ValueName::Pattern => "GLOB",
         }
@@ -463,6 +466,13 @@ const MINE: Parameter = Parameter {
     help: texts::MINE,
 };
 
+const COPY: Parameter = Parameter {
+    name: "output",
+    kind: WordKind::Text,
+    need: Need::Value('o', ValueName::Copy),
+    help: texts::salvage::COPY,
+};
+
 const DRY_RUN: Parameter = Parameter {
     name: "dry-run",
     kind: WordKind::Flag,
@@ -560,7 +570,7 @@ pub static TOUCH_WORDS: [Parameter; 4] = [EDITION, IMAGE, TOUCHED, CALL_NOW];
 pub static CHECK_WORDS: [Parameter; 4] = [EDITION, IMAGE, CHECK_GRADED, JSON];
 
 /// The words that `salvage` takes.
-pub static SALVAGE_WORDS: [Parameter; 3] = [EDITION, IMAGE, DRY_RUN];
+pub static SALVAGE_WORDS: [Parameter; 4] = [EDITION, IMAGE, COPY, DRY_RUN];
 
 /// The words that `play` takes.
 pub static PLAY_WORDS: [Parameter; 4] = [EDITION, IMAGE, SCRIPT, JOURNAL];

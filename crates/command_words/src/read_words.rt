@@ -573,10 +573,13 @@ fn read_salvage<'a, G: Given<'a>>(given: &G) -> Result<Invocation<'a>, WordFault
             look: Look::Salvage,
         });
     }
-    Ok(Invocation::Change {
-        volume,
-        change: Change::Salvage,
-    })
+    match given.first("output") {
+        Some(copy) => Ok(Invocation::Salvage { volume, copy }),
+        None => Ok(Invocation::Change {
+            volume,
+            change: Change::Salvage,
+        }),
+    }
 }
 
 /// Reads the words of a checker's command.

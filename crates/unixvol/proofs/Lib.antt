@@ -8,4 +8,5 @@ pub mod Identified
 pub mod Looked
 pub mod MadeVolumes
 pub mod Played
+pub mod Salvaged
 pub mod Saved

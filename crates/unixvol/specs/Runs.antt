@@ -25,6 +25,9 @@ use Rattle.command_reads.specs.Node.{number_of}
 use Rattle.command_faults.specs.Streams.{Gets, Streams}
 use Rattle.command_changes.specs.Mkfs.{mkfs_line_at}
 use Rattle.command_changes.specs.Migrate.{MigratesVolume}
+use Rattle.command_changes.specs.Salvage.{IsReported, IsUnsalvaged}
+use Rattle.command_faults.specs.declared.fault.Fault.{Fault}
+use Rattle.command_reads.specs.Print.{IsTold, Prints}
 use Rattle.vol_layout.specs.declared.edition.Edition.{Edition}
 use Rattle.vol_layout.specs.declared.edition.Edition.TheVariants.{V6}
 use Rattle.std.specs.Global.{Vec}
@@ -162,6 +165,20 @@ RunsMigrate streams files migration status =
     RunsNothing streams files status
     ⊎ ((image : List ℕ) × (answer : Answer) × files.shown V6 image × MigratesVolume image migration streams.said answer
     × Keeps streams.old streams.new × (streams.failed ≡ streams.had_failed) × EndsSaved files.taken answer status)
+
+-- a volume is saved in a file, and then its report is printed; or it isn't saved, and nothing is printed (this project)
+abbrev pub SavesCopy : Streams → (List ℕ → Type 0) → List ℕ → List ℕ → ℕ → Type 0
+SavesCopy streams taken bytes report status =
+    (taken bytes × Prints streams report status)
+    ⊎ (IsStatusOfFileOrMemory status × Keeps streams.old streams.new × (streams.failed ≡ streams.had_failed) × streams.said [])
+
+-- `salvage -o` runs: nothing is done; or the reason why the image that a file gave can't be salvaged is reported; or it is salvaged, and saved with its report (this project)
+abbrev pub RunsSalvage : Streams → HostFiles → Edition → ℕ → Type 0
+RunsSalvage streams files edition status =
+    RunsNothing streams files status
+    ⊎ ((image : List ℕ) × files.shown edition image
+    × (((fault : Fault) × IsUnsalvaged edition image fault × IsTold streams fault status)
+    ⊎ ((bytes : List ℕ) × (report : List ℕ) × IsReported edition image bytes report × SavesCopy streams files.taken bytes report status)))
 
 -- `get` runs: nothing is done; or the file at a path of an image, which is read from a file, is printed (this project)
 abbrev pub RunsGetOne : Streams → HostFiles → Edition → List ℕ → ℕ → Type 0
@@ -307,6 +324,7 @@ Runs streams files status (invocations.Get volume path) = RunsGetOne streams fil
 Runs streams files status (invocations.Mkfs image volume) = RunsMkfs streams files.taken volume status
 Runs streams files status (invocations.Migrate old new migration) = RunsMigrate streams files migration status
 Runs streams files status (invocations.Identify images) = RunsIdentify streams files (map (λ image. image.now) images.items) status
+Runs streams files status (invocations.Salvage volume copy) = RunsSalvage streams files volume.edition status
 Runs streams files status (invocations.Look volume look) = ⊥
 Runs streams files status (invocations.Change volume change) = ⊥
 Runs streams files status (invocations.Copy volume copying) = ⊥

@@ -1,9 +1,9 @@
-//! `cat`, `get`, `mkfs`, `migrate` and `identify`, which print all or nothing: the files they open and save.
-ghost use Rattle.std.specs.Prelude.{◌≡◌, ◌≢◌, ◌≤◌, ℕ, Bool, List, Option, IfOk};
+//! `cat`, `get`, `mkfs`, `migrate`, `salvage -o` and `identify`, which print all or nothing: the files they open and save.
+ghost use Rattle.std.specs.Prelude.{◌≡◌, ◌≢◌, ◌≤◌, ℕ, Bool, List, Option, IfOk, string_bytes};
 ghost use Rattle.std.specs.Io.KnownBytes.{Keeps};
 ghost use Rattle.std.specs.Process.{exit_status};
 ghost use Rattle.command_faults.specs.Streams.{ErrorStream, Hears, still, streams};
-ghost use Rattle.unixvol.specs.Runs.{IsPlainCommand, IsUnread, Gave, PrintsBody, RunsMigrate, RunsMkfs, Runs, RunsRead, RunsToEnd, Ends, host_files};
+ghost use Rattle.unixvol.specs.Runs.{IsPlainCommand, IsUnread, Gave, PrintsBody, RunsMigrate, RunsMkfs, RunsSalvage, Runs, RunsRead, SavesCopy, RunsToEnd, Ends, host_files};
 ghost use Rattle.host_files.specs.Save.{IsTaken};
 
 use crate::explain::{explain_cat, explain_command_line, finish, tell_fault};
@@ -11,18 +11,20 @@ use crate::host::Surroundings;
 use crate::identify::run_identify;
 use crate::looks::run_get;
 use crate::read::{read_stamped, read_volume};
-use crate::save::{save_made, save_migrated};
+use crate::save::{save_made, save_migrated, save_over};
 use crate::subject::Subject;
 use clap::Error;
 use command_changes::Migration;
 use command_changes::migrate::migrate_image;
 use command_changes::mkfs::make_volume;
+use command_changes::salvage::{ReportedVolume, salvage_with_report};
 use command_faults::Ending;
 use command_faults::status::DONE;
 use command_line::{Invocation, MadeFile, VolumeFile};
 use command_reads::NodeName;
 use command_reads::cat::print_file;
-use host_files::{ImageFiles, UpTo, noted_writer};
+use command_reads::print::print_with;
+use host_files::{ImageFiles, Stamp, UpTo, noted_writer};
 use pdp_words::{Image, IntoWrite, Sink};
 use std::io::Write;
 use std::process::ExitCode;
@@ -95,6 +97,7 @@ fn carry_out<R: ImageFiles + Clock + Eprint + AllocGlobal, O: Sink>(
             migration,
         } => run_migrate(host, old, new, migration),
         Invocation::Identify { images } => run_identify(host, output, &images),
+        Invocation::Salvage { volume, copy } => run_salvage(host, output, volume, copy),
         Invocation::Look { .. }
         | Invocation::Change { .. }
         | Invocation::Copy { .. }
@@ -170,4 +173,51 @@ fn run_migrate<R: ImageFiles + Clock + Eprint + AllocGlobal>(
         status,
         fault: answer.fault,
     }
+}
+
+/// Salvages the volume in a file, saves it in the file `copy`, prints how its free list changed, and returns how the run ends.
+fn run_salvage<R: ImageFiles + Clock + Eprint + AllocGlobal, O: Sink>(
+    host: &Surroundings<'_, R>,
+    output: &mut O,
+    volume: VolumeFile<'_>,
+    copy: &str,
+) -> Ending
+    ensures { (errors : ErrorStream) → Hears errors result.fault
+        → RunsSalvage (streams O.contents O.failed output.old output.new errors) (host_files R.File.remaining R.File.contents R.had R.stood) volume.entry.edition result.status }
+{
+    let (image, stamp) = match read_stamped(host, volume.edition, volume.image) {
+        Ok(read) => read,
+        Err(status) => {
+            return Ending {
+                status,
+                fault: None,
+            };
+        }
+    };
+    match salvage_with_report(host.rt.alloc(), volume.edition, image) {
+        Ok(salvaged) => save_copy(host, output, copy, stamp, &salvaged),
+        Err(fault) => Ending::from(fault),
+    }
+}
+
+/// Saves a salvaged volume in the file `copy`, prints its report, and returns how the run ends. The file with the stamp `old`, from which
+/// it was made, isn't replaced.
+fn save_copy<R: ImageFiles + Clock + Eprint + AllocGlobal, O: Sink>(
+    host: &Surroundings<'_, R>,
+    output: &mut O,
+    copy: &str,
+    old: Stamp,
+    salvaged: &ReportedVolume,
+) -> Ending
+    ensures { (errors : ErrorStream) → Hears errors result.fault
+        → SavesCopy (streams O.contents O.failed output.old output.new errors) (IsTaken R.File.contents) salvaged.now.bytes.items (string_bytes salvaged.now.report) result.status }
+{
+    let status = save_over(host, copy, old, &salvaged.bytes, DONE);
+    if status != DONE {
+        return Ending {
+            status,
+            fault: None,
+        };
+    }
+    print_with(salvaged.report.as_bytes(), DONE, output)
 }

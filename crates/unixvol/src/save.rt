@@ -115,7 +115,7 @@ pub fn save_migrated<R: ImageFiles + Clock + Eprint + AllocGlobal>(
 }
 
 /// Saves bytes in the file `path` as [`save_new`] does, and reports the contents that were replaced.
-fn save_over<R: ImageFiles + Clock + Eprint + AllocGlobal>(
+pub fn save_over<R: ImageFiles + Clock + Eprint + AllocGlobal>(
     host: &Surroundings<'_, R>,
     path: &str,
     old: Stamp,

@@ -53,6 +53,9 @@ impl<'a> Subject<'a> {
             Invocation::Get { volume, path } => {
                 Some(Subject::new(*volume, Verb::Get, About::Path(path)))
             }
+            Invocation::Salvage { volume, .. } => {
+                Some(Subject::new(*volume, Verb::Salvage, About::Image))
+            }
             Invocation::Mkfs { image, volume } => Some(Subject {
                 verb: Verb::Mkfs,
                 image: image.path,

@@ -1,6 +1,7 @@
 use Rattle.command_faults.specs.Streams.{streams}
 use Rattle.unixvol.specs.Runs.{host_files}
 use Rattle.unixvol.proofs.Identified.{ends_identified}
+use Rattle.unixvol.proofs.Salvaged.{ends_salvage}
 use Rattle.unixvol.proofs.commands.carry_out.Goals as goal
 
 pub returns-in-Get-clause-runs : goal.returns-in-Get-clause-runs
@@ -44,3 +45,10 @@ returns-in-Identify-clause-ends g c errors hears =
     ends_identified (streams g.O.Sink.contents g.O.Sink.failed c.args.output.now c.run_identify.new.output errors)
     (host_files g.R.File.Read.remaining g.R.File.Write.contents g.R.ImageFiles.had g.R.ImageFiles.stood) _ c.run_identify.result.status
     (c.run_identify.ensures errors hears)
+
+pub returns-in-Salvage-clause-runs : goal.returns-in-Salvage-clause-runs
+returns-in-Salvage-clause-runs g c errors hears = rw c.in-Salvage.is (c.run_salvage.ensures errors hears)
+
+pub returns-in-Salvage-clause-ends : goal.returns-in-Salvage-clause-ends
+returns-in-Salvage-clause-ends g c errors hears =
+    ends_salvage g.R.File.Read.remaining g.R.File.Write.contents g.R.ImageFiles.had g.R.ImageFiles.stood _ c.in-Salvage.volume.edition c.run_salvage.result.status (c.run_salvage.ensures errors hears)

@@ -1,0 +1,51 @@
+-- The end of `salvage -o`.
+use Rattle.std.proofs.Common.{◌≡◌, ℕ, ◌≤◌, List, Option, inl, inr, sym, subst, arith}
+use Rattle.std.specs.Io.KnownBytes.{Keeps}
+use Rattle.command_faults.proofs.Concluded.{fault_few}
+use Rattle.command_faults.specs.Streams.{Streams}
+use Rattle.command_faults.specs.declared.fault.Fault.{Fault}
+use Rattle.command_reads.specs.Print.{IsTold, Prints}
+use Rattle.host_files.specs.Save.{IsTaken}
+use Rattle.host_files.specs.declared.image_file.Stamp.{Stamp}
+use Rattle.vol_layout.specs.declared.edition.Edition.{Edition}
+use Rattle.unixvol.proofs.Concluded.{ends_unread}
+use Rattle.unixvol.specs.Runs.{Ends, IsStatusOfFileOrMemory, RunsSalvage, SavesCopy, host_files}
+
+-- the end of a run that reports a fault
+ends_told : (streams : Streams) (fault : Fault) (status : ℕ) → IsTold streams fault status → Ends streams status
+ends_told streams fault status told =
+    let one : 1 ≤ status = subst (λ n. 1 ≤ n) (sym told.status) (fault_few fault).0 in
+    let four : status ≤ 4 = subst (λ n. n ≤ 4) (sym told.status) (fault_few fault).1 in
+    record { within = four; silent = λ _ _. told.kept; whole = λ e. absurd (omega (arith, one, e)) }
+
+-- the end of a run that prints a text
+ends_printed : (streams : Streams) (text : List ℕ) (status : ℕ) → Prints streams text status → Ends streams status
+ends_printed streams text status (inl printed) = record {
+  within = omega (arith, printed.status);
+  silent = λ some _. absurd (some printed.status);
+  whole = λ _. (printed.working, printed.said);
+}
+ends_printed streams text status (inr broken) = record {
+  within = omega (arith, broken.status);
+  silent = λ _ other. absurd (other broken.status);
+  whole = λ e. absurd (omega (arith, broken.status, e));
+}
+
+-- the end of a run that saves nothing
+ends_unsaved : (streams : Streams) (status : ℕ) → IsStatusOfFileOrMemory status → Keeps streams.old streams.new → Ends streams status
+ends_unsaved streams status (inl three) kept =
+    record { within = omega (arith, three); silent = λ _ _. kept; whole = λ e. absurd (omega (arith, three, e)) }
+ends_unsaved streams status (inr four) kept =
+    record { within = omega (arith, four); silent = λ _ _. kept; whole = λ e. absurd (omega (arith, four, e)) }
+
+ends_copy : (streams : Streams) (taken : List ℕ → Type 0) (bytes report : List ℕ) (status : ℕ) → SavesCopy streams taken bytes report status → Ends streams status
+ends_copy streams taken bytes report status (inl saved) = ends_printed streams report status saved.1
+ends_copy streams taken bytes report status (inr unsaved) = ends_unsaved streams status unsaved.0 unsaved.1
+
+-- `salvage -o` ends as a plain command does
+pub ends_salvage : {F : Type 0} (remaining contents : F → Option (List ℕ)) (had : F → Stamp → Type 0) (stood : Stamp → Type 0) (streams : Streams)
+    (edition : Edition) (status : ℕ) → RunsSalvage streams (host_files remaining contents had stood) edition status → Ends streams status
+ends_salvage remaining contents had stood streams edition status (inl nothing) = ends_unread remaining streams status nothing.0 nothing.1
+ends_salvage remaining contents had stood streams edition status (inr (image, given, inl (fault, why, told))) = ends_told streams fault status told
+ends_salvage remaining contents had stood streams edition status (inr (image, given, inr (bytes, report, is, saves))) =
+    ends_copy streams (IsTaken contents) bytes report status saves

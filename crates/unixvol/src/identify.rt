@@ -6,10 +6,11 @@ ghost use Rattle.unixvol.specs.Runs.{AreIdentified, IsLine, RunsIdentify, host_f
 use crate::explain::explain_no_memory;
 use crate::host::Surroundings;
 use crate::read::read_file;
+use command_faults::Ending;
 use command_faults::status::{BAD_FILE, DONE};
-use command_faults::{Ending, Fault};
+use command_reads::print::print_with;
 use host_files::ImageFiles;
-use pdp_words::{Image, Sink, write_all};
+use pdp_words::{Image, Sink};
 use std::fmt::Write;
 use vol_identify::identify;
 
@@ -33,13 +34,7 @@ pub fn run_identify<R: ImageFiles + Eprint + AllocGlobal, O: Sink>(
             };
         }
     };
-    match write_all(output, lines.as_bytes()) {
-        Ok(()) => Ending {
-            status,
-            fault: None,
-        },
-        Err(_) => Ending::from(Fault::Output),
-    }
+    print_with(lines.as_bytes(), status, output)
 }
 
 /// Appends the lines of the images in these files, and returns the status: 3 if one can't be read. Fails, with the status for that,

@@ -11,7 +11,8 @@ set -euo pipefail
 cd "$(dirname "$0")/.."
 if ((!$#)); then
     set -- "${RT:-rt}" ci
-    if "$1" help 2>&1 | grep -q -e --anew; then set -- "$@" --anew; fi
+    words=$("$1" help 2>&1 || true)
+    if [[ $words == *--anew* ]]; then set -- "$@" --anew; fi
 fi
 
 declare -A cost=() first=() last=() name=() kind=()

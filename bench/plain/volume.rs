@@ -371,6 +371,17 @@ impl Volume {
         self.touch_inode(ino, now);
     }
 
+    /// Sets the times of an i-node's last access and last modification.
+    pub fn put_times(&mut self, ino: usize, moment: usize) {
+        let place = self.inode(ino)
+            + match self.edition {
+                Edition::V6 => 24,
+                Edition::V7 => 52,
+            };
+        self.put_long(place, moment);
+        self.put_long(place + 4, moment);
+    }
+
     /// Sets the time of the i-node's last change, which the sixth edition doesn't have.
     pub fn touch_inode(&mut self, ino: usize, now: usize) {
         if self.edition == Edition::V7 {

@@ -177,7 +177,6 @@ asks_listing clock given edition image path (invocations.Look volume (looks.Df f
 asks_listing clock given edition image path (invocations.Look volume (looks.Find p name)) test e_is i_is p_is none is = absurd (true≢false (sym test))
 asks_listing clock given edition image path (invocations.Look volume (looks.Map picture)) test e_is i_is p_is none is = absurd (true≢false (sym test))
 asks_listing clock given edition image path (invocations.Look volume (looks.Check graded form)) test e_is i_is p_is none is = absurd (true≢false (sym test))
-asks_listing clock given edition image path (invocations.Look volume looks.Salvage) test e_is i_is p_is none is = absurd (true≢false (sym test))
 asks_listing clock given edition image path (invocations.Look volume (looks.List directory listing)) test e_is i_is p_is none is = (
   edition_is volume.edition edition (subst (IsEditionNamed volume.edition) e_is is.0.0),
   is.0.1 ∙ i_is,
@@ -238,7 +237,6 @@ listing_asks clock (Some met) edition image path (invocations.Look v (looks.Df f
 listing_asks clock (Some met) edition image path (invocations.Look v (looks.Find p name)) is listed = absurd listed
 listing_asks clock (Some met) edition image path (invocations.Look v (looks.Map picture)) is listed = absurd listed
 listing_asks clock (Some met) edition image path (invocations.Look v (looks.Check graded form)) is listed = absurd listed
-listing_asks clock (Some met) edition image path (invocations.Look v looks.Salvage) is listed = absurd listed
 listing_asks clock (Some met) edition image path (invocations.Look volume (looks.List directory listing)) is listed =
     let name : met.0 ≡ codes "ls" = ap (λ (l : List (List ℕ)). slice_index_or l 0 []) is in
     let word : the_word (words_by met.1) (codes "EDITION") ≡ word_of edition = ap (λ (l : List (List ℕ)). slice_index_or l 1 []) is in

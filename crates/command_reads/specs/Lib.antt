@@ -30,6 +30,5 @@ pub mod Node
 pub mod Print
 pub mod Queries
 pub mod Remarks
-pub mod Salvage
 pub mod Sums
 pub mod SuperBlock

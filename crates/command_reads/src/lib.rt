@@ -20,7 +20,6 @@ mod map;
 pub mod node;
 pub mod print;
 mod remarks;
-mod salvage;
 pub mod show;
 mod statuses;
 mod sums;

@@ -55,8 +55,6 @@ pub enum Look<'a> {
         path: &'a str,
         listing: ListOptions,
     },
-    /// The change of the free list that a salvage would make.
-    Salvage,
 }
 
 /// The options of an export.

@@ -11,7 +11,6 @@ use crate::inode::show_inode;
 use crate::looks::Look;
 use crate::ls::list;
 use crate::map::draw_map;
-use crate::salvage::foresee_salvage;
 use crate::sums::sums;
 use crate::super_block::{SuperPart, show_super};
 use command_faults::Ending;
@@ -68,6 +67,5 @@ pub fn perform<O: Sink>(
         Look::Map { picture } => draw_map(alloc, edition, image, picture, screen, output),
         Look::Check { graded, form } => check(alloc, edition, image, graded, form, output),
         Look::List { path, listing } => list(alloc, edition, image, path, listing, screen, output),
-        Look::Salvage => foresee_salvage(alloc, edition, image, output),
     }
 }

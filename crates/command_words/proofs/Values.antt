@@ -82,9 +82,9 @@ values_given clock given (invocations.Change volume (changes.Chmod path perm now
 values_given clock given (invocations.Change volume (changes.Chown path uid gid now)) is =
     (edition_value volume.edition _ is.0.0, (tt, (is.1.0.1, (is.1.1.0, (is.1.2.0, ((now, is.1.3), tt))))))
 values_given clock given (invocations.Change volume (changes.Touch path now)) is = (edition_value volume.edition _ is.0.0, (tt, (is.1.0.1, ((now, is.1.1), tt))))
-values_given clock given (invocations.Salvage volume copy) is = (edition_value volume.edition _ is.0.0, (tt, (tt, (tt, tt))))
+values_given clock given (invocations.Salvage volume None) is = (edition_value volume.edition _ is.0.0, (tt, (tt, (tt, tt))))
+values_given clock given (invocations.Salvage volume (Some copy)) is = (edition_value volume.edition _ is.0.0, (tt, (tt, (tt, tt))))
 values_given clock given (invocations.Change volume changes.Salvage) is = (edition_value volume.edition _ is.0.0, (tt, (tt, (tt, tt))))
-values_given clock given (invocations.Look volume looks.Salvage) is = (edition_value volume.edition _ is.0.0, (tt, (tt, (tt, tt))))
 values_given clock given (invocations.Look volume (looks.Export path options)) is = (edition_value volume.edition _ is.0.0, (tt, (tt, (tt, (tt, tt)))))
 values_given clock given (invocations.Look volume (looks.Sums path form)) is = (edition_value volume.edition _ is.0.0, (tt, (tt, (tt, tt))))
 values_given clock given (invocations.Look volume (looks.Inode node form)) is = (edition_value volume.edition _ is.0.0, (tt, (node_value node _ is.1.0, (tt, tt))))

@@ -184,7 +184,6 @@ look_verb (looks.Find path name) = verbs.Find
 look_verb (looks.Map picture) = verbs.Map
 look_verb (looks.Check graded form) = verbs.Check
 look_verb (looks.List path listing) = verbs.Ls
-look_verb looks.Salvage = verbs.Salvage
 
 -- the command that copies files (this project)
 abbrev pub copying_verb : Copying → Verb
@@ -307,7 +306,6 @@ IsLookGiven given (looks.Map picture) = IsPictureGiven given picture
 IsLookGiven given (looks.Check graded form) = (graded ≡ is_set (given (codes "status"))) × IsFormGiven given form
 IsLookGiven given (looks.List path listing) = (path.now ≡ the_word given (codes "PATH")) × AreLinesGiven given listing.lines
     × IsDepthGiven given listing.depth
-IsLookGiven given looks.Salvage = is_set (given (codes "dry-run")) ≡ true
 
 -- the words of `put` for several files, in order (this project)
 abbrev pub put_words : Words → List (List ℕ)
@@ -382,7 +380,8 @@ IsGiven clock given (invocations.Mkfs image volume) = IsMadeGiven given (codes "
 IsGiven clock given (invocations.Migrate old new migration) = (old.now ≡ the_word given (codes "OLD"))
     × IsMadeGiven given (codes "NEW") new × IsMigrationGiven clock given migration
 IsGiven clock given (invocations.Get volume path) = IsVolumeGiven given volume × IsOnePathGiven given path.now
-IsGiven clock given (invocations.Salvage volume copy) = IsVolumeGiven given volume × (is_set (given (codes "dry-run")) ≡ false)
+IsGiven clock given (invocations.Salvage volume None) = IsVolumeGiven given volume × (is_set (given (codes "dry-run")) ≡ true)
+IsGiven clock given (invocations.Salvage volume (Some copy)) = IsVolumeGiven given volume × (is_set (given (codes "dry-run")) ≡ false)
     × IsFirstWord given (codes "output") copy.now
 IsGiven clock given (invocations.Change volume change) = IsVolumeGiven given volume × IsChangeGiven clock given change
 IsGiven clock given (invocations.Look volume look) = IsVolumeGiven given volume × IsLookGiven given look

@@ -96,10 +96,10 @@ pub enum Invocation<'a> {
         new: MadeFile<'a>,
         migration: Migration,
     },
-    /// Make a salvaged volume in the file `copy` from the one in a file.
+    /// Print how salvaging the volume in a file changes its free list, and save the salvaged volume in the file `copy`, if there is one.
     Salvage {
         volume: VolumeFile<'a>,
-        copy: &'a str,
+        copy: Option<&'a str>,
     },
     /// Change the volume in a file.
     Change {

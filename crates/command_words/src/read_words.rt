@@ -568,13 +568,13 @@ fn read_salvage<'a, G: Given<'a>>(given: &G) -> Result<Invocation<'a>, WordFault
 {
     let volume = volume_in(given)?;
     if flag_in(given, "dry-run") {
-        return Ok(Invocation::Look {
-            volume,
-            look: Look::Salvage,
-        });
+        return Ok(Invocation::Salvage { volume, copy: None });
     }
     match given.first("output") {
-        Some(copy) => Ok(Invocation::Salvage { volume, copy }),
+        Some(copy) => Ok(Invocation::Salvage {
+            volume,
+            copy: Some(copy),
+        }),
         None => Ok(Invocation::Change {
             volume,
             change: Change::Salvage,

@@ -1,5 +1,5 @@
--- The end of `salvage -o`.
-use Rattle.std.proofs.Common.{◌≡◌, ℕ, ◌≤◌, List, Option, inl, inr, sym, subst, arith}
+-- The end of `salvage -n` and of `salvage -o`.
+use Rattle.std.proofs.Common.{◌≡◌, ℕ, ◌≤◌, List, Option, None, Some, inl, inr, sym, subst, arith}
 use Rattle.std.specs.Io.KnownBytes.{Keeps}
 use Rattle.command_faults.proofs.Concluded.{fault_few}
 use Rattle.command_faults.specs.Streams.{Streams}
@@ -9,7 +9,7 @@ use Rattle.host_files.specs.Save.{IsTaken}
 use Rattle.host_files.specs.declared.image_file.Stamp.{Stamp}
 use Rattle.vol_layout.specs.declared.edition.Edition.{Edition}
 use Rattle.unixvol.proofs.Concluded.{ends_unread}
-use Rattle.unixvol.specs.Runs.{Ends, IsStatusOfFileOrMemory, RunsSalvage, SavesCopy, host_files}
+use Rattle.unixvol.specs.Runs.{Ends, IsStatusOfFileOrMemory, ReportsSalvage, RunsSalvage, SavesCopy, host_files}
 
 -- the end of a run that reports a fault
 ends_told : (streams : Streams) (fault : Fault) (status : ℕ) → IsTold streams fault status → Ends streams status
@@ -42,10 +42,15 @@ ends_copy : (streams : Streams) (taken : List ℕ → Type 0) (bytes report : Li
 ends_copy streams taken bytes report status (inl saved) = ends_printed streams report status saved.1
 ends_copy streams taken bytes report status (inr unsaved) = ends_unsaved streams status unsaved.0 unsaved.1
 
--- `salvage -o` ends as a plain command does
-pub ends_salvage : {F : Type 0} (remaining contents : F → Option (List ℕ)) (had : F → Stamp → Type 0) (stood : Stamp → Type 0) (streams : Streams)
-    (edition : Edition) (status : ℕ) → RunsSalvage streams (host_files remaining contents had stood) edition status → Ends streams status
-ends_salvage remaining contents had stood streams edition status (inl nothing) = ends_unread remaining streams status nothing.0 nothing.1
-ends_salvage remaining contents had stood streams edition status (inr (image, given, inl (fault, why, told))) = ends_told streams fault status told
-ends_salvage remaining contents had stood streams edition status (inr (image, given, inr (bytes, report, is, saves))) =
-    ends_copy streams (IsTaken contents) bytes report status saves
+ends_reported : {A : Type 0} (copy : Option A) (streams : Streams) (taken : List ℕ → Type 0) (bytes report : List ℕ) (status : ℕ)
+    → ReportsSalvage copy streams taken bytes report status → Ends streams status
+ends_reported None streams taken bytes report status prints = ends_printed streams report status prints
+ends_reported (Some copy) streams taken bytes report status saves = ends_copy streams taken bytes report status saves
+
+-- they end as a plain command does
+pub ends_salvage : {F A : Type 0} (remaining contents : F → Option (List ℕ)) (had : F → Stamp → Type 0) (stood : Stamp → Type 0) (streams : Streams)
+    (edition : Edition) (copy : Option A) (status : ℕ) → RunsSalvage streams (host_files remaining contents had stood) edition copy status → Ends streams status
+ends_salvage remaining contents had stood streams edition copy status (inl nothing) = ends_unread remaining streams status nothing.0 nothing.1
+ends_salvage remaining contents had stood streams edition copy status (inr (image, given, inl (fault, why, told))) = ends_told streams fault status told
+ends_salvage remaining contents had stood streams edition copy status (inr (image, given, inr (bytes, report, is, reports))) =
+    ends_reported copy streams (IsTaken contents) bytes report status reports

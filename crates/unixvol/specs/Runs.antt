@@ -1,5 +1,5 @@
 -- The result of a run of the program, from the bytes that its files give.
-use Rattle.std.specs.Prelude.{All, length, map, codes, ◌≡◌, ◌≢◌, ◌⊎◌, ◌↔◌, ◌≤◌, ◌++◌, ◌∷◌, ℕ, false, true, List, [], Option, IsSome, IfSome, Result, Ok, Err, IsErrAnd, Bool, if◌then◌else◌}
+use Rattle.std.specs.Prelude.{All, length, map, codes, ◌≡◌, ◌≢◌, ◌⊎◌, ◌↔◌, ◌≤◌, ◌++◌, ◌∷◌, ℕ, false, true, List, [], Option, None, Some, IsSome, IfSome, Result, Ok, Err, IsErrAnd, Bool, if◌then◌else◌}
 use Rattle.std.specs.Io.KnownBytes.{Keeps}
 use Rattle.clap.specs.Words.{kind_of}
 use Rattle.clap.specs.declared.error.Error.{Error}
@@ -172,13 +172,19 @@ SavesCopy streams taken bytes report status =
     (taken bytes × Prints streams report status)
     ⊎ (IsStatusOfFileOrMemory status × Keeps streams.old streams.new × (streams.failed ≡ streams.had_failed) × streams.said [])
 
--- `salvage -o` runs: nothing is done; or the reason why the image that a file gave can't be salvaged is reported; or it is salvaged, and saved with its report (this project)
-abbrev pub RunsSalvage : Streams → HostFiles → Edition → ℕ → Type 0
-RunsSalvage streams files edition status =
+-- the report on a salvaged volume is printed, once the volume is saved if a file is named for it (this project)
+abbrev pub ReportsSalvage : {A : Type 0} → Option A → Streams → (List ℕ → Type 0) → List ℕ → List ℕ → ℕ → Type 0
+ReportsSalvage None streams taken bytes report status = Prints streams report status
+ReportsSalvage (Some copy) streams taken bytes report status = SavesCopy streams taken bytes report status
+
+-- `salvage -n` or `-o` runs: nothing is done; or the reason why the image that a file gave can't be salvaged is reported; or it is salvaged, and reported
+-- on (this project)
+abbrev pub RunsSalvage : {A : Type 0} → Streams → HostFiles → Edition → Option A → ℕ → Type 0
+RunsSalvage streams files edition copy status =
     RunsNothing streams files status
     ⊎ ((image : List ℕ) × files.shown edition image
     × (((fault : Fault) × IsUnsalvaged edition image fault × IsTold streams fault status)
-    ⊎ ((bytes : List ℕ) × (report : List ℕ) × IsReported edition image bytes report × SavesCopy streams files.taken bytes report status)))
+    ⊎ ((bytes : List ℕ) × (report : List ℕ) × IsReported edition image bytes report × ReportsSalvage copy streams files.taken bytes report status)))
 
 -- `get` runs: nothing is done; or the file at a path of an image, which is read from a file, is printed (this project)
 abbrev pub RunsGetOne : Streams → HostFiles → Edition → List ℕ → ℕ → Type 0
@@ -225,7 +231,6 @@ IsSeen files edition (looks.Block block) image = files.shown edition image
 IsSeen files edition (looks.Df form) image = files.shown edition image
 IsSeen files edition (looks.Find path name) image = files.shown edition image
 IsSeen files edition (looks.Map picture) image = files.shown edition image
-IsSeen files edition looks.Salvage image = files.shown edition image
 
 -- part of an image is shown: nothing is done; or it is shown from an image that was read from a file (this project)
 abbrev pub RunsLook : Streams → HostFiles → Screen → Edition → Look → ℕ → Type 0
@@ -324,7 +329,7 @@ Runs streams files status (invocations.Get volume path) = RunsGetOne streams fil
 Runs streams files status (invocations.Mkfs image volume) = RunsMkfs streams files.taken volume status
 Runs streams files status (invocations.Migrate old new migration) = RunsMigrate streams files migration status
 Runs streams files status (invocations.Identify images) = RunsIdentify streams files (map (λ image. image.now) images.items) status
-Runs streams files status (invocations.Salvage volume copy) = RunsSalvage streams files volume.edition status
+Runs streams files status (invocations.Salvage volume copy) = RunsSalvage streams files volume.edition copy status
 Runs streams files status (invocations.Look volume look) = ⊥
 Runs streams files status (invocations.Change volume change) = ⊥
 Runs streams files status (invocations.Copy volume copying) = ⊥
@@ -383,7 +388,6 @@ highest_status (looks.Df form) = 4
 highest_status (looks.Find path name) = 4
 highest_status (looks.Map picture) = 4
 highest_status (looks.List path listing) = 4
-highest_status looks.Salvage = 4
 
 -- work with several threads runs to its end, from the contents of the program's two streams: their contents afterwards, whether they failed, and the
 -- status of the run, which is also the exit status unless that is 3 (this project)

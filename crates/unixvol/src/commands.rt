@@ -1,4 +1,4 @@
-//! `cat`, `get`, `mkfs`, `migrate`, `salvage -o` and `identify`, which print all or nothing: the files they open and save.
+//! `cat`, `get`, `mkfs`, `migrate`, `salvage -n`, `salvage -o` and `identify`, which print all or nothing: the files they open and save.
 ghost use Rattle.std.specs.Prelude.{◌≡◌, ◌≢◌, ◌≤◌, ℕ, Bool, List, Option, IfOk, string_bytes};
 ghost use Rattle.std.specs.Io.KnownBytes.{Keeps};
 ghost use Rattle.std.specs.Process.{exit_status};
@@ -175,15 +175,15 @@ fn run_migrate<R: ImageFiles + Clock + Eprint + AllocGlobal>(
     }
 }
 
-/// Salvages the volume in a file, saves it in the file `copy`, prints how its free list changed, and returns how the run ends.
+/// Salvages the volume in a file, saves it in the file `copy` if there is one, prints how its free list changed, and returns how the run ends.
 fn run_salvage<R: ImageFiles + Clock + Eprint + AllocGlobal, O: Sink>(
     host: &Surroundings<'_, R>,
     output: &mut O,
     volume: VolumeFile<'_>,
-    copy: &str,
+    copy: Option<&str>,
 ) -> Ending
     ensures { (errors : ErrorStream) → Hears errors result.fault
-        → RunsSalvage (streams O.contents O.failed output.old output.new errors) (host_files R.File.remaining R.File.contents R.had R.stood) volume.entry.edition result.status }
+        → RunsSalvage (streams O.contents O.failed output.old output.new errors) (host_files R.File.remaining R.File.contents R.had R.stood) volume.entry.edition copy.entry result.status }
 {
     let (image, stamp) = match read_stamped(host, volume.edition, volume.image) {
         Ok(read) => read,
@@ -194,9 +194,13 @@ fn run_salvage<R: ImageFiles + Clock + Eprint + AllocGlobal, O: Sink>(
             };
         }
     };
-    match salvage_with_report(host.rt.alloc(), volume.edition, image) {
-        Ok(salvaged) => save_copy(host, output, copy, stamp, &salvaged),
-        Err(fault) => Ending::from(fault),
+    let salvaged = match salvage_with_report(host.rt.alloc(), volume.edition, image) {
+        Ok(salvaged) => salvaged,
+        Err(fault) => return Ending::from(fault),
+    };
+    match copy {
+        Some(copy) => save_copy(host, output, copy, stamp, &salvaged),
+        None => print_with(salvaged.report.as_bytes(), DONE, output),
     }
 }
 

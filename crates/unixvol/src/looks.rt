@@ -137,8 +137,7 @@ fn read_seen<R: ImageFiles + Eprint + AllocGlobal>(
         | Look::Block { .. }
         | Look::Df { .. }
         | Look::Find { .. }
-        | Look::Map { .. }
-        | Look::Salvage => read_volume(host, volume),
+        | Look::Map { .. } => read_volume(host, volume),
     }
 }
 

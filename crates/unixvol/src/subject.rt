@@ -109,7 +109,6 @@ impl<'a> Subject<'a> {
             Look::Map { .. } => (Verb::Map, About::Image),
             Look::Check { .. } => (Verb::Check, About::Image),
             Look::List { path, .. } => (Verb::Ls, About::Path(path)),
-            Look::Salvage => (Verb::Salvage, About::Image),
         };
         Subject::new(volume, verb, about)
     }

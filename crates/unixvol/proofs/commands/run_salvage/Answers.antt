@@ -2,11 +2,26 @@ use Rattle.std.proofs.Common.{inr, string_bytes}
 use Rattle.unixvol.proofs.commands.run_salvage.Goals as goal
 
 -- the salvaged volume is saved, and its report is printed
-pub returns-in-Ok-salvage_with_report : goal.returns-in-Ok-salvage_with_report
-returns-in-Ok-salvage_with_report g c errors hears =
+pub returns-in-Some : goal.returns-in-Some
+returns-in-Some g c errors hears =
     let made = c.in-Ok-salvage_with_report in
     inr (
       c.in-Ok.read.0.items,
       c.in-Ok.ensures.given,
-      inr (made.salvaged.bytes.items, string_bytes made.salvaged.report, made.ensures.salvaged, c.save_copy.ensures errors hears),
+      inr (made.salvaged.bytes.items, string_bytes made.salvaged.report, made.ensures.salvaged, rw c.in-Some.is (c.save_copy.ensures errors hears)),
+    )
+
+-- only its report is printed
+pub returns : goal.returns
+returns g c errors hears =
+    let made = c.in-Ok-salvage_with_report in
+    inr (
+      c.in-Ok.read.0.items,
+      c.in-Ok.ensures.given,
+      inr (
+        made.salvaged.bytes.items,
+        string_bytes made.salvaged.report,
+        made.ensures.salvaged,
+        rw c.in-None.is (rw c.as_bytes.ensures.value at (c.print_with.ensures errors hears)),
+      ),
     )

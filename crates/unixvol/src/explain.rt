@@ -127,8 +127,8 @@ pub fn tell_fault<R: ImageFiles + Eprint + AllocGlobal, E: Sink>(
     explain(host, fault, output, subject);
 }
 
-/// Prints the second line of a run, if the user asked for it: the system's error if standard output failed, else the meaning of the fault. A fault in
-/// words has no second line. If memory runs out, the second line is left out.
+/// Prints the second line of a run, if the user asked for it: the system's error if standard output failed, else the meaning of the fault, if
+/// [`meaning_of`] has one. If memory runs out, the second line is left out.
 fn explain<R: ImageFiles + Eprint + AllocGlobal>(
     host: &Surroundings<'_, R>,
     fault: &Option<Fault>,

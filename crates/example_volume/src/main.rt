@@ -55,14 +55,14 @@ fn make_hello(alloc: Global, volume: &mut Volume) -> Option<()> {
         path: Bytes::from_slice(alloc, b"/home").ok()?,
         perm: 0o755,
     };
-    volume.call(alloc, mkdir).ok()?;
+    make(alloc, volume, mkdir)?;
     let create = Call::Create {
         cred: Cred::ROOT,
         now: NOW,
         path: Bytes::from_slice(alloc, HELLO).ok()?,
         perm: 0o644,
     };
-    volume.call(alloc, create).ok()?;
+    make(alloc, volume, create)?;
     let write = Call::Write {
         cred: Cred::ROOT,
         now: NOW,
@@ -70,7 +70,12 @@ fn make_hello(alloc: Global, volume: &mut Volume) -> Option<()> {
         offset: 0,
         bytes: Bytes::from_slice(alloc, b"hello, world\n").ok()?,
     };
-    volume.call(alloc, write).ok()?;
+    make(alloc, volume, write)
+}
+
+/// Makes a call. Returns `None` if it is refused.
+fn make(alloc: Global, volume: &mut Volume, call: Call) -> Option<()> {
+    volume.call(alloc, call).ok()?;
     Some(())
 }
 

@@ -33,7 +33,7 @@ _unixvol() {
     fi
     case $command in
         cat) kinds='edition file any' options='--explain -h --help' ;;
-        ls) kinds='edition file path' options='-l --long -R --recursive -d --directory --json --explain -h --help' ;;
+        ls) kinds='edition file path' options='-l --long -R --recursive -d --directory --json --slots --explain -h --help' ;;
         get) kinds='edition file path any...' options='-o --output --explain -h --help' valued='-o=file --output=file' others='edition file path...' ;;
         find) kinds='edition file path' options='-g --name --explain -h --help' valued='-g=any --name=any' others='' ;;
         export) kinds='edition file path' options='--lost --status --explain -h --help' ;;
@@ -45,9 +45,9 @@ _unixvol() {
         df) kinds='edition file' options='--json --explain -h --help' ;;
         map) kinds='edition file' options='--svg --explain -h --help' ;;
         check) kinds='edition file' options='--status --json --explain -h --help' ;;
-        icheck) kinds='edition file any' options='--explain -h --help' ;;
-        dcheck) kinds='edition file any' options='--explain -h --help' ;;
-        ncheck) kinds='edition file any' options='--explain -h --help' ;;
+        icheck) kinds='edition file any' options='--json --explain -h --help' ;;
+        dcheck) kinds='edition file any' options='--json --explain -h --help' ;;
+        ncheck) kinds='edition file any' options='--json --explain -h --help' ;;
         mkfs) kinds='edition file any any any any any' options='--new --explain -h --help' ;;
         put) kinds='edition file path file any any...' options='-t --target-directory --explain -h --help' valued='-t=path --target-directory=path' others='edition file file...' ;;
         import) kinds='edition file path any' options='--skip-special -o --owner --explain -h --help' valued='-o=any --owner=any' others='' ;;

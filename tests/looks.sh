@@ -129,6 +129,40 @@ done
 "$program" check --status 7 lost.img > output
 has 'the status of check --status of a volume that is not sound' 1 $?
 
+# The slots of a directory, as Python reads them in its body, with names that were removed.
+# slots EDITION IMAGE PATH: `ls --slots` prints these lines
+slots() {
+    "$program" cat "$@" | python3 -c 'import struct, sys
+body = sys.stdin.buffer.read()
+for slot in range(len(body) // 16):
+    number, name = struct.unpack_from("<H14s", body, 16 * slot)
+    if number or name.strip(b"\0"):
+        sys.stdout.buffer.write(b"%5d %5d %s\n" % (slot, number, name.split(b"\0")[0]))' > wanted
+    prints wanted ls --slots "$@"
+}
+slots 7 lost.img /
+has 'a name that was removed' '    2     0 usr' "$(sed -n 3p output)"
+for path in / /etc /usr/games/..; do slots 7 "$linux" "$path"; done
+for edition in 6 7; do
+    "$program" mkfs "$edition" slots.img 400 10 0 0 1000
+    for number in {1..40}; do printf '%d 0 0 create /n%d 644\n' 1001 "$number"; done > script
+    printf '1002 0 0 unlink /n%d\n' 3 30 40 >> script
+    "$program" play "$edition" slots.img script > play
+    slots "$edition" slots.img /
+    has "the slots of removed names, edition $edition" 'n3 n30 n40' "$(awk '$2 == 0 { print $3 }' output | paste -s -d ' ' -)"
+    "$program" touch "$edition" slots.img /again 1003
+    slots "$edition" slots.img /
+    has "a slot that is used again, edition $edition" 'n30 n40' "$(awk '$2 == 0 { print $3 }' output | paste -s -d ' ' -)"
+done
+# A root of the greatest size, almost all of it holes.
+cp output wanted
+put slots.img $((1024 + 64 + 8)) 81400014
+prints wanted ls --slots 7 slots.img /
+refuses 1 'unixvol: 20 NotDirectory' ls --slots 7 "$linux" /etc/motd
+refuses 1 'unixvol: 2 NoEntry' ls --slots 7 "$linux" /x
+refuses 1 'unixvol: unsound, rule 1' ls --slots 7 short /
+refuses 3 'unixvol: cannot read missing' ls --slots 7 missing
+
 # An i-node, as od reads it.
 field() { od -An -tu2 -j $((1024 + 64 * 91 + $1)) -N 2 "$linux" | tr -d ' '; }
 runs inode 7 "$linux" 92

@@ -192,8 +192,8 @@ followed() {
     : > to_tell
 }
 
-# finds STATUS COMMAND IMAGE LINE..: the checker prints these lines for an image of the edition `edition`, with 1, 2, 7 and 64 threads, and ends with
-# this status
+# finds STATUS COMMAND IMAGE LINE..: the checker prints these lines for an image of the edition `edition`, with 1, 2, 7 and 64 threads, and as JSON, and
+# ends with this status
 finds() {
     local status=$1 command=$2 volume=$3 workers
     shift 3
@@ -202,6 +202,24 @@ finds() {
         runs "$command" "$edition" "$volume" "$workers"
         wants "$command of $volume by $workers threads" "$status" lines none
     done
+    runs "$command" --json "$edition" "$volume" 2
+    as_lines "$status" < output > text || echo 'no report as JSON' >> text
+    mv text output
+    wants "$command --json of $volume" "$status" lines none
+}
+
+# as_lines STATUS: the lines that a checker's report in JSON has as text; the status has to say whether it has faults
+as_lines() {
+    python3 -c 'import json, re, sys
+text = {
+    "rule": "rule {rule}", "bad": "bad {i-node} {count} {least}", "dup": "dup {block} {places} {free:d}", "lost": "lost {block}",
+    "free": "{fault} {number}", "total": "{name} {count}", "links": "{i-node} {entries} {links}", "name": "{i-node} {path}",
+}
+report = json.load(sys.stdin)
+assert list(report) == ["faults", "lines"] and report["faults"] == (sys.argv[1] == "1")
+for it in report["lines"]:
+    line = text[it["line"]].format(**it).encode()
+    sys.stdout.buffer.write(re.sub(rb"\\([0-7]{3}|\\)", lambda m: bytes([int(m[1], 8)]) if len(m[1]) == 3 else m[1], line) + b"\n")' "$1"
 }
 
 # totals FILES DIRECTORIES SPECIAL ODD USED FREE MISSING: the last lines of icheck

@@ -54,11 +54,11 @@ abbrev seen : Option (List ℕ × List Row) → List (List ℕ)
 seen None = []
 seen (Some met) = met.0 ∷ the_word (words_by met.1) (codes "EDITION") ∷ the_word (words_by met.1) (codes "IMAGE") ∷ the_word (words_by met.1) (codes "PATH")
     ∷ the_word (words_by met.1) (codes "json") ∷ the_word (words_by met.1) (codes "long") ∷ the_word (words_by met.1) (codes "recursive")
-    ∷ the_word (words_by met.1) (codes "directory") ∷ []
+    ∷ the_word (words_by met.1) (codes "directory") ∷ the_word (words_by met.1) (codes "slots") ∷ []
 
 -- the words of options that weren't given
 abbrev no_options : List (List ℕ)
-no_options = codes "false" ∷ codes "false" ∷ codes "false" ∷ codes "false" ∷ []
+no_options = codes "false" ∷ codes "false" ∷ codes "false" ∷ codes "false" ∷ codes "false" ∷ []
 
 -- the name of the command, and the words for the arguments of `ls` without options
 abbrev words_of : Edition → List ℕ → List ℕ → List (List ℕ)
@@ -118,6 +118,7 @@ record HasNoOptions (given : Words) : Type 0 where
   long : first_word (given (codes "long")) ≡ codes "false"
   below : first_word (given (codes "recursive")) ≡ codes "false"
   itself : first_word (given (codes "directory")) ≡ codes "false"
+  slots : first_word (given (codes "slots")) ≡ codes "false"
 
 -- if the word of an option is `false`, the option wasn't given
 unset : (words : List (List ℕ)) → first_word words ≡ codes "false" → is_set words ≡ false
@@ -177,6 +178,8 @@ asks_listing clock given edition image path (invocations.Look volume (looks.Df f
 asks_listing clock given edition image path (invocations.Look volume (looks.Find p name)) test e_is i_is p_is none is = absurd (true≢false (sym test))
 asks_listing clock given edition image path (invocations.Look volume (looks.Map picture)) test e_is i_is p_is none is = absurd (true≢false (sym test))
 asks_listing clock given edition image path (invocations.Look volume (looks.Check graded form)) test e_is i_is p_is none is = absurd (true≢false (sym test))
+asks_listing clock given edition image path (invocations.Look volume (looks.Slots p)) test e_is i_is p_is none is =
+    absurd (true≢false (sym is.1.1 ∙ unset (given (codes "slots")) none.slots))
 asks_listing clock given edition image path (invocations.Look volume (looks.List directory listing)) test e_is i_is p_is none is = (
   edition_is volume.edition edition (subst (IsEditionNamed volume.edition) e_is is.0.0),
   is.0.1 ∙ i_is,
@@ -186,9 +189,9 @@ asks_listing clock given edition image path (invocations.Look volume (looks.List
 )
 asks_listing clock given edition image path (invocations.Copy volume (copies.Put directory files now)) test e_is i_is p_is none is = absurd (true≢false (sym test))
 asks_listing clock given edition image path (invocations.Copy volume (copies.Get folder paths)) test e_is i_is p_is none is = absurd (true≢false (sym test))
-asks_listing clock given edition image path (invocations.Work volume (works.Check checkers.Blocks workers)) test e_is i_is p_is none is = absurd (true≢false (sym test))
-asks_listing clock given edition image path (invocations.Work volume (works.Check checkers.Entries workers)) test e_is i_is p_is none is = absurd (true≢false (sym test))
-asks_listing clock given edition image path (invocations.Work volume (works.Check checkers.Names workers)) test e_is i_is p_is none is = absurd (true≢false (sym test))
+asks_listing clock given edition image path (invocations.Work volume (works.Check checkers.Blocks workers form)) test e_is i_is p_is none is = absurd (true≢false (sym test))
+asks_listing clock given edition image path (invocations.Work volume (works.Check checkers.Entries workers form)) test e_is i_is p_is none is = absurd (true≢false (sym test))
+asks_listing clock given edition image path (invocations.Work volume (works.Check checkers.Names workers form)) test e_is i_is p_is none is = absurd (true≢false (sym test))
 asks_listing clock given edition image path (invocations.Work volume (works.Play scripts journal)) test e_is i_is p_is none is = absurd (true≢false (sym test))
 
 -- if clap found the words of `ls` without options, no option was given
@@ -199,6 +202,7 @@ no_options_by met edition image path is = record {
   long = ap (λ (l : List (List ℕ)). slice_index_or l 5 []) is;
   below = ap (λ (l : List (List ℕ)). slice_index_or l 6 []) is;
   itself = ap (λ (l : List (List ℕ)). slice_index_or l 7 []) is;
+  slots = ap (λ (l : List (List ℕ)). slice_index_or l 8 []) is;
 }
 
 -- if clap found the command `ls` with its words and no options, every invocation that is read from them is that listing
@@ -237,6 +241,7 @@ listing_asks clock (Some met) edition image path (invocations.Look v (looks.Df f
 listing_asks clock (Some met) edition image path (invocations.Look v (looks.Find p name)) is listed = absurd listed
 listing_asks clock (Some met) edition image path (invocations.Look v (looks.Map picture)) is listed = absurd listed
 listing_asks clock (Some met) edition image path (invocations.Look v (looks.Check graded form)) is listed = absurd listed
+listing_asks clock (Some met) edition image path (invocations.Look v (looks.Slots p)) is listed = absurd listed
 listing_asks clock (Some met) edition image path (invocations.Look volume (looks.List directory listing)) is listed =
     let name : met.0 ≡ codes "ls" = ap (λ (l : List (List ℕ)). slice_index_or l 0 []) is in
     let word : the_word (words_by met.1) (codes "EDITION") ≡ word_of edition = ap (λ (l : List (List ℕ)). slice_index_or l 1 []) is in
@@ -253,6 +258,7 @@ listing_asks clock (Some met) edition image path (invocations.Look volume (looks
           listed.2 ∙ sym end,
           plain_given (words_by met.1) listing.lines none listed.3,
           to_names_given (words_by met.1) listing.depth none listed.4,
+          unset (words_by met.1 (codes "slots")) none.slots,
         ),
       ),
     )

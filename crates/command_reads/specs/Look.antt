@@ -10,6 +10,7 @@ use Rattle.command_reads.specs.Find.{Finds}
 use Rattle.command_reads.specs.Ls.{Lists}
 use Rattle.command_reads.specs.Map.{DrawsMap}
 use Rattle.command_reads.specs.Inode.{ShowsInode}
+use Rattle.command_reads.specs.Slots.{ShowsSlots}
 use Rattle.command_reads.specs.Sums.{Sums}
 use Rattle.command_reads.specs.SuperBlock.{ShowsSuper}
 use Rattle.command_reads.specs.declared.looks.Look.{Look}
@@ -30,3 +31,4 @@ Looks edition image screen streams status (looks.Df form) = ShowsSuper edition i
 Looks edition image screen streams status (looks.Map picture) = DrawsMap edition image screen picture streams status
 Looks edition image screen streams status (looks.Check graded form) = Checks edition image graded form streams status
 Looks edition image screen streams status (looks.List path listing) = Lists edition image path.now listing screen streams status
+Looks edition image screen streams status (looks.Slots path) = ShowsSlots edition image path.now screen streams status

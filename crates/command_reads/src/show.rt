@@ -11,6 +11,7 @@ use crate::inode::show_inode;
 use crate::looks::Look;
 use crate::ls::list;
 use crate::map::draw_map;
+use crate::slots::show_slots;
 use crate::sums::sums;
 use crate::super_block::{SuperPart, show_super};
 use command_faults::Ending;
@@ -67,5 +68,6 @@ pub fn perform<O: Sink>(
         Look::Map { picture } => draw_map(alloc, edition, image, picture, screen, output),
         Look::Check { graded, form } => check(alloc, edition, image, graded, form, output),
         Look::List { path, listing } => list(alloc, edition, image, path, listing, screen, output),
+        Look::Slots { path } => show_slots(alloc, edition, image, path, screen, output),
     }
 }

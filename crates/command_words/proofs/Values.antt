@@ -95,7 +95,8 @@ values_given clock given (invocations.Look volume (looks.Df form)) is = (edition
 values_given clock given (invocations.Look volume (looks.Find path name)) is = (edition_value volume.edition _ is.0.0, (tt, (tt, (tt, tt))))
 values_given clock given (invocations.Look volume (looks.Map picture)) is = (edition_value volume.edition _ is.0.0, (tt, (tt, tt)))
 values_given clock given (invocations.Look volume (looks.Check graded form)) is = (edition_value volume.edition _ is.0.0, (tt, (tt, (tt, tt))))
-values_given clock given (invocations.Look volume (looks.List path listing)) is = (edition_value volume.edition _ is.0.0, (tt, (tt, (tt, (tt, (tt, (tt, tt)))))))
+values_given clock given (invocations.Look volume (looks.List path listing)) is = (edition_value volume.edition _ is.0.0, (tt, (tt, (tt, (tt, (tt, (tt, (tt, tt))))))))
+values_given clock given (invocations.Look volume (looks.Slots path)) is = (edition_value volume.edition _ is.0.0, (tt, (tt, (tt, (tt, (tt, (tt, (tt, tt))))))))
 values_given clock given (invocations.Change volume (changes.Import path options now)) is =
     (edition_value volume.edition _ is.0.0, (tt, (is.1.0.1, ((now, is.1.1), (tt, (owner_value _ options.owner is.1.2.1, tt))))))
 values_given clock given (invocations.Change volume (changes.MkdirAll path now)) is = (edition_value volume.edition _ is.0.0, (tt, (tt, ((now, is.1.1), (tt, tt)))))
@@ -104,9 +105,9 @@ values_given clock given (invocations.Change volume (changes.Mv from to now)) is
     (edition_value volume.edition _ is.0.0, (tt, (tt, (tt, ((now, is.1.2), tt)))))
 values_given clock given (invocations.Copy volume (copies.Put directory files now)) is = (edition_value volume.edition _ is.0.0, (tt, (tt, (tt, (tt, (tt, (tt, tt)))))))
 values_given clock given (invocations.Copy volume (copies.Get folder paths)) is = (edition_value volume.edition _ is.0.0, (tt, (tt, (tt, (tt, tt)))))
-values_given clock given (invocations.Work volume (works.Check checkers.Blocks workers)) is = (edition_value volume.edition _ is.0.0, (tt, (is.1.0, tt)))
-values_given clock given (invocations.Work volume (works.Check checkers.Entries workers)) is = (edition_value volume.edition _ is.0.0, (tt, (is.1.0, tt)))
-values_given clock given (invocations.Work volume (works.Check checkers.Names workers)) is = (edition_value volume.edition _ is.0.0, (tt, (is.1.0, tt)))
+values_given clock given (invocations.Work volume (works.Check checkers.Blocks workers form)) is = (edition_value volume.edition _ is.0.0, (tt, (is.1.0.0, (tt, tt))))
+values_given clock given (invocations.Work volume (works.Check checkers.Entries workers form)) is = (edition_value volume.edition _ is.0.0, (tt, (is.1.0.0, (tt, tt))))
+values_given clock given (invocations.Work volume (works.Check checkers.Names workers form)) is = (edition_value volume.edition _ is.0.0, (tt, (is.1.0.0, (tt, tt))))
 values_given clock given (invocations.Work volume (works.Play scripts journal)) is =
     (edition_value volume.edition _ is.0.0, (tt, (scripts_value scripts.items _ is.1.0 is.1.1 is.1.2, (tt, tt))))
 values_given clock given (invocations.Serve volume serving) is = (edition_value volume.edition _ is.0.0, (tt, (tt, (tt, tt))))

@@ -152,7 +152,7 @@ checker_verb checkers.Names = verbs.Ncheck
 
 -- the command for work with several threads (this project)
 abbrev pub work_verb : Work → Verb
-work_verb (works.Check checker workers) = checker_verb checker
+work_verb (works.Check checker workers form) = checker_verb checker
 work_verb (works.Play scripts journal) = verbs.Play
 
 -- the command for a change (this project)
@@ -184,6 +184,7 @@ look_verb (looks.Find path name) = verbs.Find
 look_verb (looks.Map picture) = verbs.Map
 look_verb (looks.Check graded form) = verbs.Check
 look_verb (looks.List path listing) = verbs.Ls
+look_verb (looks.Slots path) = verbs.Ls
 
 -- the command that copies files (this project)
 abbrev pub copying_verb : Copying → Verb
@@ -305,7 +306,8 @@ IsLookGiven given (looks.Find path name) = (path.now ≡ the_word given (codes "
 IsLookGiven given (looks.Map picture) = IsPictureGiven given picture
 IsLookGiven given (looks.Check graded form) = (graded ≡ is_set (given (codes "status"))) × IsFormGiven given form
 IsLookGiven given (looks.List path listing) = (path.now ≡ the_word given (codes "PATH")) × AreLinesGiven given listing.lines
-    × IsDepthGiven given listing.depth
+    × IsDepthGiven given listing.depth × (is_set (given (codes "slots")) ≡ false)
+IsLookGiven given (looks.Slots path) = (path.now ≡ the_word given (codes "PATH")) × (is_set (given (codes "slots")) ≡ true)
 
 -- the words of `put` for several files, in order (this project)
 abbrev pub put_words : Words → List (List ℕ)
@@ -362,7 +364,7 @@ IsCopyGiven clock given (copies.Get folder paths) = IsNonEmptyWord given (codes 
 
 -- the words describe this work with several threads (this project)
 abbrev pub IsWorkGiven : Words → Work → Type 0
-IsWorkGiven given (works.Check checker workers) = IsThreadsGiven (the_word given (codes "WORKERS")) workers
+IsWorkGiven given (works.Check checker workers form) = IsThreadsGiven (the_word given (codes "WORKERS")) workers × IsFormGiven given form
 IsWorkGiven given (works.Play scripts journal) =
     (map (λ script. script.now) scripts.items ≡ given (codes "SCRIPT")) × (1 ≤ length scripts.items) × (length scripts.items ≤ 64)
     × (journal ≡ is_set (given (codes "journal")))
@@ -414,5 +416,5 @@ IsWrong (faults.Wrong word) = Unit {0}
 
 -- the number of threads, or of scripts, is 1 to 64 (this project)
 abbrev pub IsWorkable : Work → Type 0
-IsWorkable (works.Check checker workers) = (1 ≤ workers) × (workers ≤ 64)
+IsWorkable (works.Check checker workers form) = (1 ≤ workers) × (workers ≤ 64)
 IsWorkable (works.Play scripts journal) = (1 ≤ length scripts.items) × (length scripts.items ≤ 64)

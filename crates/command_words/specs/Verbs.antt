@@ -80,7 +80,7 @@ on_volume more = edition ∷ word (codes "IMAGE") ∷ more
 
 -- the words of a checker's command (this project)
 abbrev pub of_checker : List Argument
-of_checker = on_volume ((codes "WORKERS", kinds.Threads, needs.Once) ∷ [])
+of_checker = on_volume ((codes "WORKERS", kinds.Threads, needs.Once) ∷ option (codes "json") ∷ [])
 
 -- the name of a command (this project)
 abbrev pub verb_name : Verb → List ℕ
@@ -121,7 +121,7 @@ verb_name verbs.Identify = codes "identify"
 abbrev pub arguments_of : Verb → List Argument
 arguments_of verbs.Cat = on_volume (node ∷ [])
 arguments_of verbs.Ls = on_volume (maybe_path ∷ lettered (codes "long") 108 ∷ lettered (codes "recursive") 82
-    ∷ lettered (codes "directory") 100 ∷ option (codes "json") ∷ [])
+    ∷ lettered (codes "directory") 100 ∷ option (codes "json") ∷ option (codes "slots") ∷ [])
 arguments_of verbs.Get = on_volume (word (codes "PATH") ∷ more_words ∷ valued (codes "output") 111 values.Folder ∷ [])
 arguments_of verbs.Find = on_volume (maybe_path ∷ valued (codes "name") 103 values.Pattern ∷ [])
 arguments_of verbs.Export = on_volume (maybe_path ∷ option (codes "lost") ∷ option (codes "status") ∷ [])

@@ -1,6 +1,6 @@
 //! Invocations: a command with its arguments read.
 use command_changes::{Change, Migration};
-use command_reads::{Look, NodeName};
+use command_reads::{Look, NodeName, OutputForm};
 use vol_check::Checker;
 use vol_layout::Edition;
 use vol_mkfs::NewVolume;
@@ -30,6 +30,7 @@ pub enum Work<'a> {
     Check {
         checker: Checker,
         workers: usize,
+        form: OutputForm,
     },
     /// Play the scripts in these files, 1 to 64, each in a thread of its own; if `journal`, print the journal at the end.
     Play {
@@ -96,7 +97,7 @@ pub enum Invocation<'a> {
         new: MadeFile<'a>,
         migration: Migration,
     },
-    /// Print how salvaging the volume in a file changes its free list, and save the salvaged volume in the file `copy`, if there is one.
+    /// Salvage the volume in a file, in memory; save it in the file `copy`, if one is named; and print how its free list changed.
     Salvage {
         volume: VolumeFile<'a>,
         copy: Option<&'a str>,

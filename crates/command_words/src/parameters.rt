@@ -417,6 +417,13 @@ const ITSELF: Parameter = Parameter {
     help: texts::ITSELF,
 };
 
+const SLOTS: Parameter = Parameter {
+    name: "slots",
+    kind: WordKind::Flag,
+    need: Need::Flag(None),
+    help: texts::SLOTS,
+};
+
 const RECURSIVE: Parameter = Parameter {
     name: "recursive",
     kind: WordKind::Flag,
@@ -519,7 +526,9 @@ const NEW: Parameter = Parameter {
 pub static CAT_WORDS: [Parameter; 3] = [EDITION, IMAGE, NODE];
 
 /// The words that `ls` takes.
-pub static LS_WORDS: [Parameter; 7] = [EDITION, IMAGE, LISTED, LONG, ALL_BELOW, ITSELF, JSON];
+pub static LS_WORDS: [Parameter; 8] = [
+    EDITION, IMAGE, LISTED, LONG, ALL_BELOW, ITSELF, JSON, SLOTS,
+];
 
 /// The words that `get` takes.
 pub static GET_WORDS: [Parameter; 5] = [EDITION, IMAGE, REGULAR, MORE_GOT, OUTPUT];
@@ -528,7 +537,7 @@ pub static GET_WORDS: [Parameter; 5] = [EDITION, IMAGE, REGULAR, MORE_GOT, OUTPU
 pub static FIND_WORDS: [Parameter; 4] = [EDITION, IMAGE, SEARCHED, NAME];
 
 /// The words that a checker takes.
-pub static CHECKER_WORDS: [Parameter; 3] = [EDITION, IMAGE, WORKERS];
+pub static CHECKER_WORDS: [Parameter; 4] = [EDITION, IMAGE, WORKERS, JSON];
 
 /// The words that `mkfs` takes.
 pub static MKFS_WORDS: [Parameter; 8] = [

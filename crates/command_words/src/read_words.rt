@@ -88,14 +88,16 @@ fn read_ls<'a, G: Given<'a>>(given: &G) -> Result<Invocation<'a>, WordFault<'a>>
 {
     let volume = volume_in(given)?;
     let path = text_in(given, "PATH");
-    let listing = ListOptions {
-        lines: lines_in(given),
-        depth: depth_in(given),
+    let look = if flag_in(given, "slots") {
+        Look::Slots { path }
+    } else {
+        let listing = ListOptions {
+            lines: lines_in(given),
+            depth: depth_in(given),
+        };
+        Look::List { path, listing }
     };
-    Ok(Invocation::Look {
-        volume,
-        look: Look::List { path, listing },
-    })
+    Ok(Invocation::Look { volume, look })
 }
 
 /// Reads the format of the lines.
@@ -592,7 +594,11 @@ fn read_checker<'a, G: Given<'a>>(
 {
     let volume = volume_in(given)?;
     let workers = threads_in(given, "WORKERS")?;
-    let work = Work::Check { checker, workers };
+    let work = Work::Check {
+        checker,
+        workers,
+        form: form_in(given),
+    };
     Ok(Invocation::Work { volume, work })
 }
 

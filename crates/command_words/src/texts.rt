@@ -143,9 +143,10 @@ Examples:
   unixvol ls 7 disk.img /usr
   unixvol ls -l -R 7 disk.img
   unixvol ls -l -d 7 disk.img /usr/src
+  unixvol ls --slots 7 disk.img /usr/src
 
 Each name has a line: the i-number, right-aligned in 5 columns, a space, and the name. Names are in ascending
-order of their bytes, and include `.` and `..`. With any option PATH may also be a file, which is then listed
+order of their bytes, and include `.` and `..`. With -l, -R, -d or --json PATH may also be a file, which is then listed
 alone.
 
 With -l the i-number is followed by the kind and the permissions, as in -rw-r--r--, the number of links, the user,
@@ -155,21 +156,27 @@ a file, instead of the names in it, and -R has no effect. With --json the output
 each name. A byte of a name or path that isn't printable ASCII is shown as a backslash and three octal digits: in
 text only on a terminal, in JSON always.
 
+With --slots, each 16-byte slot of the directory has a line, in order: the slot's number from 0 on, the i-number and the
+name. The i-number of an empty slot is 0; its name is the one that was removed. A slot of zeros has no line. The other
+options have no effect then. The volume need not be sound: only rules 1 and 2 are checked, the image's size, and the
+sizes in its super-block.
+
 A path starts at the root, with or without a leading slash. Repeated slashes count as one, trailing slashes are
-ignored, and each name is cut to 14 bytes. The volume must be sound: its twelve rules are checked first.
+ignored, and each name is cut to 14 bytes. Without --slots the volume must be sound: its twelve rules are checked
+first.
 
 Status:
   0  the names were printed
   1  `unixvol: unsound, rule N`: this is the first rule that the volume breaks; `unixvol check` says what breaks it
      `unixvol: 2 NoEntry`: there is no such file or directory
-     `unixvol: 20 NotDirectory`: PATH leads through something that isn't a directory; or, without options, PATH
-     isn't a directory itself
+     `unixvol: 20 NotDirectory`: PATH leads through something that isn't a directory; or, with --slots or without -l,
+     -R, -d and --json, PATH isn't a directory itself
   2  the command line is wrong
   3  `unixvol: cannot read IMAGE`, or `unixvol: cannot write -`: standard output failed
   4  `unixvol: 12 NoMemory`";
 
 pub const LISTED: &str =
-    "The path of a directory in the volume, or, with an option, of a file; by default, the root";
+    "The path of a directory in the volume, or, with -l, -R, -d or --json, of a file; by default, the root";
 
 pub const LONG_LINES: &str =
     "Show what each i-node says: kind, permissions, links, owner, size and time";
@@ -177,6 +184,8 @@ pub const LONG_LINES: &str =
 pub const ALL_BELOW: &str = "List the directories below too";
 
 pub const ITSELF: &str = "List a directory itself, instead of the names in it";
+
+pub const SLOTS: &str = "List the directory's slots, and the names that were removed";
 
 pub const GET_ABOUT: &str = "Prints a file of a volume, or writes several files into a folder.";
 
@@ -687,6 +696,11 @@ not be sound, and nothing is changed.
   files N, directories N, special N, odd N      i-nodes of each kind; the mode of an odd one isn't the edition's
   used N, free N, missing N                     blocks that are in use, in the free list, and lost
 
+With --json the output is one object: `faults` is true if the status is 1, and `lines` has an object for each line,
+with its kind and its numbers, as in {\"block\":7,\"free\":false,\"line\":\"dup\",\"places\":2}. The others are
+{\"count\":1,\"i-node\":7,\"least\":99,\"line\":\"bad\"}, {\"block\":7,\"line\":\"lost\"}, {\"count\":5,\"line\":\"total\",\"name\":\"files\"}
+and {\"fault\":\"free repeat\",\"line\":\"free\",\"number\":9}.
+
 Status:
   0  nothing is wrong
   1  something is wrong: there is a line before `files`, or there are odd i-nodes; or the only line is `rule 1`
@@ -709,6 +723,9 @@ not be sound, and nothing is changed.
   INO ENTRIES LINKS    ENTRIES directory entries, including `.` and `..`, name the i-number, but its link count is
                        LINKS (0 if the i-node is free); or both are 0 and the i-node isn't free
 
+With --json the output is one object, as that of icheck, with {\"entries\":1,\"i-node\":7,\"line\":\"links\",\"links\":2} and the
+like.
+
 Status:
   0  nothing is wrong
   1  something is wrong: there is a line. It may be `rule 1` (the image is shorter than its super-block says) or
@@ -729,6 +746,9 @@ need not be sound, and nothing is changed.
   INO PATH       the entry's i-number, and its path from the root, escaped on a terminal
   INO ...PATH    the entry's directory can't be reached from the root: its path begins where the way up ends, at a
                  directory that no entry names, or that was met before
+
+With --json the output is one object, as that of icheck, with {\"i-node\":7,\"line\":\"name\",\"path\":\"/etc\"} and the like.
+Paths are escaped.
 
 Status:
   0  each path begins at the root

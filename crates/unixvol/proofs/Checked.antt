@@ -1,6 +1,7 @@
 -- The end of a checker's run.
 use Rattle.std.proofs.Common.{ℕ, ◌≤◌, Bool, true, false, if◌then◌else◌, List, Option, inl, inr, sym, subst, arith}
 use Rattle.command_reads.specs.Checkers.{Checks, IsUnreported, PrintsReport}
+use Rattle.command_reads.specs.declared.looks.OutputForm.{OutputForm}
 use Rattle.command_faults.specs.Streams.{Streams}
 use Rattle.vol_check.specs.declared.checker.Checker.{Checker}
 use Rattle.vol_layout.specs.declared.edition.Edition.{Edition}
@@ -22,15 +23,17 @@ status_short false = omega arith
 ends_unreported : (streams : Streams) (status : ℕ) → IsUnreported streams status → IsEnd streams status
 ends_unreported streams status none = ends_badly streams status (omega (arith, none.0)) (omega (arith, none.0))
 
-ends_printed : (screen : Screen) (streams : Streams) (report : List Line) (status : ℕ) → PrintsReport screen streams report status → IsEnd streams status
-ends_printed screen streams report status (inl all) =
+ends_printed : (form : OutputForm) (screen : Screen) (streams : Streams) (report : List Line) (status : ℕ) → PrintsReport form screen streams report status
+    → IsEnd streams status
+ends_printed form screen streams report status (inl all) =
     record { within = subst (λ n. n ≤ 4) (sym all.0) (status_short (has_faults report)); whole = λ e. (all.2, all.3) }
-ends_printed screen streams report status (inr (inl front)) = ends_badly streams status (omega (arith, front.0)) (omega (arith, front.0))
-ends_printed screen streams report status (inr (inr none)) = ends_unreported streams status none
+ends_printed form screen streams report status (inr (inl front)) = ends_badly streams status (omega (arith, front.0)) (omega (arith, front.0))
+ends_printed form screen streams report status (inr (inr none)) = ends_unreported streams status none
 
-ends_checks : (checker : Checker) (edition : Edition) (image : List ℕ) (screen : Screen) (streams : Streams) (status : ℕ) → Checks checker edition image screen streams status → IsEnd streams status
-ends_checks checker edition image screen streams status (inl found) = ends_printed screen streams found.0 status found.2
-ends_checks checker edition image screen streams status (inr none) = ends_unreported streams status none
+ends_checks : (checker : Checker) (edition : Edition) (image : List ℕ) (form : OutputForm) (screen : Screen) (streams : Streams) (status : ℕ)
+    → Checks checker edition image form screen streams status → IsEnd streams status
+ends_checks checker edition image form screen streams status (inl found) = ends_printed form screen streams found.0 status found.2
+ends_checks checker edition image form screen streams status (inr none) = ends_unreported streams status none
 
 ends_unread : {F : Type 0} (remaining : F → Option (List ℕ)) (streams : Streams) (status : ℕ) → IsUnread remaining status → IsEnd streams status
 ends_unread remaining streams status (inl is) = ends_badly streams status (omega (arith, is)) (omega (arith, is))
@@ -38,7 +41,8 @@ ends_unread remaining streams status (inr memory) = ends_badly streams status (o
 
 -- a checker's run ends with a status of at most 4, and with 0 only if everything was printed and no fault was reported
 pub ends_checked : {F : Type 0} (remaining contents : F → Option (List ℕ)) (had : F → Stamp → Type 0) (stood : Stamp → Type 0) (streams : Streams)
-    (screen : Screen) (edition : Edition) (checker : Checker) (status : ℕ) → RunsCheck streams (host_files remaining contents had stood) screen edition checker status
-    → IsEnd streams status
-ends_checked remaining contents had stood streams screen edition checker status (inl nothing) = ends_unread remaining streams status nothing.0
-ends_checked remaining contents had stood streams screen edition checker status (inr (image, given, checks)) = ends_checks checker edition image screen streams status checks
+    (screen : Screen) (edition : Edition) (checker : Checker) (form : OutputForm) (status : ℕ)
+    → RunsCheck streams (host_files remaining contents had stood) screen edition checker form status → IsEnd streams status
+ends_checked remaining contents had stood streams screen edition checker form status (inl nothing) = ends_unread remaining streams status nothing.0
+ends_checked remaining contents had stood streams screen edition checker form status (inr (image, given, checks)) =
+    ends_checks checker edition image form screen streams status checks

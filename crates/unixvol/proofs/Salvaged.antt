@@ -47,7 +47,7 @@ ends_reported : {A : Type 0} (copy : Option A) (streams : Streams) (taken : List
 ends_reported None streams taken bytes report status prints = ends_printed streams report status prints
 ends_reported (Some copy) streams taken bytes report status saves = ends_copy streams taken bytes report status saves
 
--- they end as a plain command does
+-- `salvage -n` and `salvage -o` end as a plain command does
 pub ends_salvage : {F A : Type 0} (remaining contents : F → Option (List ℕ)) (had : F → Stamp → Type 0) (stood : Stamp → Type 0) (streams : Streams)
     (edition : Edition) (copy : Option A) (status : ℕ) → RunsSalvage streams (host_files remaining contents had stood) edition copy status → Ends streams status
 ends_salvage remaining contents had stood streams edition copy status (inl nothing) = ends_unread remaining streams status nothing.0 nothing.1

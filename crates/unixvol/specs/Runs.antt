@@ -13,6 +13,7 @@ use Rattle.command_reads.specs.Get.{GetsFile}
 use Rattle.command_reads.specs.Print.{PrintsWith}
 use Rattle.command_reads.specs.Look.{Looks}
 use Rattle.command_reads.specs.declared.looks.Look.{Look}
+use Rattle.command_reads.specs.declared.looks.OutputForm.{OutputForm}
 use Rattle.command_reads.specs.declared.looks.Look.TheVariants as looks
 use Rattle.vol_listing.specs.declared.options.Screen.{Screen}
 use Rattle.vol_listing.specs.declared.options.Screen.TheVariants as screens
@@ -172,7 +173,8 @@ SavesCopy streams taken bytes report status =
     (taken bytes × Prints streams report status)
     ⊎ (IsStatusOfFileOrMemory status × Keeps streams.old streams.new × (streams.failed ≡ streams.had_failed) × streams.said [])
 
--- the report on a salvaged volume is printed, once the volume is saved if a file is named for it (this project)
+-- the report on a salvaged volume is printed; if a file is named for the volume, it is saved there first, and if that fails nothing is printed (this
+-- project)
 abbrev pub ReportsSalvage : {A : Type 0} → Option A → Streams → (List ℕ → Type 0) → List ℕ → List ℕ → ℕ → Type 0
 ReportsSalvage None streams taken bytes report status = Prints streams report status
 ReportsSalvage (Some copy) streams taken bytes report status = SavesCopy streams taken bytes report status
@@ -192,9 +194,9 @@ RunsGetOne streams files edition path status =
     RunsNothing streams files status ⊎ ((image : List ℕ) × files.shown edition image × GetsFile edition image path streams status)
 
 -- a checker runs: nothing is done; or its findings on an image, which is read from a file, are printed (this project)
-abbrev pub RunsCheck : Streams → HostFiles → Screen → Edition → Checker → ℕ → Type 0
-RunsCheck streams files screen edition checker status =
-    RunsNothing streams files status ⊎ ((image : List ℕ) × files.shown edition image × Checks checker edition image screen streams status)
+abbrev pub RunsCheck : Streams → HostFiles → Screen → Edition → Checker → OutputForm → ℕ → Type 0
+RunsCheck streams files screen edition checker form status =
+    RunsNothing streams files status ⊎ ((image : List ℕ) × files.shown edition image × Checks checker edition image form screen streams status)
 
 -- `count` scripts are played: nothing is done; or they are read from files and played on an image, which is read from a file and may be changed, and
 -- the volume is saved if the system reported that some file had the stamp of the image's file (this project)
@@ -207,7 +209,7 @@ RunsPlay streams files edition count journal status =
 
 -- work with several threads runs (this project)
 abbrev pub RunsWork : Streams → HostFiles → Screen → Edition → Work → ℕ → Type 0
-RunsWork streams files screen edition (works.Check checker workers) status = RunsCheck streams files screen edition checker status
+RunsWork streams files screen edition (works.Check checker workers form) status = RunsCheck streams files screen edition checker form status
 RunsWork streams files screen edition (works.Play scripts journal) status = RunsPlay streams files edition (length scripts.items) journal status
 
 -- the screen is a terminal with at least one column if the system reports that standard output is a terminal; otherwise it is no terminal (this
@@ -222,6 +224,7 @@ IsShownBy false screens.Stream = Unit {0}
 abbrev pub IsSeen : HostFiles → Edition → Look → List ℕ → Type 0
 IsSeen files edition (looks.Check graded form) image = files.checked edition image
 IsSeen files edition (looks.List path listing) image = files.shown edition image
+IsSeen files edition (looks.Slots path) image = files.shown edition image
 IsSeen files edition (looks.Export path options) image = files.shown edition image
 IsSeen files edition (looks.Sums path form) image = files.shown edition image
 IsSeen files edition (looks.Inode node form) image = files.shown edition image
@@ -388,6 +391,7 @@ highest_status (looks.Df form) = 4
 highest_status (looks.Find path name) = 4
 highest_status (looks.Map picture) = 4
 highest_status (looks.List path listing) = 4
+highest_status (looks.Slots path) = 4
 
 -- work with several threads runs to its end, from the contents of the program's two streams: their contents afterwards, whether they failed, and the
 -- status of the run, which is also the exit status unless that is 3 (this project)

@@ -175,7 +175,7 @@ fn run_migrate<R: ImageFiles + Clock + Eprint + AllocGlobal>(
     }
 }
 
-/// Salvages the volume in a file, saves it in the file `copy` if there is one, prints how its free list changed, and returns how the run ends.
+/// Salvages the volume in a file, in memory; saves it in the file `copy`, if one is named; prints how its free list changed, and returns how the run ends.
 fn run_salvage<R: ImageFiles + Clock + Eprint + AllocGlobal, O: Sink>(
     host: &Surroundings<'_, R>,
     output: &mut O,

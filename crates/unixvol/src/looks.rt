@@ -137,7 +137,8 @@ fn read_seen<R: ImageFiles + Eprint + AllocGlobal>(
         | Look::Block { .. }
         | Look::Df { .. }
         | Look::Find { .. }
-        | Look::Map { .. } => read_volume(host, volume),
+        | Look::Map { .. }
+        | Look::Slots { .. } => read_volume(host, volume),
     }
 }
 

@@ -108,7 +108,7 @@ impl<'a> Subject<'a> {
             Look::Find { path, .. } => (Verb::Find, About::Path(path)),
             Look::Map { .. } => (Verb::Map, About::Image),
             Look::Check { .. } => (Verb::Check, About::Image),
-            Look::List { path, .. } => (Verb::Ls, About::Path(path)),
+            Look::List { path, .. } | Look::Slots { path } => (Verb::Ls, About::Path(path)),
         };
         Subject::new(volume, verb, about)
     }

@@ -12,7 +12,7 @@ use crate::save::save_played;
 use crate::subject::Subject;
 use command_faults::Ending;
 use command_line::{VolumeFile, Work};
-use command_reads::checkers;
+use command_reads::{OutputForm, checkers};
 use host_files::{ImageFiles, noted_writer};
 use pdp_words::{IntoWrite, Sink};
 use std::fs::Files;
@@ -71,9 +71,11 @@ fn run<R: ImageFiles + Clock + Eprint + AllocGlobal + Threads + Wait + Sync, O: 
         → IsEnd (streams O.contents O.failed output.old output.new errors) result.status }
 {
     match work {
-        Work::Check { checker, workers } => {
-            run_check(host, screen, output, volume, *checker, *workers)
-        }
+        Work::Check {
+            checker,
+            workers,
+            form,
+        } => run_check(host, screen, output, volume, *checker, *workers, *form),
         Work::Play { scripts, journal } => run_play(host, output, volume, scripts, *journal),
     }
 }
@@ -86,11 +88,12 @@ fn run_check<R: ImageFiles + Eprint + AllocGlobal + Threads + Wait + Sync, O: Si
     volume: VolumeFile<'_>,
     checker: Checker,
     workers: usize,
+    form: OutputForm,
 ) -> Ending
     requires first { 1 ≤ workers }
     requires last { workers ≤ MOST_WORKERS }
     ensures { (errors : ErrorStream) → Hears errors result.fault
-        → RunsCheck (streams O.contents O.failed output.old output.new errors) (host_files R.File.remaining R.File.contents R.had R.stood) screen volume.entry.edition checker result.status }
+        → RunsCheck (streams O.contents O.failed output.old output.new errors) (host_files R.File.remaining R.File.contents R.had R.stood) screen volume.entry.edition checker form result.status }
 {
     let image = match read_volume(host, volume) {
         Ok(image) => image,
@@ -108,6 +111,7 @@ fn run_check<R: ImageFiles + Eprint + AllocGlobal + Threads + Wait + Sync, O: Si
         image,
         checker,
         workers,
+        form,
         screen,
         output,
     )

@@ -7,14 +7,12 @@ ghost use Rattle.vol_dir.specs.Tree.{tree};
 ghost use Rattle.vol_layout.specs.Geometry.{Fits};
 ghost use Rattle.vol_listing.specs.ListingJson.{sort_word, row_data, entry_data, entries_data, all_data, json_text, with_numbers, with_file, with_device};
 ghost use Rattle.vol_listing.specs.Places.{IsVolume};
-ghost use Rattle.escaped_text.specs.Escape.{escaped};
 
 use crate::directories::{names, opens};
-use crate::json::{line, put_count};
+use crate::json::{escaped_text, line, put_count};
 use crate::options::Depth;
 use crate::places::{ListedNode, joined};
 use crate::rows::{Row, Sort, row_at};
-use escaped_text::push_escaped;
 use pdp_words::Image;
 use serde_json::{Map, Value, put};
 use std::alloc::{AllocError, Global};
@@ -207,17 +205,5 @@ fn sort_word(sort: Sort) -> &'static str
         Sort::Directory => "directory",
         Sort::Character(_) => "character",
         Sort::Block(_) => "block",
-    }
-}
-
-/// Returns bytes as escaped text.
-fn escaped_text(alloc: Global, bytes: &[u8]) -> Result<String, AllocError>
-    ensures { IfOk result (λ text. string_bytes text ≡ escaped bytes.now) }
-{
-    let mut text = Vec::new(alloc);
-    push_escaped(&mut text, bytes)?;
-    match String::from_utf8(text) {
-        Ok(text) => Ok(text),
-        Err(_) => unreachable!(),
     }
 }

@@ -34,17 +34,17 @@ impl Line {
 
 impl Total {
     /// Returns the word for this total in a line.
-    pub fn word(self) -> &'static [u8]
+    pub fn word(self) -> &'static str
         ensures { result.now ≡ total_word self }
     {
         match self {
-            Total::Files => b"files",
-            Total::Directories => b"directories",
-            Total::Special => b"special",
-            Total::Odd => b"odd",
-            Total::Used => b"used",
-            Total::Free => b"free",
-            Total::Missing => b"missing",
+            Total::Files => "files",
+            Total::Directories => "directories",
+            Total::Special => "special",
+            Total::Odd => "odd",
+            Total::Used => "used",
+            Total::Free => "free",
+            Total::Missing => "missing",
         }
     }
 }
@@ -75,7 +75,7 @@ fn push_bare(text: &mut Vec<u8>, line: &Line) -> Result<(), AllocError>
             fault.word().as_bytes(),
             &[u64::from(*number)],
         ),
-        Line::Total(total, count) => push_worded(text, total.word(), &[*count]),
+        Line::Total(total, count) => push_worded(text, total.word().as_bytes(), &[*count]),
         Line::Links {
             inode,
             entries,

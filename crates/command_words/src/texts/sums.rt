@@ -8,6 +8,7 @@ Examples:
   unixvol sums 7 disk.img > disk.sums
   unixvol sums 7 disk.img | grep -v '^-' | cut -c 1-65,119- > SHA256SUMS
   unixvol sums --json 7 disk.img /usr | jq -r '.[].path'
+  diff <(unixvol sums 7 old.img) <(unixvol sums 7 disk.img)
 
 Each file, directory and special file has a line, in the order of `unixvol export`: the SHA-256 of a regular file's
 bytes, or a dash; the mode, owner, group, size and time of modification, as `unixvol ls -l` shows them; and the path,
@@ -15,7 +16,8 @@ which starts at PATH. Each name of a file has a line. In a path, a byte that isn
 backslash and three octal digits, and a backslash is doubled.
 
 The second example makes a list that `sha256sum -c` reads, in the folder where an archive of `unixvol export` was
-extracted.
+extracted, if no path is escaped. The last one, for bash, compares two volumes by what is in them. A directory's size
+counts its empty slots, so that of a copy may differ.
 
 With --json, one array is printed on one line, with an object for each node: that of `unixvol ls --json`, and
 \"sha256\", which is null if the node isn't a regular file.

@@ -4,8 +4,8 @@ use Rattle.unixvol.proofs.threads.run.Goals as goal
 
 pub returns-in-Check-clause-ends : goal.returns-in-Check-clause-ends
 returns-in-Check-clause-ends g c errors hears =
-    ends_checked g.R.File.Read.remaining g.R.File.Write.contents g.R.ImageFiles.had g.R.ImageFiles.stood _ c.args.screen c.args.volume.edition _ c.run_check.result.status
-    (c.run_check.ensures errors hears)
+    ends_checked g.R.File.Read.remaining g.R.File.Write.contents g.R.ImageFiles.had g.R.ImageFiles.stood _ c.args.screen c.args.volume.edition _ _
+    c.run_check.result.status (c.run_check.ensures errors hears)
 
 pub returns-in-Play-clause-ends : goal.returns-in-Play-clause-ends
 returns-in-Play-clause-ends g c errors hears =
@@ -14,3 +14,6 @@ returns-in-Play-clause-ends g c errors hears =
 
 pub returns-in-Play-clause-runs : goal.returns-in-Play-clause-runs
 returns-in-Play-clause-runs g c errors hears = rw c.in-Play.is (rw c.deref.ensures.value at (c.run_play.ensures errors hears))
+
+pub returns-in-Check-clause-runs : goal.returns-in-Check-clause-runs
+returns-in-Check-clause-runs g c errors hears = rw c.in-Check.is (c.run_check.ensures errors hears)

@@ -3,7 +3,7 @@ use Rattle.std.proofs.lemmas.Bool.{false≢true}
 use Rattle.std.specs.Str.{IsUtf8}
 use Rattle.escaped_text.specs.Escape.{escaped}
 use Rattle.vol_listing.proofs.ListingValues.{escaped_utf8}
-use Rattle.vol_listing.proofs.listing_json.escaped_text.Goals as goal
+use Rattle.vol_listing.proofs.json.escaped_text.Goals as goal
 
 pub unreachable-requires : goal.unreachable-requires
 unreachable-requires c =

@@ -1,0 +1,175 @@
+//! `ls --slots`: shows the slots of a directory, and the names that empty slots keep.
+ghost use Rattle.std.specs.Prelude.{◌≡◌, ◌+◌, ◌*◌, ◌≤◌, ◌==◌, ◌++◌, IfErr, IfOk, OnOk, string_bytes};
+ghost use Rattle.std.specs.List.{list_all};
+ghost use Rattle.vol_layout.specs.Geometry.{Fits};
+ghost use Rattle.vol_dir.specs.Entries.{slot_count};
+ghost use Rattle.command_faults.specs.Streams.{ErrorStream, Hears, streams};
+ghost use Rattle.command_reads.specs.Find.{IsFindFault};
+ghost use Rattle.command_reads.specs.Slots.{is_blank, slot_columns, slot_line, slot_lines, IsSlotsText, ShowsSlots};
+
+use crate::export::unstarted;
+use crate::print::finish_bytes;
+use command_faults::{Ending, Fault};
+use pdp_words::{BLOCK, Image, Sink};
+use std::alloc::{AllocError, Global};
+use vol_archive::start_of;
+use vol_file::{block_at, next_block};
+use vol_layout::i_list::size;
+use vol_layout::slot::SLOT;
+use vol_layout::{Edition, Geometry, Slot};
+use vol_listing::{Screen, push_shown};
+
+/// The number of slots in a block.
+const SLOTS: u32 = 32;
+
+/// Shows the slots of the directory at a path, in order, each on a line: its number, its i-number and its name. An empty slot has i-number 0, and still
+/// has the name of the entry that was removed. A slot with only zero bytes has no line. The path is walked as user 0. The image must keep rules 1 and
+/// 2, and may be any bytes otherwise. The status is 0; 1 if the image breaks one of these rules or the path leads to no directory, 3 if `output`
+/// failed, 4 if memory ran out. Nothing is printed until the whole output is ready.
+///
+/// Costs the walk of the path, and two block-map lookups and a read of its slots for each stored logical block of the directory: the time depends on
+/// the number of these blocks, not on the directory's size. Takes memory for the text: up to 67,637,568 lines if the block map has a block many times.
+pub(crate) fn show_slots<O: Sink>(
+    alloc: Global,
+    edition: Edition,
+    image: Vec<u8>,
+    path: &str,
+    screen: Screen,
+    output: &mut O,
+) -> Ending
+    ensures { (errors : ErrorStream) → Hears errors result.fault
+        → ShowsSlots edition image.items path.now screen (streams O.contents O.failed output.old output.new errors) result.status }
+{
+    let image = Image::from_bytes(image);
+    let text = slots_text(alloc, edition, &image, path.as_bytes(), screen);
+    finish_bytes(text, output)
+}
+
+/// Returns the lines of the slots of the directory at a path.
+fn slots_text(
+    alloc: Global,
+    edition: Edition,
+    image: &Image,
+    path: &[u8],
+    screen: Screen,
+) -> Result<Vec<u8>, Fault>
+    ensures text { IfOk result (λ text. IsSlotsText edition image.now path.now screen text.items) }
+    ensures fault { IfErr result (λ fault. IsFindFault edition image.now path.now fault) }
+{
+    match start_of(edition, image, path) {
+        Ok(start) => {
+            let lines = slot_lines(alloc, image, &start.geometry, start.inode, screen)?;
+            Ok(lines)
+        }
+        Err(fault) => Err(unstarted(fault)),
+    }
+}
+
+/// Returns the lines of the slots of directory `dir`.
+fn slot_lines(
+    alloc: Global,
+    image: &Image,
+    geometry: &Geometry,
+    dir: u16,
+    screen: Screen,
+) -> Result<Vec<u8>, AllocError>
+    requires fits { Fits geometry.now image.now }
+    requires first { 1 ≤ dir }
+    requires last { dir ≤ geometry.now.last_inode }
+    ensures { IfOk result (λ text. text.items ≡ slot_lines screen geometry.now image.now dir 0 (slot_count geometry.now image.now dir)) }
+{
+    let count = slot_count(image, geometry, dir);
+    let blocks = count.div_ceil(SLOTS);
+    let mut text = Vec::new(alloc);
+    let mut b = next_block(image, geometry, dir, 0, blocks);
+    while b < blocks {
+        let few = (count - SLOTS * b).min(SLOTS);
+        push_block(alloc, image, geometry, dir, b, few, screen, &mut text)?;
+        b = next_block(image, geometry, dir, b + 1, blocks);
+    }
+    Ok(text)
+}
+
+/// Returns the number of slots of directory `dir`.
+fn slot_count(image: &Image, geometry: &Geometry, dir: u16) -> u32
+    requires fits { Fits geometry.now image.now }
+    requires first { 1 ≤ dir }
+    requires last { dir ≤ geometry.now.last_inode }
+    ensures { result ≡ slot_count geometry.now image.now dir }
+{
+    size(image, geometry, dir).min(geometry.edition.constants().greatest) / SLOT as u32
+}
+
+/// Appends the lines of the first `count` slots in logical block `b` of directory `dir`.
+fn push_block(
+    alloc: Global,
+    image: &Image,
+    geometry: &Geometry,
+    dir: u16,
+    b: u32,
+    count: u32,
+    screen: Screen,
+    text: &mut Vec<u8>,
+) -> Result<(), AllocError>
+    requires fits { Fits geometry.now image.now }
+    requires first { 1 ≤ dir }
+    requires last { dir ≤ geometry.now.last_inode }
+    requires few { count ≤ 32 }
+    requires within { 32 * b + count ≤ slot_count geometry.now image.now dir }
+    ensures { OnOk result (text.new.items ≡ text.old.items ++ slot_lines screen geometry.now image.now dir (32 * b) count) }
+{
+    let Some(k) = block_at(image, geometry, dir, b) else {
+        return Ok(());
+    };
+    if !geometry.in_zone(k) {
+        return Ok(());
+    }
+    for t in 0..count {
+        let at = BLOCK * k as usize + SLOT * t as usize;
+        let slot = Slot::read(image.as_bytes(), at);
+        push_slot(alloc, SLOTS * b + t, &slot, screen, text)?;
+    }
+    Ok(())
+}
+
+/// Appends the line of a slot with this number, unless all its bytes are zero.
+#[tactic(auto, unfolding(crate::specs::Slots::slot_line))]
+fn push_slot(
+    alloc: Global,
+    number: u32,
+    slot: &Slot,
+    screen: Screen,
+    text: &mut Vec<u8>,
+) -> Result<(), AllocError>
+    ensures { OnOk result (text.new.items ≡ text.old.items ++ slot_line screen number slot.now) }
+{
+    if is_blank(slot) {
+        return Ok(());
+    }
+    let columns = slot_columns(alloc, number, slot.inode)?;
+    text.extend_from_slice(columns.as_bytes())?;
+    push_shown(screen, slot.name(), text)?;
+    text.push(b'\n')?;
+    Ok(())
+}
+
+/// Returns the number of a slot and its i-number, each followed by a space.
+fn slot_columns(alloc: Global, number: u32, inode: u16) -> Result<String, AllocError>
+    ensures { IfOk result (λ text. string_bytes text ≡ slot_columns number inode) }
+{
+    format!(in alloc; "{number:>5} {inode:>5} ")
+}
+
+/// True if all bytes of a slot are zero.
+fn is_blank(slot: &Slot) -> bool
+    ensures { result ≡ is_blank slot.now }
+{
+    slot.inode == 0 && is_zero(&slot.name)
+}
+
+/// True if all bytes are zero.
+fn is_zero(bytes: &[u8]) -> bool
+    ensures { result ≡ list_all (λ c. c == 0) bytes.now }
+{
+    bytes.iter().all(|c| *c == 0)
+}

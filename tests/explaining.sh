@@ -46,6 +46,7 @@ explains 1 'unixvol: 17 Exists' 'unixvol: /d/f to /d: the new name is there alre
 explains 1 'unixvol: 20 NotDirectory' 'unixvol: /d/f/x: something on the way to it is no directory' get 6 "$image" /d/f/x
 explains 1 'unixvol: 20 NotDirectory' 'unixvol: /d/f: it, or something on the way to it, is no directory' rmdir 6 "$image" /d/f
 explains 1 'unixvol: 20 NotDirectory' 'unixvol: /d/f: it, or something on the way to it, is no directory; `unixvol ls -l` lists a file too' ls 6 "$image" /d/f
+explains 1 'unixvol: 20 NotDirectory' 'unixvol: /d/f: it, or something on the way to it, is no directory' find 6 "$image" /d/f
 explains 1 'unixvol: 20 NotDirectory' 'unixvol: /d/f: it, or something on the way to it, is no directory; nothing is exported' export 6 "$image" /d/f
 explains 1 'unixvol: 21 IsDirectory' 'unixvol: /d: it is a directory, whose names `unixvol ls` lists' get 6 "$image" /d
 explains 1 'unixvol: 21 IsDirectory' 'unixvol: /d: it is a directory: rmdir removes an empty one, and rm -r one with all below it' rm 6 "$image" /d

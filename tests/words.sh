@@ -203,7 +203,7 @@ put 7 disk -t /d -t /d a | '--target-directory <DIR>' cannot be used multiple ti
 put 7 disk -t /d x/a b y/a | invalid value 'a' for '<FILE>': two files have this last name
 put 7 disk -t /d a a/. 8 | invalid value 'a' for '<FILE>'
 put 7 disk -o /d a | unexpected argument '-o'
-get 7 disk /d/f /d/g | invalid value '/d/g' for '<MORE>': several files need -o FOLDER
+get 7 disk /d/f /d/g | invalid value '/d/g' for '<MORE>': one file is printed, as by > FILE; several need -o FOLDER
 get 7 disk -o out | <PATH>
 get 7 disk -o out -o out /d/f | '--output <FOLDER>' cannot be used multiple times
 get 7 disk -o out /d/f /e/f/ | invalid value 'f' for '<PATH>': two files have this last name

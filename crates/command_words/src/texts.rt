@@ -224,7 +224,7 @@ pub const MORE_GOT: &str = "With -o, more files";
 
 pub const OUTPUT: &str = "Write the files into this folder, each under its last name";
 
-pub const WANTS_OUTPUT: &str = "several files need -o FOLDER";
+pub const WANTS_OUTPUT: &str = "one file is printed, as by > FILE; several need -o FOLDER";
 
 pub const EMPTY_FOLDER: &str = "it is empty; the current folder is .";
 

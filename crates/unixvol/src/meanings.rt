@@ -287,7 +287,7 @@ fn exists(verb: Verb) -> &'static str {
 /// Returns the meaning of NotDirectory for a command.
 fn not_directory(verb: Verb) -> &'static str {
     match verb {
-        Verb::Rmdir | Verb::Export | Verb::Sums | Verb::Import => {
+        Verb::Rmdir | Verb::Export | Verb::Sums | Verb::Find | Verb::Import => {
             "it, or something on the way to it, is no directory"
         }
         Verb::Ls => {

@@ -35,7 +35,7 @@ Status:
   3  `unixvol: cannot read IMAGE`, or `unixvol: cannot write -`: standard output failed, or is a terminal
   4  `unixvol: 12 NoMemory`
   5  with --status: something was left out, as standard error says; 1 then means that the volume isn't sound, but
-     nothing was left out
+     nothing was left out, or that PATH leads to no directory, and nothing was exported
   6  with --status: rule 1 or 2 doesn't hold, so the image has no volume of this edition, and nothing was exported";
 
 pub const BELOW: &str = "The directory's path in the volume; by default, the root";

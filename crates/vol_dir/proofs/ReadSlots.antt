@@ -30,7 +30,7 @@ entry_at_past geometry image d s h =
     rw (le-ltb s (slot_count geometry image d) h)
 
 -- byte `r` of slot `t` in logical block `b` of a directory, read from the block
-slot_byte : (geometry : Geometry) (image : List ℕ) (d b t r : ℕ) → t < 32 → 32 * b + t < slot_count geometry image d → r < 16
+pub slot_byte : (geometry : Geometry) (image : List ℕ) (d b t r : ℕ) → t < 32 → 32 * b + t < slot_count geometry image d → r < 16
     → get_or (body geometry image d) (16 * (32 * b + t) + r) 0
     ≡ zone_byte geometry image (stored geometry image d (form_at geometry image d) b) (16 * t + r)
 slot_byte geometry image d b t r few within h =
@@ -38,21 +38,27 @@ slot_byte geometry image d b t r few within h =
     get_or-body geometry image d (16 * (32 * b + t) + r) (omega arith)
     ∙ (ap (body_byte geometry image d) place ∙ body_byte_at geometry image d b (16 * t + r) (omega arith))
 
--- slot `t` in logical block `b` is read from data block `k`, which is stored for `b`
-pub entry_in_block : (geometry : Geometry) (image : List ℕ) (d b t k : ℕ) → Fits geometry image → t < 32 → 32 * b + t < slot_count geometry image d
+-- slot `t` in logical block `b` of a directory is in data block `k`, which is stored for `b`
+pub slot_in_block : (geometry : Geometry) (image : List ℕ) (d b t k : ℕ) → Fits geometry image → t < 32 → 32 * b + t < slot_count geometry image d
     → stored geometry image d (form_at geometry image d) b ≡ k → in_zone geometry k ≡ true
-    → entry_at geometry image d (32 * b + t) ≡ entry_in (slot_at image (512 * k + 16 * t))
-entry_in_block geometry image d b t k fits few within is zone =
+    → slot_at (body geometry image d) (16 * (32 * b + t)) ≡ slot_at image (512 * k + 16 * t)
+slot_in_block geometry image d b t k fits few within is zone =
     let room : 512 * k + 512 ≤ length image = zone_room geometry image k fits zone in
     let len : length (body geometry image d) ≡ body_size geometry image d = length-body geometry image d in
-    entry_at_in geometry image d (32 * b + t) within
-    ∙ ap entry_in (slot_copied image (body geometry image d) (512 * k + 16 * t) (16 * (32 * b + t)) (record {
+    slot_copied image (body geometry image d) (512 * k + 16 * t) (16 * (32 * b + t)) (record {
       bytes = λ r h.
           let place : 512 * k + (16 * t + r) ≡ 512 * k + 16 * t + r = omega arith in
           slot_byte geometry image d b t r few within h
           ∙ (ap (λ m. zone_byte geometry image m (16 * t + r)) is
           ∙ (zone_byte_in geometry image k (16 * t + r) zone ∙ ap (λ x. get_or image x 0) place));
-    }) (omega arith) (omega arith))
+    }) (omega arith) (omega arith)
+
+-- the entry of slot `t` in logical block `b` is read from data block `k`, which is stored for `b`
+pub entry_in_block : (geometry : Geometry) (image : List ℕ) (d b t k : ℕ) → Fits geometry image → t < 32 → 32 * b + t < slot_count geometry image d
+    → stored geometry image d (form_at geometry image d) b ≡ k → in_zone geometry k ≡ true
+    → entry_at geometry image d (32 * b + t) ≡ entry_in (slot_at image (512 * k + 16 * t))
+entry_in_block geometry image d b t k fits few within is zone =
+    entry_at_in geometry image d (32 * b + t) within ∙ ap entry_in (slot_in_block geometry image d b t k fits few within is zone)
 
 -- a slot with i-number 0 is empty
 pub empty_slot : (slot : Slot) → slot.inode ≡ 0 → entry_in slot ≡ None

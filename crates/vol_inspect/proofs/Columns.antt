@@ -9,7 +9,7 @@ use Rattle.std.specs.List.{repeat}
 use Rattle.vol_inspect.specs.Space.{column}
 
 -- a text that is padded on the left has the fill before it, and nothing after it
-filled : (fill space xs : List ℕ) (p k : ℕ) → fill ≡ space → p ≡ k → (((repeat p fill ++ []) ++ []) ++ []) ++ (xs ++ repeat (p - p) fill) ≡ repeat k space ++ xs
+pub filled : (fill space xs : List ℕ) (p k : ℕ) → fill ≡ space → p ≡ k → (((repeat p fill ++ []) ++ []) ++ []) ++ (xs ++ repeat (p - p) fill) ≡ repeat k space ++ xs
 filled fill space xs p k same is =
     let none = append-nil (repeat k space) in
     rw (same, is, sub_self k, none, none, none, append-nil xs) refl

@@ -10,4 +10,4 @@ pub mod LostNames
 pub mod Shared
 pub mod LaidOut
 pub mod Named
-mod Columns
+pub mod Columns

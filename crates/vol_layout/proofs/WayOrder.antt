@@ -15,7 +15,7 @@ use Rattle.vol_layout.proofs.PlaceLaws.{large_levels}
 use Rattle.vol_layout.proofs.LastPlaces.{last_small, last_large, last_huge, last_direct, last_single, last_double, last_triple}
 
 -- a range of `m + n` numbers is a range of `m` followed by a range of `n`
-range_more : (a m n : ℕ) → range_with_len a (m + n) ≡ range_with_len a m ++ range_with_len (a + m) n
+pub range_more : (a m n : ℕ) → range_with_len a (m + n) ≡ range_with_len a m ++ range_with_len (a + m) n
 range_more a zero n =
     let none : 0 + n ≡ n = omega arith in
     let same : a + 0 ≡ a = omega arith in

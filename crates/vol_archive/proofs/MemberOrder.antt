@@ -99,7 +99,7 @@ step_after g image start founds entry rest names h =
     let found = met g image start founds entry in
     each_append (IsAfter names) (below g image found found.role) rest
     (each_inside (IsAfter names) g image found found.role (λ is. inside_after g image names entry.path entry.inode
-    (λ name. before_below names (components entry.path) name (h.0 (member_plain g image start (first_met entry.inode founds) founds entry (ap is_kept is)))))) h.1
+    (λ name. before_below names (components entry.path) name (h.0 (member_plain g image start (first_met entry.inode founds) entry (ap is_kept is)))))) h.1
 
 -- names that come before all pending entries come before all members visited later
 rest_after : {g : Geometry} {image : List ℕ} {start : ℕ} {founds : List MetEntry} {pending : List Pending} {all : List MetEntry}
@@ -109,8 +109,8 @@ unfolding rest_of
 rest_after (Walks.ends founds) names h = tt
 rest_after {g = g} {image = image} {start = start} (Walks.meets founds entry rest all walks) names h =
     let first = first_met entry.inode founds in
-    let here : is_kept (role_of g image start first founds entry) ≡ true → order names (components entry.path) ≡ Less =
-    λ kept. h.0 (member_plain g image start first founds entry kept) in (
+    let here : is_kept (role_of g image start first entry) ≡ true → order names (components entry.path) ≡ Less =
+    λ kept. h.0 (member_plain g image start first entry kept) in (
       here,
       rest_after walks names (step_after g image start founds entry rest names h),
     )
@@ -142,7 +142,7 @@ pub met_before : (g : Geometry) (image : List ℕ) (start : ℕ) (founds : List 
 met_before g image start founds entry rest h kept =
     let found = met g image start founds entry in
     let names = components entry.path in
-    let plain : entry.is_plain ≡ true = member_plain g image start (first_met entry.inode founds) founds entry kept in
+    let plain : entry.is_plain ≡ true = member_plain g image start (first_met entry.inode founds) entry kept in
     each_append (IsAfter names) (below g image found found.role) rest
     (each_inside (IsAfter names) g image found found.role (λ is. inside_after g image names entry.path entry.inode (λ name. before_inside names name [])))
     (each_map (Precedes entry) (IsAfter names) (λ other clears other_plain. clear_before names (components other.path) (clears plain other_plain)) rest h)
@@ -154,7 +154,7 @@ step_beside g image start founds entry rest h =
     let found = met g image start founds entry in
     let across : Each (λ (inner : Pending). Each (Precedes inner) rest) (below g image found found.role) =
     each_inside (λ (inner : Pending). Each (Precedes inner) rest) g image found found.role
-    (λ is. inside_before g image entry rest (member_plain g image start (first_met entry.inode founds) founds entry (ap is_kept is)) h.0) in
+    (λ is. inside_before g image entry rest (member_plain g image start (first_met entry.inode founds) entry (ap is_kept is)) h.0) in
     pairs_append Precedes (below g image found found.role) rest (pairs_inside g image found found.role) h.1 across
 
 -- one member's path comes before another's

@@ -147,7 +147,7 @@ record Goes (g : Geometry) (image : List ℕ) (start : ℕ) (founds : List MetEn
 met_new : (g : Geometry) (image : List ℕ) (start : ℕ) (founds : List MetEntry) (entry : Pending) (path : List ℕ)
     → (met g image start founds entry).role ≡ roles.Directory → IsMetAt founds entry.inode path → ⊥
 met_new g image start founds entry path is met_at =
-    let new = directory_new g image start (first_met entry.inode founds) founds entry is in
+    let new = directory_new g image start (first_met entry.inode founds) entry is in
     true≢false (sym (there_first entry.inode founds
     (has_map (λ (f : MetEntry). (f.inode ≡ entry.inode) × (f.path ≡ path) × (f.role ≡ roles.Directory)) (IsFirstFor entry.inode)
     (λ f h. (h.0, ap is_first h.2)) founds met_at)) ∙ new.1)
@@ -163,7 +163,7 @@ goes_on g image start founds entry rest h =
     let slot = entry_of g image c.parent c.name entry.inode c.named in
     let inside : Each (λ (e : Pending). Comes g image start more e.path e.inode) (below g image found found.role) =
     each_inside (λ (e : Pending). Comes g image start more e.path e.inode) g image found found.role
-    (λ is. entries_come g image start more entry.path entry.inode (met_directory g image start (first_met entry.inode founds) founds entry is)
+    (λ is. entries_come g image start more entry.path entry.inode (met_directory g image start (first_met entry.inode founds) entry is)
     (IsUnder.onwards c.parent slot.0 entry.inode c.under (c.name, slot.1, c.named.proper))
     (inr (has_behind (λ (f : MetEntry). (f.inode ≡ entry.inode) × (f.path ≡ entry.path) × (f.role ≡ roles.Directory)) founds (found ∷ []) (inl (refl, refl, is))))) in
     record {
@@ -177,7 +177,7 @@ goes_on g image start founds entry rest h =
       once = λ d path other one two. both d path other (split d path one) (split d other two);
       apart = λ path at_start. elim (split start path at_start) [
         | inl old ↦ h.apart path old
-        | inr new ↦ (directory_new g image start (first_met entry.inode founds) founds entry new.2).0 new.0
+        | inr new ↦ (directory_new g image start (first_met entry.inode founds) entry new.2).0 new.0
       ];
       ordered = each_append (λ (f : MetEntry). is_kept f.role ≡ true → Each (IsAfter (components f.path)) (below g image found found.role ++ rest)) founds (found ∷ [])
           (each_map (λ (f : MetEntry). is_kept f.role ≡ true → Each (IsAfter (components f.path)) (entry ∷ rest))
@@ -226,7 +226,7 @@ one_path g image start founds pending path other i tree directory h c k =
 next_once : (g : Geometry) (image : List ℕ) (start : ℕ) (founds : List MetEntry) (entry : Pending) (rest : List Pending) → IsTree g image → IsDirectory g image start
     → Goes g image start founds (entry ∷ rest) → (met g image start founds entry).role ≡ roles.Left reasons.Again → ⊥
 next_once g image start founds entry rest tree directory h is =
-    let why = again_why g image start (first_met entry.inode founds) founds entry is in
+    let why = again_why g image start (first_met entry.inode founds) entry is in
     elim why.2 [
       | inl same ↦ ring same
       | inr some ↦ has_each (IsFirstFor entry.inode) Known ⊥ (λ f first known. twice why.0 why.1 f first known) founds (first_there entry.inode founds some)

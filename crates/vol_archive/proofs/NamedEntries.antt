@@ -1,6 +1,6 @@
 -- If rules 3 and 9 hold, each visited entry has a name and an i-node.
-use Rattle.std.proofs.Common.{◌≡◌, ◌≢◌, ℕ, ◌≤◌, ◌==◌, Bool, true, false, cond, nat_le, not, List, [], ◌∷◌, map, None, Some, refl, ap, sym, subst, ◌∙◌, arith, length}
-use Rattle.std.specs.Prelude.{Option, slice_get}
+use Rattle.std.proofs.Common.{◌≡◌, ◌≢◌, ℕ, ◌≤◌, ◌==◌, Bool, true, false, cond, not, List, [], ◌∷◌, map, None, Some, refl, ap, sym, subst, ◌∙◌, arith}
+use Rattle.std.specs.Prelude.{Option}
 use Rattle.std.specs.Cmp.Lexicographic.{slice_cmp}
 use Rattle.std.specs.FinMap.Entries.{by_order, put}
 use Rattle.std.specs.List.{range_with_len, list_any}
@@ -17,7 +17,7 @@ use Rattle.vol_dir.specs.Names.{Names, get, names_of}
 use Rattle.vol_dir.specs.Tree.{is_number}
 use Rattle.vol_dir.proofs.WalkLaws.{found_in_use}
 use Rattle.vol_archive.specs.Laws.{EntriesHaveNodes}
-use Rattle.vol_archive.specs.Walk.{Walks, is_plain, met, below, entries_below, role_of, node_role, file_role, role_after, link_role, has_room, first_met}
+use Rattle.vol_archive.specs.Walk.{Walks, is_plain, met, below, entries_below, role_of, node_role, file_role, role_after, has_room, first_met}
 use Rattle.vol_archive.specs.declared.met_entries.MetEntry.{MetEntry}
 use Rattle.vol_archive.specs.declared.met_entries.Role.{Role}
 use Rattle.vol_archive.specs.declared.met_entries.Role.TheVariants as roles
@@ -75,47 +75,40 @@ entries_have g image path d entries directory =
     (each_both (λ (e : List ℕ × ℕ). is_plain e.0 ≡ true) (λ (e : List ℕ × ℕ). get (names_of (slots g image d)) e.0 ≡ Some e.1)
     (names_of (slots g image d)) (names_plain g image d entries directory) (directory_found g image d))
 
--- an entry isn't left out because of its name or because it has no i-node
+-- an entry isn't left out because of its name or of its i-node
 abbrev IsFit : Role → Type 0
-IsFit role = (role ≢ roles.Left reasons.BadName) × (role ≢ roles.Left reasons.NoNode)
+IsFit role = (role ≢ roles.Left reasons.BadName) × (role ≢ roles.Left reasons.NoNode) × (role ≢ roles.Left reasons.OddNode)
 
 -- the role of an entry with a plain name and an i-number in use satisfies `IsFit`
-fits_role : (g : Geometry) (image : List ℕ) (start : ℕ) (first : Option ℕ) (founds : List MetEntry) (entry : Pending) → HasKinds g image → IsForNode g image entry
-    → IsFit (role_of g image start first founds entry)
-fits_role g image start first founds entry known node =
+fits_role : (g : Geometry) (image : List ℕ) (start : ℕ) (first : Option ℕ) (entry : Pending) → HasKinds g image → IsForNode g image entry
+    → IsFit (role_of g image start first entry)
+fits_role g image start first entry known node =
     let low : 1 ≤ entry.inode = let root = root_first g.edition in let least = node.1.first in omega arith in
     let number : is_number g entry.inode ≡ true = let last = node.1.last in grind (arith, nat_tests) in
-    subst IsFit (sym (ap (λ b. cond b (cond (is_number g entry.inode) (node_role start first founds entry (kind_at g image entry.inode)) (roles.Left reasons.NoNode)) (roles.Left reasons.BadName)) node.0
-    ∙ ap (λ b. cond b (node_role start first founds entry (kind_at g image entry.inode)) (roles.Left reasons.NoNode)) number))
+    subst IsFit (sym (ap (λ b. cond b (cond (is_number g entry.inode) (node_role start first entry (kind_at g image entry.inode)) (roles.Left reasons.NoNode)) (roles.Left reasons.BadName)) node.0
+    ∙ ap (λ b. cond b (node_role start first entry (kind_at g image entry.inode)) (roles.Left reasons.NoNode)) number))
     (kinded (kind_at g image entry.inode) node.1.allocated (known.known entry.inode low node.1.last))
   where
-    linked : (k : ℕ) (found : Option MetEntry) → IsFit (link_role k found)
-    linked k None = (λ e. cc, λ e. cc)
-    linked k (Some f) = elim (nat_le (length f.path) 100) as (λ b. IsFit (cond b (roles.Link k) (roles.Left reasons.LongLink))) [
-      | true ↦ (λ e. cc, λ e. cc)
-      | false ↦ (λ e. cc, λ e. cc)
-    ]
-
-    after : (role : Role) → IsFit role → (first : Option ℕ) → IsFit (role_after role first founds)
+    after : (role : Role) → IsFit role → (first : Option ℕ) → IsFit (role_after role first)
     after role h None = h
-    after role h (Some k) = linked k (slice_get founds k)
+    after role h (Some k) = (λ e. cc, λ e. cc, λ e. cc)
 
-    filed : (role : Role) → IsFit role → IsFit (file_role role first founds entry.path)
-    filed role h = elim (has_room entry.path) as (λ b. IsFit (cond b (role_after role first founds) (roles.Left reasons.LongPath))) [
+    filed : (role : Role) → IsFit role → IsFit (file_role role first entry.path)
+    filed role h = elim (has_room entry.path) as (λ b. IsFit (cond b (role_after role first) (roles.Left reasons.LongPath))) [
       | true ↦ after role h first
-      | false ↦ (λ e. cc, λ e. cc)
+      | false ↦ (λ e. cc, λ e. cc, λ e. cc)
     ]
 
     either : (a b : Bool) → IsFit (cond a (roles.Left reasons.Again) (cond b roles.Directory (roles.Left reasons.LongPath)))
-    either true b = (λ e. cc, λ e. cc)
-    either false true = (λ e. cc, λ e. cc)
-    either false false = (λ e. cc, λ e. cc)
+    either true b = (λ e. cc, λ e. cc, λ e. cc)
+    either false true = (λ e. cc, λ e. cc, λ e. cc)
+    either false false = (λ e. cc, λ e. cc, λ e. cc)
 
-    kinded : (kind : Kind) → kind ≢ kinds.Free → kind ≢ kinds.Odd → IsFit (node_role start first founds entry kind)
+    kinded : (kind : Kind) → kind ≢ kinds.Free → kind ≢ kinds.Odd → IsFit (node_role start first entry kind)
     kinded kinds.Free free odd = absurd (free refl)
     kinded kinds.Odd free odd = absurd (odd refl)
-    kinded kinds.Regular free odd = filed roles.File (λ e. cc, λ e. cc)
-    kinded kinds.Special free odd = filed roles.Special (λ e. cc, λ e. cc)
+    kinded kinds.Regular free odd = filed roles.File (λ e. cc, λ e. cc, λ e. cc)
+    kinded kinds.Special free odd = filed roles.Special (λ e. cc, λ e. cc, λ e. cc)
     kinded kinds.Directory free odd = either _ _
 
 -- if all pending entries have a plain name and an i-number in use, the roles of all entries visited later satisfy `IsFit`
@@ -127,15 +120,15 @@ rest_fits known entries (Walks.ends founds) h = tt
 rest_fits {g = g} {image = image} {start = start} known entries (Walks.meets founds entry rest all walks) h =
     let first = first_met entry.inode founds in
     let found = met g image start founds entry in (
-      fits_role g image start first founds entry known h.0,
+      fits_role g image start first entry known h.0,
       rest_fits known entries walks (each_append (IsForNode g image) (below g image found found.role) rest
           (each_inside (IsForNode g image) g image found found.role
-          (λ is. entries_have g image entry.path entry.inode entries (met_directory g image start first founds entry is))) h.1),
+          (λ is. entries_have g image entry.path entry.inode entries (met_directory g image start first entry is))) h.1),
     )
 
--- no visited entry is left out because of its name or because it has no i-node
+-- no visited entry is left out because of its name or of its i-node
 pub entries_have_nodes : EntriesHaveNodes
 entries_have_nodes g image start founds known entries directory walks =
-    each_all (λ (found : MetEntry). (found.role ≢ roles.Left reasons.BadName) × (found.role ≢ roles.Left reasons.NoNode)) founds
+    each_all (λ (found : MetEntry). IsFit found.role) founds
     (subst (Each (λ (found : MetEntry). IsFit found.role)) (walk_is walks)
     (rest_fits known entries walks (entries_have g image [] start entries directory)))

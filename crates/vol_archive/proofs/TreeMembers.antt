@@ -1,6 +1,6 @@
 -- The nodes to which the paths of members lead.
-use Rattle.std.proofs.Common.{◌≡◌, ℕ, Bool, true, false, cond, nat_le, List, [], ◌∷◌, ◌++◌, length, None, Some, Ok, refl, ap, sym, subst, ◌∙◌, arith}
-use Rattle.std.specs.Prelude.{Option, slice_get}
+use Rattle.std.proofs.Common.{◌≡◌, ℕ, Bool, true, false, cond, List, [], ◌∷◌, ◌++◌, None, Some, Ok, refl, ap, sym, subst, ◌∙◌, arith}
+use Rattle.std.specs.Prelude.{Option}
 use Rattle.std.specs.Option.{ok_or}
 use Rattle.std.proofs.lemmas.Bool.{true≢false}
 use Rattle.std.proofs.lemmas.Bool.Decides.{nat_tests}
@@ -19,7 +19,7 @@ use Rattle.vol_dir.proofs.WalkLaws.{search-directory}
 use Rattle.vol_dir.specs.declared.refusal.Refusal.TheVariants as refusals
 use Rattle.vol_dir.specs.Access.{user}
 use Rattle.vol_archive.specs.Laws.{is_kept, MembersAreOfTree}
-use Rattle.vol_archive.specs.Walk.{Walks, IsWalk, met, below, entries_below, role_of, node_role, file_role, role_after, link_role, has_room, first_met}
+use Rattle.vol_archive.specs.Walk.{Walks, IsWalk, met, below, entries_below, role_of, node_role, file_role, role_after, has_room, first_met}
 use Rattle.vol_archive.specs.declared.met_entries.MetEntry.{MetEntry}
 use Rattle.vol_archive.specs.declared.met_entries.Role.{Role}
 use Rattle.vol_archive.specs.declared.met_entries.Role.TheVariants as roles
@@ -29,10 +29,10 @@ use Rattle.vol_archive.proofs.Each.{Each, each_map, each_append, all_kept}
 use Rattle.vol_archive.proofs.EntryLists.{IsNamed, entries_named}
 
 -- a member has a plain name
-pub member_plain : (g : Geometry) (image : List ℕ) (start : ℕ) (first : Option ℕ) (founds : List MetEntry) (entry : Pending)
-    → is_kept (role_of g image start first founds entry) ≡ true → entry.is_plain ≡ true
-member_plain g image start first founds entry kept =
-    elim entry.is_plain as (λ b. is_kept (cond b (cond (is_number g entry.inode) (node_role start first founds entry (kind_at g image entry.inode)) (roles.Left reasons.NoNode)) (roles.Left reasons.BadName)) ≡ true → b ≡ true) [
+pub member_plain : (g : Geometry) (image : List ℕ) (start : ℕ) (first : Option ℕ) (entry : Pending)
+    → is_kept (role_of g image start first entry) ≡ true → entry.is_plain ≡ true
+member_plain g image start first entry kept =
+    elim entry.is_plain as (λ b. is_kept (cond b (cond (is_number g entry.inode) (node_role start first entry (kind_at g image entry.inode)) (roles.Left reasons.NoNode)) (roles.Left reasons.BadName)) ≡ true → b ≡ true) [
       | true ↦ λ e. refl
       | false ↦ λ e. absurd (true≢false (sym e))
     ] kept
@@ -52,50 +52,42 @@ rest_is {g = g} {image = image} {start = start} (Walks.meets founds entry rest a
     rest_is walks ∙ append_assoc founds (met g image start founds entry ∷ []) (rest_of walks)
 
 -- an entry with the role of a directory is a directory
-pub met_directory : (g : Geometry) (image : List ℕ) (start : ℕ) (first : Option ℕ) (founds : List MetEntry) (entry : Pending)
-    → role_of g image start first founds entry ≡ roles.Directory → IsDirectory g image entry.inode
-met_directory g image start first founds entry is =
-    let plain : entry.is_plain ≡ true = member_plain g image start first founds entry (ap is_kept is) in
-    numbered (is_number g entry.inode) refl (sym (ap (λ b. cond b (cond (is_number g entry.inode) (node_role start first founds entry (kind_at g image entry.inode)) (roles.Left reasons.NoNode)) (roles.Left reasons.BadName)) plain) ∙ is)
+pub met_directory : (g : Geometry) (image : List ℕ) (start : ℕ) (first : Option ℕ) (entry : Pending)
+    → role_of g image start first entry ≡ roles.Directory → IsDirectory g image entry.inode
+met_directory g image start first entry is =
+    let plain : entry.is_plain ≡ true = member_plain g image start first entry (ap is_kept is) in
+    numbered (is_number g entry.inode) refl (sym (ap (λ b. cond b (cond (is_number g entry.inode) (node_role start first entry (kind_at g image entry.inode)) (roles.Left reasons.NoNode)) (roles.Left reasons.BadName)) plain) ∙ is)
   where
     none : {A : Type 0} → (role : Role) → is_kept role ≡ false → role ≡ roles.Directory → A
     none role e is = absurd (true≢false (sym (ap is_kept is) ∙ e))
 
-    file_other : (role : Role) → (role ≡ roles.Directory → ⊥) → (first : Option ℕ) → file_role role first founds entry.path ≡ roles.Directory → ⊥
+    file_other : (role : Role) → (role ≡ roles.Directory → ⊥) → (first : Option ℕ) → file_role role first entry.path ≡ roles.Directory → ⊥
     file_other role other first e =
-        elim (has_room entry.path) as (λ b. cond b (role_after role first founds) (roles.Left reasons.LongPath) ≡ roles.Directory → ⊥) [
+        elim (has_room entry.path) as (λ b. cond b (role_after role first) (roles.Left reasons.LongPath) ≡ roles.Directory → ⊥) [
           | true ↦ after first
           | false ↦ λ e. true≢false (sym (ap is_kept e))
         ] e
       where
-        link_other : (k : ℕ) (found : Option MetEntry) → link_role k found ≡ roles.Directory → ⊥
-        link_other k None e = true≢false (sym (ap is_kept e))
-        link_other k (Some f) e =
-            elim (nat_le (length f.path) 100) as (λ b. cond b (roles.Link k) (roles.Left reasons.LongLink) ≡ roles.Directory → ⊥) [
-              | true ↦ λ e. cc
-              | false ↦ λ e. cc
-            ] e
-
-        after : (first : Option ℕ) → role_after role first founds ≡ roles.Directory → ⊥
+        after : (first : Option ℕ) → role_after role first ≡ roles.Directory → ⊥
         after None e = other e
-        after (Some k) e = link_other k (slice_get founds k) e
+        after (Some k) e = cc
 
-    kinded : (kind : Kind) → node_role start first founds entry kind ≡ roles.Directory → kind ≡ kinds.Directory
+    kinded : (kind : Kind) → node_role start first entry kind ≡ roles.Directory → kind ≡ kinds.Directory
     kinded kinds.Directory e = refl
     kinded kinds.Free e = cc
     kinded kinds.Odd e = cc
     kinded kinds.Regular e = absurd (file_other roles.File (λ e. cc) first e)
     kinded kinds.Special e = absurd (file_other roles.Special (λ e. cc) first e)
 
-    numbered : (b : Bool) → is_number g entry.inode ≡ b → cond (is_number g entry.inode) (node_role start first founds entry (kind_at g image entry.inode)) (roles.Left reasons.NoNode) ≡ roles.Directory
+    numbered : (b : Bool) → is_number g entry.inode ≡ b → cond (is_number g entry.inode) (node_role start first entry (kind_at g image entry.inode)) (roles.Left reasons.NoNode) ≡ roles.Directory
         → IsDirectory g image entry.inode
     numbered true number is = record {
       first = grind (arith, nat_tests);
       last = grind (arith, nat_tests);
-      kind = kinded (kind_at g image entry.inode) (sym (ap (λ b. cond b (node_role start first founds entry (kind_at g image entry.inode)) (roles.Left reasons.NoNode)) number) ∙ is);
+      kind = kinded (kind_at g image entry.inode) (sym (ap (λ b. cond b (node_role start first entry (kind_at g image entry.inode)) (roles.Left reasons.NoNode)) number) ∙ is);
     }
     numbered false number is =
-        cc' (sym (ap (λ b. cond b (node_role start first founds entry (kind_at g image entry.inode)) (roles.Left reasons.NoNode)) number) ∙ is)
+        cc' (sym (ap (λ b. cond b (node_role start first entry (kind_at g image entry.inode)) (roles.Left reasons.NoNode)) number) ∙ is)
       where
         cc' : roles.Left reasons.NoNode ≡ roles.Directory → IsDirectory g image entry.inode
         cc' e = cc
@@ -144,12 +136,12 @@ unfolding rest_of
 rest_leads (Walks.ends founds) h = tt
 rest_leads {g = g} {image = image} {start = start} (Walks.meets founds entry rest all walks) h =
     let first = first_met entry.inode founds in
-    let here : is_kept (role_of g image start first founds entry) ≡ true → WalksTo g image start (components entry.path) entry.inode =
-    λ kept. h.0 (member_plain g image start first founds entry kept) in
+    let here : is_kept (role_of g image start first entry) ≡ true → WalksTo g image start (components entry.path) entry.inode =
+    λ kept. h.0 (member_plain g image start first entry kept) in
     let found = met g image start founds entry in (
       here,
       rest_leads walks (each_append (PendingWalksTo g image start) (below g image found found.role) rest
-          (below_lead g image start found found.role (λ is. (met_directory g image start first founds entry is, here (ap is_kept is)))) h.1),
+          (below_lead g image start found found.role (λ is. (met_directory g image start first entry is, here (ap is_kept is)))) h.1),
     )
 
 -- the rest of a walk from its beginning is the whole walk

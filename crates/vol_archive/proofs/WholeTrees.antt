@@ -57,7 +57,7 @@ rest_as_is : {g : Geometry} {image : List ℕ} {start : ℕ} {founds : List MetE
 unfolding rest_of
 rest_as_is (Walks.ends founds) = tt
 rest_as_is {g = g} {image = image} {start = start} (Walks.meets founds entry rest all walks) = (
-  λ kept directory. directory_kept g image start (first_met entry.inode founds) founds entry kept directory,
+  λ kept directory. directory_kept g image start (first_met entry.inode founds) entry kept directory,
   rest_as_is walks,
 )
 
@@ -165,13 +165,13 @@ members_are_tree g image start founds kinds_known entries tree_is directory walk
 )
   where
     IsFit : MetEntry → Type 0
-    IsFit f = (f.role ≢ roles.Left reasons.BadName) × (f.role ≢ roles.Left reasons.NoNode)
+    IsFit f = (f.role ≢ roles.Left reasons.BadName) × (f.role ≢ roles.Left reasons.NoNode) × (f.role ≢ roles.Left reasons.OddNode)
 
     IsNew : MetEntry → Type 0
     IsNew f = f.role ≢ roles.Left reasons.Again
 
     IsRoomy : MetEntry → Type 0
-    IsRoomy f = (f.role ≢ roles.Left reasons.LongPath) × (f.role ≢ roles.Left reasons.LongLink)
+    IsRoomy f = f.role ≢ roles.Left reasons.LongPath
 
     whole : (HasMetAllOf g image founds [] start) × Each (λ (f : MetEntry). f.role ≡ roles.Directory → HasMetAllOf g image founds f.path f.inode) founds
     whole =
@@ -182,8 +182,8 @@ members_are_tree g image start founds kinds_known entries tree_is directory walk
     reasoned f fit new roomy reasons.BadName = fit.0
     reasoned f fit new roomy reasons.NoNode = fit.1
     reasoned f fit new roomy reasons.Again = new
-    reasoned f fit new roomy reasons.LongPath = roomy.0
-    reasoned f fit new roomy reasons.LongLink = roomy.1
+    reasoned f fit new roomy reasons.OddNode = fit.2
+    reasoned f fit new roomy reasons.LongPath = roomy
 
     kept : Each (λ (f : MetEntry). is_kept f.role ≡ true) founds
     kept =

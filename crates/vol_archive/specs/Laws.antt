@@ -69,7 +69,8 @@ DirectoriesAreWhole = (geometry : Geometry) (image : List ℕ) (start : ℕ) (fo
 abbrev pub EntriesHaveNodes : Type 0
 EntriesHaveNodes = (geometry : Geometry) (image : List ℕ) (start : ℕ) (founds : List MetEntry) → HasKinds geometry image → HasEntries geometry image
     → IsDirectory geometry image start → IsWalk geometry image start founds
-    → All (λ (found : MetEntry). (found.role ≢ roles.Left reasons.BadName) × (found.role ≢ roles.Left reasons.NoNode)) founds
+    → All (λ (found : MetEntry). (found.role ≢ roles.Left reasons.BadName) × (found.role ≢ roles.Left reasons.NoNode)
+    × (found.role ≢ roles.Left reasons.OddNode)) founds
 
 -- in an image where rule 11 holds, no visited directory is left out because it was visited before: each is visited once (ncheck)
 abbrev pub DirectoriesAreMetOnce : Type 0
@@ -77,17 +78,17 @@ DirectoriesAreMetOnce = (geometry : Geometry) (image : List ℕ) (start : ℕ) (
     → IsDirectory geometry image start → IsWalk geometry image start founds
     → All (λ (found : MetEntry). found.role ≢ roles.Left reasons.Again) founds
 
--- no visited path is too long for a header, or for the header of a link to it (POSIX, ustar interchange format)
+-- no visited entry is left out because its path has more than 4,096 bytes (this project)
 abbrev pub HasRoomForAll : List MetEntry → Type 0
-HasRoomForAll founds = All (λ (found : MetEntry). (found.role ≢ roles.Left reasons.LongPath) × (found.role ≢ roles.Left reasons.LongLink)) founds
+HasRoomForAll founds = All (λ (found : MetEntry). found.role ≢ roles.Left reasons.LongPath) founds
 
 -- one or more names, none of them `.` or `..` (manual section 5, directories)
 pub record AreProper (names : List (List ℕ)) : Type 0 where
   pub some : names ≢ []
   pub proper : All (λ name. is_dots name ≡ false) names
 
--- in an image where rules 3, 9 and 11 hold, as in any sound image, the members are exactly the tree below the directory, if all paths fit headers:
--- names lead to an i-number, as user 0 walks them, if and only if the path of a member for it has these names (Lions on namei)
+-- in an image where rules 3, 9 and 11 hold, as in any sound image, the members are exactly the tree below the directory, if no path is longer than
+-- 4,096 bytes: names lead to an i-number, as user 0 walks them, if and only if the path of a member for it has these names (Lions on namei)
 abbrev pub MembersAreTheTree : Type 0
 MembersAreTheTree = (geometry : Geometry) (image : List ℕ) (start : ℕ) (founds : List MetEntry)
     → HasKinds geometry image → HasEntries geometry image → IsTree geometry image

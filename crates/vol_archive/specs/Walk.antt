@@ -1,9 +1,8 @@
 -- The entries visited below a directory, and their roles in an archive.
-use Rattle.std.specs.Prelude.{ℕ, ◌==◌, ◌&&◌, ◌||◌, Bool, true, false, not, nat_le, if◌then◌else◌, List, [], ◌∷◌, ◌++◌, length, map, slice_get, Option, None, Some, codes, decimal}
+use Rattle.std.specs.Prelude.{ℕ, ◌==◌, ◌&&◌, ◌||◌, Bool, true, false, not, nat_le, if◌then◌else◌, List, [], ◌∷◌, ◌++◌, length, map, Option, None, Some, codes, decimal}
 use Rattle.std.specs.List.{list_any, flat_map, position}
 use Rattle.std.specs.Option.{is_some}
 use Rattle.std.specs.Str.{bytes_eq}
-use Rattle.ustar.specs.Names.{split}
 use Rattle.vol_file.specs.Rules.{kind_at}
 use Rattle.vol_dir.specs.Entries.{slots}
 use Rattle.vol_dir.specs.Names.{Names, names_of, is_dots}
@@ -53,39 +52,34 @@ is_first (roles.Left reason) = false
 unfoldable pub first_met : ℕ → List MetEntry → Option ℕ
 first_met i founds = position (λ (found : MetEntry). found.inode == i && is_first found.role) founds
 
--- the role of another name for the member at position `k`, whose path may be too long for a link (POSIX, ustar interchange format)
-abbrev pub link_role : ℕ → Option MetEntry → Role
-link_role k None = roles.Left reasons.LongLink
-link_role k (Some first) = if nat_le (length first.path) 100 then roles.Link k else roles.Left reasons.LongLink
+-- the role of a file; if there is already a member for its i-number, this is another name for it, and its position is given (this project)
+abbrev pub role_after : Role → Option ℕ → Role
+role_after role None = role
+role_after role (Some k) = roles.Link k
 
--- the role of a file; if there is already a member for its i-number, its position is given (this project)
-abbrev pub role_after : Role → Option ℕ → List MetEntry → Role
-role_after role None founds = role
-role_after role (Some k) founds = link_role k (slice_get founds k)
-
--- true if a path fits a header (POSIX, ustar interchange format)
+-- true if a path has at most 4,096 bytes, as many as an import accepts (Linux, PATH_MAX)
 abbrev pub has_room : List ℕ → Bool
-has_room path = is_some (split path)
+has_room path = nat_le (length path) 4096
 
 -- the role of a file at a path (this project)
-abbrev pub file_role : Role → Option ℕ → List MetEntry → List ℕ → Role
-file_role role first founds path = if has_room path then role_after role first founds else roles.Left reasons.LongPath
+abbrev pub file_role : Role → Option ℕ → List ℕ → Role
+file_role role first path = if has_room path then role_after role first else roles.Left reasons.LongPath
 
 -- the role of an entry for an i-node of this kind (this project)
-abbrev pub node_role : ℕ → Option ℕ → List MetEntry → Pending → Kind → Role
-node_role start first founds entry kinds.Free = roles.Left reasons.NoNode
-node_role start first founds entry kinds.Odd = roles.Left reasons.NoNode
-node_role start first founds entry kinds.Regular = file_role roles.File first founds entry.path
-node_role start first founds entry kinds.Special = file_role roles.Special first founds entry.path
-node_role start first founds entry kinds.Directory =
+abbrev pub node_role : ℕ → Option ℕ → Pending → Kind → Role
+node_role start first entry kinds.Free = roles.Left reasons.NoNode
+node_role start first entry kinds.Odd = roles.Left reasons.OddNode
+node_role start first entry kinds.Regular = file_role roles.File first entry.path
+node_role start first entry kinds.Special = file_role roles.Special first entry.path
+node_role start first entry kinds.Directory =
     if (entry.inode == start) || is_some first then roles.Left reasons.Again
     else if has_room (entry.path ++ 47 ∷ []) then roles.Directory else roles.Left reasons.LongPath
 
 -- the role of an entry visited below directory `start`; if there is already a member for its i-number, its position is given (this project)
-abbrev pub role_of : Geometry → List ℕ → ℕ → Option ℕ → List MetEntry → Pending → Role
-role_of geometry image start first founds entry =
+abbrev pub role_of : Geometry → List ℕ → ℕ → Option ℕ → Pending → Role
+role_of geometry image start first entry =
     if entry.is_plain
-    then (if is_number geometry entry.inode then node_role start first founds entry (kind_at geometry image entry.inode) else roles.Left reasons.NoNode)
+    then (if is_number geometry entry.inode then node_role start first entry (kind_at geometry image entry.inode) else roles.Left reasons.NoNode)
     else roles.Left reasons.BadName
 
 -- an entry, after other entries were visited (this project)
@@ -93,7 +87,7 @@ abbrev pub met : Geometry → List ℕ → ℕ → List MetEntry → Pending →
 met geometry image start founds entry = record {
   path = entry.path;
   inode = entry.inode;
-  role = role_of geometry image start (first_met entry.inode founds) founds entry;
+  role = role_of geometry image start (first_met entry.inode founds) entry;
 }
 
 -- the entries below a visited entry: those in it if its role is that of a directory, else none (this project)
@@ -144,3 +138,8 @@ abbrev pub IsLostWalk : Geometry → List ℕ → ℕ → List ℕ → List MetE
 IsLostWalk geometry image start lost all =
     (founds : List MetEntry) × IsWalk geometry image start founds
     × Walks geometry image start (with_lost_directory start lost founds) (map lost_entry lost) all
+
+-- these i-nodes, each under its number in a directory of lost i-nodes, with everything below them; for a volume whose root, `start`, is no directory
+-- (fsck)
+abbrev pub IsOrphanWalk : Geometry → List ℕ → ℕ → List ℕ → List MetEntry → Type 0
+IsOrphanWalk geometry image start lost all = Walks geometry image start [] (map lost_entry lost) all

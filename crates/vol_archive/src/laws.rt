@@ -27,8 +27,7 @@ pub fn directories_are_whole()
     ensures { DirectoriesAreWhole }
 {}
 
-/// In an image where each i-node has a kind, and each entry has a name and an i-node, no entry is left out because it has no i-node or no proper
-/// name.
+/// In an image where each i-node has a kind, and each entry has a name and an i-node, no entry is left out because of its i-node or its name.
 pub fn entries_have_nodes()
     ensures { EntriesHaveNodes }
 {}
@@ -38,7 +37,7 @@ pub fn directories_are_met_once()
     ensures { DirectoriesAreMetOnce }
 {}
 
-/// In a sound image, the members are exactly the tree below the exported directory, if all paths fit headers.
+/// In a sound image, the members are exactly the tree below the exported directory, if no path in it has more than 4,096 bytes.
 pub fn members_are_the_tree()
     ensures { MembersAreTheTree }
 {}

@@ -10,9 +10,9 @@ mod pending;
 pub mod tree_walk;
 pub mod write;
 
-pub use export_tree::{ExportStart, StartFault, export, start_of};
+pub use export_tree::{ExportStart, StartFault, export, is_directory, lost_start_of, start_of};
 pub use members::{device_number, put_archive, special_kind};
 pub use met_entries::{MetEntry, Reason, Role};
 pub use names::is_plain;
-pub use tree_walk::{walk, walk_lost};
+pub use tree_walk::{walk, walk_lost, walk_orphans};
 pub use write::WriteFault;

@@ -7,14 +7,14 @@ use pdp_words::Bytes;
 /// The reason why an entry is left out of an archive.
 #[derive(Clone, Copy)]
 pub enum Reason {
-    /// The entry's i-number isn't one of the volume, or its i-node is free or has a mode that isn't one of the edition's.
+    /// The entry's i-number isn't one of the volume, or its i-node is free.
     NoNode,
+    /// The entry's i-node has a mode that isn't one of the edition's.
+    OddNode,
     /// The entry is for a directory that was visited before, or for the directory where the walk began.
     Again,
-    /// The entry's path doesn't fit a header.
+    /// The entry's path has more than 4,096 bytes; for a directory, with the slash at its end.
     LongPath,
-    /// The entry is another name of a member whose path is longer than 100 bytes, too long for a link.
-    LongLink,
     /// The entry's name is empty or has a slash.
     BadName,
 }

@@ -4,15 +4,15 @@ ghost use Rattle.vol_layout.specs.Geometry.{Fits};
 ghost use Rattle.vol_dir.specs.Entries.{IsDirectory};
 ghost use Rattle.vol_layout.specs.declared.geometry.Geometry.{Geometry};
 ghost use Rattle.vol_archive.specs.declared.met_entries.MetEntry.{MetEntry};
-ghost use Rattle.vol_archive.specs.Walk.{first_met, role_of, node_role, file_role, link_role, has_room, has_path, entries_below, with_lost_directory, IsWalk, IsLostWalk, Walks};
+ghost use Rattle.vol_archive.specs.Walk.{first_met, role_of, node_role, file_role, has_room, has_path, entries_below, with_lost_directory, IsWalk, IsLostWalk, IsOrphanWalk, Walks};
 ghost use Rattle.vol_archive.specs.Marks.{AreFirsts};
 
 use crate::met_entries::{MetEntry, Reason, Role};
-use crate::names::{LOST_FOUND, entries_below, lost_entries, slashed};
+use crate::names::{LOST_FOUND, entries_below, lost_entries};
 use crate::pending::Pending;
 use pdp_words::{Bytes, Image};
 use std::alloc::{AllocError, Global};
-use ustar::split;
+use ustar::LONGEST;
 use vol_layout::i_list::kind;
 use vol_layout::{Geometry, Kind};
 
@@ -65,6 +65,38 @@ pub fn walk_lost(
     Ok(walk_on(alloc, image, geometry, start, walked, pending)?.founds)
 }
 
+/// Returns the i-nodes without a directory entry, and everything below the directories among them, of a volume whose root, `start`, is no directory.
+/// Their paths are `lost+found/#` and the i-number. There is no entry for `lost+found` itself.
+///
+/// Costs as much as [`walk`].
+pub fn walk_orphans(
+    alloc: Global,
+    image: &Image,
+    geometry: &Geometry,
+    start: u16,
+    lost: &[u16],
+) -> Result<Vec<MetEntry>, AllocError>
+    requires { Fits geometry.now image.now }
+    ensures { IfOk result (λ founds. IsOrphanWalk geometry.now image.now start lost.now founds.items) }
+{
+    let walked = unwalked(alloc, geometry)?;
+    let mut pending = Vec::new(alloc);
+    push_all(lost_entries(alloc, lost)?, &mut pending)?;
+    Ok(walk_on(alloc, image, geometry, start, walked, pending)?.founds)
+}
+
+/// Returns the state of a walk before its first entry.
+fn unwalked(alloc: Global, geometry: &Geometry) -> Result<Walked, AllocError>
+    ensures firsts { IfOk result (λ walked. AreFirsts geometry.now walked.firsts.items walked.founds.items) }
+    ensures none { IfOk result (λ walked. walked.founds.items ≡ []) }
+{
+    let firsts = no_marks(alloc, geometry.last_inode as usize + 1)?;
+    Ok(Walked {
+        founds: Vec::new(alloc),
+        firsts,
+    })
+}
+
 /// Walks everything below directory `start`.
 fn walk_tree(
     alloc: Global,
@@ -77,11 +109,7 @@ fn walk_tree(
     ensures firsts { IfOk result (λ walked. AreFirsts geometry.now walked.firsts.items walked.founds.items) }
     ensures walk { IfOk result (λ walked. IsWalk geometry.now image.now start walked.founds.items) }
 {
-    let firsts = no_marks(alloc, geometry.last_inode as usize + 1)?;
-    let walked = Walked {
-        founds: Vec::new(alloc),
-        firsts,
-    };
+    let walked = unwalked(alloc, geometry)?;
     let mut pending = Vec::new(alloc);
     push_below(alloc, image, geometry, b"", start, &mut pending)?;
     walk_on(alloc, image, geometry, start, walked, pending)
@@ -107,7 +135,7 @@ fn walk_on(
     } = walked;
     let mut pending = pending;
     'entries: while let Some(entry) = pending.pop() {
-        let role = role_of(alloc, image, geometry, start, &firsts, &founds, &entry)?;
+        let role = role_of(image, geometry, start, &firsts, &entry);
         if let Role::Directory = role {
             let path = entry.path.as_slice();
             push_below(alloc, image, geometry, path, entry.inode, &mut pending)?;
@@ -203,106 +231,65 @@ fn mark_first(firsts: &mut Vec<Option<usize>>, inode: u16, role: Role, place: us
 
 /// Returns the role of an entry visited below directory `start`, after the others.
 fn role_of(
-    alloc: Global,
     image: &Image,
     geometry: &Geometry,
     start: u16,
     firsts: &[Option<usize>],
-    founds: &[MetEntry],
     entry: &Pending,
-) -> Result<Role, AllocError>
+) -> Role
     requires fits { Fits geometry.now image.now }
-    requires firsts { AreFirsts geometry.now firsts.now founds.now }
-    ensures role { IfOk result (λ role. role ≡ role_of geometry.now image.now start (first_met entry.now.inode founds.now) founds.now entry.now) }
-    ensures directory { IfOk result (λ role. role ≡ Role.Directory → IsDirectory geometry.now image.now entry.now.inode) }
+    requires firsts { length firsts.now ≡ geometry.now.last_inode + 1 }
+    ensures role { (founds : List MetEntry) → AreFirsts geometry.now firsts.now founds
+        → result ≡ role_of geometry.now image.now start (first_met entry.now.inode founds) entry.now }
+    ensures directory { result ≡ Role.Directory → IsDirectory geometry.now image.now entry.now.inode }
 {
     if !entry.is_plain {
-        return Ok(Role::Left(Reason::BadName));
+        return Role::Left(Reason::BadName);
     }
     let i = entry.inode;
     if i == 0 || i > geometry.last_inode {
-        return Ok(Role::Left(Reason::NoNode));
+        return Role::Left(Reason::NoNode);
     }
-    let first = firsts[i as usize];
-    node_role(alloc, start, first, founds, entry, kind(image, geometry, i))
+    node_role(start, firsts[i as usize], entry, kind(image, geometry, i))
 }
 
-/// Returns the role of an entry for an i-node of this kind.
-fn node_role(
-    alloc: Global,
-    start: u16,
-    first: Option<usize>,
-    founds: &[MetEntry],
-    entry: &Pending,
-    kind: Kind,
-) -> Result<Role, AllocError>
-    ensures role { IfOk result (λ role. role ≡ node_role start first founds.now entry.now kind) }
-    ensures directory { IfOk result (λ role. role ≡ Role.Directory → kind ≡ Kind.Directory) }
+/// Returns the role of an entry for an i-node of this kind; an earlier member with the same i-number, if any, is at position `first`.
+fn node_role(start: u16, first: Option<usize>, entry: &Pending, kind: Kind) -> Role
+    ensures role { result ≡ node_role start first entry.now kind }
+    ensures directory { result ≡ Role.Directory → kind ≡ Kind.Directory }
 {
     let path = entry.path.as_slice();
     match kind {
-        Kind::Free | Kind::Odd => Ok(Role::Left(Reason::NoNode)),
-        Kind::Regular => Ok(file_role(Role::File, first, founds, path)),
-        Kind::Special => Ok(file_role(Role::Special, first, founds, path)),
-        Kind::Directory if entry.inode == start || first.is_some() => {
-            Ok(Role::Left(Reason::Again))
-        }
-        Kind::Directory => directory_role(alloc, path),
+        Kind::Free => Role::Left(Reason::NoNode),
+        Kind::Odd => Role::Left(Reason::OddNode),
+        Kind::Regular => file_role(Role::File, first, path),
+        Kind::Special => file_role(Role::Special, first, path),
+        Kind::Directory if entry.inode == start || first.is_some() => Role::Left(Reason::Again),
+        Kind::Directory => directory_role(path),
     }
 }
 
 /// Returns the role of a directory at a path that wasn't visited before. The path of its member ends in a slash.
-fn directory_role(alloc: Global, path: &[u8]) -> Result<Role, AllocError>
-    ensures { IfOk result (λ role. role ≡ (if has_room (path.now ++ 47 ∷ []) then Role.Directory else Role.Left Reason.LongPath)) }
+fn directory_role(path: &[u8]) -> Role
+    ensures { result ≡ (if has_room (path.now ++ 47 ∷ []) then Role.Directory else Role.Left Reason.LongPath) }
 {
-    let slashed = slashed(alloc, path)?;
-    if has_room(&slashed) {
-        Ok(Role::Directory)
+    if path.len() < LONGEST {
+        Role::Directory
     } else {
-        Ok(Role::Left(Reason::LongPath))
+        Role::Left(Reason::LongPath)
     }
 }
 
 /// Returns the role of a file at a path; an earlier member with the same i-number, if any, is at position `first`.
-fn file_role(role: Role, first: Option<usize>, founds: &[MetEntry], path: &[u8]) -> Role
-    ensures exact { result ≡ file_role role first founds.now path.now }
+fn file_role(role: Role, first: Option<usize>, path: &[u8]) -> Role
+    ensures exact { result ≡ file_role role first path.now }
     ensures file { result ≡ Role.Directory → role ≡ Role.Directory }
 {
-    if !has_room(path) {
+    if path.len() > LONGEST {
         return Role::Left(Reason::LongPath);
     }
     match first {
         None => role,
-        Some(k) => link_role(k, founds),
+        Some(k) => Role::Link(k),
     }
-}
-
-/// Returns the role of another name for the member at position `k`.
-fn link_role(k: usize, founds: &[MetEntry]) -> Role
-    ensures exact { result ≡ link_role k (slice_get founds.now k) }
-    ensures link { result ≡ Role.Directory → ⊥ }
-{
-    match founds.get(k) {
-        Some(first) => named_link(k, first.path.as_slice()),
-        None => Role::Left(Reason::LongLink),
-    }
-}
-
-/// Returns the role of another name for the member at position `k`, given that member's path.
-fn named_link(k: usize, path: &[u8]) -> Role
-    ensures exact { result ≡ (if nat_le (length path.now) 100 then Role.Link k else Role.Left Reason.LongLink) }
-    ensures link { result ≡ Role.Directory → ⊥ }
-{
-    if path.len() <= ustar::names::NAME {
-        Role::Link(k)
-    } else {
-        Role::Left(Reason::LongLink)
-    }
-}
-
-/// True if a path fits a header.
-fn has_room(path: &[u8]) -> bool
-    ensures { result ≡ has_room path.now }
-{
-    split(path).is_some()
 }

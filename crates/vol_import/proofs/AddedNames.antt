@@ -225,7 +225,7 @@ onto_plain : (paths : List (List ℕ)) (tree : Tree) (base : List ℕ) (now : �
     → onto tree base now drafted member made ≡ Ok next → Each (IsPlain paths) next.1
 onto_plain paths tree base now member (Err fault) drafted next within plain is = absurd (cc)
 onto_plain paths tree base now member (Ok made) drafted next within plain is =
-    let way = way_of (steps_of member.path) in
+    let way = way_of member.path in
     let mid = with_way tree base now [] way drafted in
     by mid (is_crowded tree mid) is
     (way_plain paths tree base now [] way drafted
@@ -239,7 +239,7 @@ onto_plain paths tree base now member (Ok made) drafted next within plain is =
         let same : with_made made.0 tree base now member made.1 mid ≡ next = cc in
         subst (λ (d : Drafted). Each (IsPlain paths) d.1) same
         (made_plain paths tree base now member made.0 made.1 mid
-        (within (below base member.path) (has_behind (λ (q : List ℕ). q ≡ below base member.path) (way_paths base [] (way_of (steps_of member.path)))
+        (within (below base member.path) (has_behind (λ (q : List ℕ). q ≡ below base member.path) (way_paths base [] (way_of member.path))
         (below base member.path ∷ []) (inl refl))) plain)
 
 -- making all members adds only names on their paths

@@ -352,8 +352,8 @@ member_added : (start : Tree) (base : List ℕ) (now : ℕ) (drafted next : Draf
     → Adds start base (λ path. is_for path member) drafted next (IsMadeAs start base now member false made)
 member_added start base now drafted next member (Err fault) is added = absurd (cc)
 member_added start base now drafted next member (Ok made) is added =
-    let mid = with_way start base now [] (way_of (steps_of member.path)) drafted in
-    by mid (is_crowded start mid) added (way start base now [] (way_of (steps_of member.path)) drafted)
+    let mid = with_way start base now [] (way_of member.path) drafted in
+    by mid (is_crowded start mid) added (way start base now [] (way_of member.path) drafted)
   where
     by : (mid : Drafted) (crowded : Bool)
         → cond crowded (Err (plans.Member (below base member.path) faults.NoInode)) (Ok (with_made made.0 start base now member made.1 mid)) ≡ Ok next

@@ -18,6 +18,7 @@ pub mod MemberRuns
 mod NodeNumbers
 pub mod PlanRuns
 pub mod RecordRuns
+mod RecordsBack
 mod SameTrees
 pub mod SortRuns
 mod SplitPaths

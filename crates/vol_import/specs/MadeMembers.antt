@@ -124,7 +124,7 @@ way_paths base path (step ∷ steps) = (base ++ (path ++ 47 ∷ step)) ∷ way_p
 
 -- the paths that a member has made below another path: the directories on its path, and the path itself (this project)
 abbrev pub made_paths : List ℕ → Member → List (List ℕ)
-made_paths base member = way_paths base [] (way_of (steps_of member.path)) ++ below base member.path ∷ []
+made_paths base member = way_paths base [] (way_of member.path) ++ below base member.path ∷ []
 
 -- an archive can be read, and a tree has all its members, keeps the nodes of the old tree, and has no names but those of the old tree and of the
 -- members' paths (POSIX, ustar interchange format)

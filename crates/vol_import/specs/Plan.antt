@@ -189,9 +189,19 @@ is_step name = not (bytes_eq name (codes "."))
 abbrev pub steps_of : List ℕ → List (List ℕ)
 steps_of path = filter is_step (components path)
 
--- the steps except the last, which lead to the parent (this project)
-abbrev pub way_of : List (List ℕ) → List (List ℕ)
-way_of steps = take (length steps - 1) steps
+-- true if the last of these components leads nowhere else, as `.` does (Lions on namei)
+unfoldable pub ends_in_dot : List (List ℕ) → Bool
+ends_in_dot [] = false
+ends_in_dot (name ∷ []) = not (is_step name)
+ends_in_dot (name ∷ next ∷ rest) = ends_in_dot (next ∷ rest)
+
+-- the number of directories on the way to a path: all steps but the last, or all if `.` comes after them (Lions on namei)
+abbrev pub way_length : List ℕ → ℕ
+way_length path = if ends_in_dot (components path) then length (steps_of path) else length (steps_of path) - 1
+
+-- the steps on the way to a path (Lions on namei)
+abbrev pub way_of : List ℕ → List (List ℕ)
+way_of path = take (way_length path) (steps_of path)
 
 -- the path made of steps, each after a slash (Lions on namei)
 abbrev pub joined : List (List ℕ) → List ℕ
@@ -249,7 +259,7 @@ with_member tree base now member made drafted =
 -- a draft with a member, if it can be made, or the reason why it can't (this project)
 abbrev pub onto : Tree → List ℕ → ℕ → Drafted → Member → Result (MadeAs × Cred) MemberFault → Result Drafted PlanFault
 onto tree base now drafted member (Ok made) =
-    with_member tree base now member made (with_way tree base now [] (way_of (steps_of member.path)) drafted)
+    with_member tree base now member made (with_way tree base now [] (way_of member.path) drafted)
 onto tree base now drafted member (Err cause) = Err (plans.Member member.path cause)
 
 -- the result of the next step after an Ok, or the fault (this project)

@@ -3,8 +3,9 @@ ghost use Rattle.std.specs.Prelude.{◌≡◌, ◌<◌, ◌++◌, ◌∷◌, [],
 ghost use Rattle.vol_volume.specs.Answer.{answer};
 ghost use Rattle.vol_volume.specs.Volume.{reads_as};
 ghost use Rattle.vol_volume.specs.declared.queries.Query.TheVariants as questions;
-ghost use Rattle.vol_import.specs.Plan.{is_directory_kind, is_directory, is_known, is_there, with_path, is_missing, is_crowded, way_call, with_way_directory, is_step, steps_of, joined, with_way, with_calls, drafted};
+ghost use Rattle.vol_import.specs.Plan.{is_directory_kind, is_directory, is_known, is_there, with_path, is_missing, is_crowded, way_call, with_way_directory, is_step, ends_in_dot, steps_of, joined, with_way, with_calls, drafted};
 ghost use Rattle.vol_dir.specs.Access.{user};
+ghost use Rattle.vol_dir.specs.Walk.{components};
 
 use crate::step_path::StepPath;
 use std::alloc::{AllocError, Global};
@@ -152,6 +153,19 @@ pub(crate) fn steps_of<'a>(alloc: Global, path: &'a [u8]) -> Result<Vec<&'a [u8]
         left = rest;
     }
     Ok(steps)
+}
+
+/// True if the last component of a path is `.`.
+pub(crate) fn ends_in_dot(path: &[u8]) -> bool
+    ensures { result ≡ ends_in_dot (components path.now) }
+{
+    let mut left = path;
+    let mut is_dot = false;
+    'names: while let Some((name, rest)) = split_component(left) {
+        is_dot = !is_step(name);
+        left = rest;
+    }
+    is_dot
 }
 
 /// Returns the first step of a path and the rest of the path, or `None` if the path has no step.

@@ -1,11 +1,11 @@
 //! Plans the calls that make the members of an archive.
-ghost use Rattle.std.specs.Prelude.{◌≡◌, [], IfOk, IfErr, OnOk, Ok};
+ghost use Rattle.std.specs.Prelude.{◌≡◌, ◌≤◌, [], IfOk, IfErr, OnOk, Ok, length};
 ghost use Rattle.vol_volume.specs.Volume.{reads_as};
-ghost use Rattle.vol_import.specs.Plan.{below, check, permissions_of, moment_of, owner_calls, write_calls, file_calls, directory_calls, given_calls, with_directory, way_of, steps_of, with_way, with_calls, with_made, drafted, onto, plan, Tells, no_memory};
+ghost use Rattle.vol_import.specs.Plan.{below, check, permissions_of, moment_of, owner_calls, write_calls, file_calls, directory_calls, given_calls, with_directory, way_length, way_of, steps_of, with_way, with_calls, with_made, drafted, onto, plan, Tells, no_memory};
 
 use crate::archive_members::Member;
 use crate::close::{close, directory_times, permissions_given};
-use crate::draft::{Draft, is_there, joined, note_known, push_way, steps_of};
+use crate::draft::{Draft, ends_in_dot, is_there, joined, note_known, push_way, steps_of};
 use crate::member_check::{MadeAs, MemberFault, check};
 use std::alloc::{AllocError, Global};
 use ustar::ReadHeader;
@@ -112,11 +112,24 @@ fn push_way_to(
     path: &[u8],
     draft: &mut Draft,
 ) -> Result<(), AllocError>
-    ensures { OnOk result (drafted draft.new ≡ with_way (reads_as volume.now.edition volume.now.image).tree base.now now [] (way_of (steps_of path.now)) (drafted draft.old)) }
+    ensures { OnOk result (drafted draft.new ≡ with_way (reads_as volume.now.edition volume.now.image).tree base.now now [] (way_of path.now) (drafted draft.old)) }
 {
     let steps = steps_of(alloc, path)?;
-    let way = &steps[..steps.len().saturating_sub(1)];
-    push_way(alloc, volume, base, now, way, draft)
+    let count = way_length(path, steps.len());
+    push_way(alloc, volume, base, now, &steps[..count], draft)
+}
+
+/// Returns the number of directories on the way to a path with this number of steps: `n/.` is in `n`.
+fn way_length(path: &[u8], steps: usize) -> usize
+    requires { steps ≡ length (steps_of path.now) }
+    ensures exact { result ≡ way_length path.now }
+    ensures within { result ≤ steps }
+{
+    if ends_in_dot(path) {
+        steps
+    } else {
+        steps.saturating_sub(1)
+    }
 }
 
 /// Appends the calls that make a member as a node of this kind, for its owner.

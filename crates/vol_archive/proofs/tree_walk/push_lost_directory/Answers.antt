@@ -1,4 +1,4 @@
-use Rattle.std.proofs.Common.{ℕ, List, [], ◌∷◌, ◌++◌, ◌∙◌, ap, sym, subst, refl, arith, length}
+use Rattle.std.proofs.Common.{ℕ, List, [], ◌∷◌, ◌++◌, ◌∙◌, ap, sym, subst, refl, arith}
 use Rattle.std.specs.Prelude.{Option}
 use Rattle.std.specs.Global.{Vec}
 use Rattle.vol_archive.specs.Marks.{AreFirsts}

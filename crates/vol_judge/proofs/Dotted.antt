@@ -1,81 +1,59 @@
 -- Rule 10, checked for one directory after another.
-use Rattle.std.proofs.Common.{◌≡◌, ◌≢◌, ℕ, ◌+◌, ◌<◌, ◌≤◌, ◌∙◌, Bool, true, not, nat_eq, inl, inr, IsTrue, ◌↔◌, List, Option, None, Some, get_or, refl, sym, ap, arith, eqb-true, eq-eqb}
+use Rattle.std.proofs.Common.{◌≡◌, ◌≢◌, ℕ, ◌+◌, ◌<◌, ◌≤◌, ◌∙◌, Bool, nat_eq, inl, inr, IsTrue, ◌↔◌, List, Option, None, Some, get_or, refl, sym, ap, subst, arith, eqb-true, eq-eqb}
 use Rattle.std.specs.Option.{option_eq}
 use Rattle.std.proofs.Math.Dec.{eqb}
 use Rattle.std.proofs.lemmas.Bool.{cases_eq, cases_lt, cases_Bool}
 use borrow.Author.Count.{below_more}
-use Rattle.vol_layout.specs.Geometry.{Fits}
 use Rattle.vol_layout.specs.declared.geometry.Geometry.{Geometry}
-use Rattle.vol_dir.specs.Entries.{IsDirectory}
+use Rattle.vol_dir.specs.Entries.{IsDirectory, HasEntry}
 use Rattle.vol_dir.specs.Names.{dot_dot}
 use Rattle.vol_judge.specs.Directories.{root_of, HasDots}
-use Rattle.vol_judge.specs.Dots.{NeedsDots, NamesItself, NamesParent, KeepsDots, KnowsDots, IsBeforeFirst}
+use Rattle.vol_judge.specs.Dots.{NamesParent, KeepsDots, KnowsDots, IsBeforeFirst}
 use Rattle.vol_judge.specs.InodeMarks.{IsNamed}
 use Rattle.vol_judge.specs.DirectoryTree.{NotesParents}
-use Rattle.vol_judge.proofs.Decisions.{not_true, not_false, same_option, other_option}
+use Rattle.vol_judge.proofs.Decisions.{same_option, other_option}
 
--- if rule 10 holds, each directory and the root have their entries `.` and `..`
-pub each_keeps : {geometry : Geometry} {image : List ℕ} → HasDots geometry image → (d : ℕ) → NeedsDots geometry image d → KeepsDots geometry image d
-each_keeps {geometry = geometry} {image = image} rule d needs =
-    let is : IsDirectory geometry image d = elim needs [ inl is ↦ is | inr same ↦ rw same rule.root.1.directory ] in
-    record {
-      own = rule.itself d is;
-      parent = record { root = λ same. rw same rule.root; other = λ other. rule.parent d is other };
-    }
-
--- if each directory and the root have their entries `.` and `..`, rule 10 holds
-pub all_keep : {geometry : Geometry} {image : List ℕ} → ((d : ℕ) → NeedsDots geometry image d → KeepsDots geometry image d) → HasDots geometry image
-all_keep {geometry = geometry} all = record {
-  itself = λ d is. (all d (inl is)).own;
-  root = (all (root_of geometry) (inr refl)).parent.root refl;
-  parent = λ d is other. (all d (inl is)).parent.other other;
+-- if rule 10 holds, each directory has its entries `.` and `..`
+pub each_keeps : {geometry : Geometry} {image : List ℕ} → HasDots geometry image → (d : ℕ) → IsDirectory geometry image d → KeepsDots geometry image d
+each_keeps {geometry = geometry} {image = image} rule d is = record {
+  own = rule.itself d is;
+  parent = record {
+    root = λ same.
+        subst (λ x. (s : ℕ) × HasEntry geometry image x s dot_dot x) (sym same) (rule.root (subst (IsDirectory geometry image) same is));
+    other = λ other. rule.parent d is other;
+  };
 }
 
--- if the directories before d have `.` and `..`, and d does if it needs them, all up to d have them
-pub keep_more : {geometry : Geometry} {image : List ℕ} (d : ℕ) → ((e : ℕ) → e < d → NeedsDots geometry image e → KeepsDots geometry image e)
-    → (NeedsDots geometry image d → KeepsDots geometry image d) → (e : ℕ) → e < d + 1 → NeedsDots geometry image e → KeepsDots geometry image e
-keep_more {geometry = geometry} {image = image} d below here = below_more (λ e. NeedsDots geometry image e → KeepsDots geometry image e) d below here
+-- if each directory has its entries `.` and `..`, rule 10 holds
+pub all_keep : {geometry : Geometry} {image : List ℕ} → ((d : ℕ) → IsDirectory geometry image d → KeepsDots geometry image d) → HasDots geometry image
+all_keep {geometry = geometry} all = record {
+  itself = λ d is. (all d is).own;
+  root = λ is. (all (root_of geometry) is).parent.root refl;
+  parent = λ d is other. (all d is).parent.other other;
+}
+
+-- if the directories before d have `.` and `..`, and d does if it is one, all up to d have them
+pub keep_more : {geometry : Geometry} {image : List ℕ} (d : ℕ) → ((e : ℕ) → e < d → IsDirectory geometry image e → KeepsDots geometry image e)
+    → (IsDirectory geometry image d → KeepsDots geometry image d) → (e : ℕ) → e < d + 1 → IsDirectory geometry image e → KeepsDots geometry image e
+keep_more {geometry = geometry} {image = image} d below here = below_more (λ e. IsDirectory geometry image e → KeepsDots geometry image e) d below here
 
 -- if the directories up to the last i-number have `.` and `..`, rule 10 holds
-pub keep_all : {geometry : Geometry} {image : List ℕ} (d : ℕ) → Fits geometry image
-    → ((e : ℕ) → e < d → NeedsDots geometry image e → KeepsDots geometry image e) → geometry.last_inode < d → HasDots geometry image
-keep_all {geometry = geometry} d fits below last =
-    all_keep (λ e needs. below e (elim needs [ inl is ↦ omega (arith, is.last) | inr same ↦ omega (arith, same, fits.root) ]) needs)
+pub keep_all : {geometry : Geometry} {image : List ℕ} (d : ℕ)
+    → ((e : ℕ) → e < d → IsDirectory geometry image e → KeepsDots geometry image e) → geometry.last_inode < d → HasDots geometry image
+keep_all d below last = all_keep (λ e is. below e (let high = is.last in omega (arith, high, last)) is)
 
 -- if d isn't after the first directory without an entry for itself, and isn't that directory, it is before it
-before_first : (nameless : Option ℕ) (d : ℕ) → ((n : ℕ) → nameless ≡ Some n → d ≤ n) → (nameless ≡ Some d → ⊥) → IsBeforeFirst nameless d
+pub before_first : (nameless : Option ℕ) (d : ℕ) → ((n : ℕ) → nameless ≡ Some n → d ≤ n) → (nameless ≡ Some d → ⊥) → IsBeforeFirst nameless d
 before_first nameless d reached other n is = elim (cases_eq d n) [
   | inl same ↦ absurd (other (is ∙ ap Some (sym same)))
   | inr apart ↦ let low = reached n is in omega (arith, low, apart)
 ]
 
--- if d isn't after the first directory without an entry for itself, d has an entry for itself exactly if it isn't that directory
-pub itself_decides : {geometry : Geometry} {image : List ℕ} {ups : List (Option ℕ)} {nameless : Option ℕ} {d : ℕ} (b : Bool)
-    → KnowsDots geometry image ups nameless → IsDirectory geometry image d → ((n : ℕ) → nameless ≡ Some n → d ≤ n)
-    → b ≡ not (option_eq eqb nameless (Some d)) → IsTrue b ↔ NamesItself geometry image d
-itself_decides {nameless = nameless} {d = d} b known is reached test = (
-  λ right. known.itself d is (before_first nameless d reached (other_option nameless d (not_true b (option_eq eqb nameless (Some d)) test right))),
-  λ itself.
-      elim (cases_Bool b) [
-        | inl right ↦ right
-        | inr wrong ↦
-            let same = same_option nameless d (not_false b (option_eq eqb nameless (Some d)) test wrong) in
-            absurd ((known.without d same).1 itself)
-      ],
-)
-
--- if d is before the first directory without an entry for itself, its noted `..` is the right one
-pub up_known : {geometry : Geometry} {image : List ℕ} {ups : List (Option ℕ)} {nameless : Option ℕ} {d : ℕ} (b : Bool)
-    → KnowsDots geometry image ups nameless → IsDirectory geometry image d → ((n : ℕ) → nameless ≡ Some n → d ≤ n)
-    → b ≡ not (option_eq eqb nameless (Some d)) → b ≡ true → IsNamed geometry image d dot_dot (get_or ups d None)
-up_known {nameless = nameless} {d = d} b known is reached test right =
-    known.named d is (before_first nameless d reached (other_option nameless d (not_true b (option_eq eqb nameless (Some d)) test right)))
-
 -- if all directories before d keep rule 10, d isn't after the first directory without an entry for itself
 pub none_before : {geometry : Geometry} {image : List ℕ} {ups : List (Option ℕ)} {nameless : Option ℕ} {d : ℕ} → KnowsDots geometry image ups nameless
-    → ((e : ℕ) → e < d → NeedsDots geometry image e → KeepsDots geometry image e) → (n : ℕ) → nameless ≡ Some n → d ≤ n
+    → ((e : ℕ) → e < d → IsDirectory geometry image e → KeepsDots geometry image e) → (n : ℕ) → nameless ≡ Some n → d ≤ n
 none_before {d = d} known below n is = elim (cases_lt n d) [
-  | inl early ↦ let without = known.without n is in absurd (without.1 (below n early (inl without.0)).own)
+  | inl early ↦ let without = known.without n is in absurd (without.1 (below n early without.0).own)
   | inr late ↦ late
 ]
 

@@ -4,10 +4,11 @@ use Rattle.std.specs.List.{count_by, range_with_len}
 use Rattle.std.proofs.lemmas.Bool.{le-leb, leb-true, and_parts, and_from, le-ltb}
 use Rattle.vol_layout.specs.Edition.{constants}
 use Rattle.vol_layout.specs.BlockMaps.{has_places}
+use Rattle.vol_layout.specs.Geometry.{Fits}
 use Rattle.vol_layout.specs.declared.geometry.Geometry.{Geometry}
 use Rattle.vol_layout.specs.declared.mode.Kind.{Kind}
 use Rattle.vol_layout.specs.declared.mode.Kind.TheVariants as kinds
-use Rattle.vol_file.specs.Rules.{size_of, kind_at, HasSizes}
+use Rattle.vol_file.specs.Rules.{size_of, kind_at, HasKinds, HasSizes}
 use Rattle.vol_dir.specs.Entries.{slot_count, entry_at, slots, IsDirectory, HasEntry, HasEntries}
 use Rattle.vol_dir.specs.Names.{dot, dot_dot}
 use Rattle.vol_dir.specs.Tree.{is_number}
@@ -155,17 +156,22 @@ used_from geometry image i used =
     let inside = inside_from geometry image i used in
     (inside.0, inside.1, (λ e. used (kind_inside geometry image i inside.0 inside.1 ∙ e)))
 
--- if rules 9 to 12 hold for an image, they hold for its graph
-pub graph_from_rules : (geometry : Geometry) (image : List ℕ) → HasSizes geometry image → HasEntries geometry image → HasDots geometry image
-    → IsTree geometry image → HasLinks geometry image → IsGraphSound (graph_of geometry image) (root_of geometry) geometry.last_inode
-graph_from_rules geometry image sizes entries dots tree links = record {
+-- if rule 3 holds, the root is a directory
+root_is : (geometry : Geometry) (image : List ℕ) → Fits geometry image → HasKinds geometry image → IsDirectory geometry image (root_of geometry)
+root_is geometry image fits kept = record { first = root_first geometry.edition; last = let low = fits.root in omega (arith, low); kind = kept.root }
+
+-- if rules 3, 4 and 9 to 12 hold for an image, rules 9 to 12 hold for its graph
+pub graph_from_rules : (geometry : Geometry) (image : List ℕ) → Fits geometry image → HasKinds geometry image → HasSizes geometry image
+    → HasEntries geometry image → HasDots geometry image → IsTree geometry image → HasLinks geometry image → IsGraphSound (graph_of geometry image) (root_of geometry) geometry.last_inode
+graph_from_rules geometry image fits known sizes entries dots tree links = record {
   whole = λ d is. entries.whole d (directory_from geometry image d is);
   named = λ d s i name e. entries.named d s i name (entry_from geometry image name d s i e);
   allocated = λ d s i name e.
       let used = entries.allocated d s i name (entry_from geometry image name d s i e) in (used.0, used_to geometry image i used.0 used.1 used.2);
   once = λ d s t i j name e f. entries.once d s t i j name (entry_from geometry image name d s i e) (entry_from geometry image name d t j f);
   itself = λ d is. let self = dots.itself d (directory_from geometry image d is) in (self.0, entry_to geometry image dot d self.0 d self.1);
-  of_root = (dots.root.0, entry_to geometry image dot_dot (root_of geometry) dots.root.0 (root_of geometry) dots.root.1);
+  of_root =
+      let up = dots.root (root_is geometry image fits known) in (up.0, entry_to geometry image dot_dot (root_of geometry) up.0 (root_of geometry) up.1);
   parent = λ d is other.
       let above = dots.parent d (directory_from geometry image d is) other in
       (above.0, above.1, above.2, entry_to geometry image dot_dot d above.0 above.1 above.3, leads_to geometry image above.1 above.2 d above.4);
@@ -193,7 +199,7 @@ rules_from_graph geometry image sizes sound = (
   },
   record {
     itself = λ d is. let self = sound.itself d (directory_to geometry image d is) in (self.0, entry_from geometry image dot d self.0 d self.1);
-    root = (sound.of_root.0, entry_from geometry image dot_dot (root_of geometry) sound.of_root.0 (root_of geometry) sound.of_root.1);
+    root = λ is. (sound.of_root.0, entry_from geometry image dot_dot (root_of geometry) sound.of_root.0 (root_of geometry) sound.of_root.1);
     parent = λ d is other.
         let above = sound.parent d (directory_to geometry image d is) other in
         (above.0, above.1, above.2, entry_from geometry image dot_dot d above.0 above.1 above.3, leads_from geometry image above.1 above.2 d above.4);

@@ -26,6 +26,7 @@ pub mod NamedFree
 pub mod NamedGraphs
 pub mod NamedOnce
 pub mod RuleNumbers
+pub mod NotedEntries
 pub mod Once
 pub mod Outsides
 pub mod Parented

@@ -45,7 +45,7 @@ entry_count geometry image i =
 -- directory that holds an entry for d, other than `.` and `..` (manual section 5, directories; the rule is this project's)
 pub record HasDots (geometry : Geometry) (image : List ℕ) : Type 0 where
   pub itself : (d : ℕ) → IsDirectory geometry image d → (s : ℕ) × HasEntry geometry image d s dot d
-  pub root : (s : ℕ) × HasEntry geometry image (root_of geometry) s dot_dot (root_of geometry)
+  pub root : IsDirectory geometry image (root_of geometry) → (s : ℕ) × HasEntry geometry image (root_of geometry) s dot_dot (root_of geometry)
   pub parent : (d : ℕ) → IsDirectory geometry image d → d ≢ root_of geometry
       → (s : ℕ) × (e : ℕ) × (t : ℕ) × HasEntry geometry image d s dot_dot e × Enters geometry image e t d
 

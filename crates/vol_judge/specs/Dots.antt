@@ -1,5 +1,5 @@
 -- The first violation of the rule about the entries `.` and `..`.
-use Rattle.std.specs.Prelude.{◌≡◌, ◌≢◌, ℕ, ◌+◌, ◌<◌, ◌⊎◌, List, Option, None, Some, length, slice_index_or}
+use Rattle.std.specs.Prelude.{◌≡◌, ◌≢◌, ℕ, ◌+◌, ◌<◌, List, Option, None, Some, length, slice_index_or}
 use Rattle.vol_dir.specs.Entries.{IsDirectory, HasEntry}
 use Rattle.vol_dir.specs.Names.{dot, dot_dot}
 use Rattle.vol_judge.specs.Directories.{root_of, Enters}
@@ -7,10 +7,6 @@ use Rattle.vol_judge.specs.InodeMarks.{IsNamed}
 use Rattle.vol_layout.specs.declared.geometry.Geometry.{Geometry}
 use Rattle.vol_judge.specs.declared.finding.Finding.{Finding}
 use Rattle.vol_judge.specs.declared.finding.Finding.TheVariants as findings
-
--- d must have the entries `.` and `..`: it is a directory or the root (rule 10)
-abbrev pub NeedsDots : Geometry → List ℕ → ℕ → Type 0
-NeedsDots geometry image d = IsDirectory geometry image d ⊎ (d ≡ root_of geometry)
 
 -- d has an entry `.` for itself (rule 10)
 abbrev pub NamesItself : Geometry → List ℕ → ℕ → Type 0
@@ -44,10 +40,9 @@ IsWrongDots geometry image d (findings.NoDot e) = (e ≡ d) × (NamesItself geom
 IsWrongDots geometry image d (findings.NoDotDot e) = (e ≡ d) × NamesItself geometry image d × (NamesParent geometry image d → ⊥)
 IsWrongDots geometry image d _ = ⊥
 
--- the first violation of rule 10: in the first directory that lacks its entry `.` or `..`, the first of the two that it lacks; the root is checked
--- even if it isn't a directory (this project)
+-- the first violation of rule 10: in the first directory that lacks its entry `.` or `..`, the first of the two that it lacks (this project)
 pub record IsFirstDots (geometry : Geometry) (image : List ℕ) (finding : Finding) : Type 0 where
   pub d : ℕ
-  pub needs : NeedsDots geometry image d
-  pub before : (e : ℕ) → e < d → NeedsDots geometry image e → KeepsDots geometry image e
+  pub directory : IsDirectory geometry image d
+  pub before : (e : ℕ) → e < d → IsDirectory geometry image e → KeepsDots geometry image e
   pub wrong : IsWrongDots geometry image d finding

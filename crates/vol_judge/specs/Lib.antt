@@ -5,6 +5,7 @@ pub use Rattle.vol_free.specs.Stack
 pub use Rattle.vol_layout.specs.Edition
 pub use Rattle.vol_layout.specs.Geometry
 pub use Rattle.vol_layout.specs.Slot
+pub mod Entered
 pub mod EntryCounts
 pub mod Directories
 pub mod Dots

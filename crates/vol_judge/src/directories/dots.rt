@@ -7,7 +7,7 @@ ghost use Rattle.vol_dir.specs.Entries.{IsDirectory, HasEntries};
 ghost use Rattle.vol_dir.specs.Names.{dot, dot_dot};
 ghost use Rattle.vol_dir.specs.Repeats.{MarksEmpty};
 ghost use Rattle.vol_judge.specs.Directories.{HasDots};
-ghost use Rattle.vol_judge.specs.Dots.{NeedsDots, NamesItself, NamesParent, KeepsDots, KnowsDots, IsWrongDots, IsFirstDots};
+ghost use Rattle.vol_judge.specs.Dots.{NamesParent, KeepsDots, KnowsDots, IsWrongDots, IsFirstDots};
 ghost use Rattle.vol_judge.specs.Finds.{Finds};
 ghost use Rattle.vol_judge.specs.InodeMarks.{IsNamed};
 ghost use Rattle.vol_judge.specs.DirectoryTree.{NotesParents};
@@ -37,7 +37,7 @@ pub struct Ups {
 }
 
 /// Returns the first violation of rule 10, if rule 9 holds: the first directory without an entry `.` for itself, or without an entry `..` for its
-/// parent. The root, which is its own parent, is checked even if it isn't a directory. `parents` has the directory that holds an entry for each
+/// parent. The root is its own parent; if it isn't a directory, the rule asks nothing of it. `parents` has the directory that holds an entry for each
 /// directory.
 ///
 /// Costs a read of each i-node. Takes no memory.
@@ -53,8 +53,8 @@ pub fn find_dots(
     ensures { Finds (HasDots geometry.now image.now) (IsFirstDots geometry.now image.now) result }
 {
     for d in 1..=geometry.last_inode {
-        if needs_dots(image, geometry, d) {
-            if let Some(finding) = find_wrong(image, geometry, d, ups, parents) {
+        if is_directory(image, geometry, d) {
+            if let Some(finding) = find_wrong(geometry, d, ups, parents) {
                 return Some(finding);
             }
         }
@@ -62,23 +62,15 @@ pub fn find_dots(
     None
 }
 
-/// Returns the violation of rule 10 by `d`, a directory or the root, if there is one. All directories before `d` have an entry `.` for themselves.
-fn find_wrong(
-    image: &Image,
-    geometry: &Geometry,
-    d: u16,
-    ups: &Ups,
-    parents: &[Option<u16>],
-) -> Option<Finding>
-    requires fits { Fits geometry.now image.now }
-    requires first { 1 ≤ d }
-    requires last { d ≤ geometry.now.last_inode }
-    requires ups { KnowsDots geometry.now image.now ups.now.numbers.items ups.now.nameless }
-    requires reached { (n : ℕ) → ups.now.nameless ≡ Some n → d ≤ n }
-    requires parents { NotesParents geometry.now image.now ups.now.numbers.items parents.now }
-    ensures { Finds (KeepsDots geometry.now image.now d) (IsWrongDots geometry.now image.now d) result }
+/// Returns the violation of rule 10 by directory `d`, if there is one. All directories before `d` have an entry `.` for themselves.
+fn find_wrong(geometry: &Geometry, d: u16, ups: &Ups, parents: &[Option<u16>]) -> Option<Finding>
+    requires room { d < length ups.now.numbers.items }
+    requires parents_room { d < length parents.now }
+    ensures { (image : List ℕ) → IsDirectory geometry.now image d → KnowsDots geometry.now image ups.now.numbers.items ups.now.nameless
+        → ((n : ℕ) → ups.now.nameless ≡ Some n → d ≤ n) → NotesParents geometry.now image ups.now.numbers.items parents.now
+        → Finds (KeepsDots geometry.now image d) (IsWrongDots geometry.now image d) result }
 {
-    if !names_itself(image, geometry, d, ups) {
+    if ups.nameless == Some(d) {
         return Some(Finding::NoDot(d));
     }
     if names_parent(geometry, d, &ups.numbers, parents) {
@@ -86,29 +78,6 @@ fn find_wrong(
     } else {
         Some(Finding::NoDotDot(d))
     }
-}
-
-/// True if i-number `d` is a directory or the root.
-fn needs_dots(image: &Image, geometry: &Geometry, d: u16) -> bool
-    requires fits { Fits geometry.now image.now }
-    requires first { 1 ≤ d }
-    requires last { d ≤ geometry.now.last_inode }
-    ensures { IsTrue result ↔ NeedsDots geometry.now image.now d }
-{
-    d == geometry.edition.constants().root || is_directory(image, geometry, d)
-}
-
-/// True if `d` is a directory with an entry `.` for itself. All directories before `d` have one.
-fn names_itself(image: &Image, geometry: &Geometry, d: u16, ups: &Ups) -> bool
-    requires fits { Fits geometry.now image.now }
-    requires first { 1 ≤ d }
-    requires last { d ≤ geometry.now.last_inode }
-    requires ups { KnowsDots geometry.now image.now ups.now.numbers.items ups.now.nameless }
-    requires reached { (n : ℕ) → ups.now.nameless ≡ Some n → d ≤ n }
-    ensures itself { IsTrue result ↔ NamesItself geometry.now image.now d }
-    ensures up { IsTrue result → IsNamed geometry.now image.now d dot_dot (slice_index_or ups.now.numbers.items d None) }
-{
-    is_directory(image, geometry, d) && ups.nameless != Some(d)
 }
 
 /// True if directory `d` has an entry `..` for its parent. `ups` has the i-number in the `..` of each directory, and `parents` the directory that

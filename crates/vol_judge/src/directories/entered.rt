@@ -1,5 +1,5 @@
 //! Collects the entries for each i-number in one pass over all directories.
-ghost use Rattle.std.specs.Prelude.{◌≡◌, ℕ, ◌+◌, IfNone, IfSome, IfOk, IsTrue, ◌↔◌, length};
+ghost use Rattle.std.specs.Prelude.{◌≡◌, ℕ, ◌+◌, ◌≤◌, IfNone, IfSome, IfOk, IsTrue, ◌↔◌, length};
 ghost use Rattle.vol_layout.specs.Geometry.{Fits};
 ghost use Rattle.vol_dir.specs.Entries.{IsDirectory};
 ghost use Rattle.vol_dir.specs.Repeats.{MarksEmpty};
@@ -8,12 +8,16 @@ ghost use Rattle.vol_judge.specs.Finds.{Finds};
 ghost use Rattle.vol_judge.specs.InodeMarks.{IsOnce};
 ghost use Rattle.vol_judge.specs.Steps.{rank, IsNextSlot};
 ghost use Rattle.vol_judge.specs.DirectoryTree.{NotesParentsBefore, NotesParents, KnowsParents, HasOnceBefore, IsEnteredAgain};
+ghost use Rattle.vol_judge.specs.Entered.{NotesBefore, NotesUpTo};
 
 use crate::entry_walk::{EntryAt, EntryPosition, is_directory, marks_for, next_entry};
 use crate::finding::Finding;
-use pdp_words::Image;
+use pdp_words::{BLOCK, Image};
 use std::alloc::{AllocError, Global};
-use vol_layout::Geometry;
+use vol_dir::entries::{SLOTS, slot_count};
+use vol_file::block_at;
+use vol_layout::slot::SLOT;
+use vol_layout::{Geometry, Slot};
 
 /// The entries for each i-number, over all directories.
 #[derive(Drop)]
@@ -64,24 +68,82 @@ fn note_entries(
     ensures again { IfOk result (λ found. Finds (IsOnce geometry.now image.now) (IsEnteredAgain geometry.now image.now) found.again) }
     ensures counts { IfOk result (λ found. HasCounts geometry.now image.now found.counts.items) }
 {
-    let mut parents = vec![in alloc; None; geometry.last_inode as usize + 1]?;
-    let mut counts = vec![in alloc; 0; geometry.last_inode as usize + 1]?;
-    let mut again = None;
+    let parents = vec![in alloc; None; geometry.last_inode as usize + 1]?;
+    let counts = vec![in alloc; 0; geometry.last_inode as usize + 1]?;
+    let mut found = Entered {
+        parents,
+        again: None,
+        counts,
+    };
     let mut place = EntryPosition::first();
     while let Some(entry) = next_entry(image, geometry, place, marks) {
-        let found = note_parent(image, geometry, &entry, ups, &mut parents);
-        again = first_of(again, found);
+        found.note(image, geometry, ups, &entry);
+        place = note_rest(image, geometry, ups, entry.next_place(), &mut found);
+    }
+    Ok(found)
+}
+
+/// Notes the entries from a position to the end of its logical block, without a search for each. Returns the position after them.
+fn note_rest(
+    image: &Image,
+    geometry: &Geometry,
+    ups: &[Option<u16>],
+    from: EntryPosition,
+    found: &mut Entered,
+) -> EntryPosition
+    requires fits { Fits geometry.now image.now }
+    requires room { length ups.now ≡ geometry.now.last_inode + 1 }
+    requires directory { IsDirectory geometry.now image.now from.directory }
+    requires low { from.slot ≤ 67637568 }
+    requires notes { NotesUpTo geometry.now image.now ups.now from.directory from.slot found.old }
+    ensures directory { result.directory ≡ from.directory }
+    ensures order { from.slot ≤ result.slot }
+    ensures notes { NotesUpTo geometry.now image.now ups.now from.directory result.slot found.new }
+{
+    let b = from.slot / SLOTS;
+    let Some(k) = block_at(image, geometry, from.directory, b) else {
+        return from;
+    };
+    if !geometry.in_zone(k) {
+        return from;
+    }
+    let end = slot_count(image, geometry, from.directory).min(SLOTS * b + SLOTS);
+    let mut s = from.slot;
+    while s < end {
+        let at = BLOCK * k as usize + SLOT * (s - SLOTS * b) as usize;
+        let slot = Slot::read(image.as_bytes(), at);
+        if slot.inode != 0 {
+            let entry = EntryAt {
+                directory: from.directory,
+                number: s,
+                slot,
+            };
+            found.note(image, geometry, ups, &entry);
+        }
+        s += 1;
+    }
+    EntryPosition {
+        directory: from.directory,
+        slot: s,
+    }
+}
+
+impl Entered {
+    /// Notes the next entry.
+    fn note(&mut self, image: &Image, geometry: &Geometry, ups: &[Option<u16>], entry: &EntryAt)
+        requires fits { Fits geometry.now image.now }
+        requires room { length ups.now ≡ geometry.now.last_inode + 1 }
+        requires next { (place : ℕ) × NotesBefore geometry.now image.now ups.now place self.old
+            × IsNextSlot geometry.now image.now place entry.now.directory entry.now.number entry.now.slot }
+        ensures { NotesBefore geometry.now image.now ups.now (rank entry.now.directory (entry.now.number + 1)) self.new }
+    {
+        let found = note_parent(image, geometry, entry, ups, &mut self.parents);
+        self.again = first_of(self.again, found);
         let i = entry.slot.inode;
         if i <= geometry.last_inode {
-            counts[i as usize] += 1;
+            self.counts[i as usize] += 1;
         }
-        place = entry.next_place();
     }
-    Ok(Entered {
-        parents,
-        again,
-        counts,
-    })
 }
 
 /// Returns the first finding, or the second if there is no first.

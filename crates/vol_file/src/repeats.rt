@@ -56,7 +56,7 @@ pub fn passed_end(image: &Image, geometry: &Geometry, i: u16, b: u32, marks: &[b
 }
 
 /// Marks each block on the path of logical block `b` of i-node `i`, an i-number of the volume, if all logical blocks below it are in `from..to`.
-/// There are [`MARKS`] marks for each block; a block for which `marks` has no marks is skipped.
+/// There are [`MARKS`] marks for each block; a block for which `marks` has no marks is skipped, and so is block 0, the number of a hole.
 ///
 /// Costs one block-map lookup, or nothing if there are no marks.
 #[tactic(auto, using(crate::proofs::Indexes::way_address, crate::proofs::Indexes::way_entry))]
@@ -125,14 +125,15 @@ fn is_marked(marks: &[bool], m: u32, levels: usize) -> bool
     levels < MARKS && at < marks.len() && marks[at]
 }
 
-/// Sets the mark of block `m` for the data blocks `levels` levels below it.
+/// Sets the mark of block `m` for the data blocks `levels` levels below it. Block 0 stays unmarked: it is the number of a hole, which
+/// [`next_block`](crate::next_block) skips whole.
 fn mark(marks: &mut [bool], m: u32, levels: usize)
     requires few { levels < 3 }
     ensures { (test : ℕ → ℕ → Bool) (geometry : Geometry) (image : List ℕ) → MarksPassed test geometry image marks.old
         → PassesBelow test geometry image m levels → MarksPassed test geometry image marks.new }
 {
     let at = MARKS * m as usize + levels;
-    if at < marks.len() {
+    if m != 0 && at < marks.len() {
         marks[at] = true;
     }
 }

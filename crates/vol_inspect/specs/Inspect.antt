@@ -1,6 +1,6 @@
 -- The reports on parts of an image.
-use Rattle.std.specs.Prelude.{◌≡◌, ℕ, ◌==◌, ◌||◌, nat_lt, List, Result, Ok, Err, IsOk, if◌then◌else◌, ◌+◌, ◌*◌, [], ◌∷◌, length, map, slice_index}
-use Rattle.std.specs.List.{range_with_len}
+use Rattle.std.specs.Prelude.{◌≡◌, ℕ, ◌==◌, ◌||◌, nat_lt, List, Result, Ok, Err, IsOk, if◌then◌else◌, ◌+◌, ◌-◌, ◌*◌, [], ◌∷◌, length, map, slice_index}
+use Rattle.std.specs.List.{count_by, range_with_len}
 use Rattle.pdp_words.specs.Words.{word, long}
 use Rattle.vol_layout.specs.Edition.{constants, number}
 use Rattle.vol_layout.specs.Geometry.{geometry_read, list_size, block_count}
@@ -9,7 +9,9 @@ use Rattle.vol_layout.specs.Super.{free_head, cache_head, flag_place, time_place
 use Rattle.vol_layout.specs.declared.edition.Edition.{Edition}
 use Rattle.vol_layout.specs.declared.mode.Kind.TheVariants as kinds
 use Rattle.vol_layout.specs.declared.super_block.Flag.TheVariants as flags
-use Rattle.vol_reports.specs.Icheck.{kind_count}
+use Rattle.vol_file.specs.Rules.{kind_at}
+use Rattle.vol_judge.specs.Directories.{root_of}
+use Rattle.vol_reports.specs.Icheck.{is_kind}
 use Rattle.vol_free.specs.FreeWalk.{free_walk}
 use Rattle.vol_layout.specs.declared.geometry.Geometry.{Geometry}
 use Rattle.vol_layout.specs.declared.geometry.GeometryFault.{GeometryFault}
@@ -18,6 +20,12 @@ use Rattle.vol_inspect.specs.declared.fault.InspectFault.TheVariants.{Unsound, N
 use Rattle.vol_inspect.specs.declared.inode_report.InodeReport.{InodeReport}
 use Rattle.vol_inspect.specs.declared.super_report.SuperReport.{SuperReport}
 use Rattle.vol_inspect.specs.Extents.{extents_of}
+
+-- the number of free i-nodes, from the root's i-number on: i-node 1 of the seventh edition, which is kept for bad blocks, is never allocated (manual
+-- section 5, file system; ialloc)
+unfoldable pub free_inode_count : Geometry → List ℕ → ℕ
+free_inode_count g image =
+    count_by (λ i. is_kind kinds.Free (kind_at g image i)) (range_with_len (root_of g) (g.last_inode + 1 - root_of g))
 
 -- a report on i-node `i` of an image with a geometry (manual section 5, file system)
 pub record IsInodeReport (g : Geometry) (image : List ℕ) (i : ℕ) (report : InodeReport) : Type 0 where
@@ -77,7 +85,7 @@ pub record IsSuperReport (g : Geometry) (image : List ℕ) (report : SuperReport
   pub fault : report.fault ≡ (free_walk g image).fault
   pub cache_count : report.cache_count ≡ word image (cache_head g.edition)
   pub cache : report.cache.items ≡ cached_numbers g.edition image
-  pub free_inodes : report.free_inodes ≡ kind_count g image kinds.Free
+  pub free_inodes : report.free_inodes ≡ free_inode_count g image
   pub flags : report.flags ≡ flag_bytes g.edition image
   pub time : report.time ≡ long image (time_place g.edition)
 

@@ -1,22 +1,26 @@
 //! The i-nodes without a directory entry.
-ghost use Rattle.std.specs.Prelude.{◌≡◌, ◌+◌, ◌++◌, ◌∷◌, [], ◌≤◌, ℕ, All, List, IfOk, OnOk, length, if◌then◌else◌};
+ghost use Rattle.std.specs.Prelude.{◌≡◌, ◌⊎◌, ◌+◌, ◌++◌, ◌∷◌, [], ◌≤◌, ℕ, All, List, Some, true, false, IfOk, OnOk, length, slice_index_or, if◌then◌else◌};
 ghost use Rattle.vol_layout.specs.Geometry.{Fits};
+ghost use Rattle.vol_layout.specs.Slot.{name_of};
 ghost use Rattle.vol_layout.specs.declared.geometry.Geometry.{Geometry};
-ghost use Rattle.vol_judge.specs.Steps.{rank, IsNextSlot};
-ghost use Rattle.vol_inspect.specs.Lost.{has_content, is_lost, AreLost, IsInList, KnowsNamed, NamedBefore};
+ghost use Rattle.vol_dir.specs.Entries.{IsDirectory};
+ghost use Rattle.vol_dir.specs.Names.{is_dots};
+ghost use Rattle.vol_dir.specs.Repeats.{MarksSlots};
+ghost use Rattle.vol_inspect.specs.Lost.{has_content, is_lost, is_noted, AreLost, IsInList, KnowsNamed, NotesDirectory};
 
 use pdp_words::Image;
 use std::alloc::{AllocError, Global};
+use vol_dir::{is_dots, next_unmarked};
 use vol_file::no_marks;
-use vol_judge::entry_walk::{EntryAt, EntryPosition, next_entry};
+use vol_judge::entry_walk::is_directory;
 use vol_layout::i_list::kind;
-use vol_layout::{Geometry, Kind};
+use vol_layout::{Geometry, Kind, Slot};
 
 /// Returns the i-nodes without a directory entry, in ascending order: regular files, directories and special files above the root's i-number for
 /// which no directory has an entry other than `.` and `..`. The image may have any bytes otherwise. Directories that have entries for one another
 /// aren't among them, nor is anything below a directory without an entry.
 ///
-/// Reads each i-node and each slot of each directory, but skips everything below blocks that were found to have no entries. Takes a byte for each
+/// Reads each i-node and each slot of each directory, but skips everything below blocks in which no new i-number is named. Takes a byte for each
 /// i-number, three for each block, and two for each i-node that is found.
 pub fn lost_inodes(
     alloc: Global,
@@ -83,22 +87,56 @@ fn named_inodes(alloc: Global, image: &Image, geometry: &Geometry) -> Result<Vec
 {
     let mut marks = no_marks(alloc, geometry)?;
     let mut named = vec![in alloc; false; geometry.last_inode as usize + 1]?;
-    let mut place = EntryPosition::first();
-    while let Some(entry) = next_entry(image, geometry, place, &mut marks) {
-        note_named(&entry, &mut named);
-        place = entry.next_place();
-    }
+    note_directories(image, geometry, &mut marks, &mut named);
     Ok(named)
 }
 
-/// Marks the i-number of an entry, unless its name is `.` or `..`.
-fn note_named(entry: &EntryAt, named: &mut [bool])
-    ensures { (geometry : Geometry) (image : List ℕ) (place : ℕ) → NamedBefore geometry image place named.old
-        → IsNextSlot geometry image place entry.now.directory entry.now.number entry.now.slot
-        → NamedBefore geometry image (rank entry.now.directory (entry.now.number + 1)) named.new }
+/// Marks the i-numbers that have entries. `marks` and `named` have no marks at first.
+fn note_directories(image: &Image, geometry: &Geometry, marks: &mut [bool], named: &mut [bool])
+    requires fits { Fits geometry.now image.now }
+    requires clear { (k : ℕ) → slice_index_or marks.old k false ≡ false }
+    requires room { length named.old ≡ geometry.now.last_inode + 1 }
+    requires none { (i : ℕ) → slice_index_or named.old i false ≡ false }
+    ensures { KnowsNamed geometry.now image.now named.new }
 {
-    let i = entry.slot.inode as usize;
-    if i < named.len() && !entry.is_dots() {
+    for d in 1..=geometry.last_inode {
+        if is_directory(image, geometry, d) {
+            note_directory(image, geometry, d, marks, named);
+        }
+    }
+}
+
+/// Marks the i-numbers that directory `d` has entries for. In `marks`, it marks the blocks below which each entry is noted, and skips those.
+fn note_directory(
+    image: &Image,
+    geometry: &Geometry,
+    d: u16,
+    marks: &mut [bool],
+    named: &mut [bool],
+)
+    requires fits { Fits geometry.now image.now }
+    requires directory { IsDirectory geometry.now image.now d }
+    requires marks { MarksSlots (is_noted named.old) geometry.now image.now marks.old }
+    ensures noted { NotesDirectory geometry.now image.now d named.old named.new }
+    ensures marks { MarksSlots (is_noted named.new) geometry.now image.now marks.new }
+{
+    let mut from = 0;
+    while let Some((s, slot)) = next_unmarked(image, geometry, d, from, 0, marks) {
+        note_named(&slot, named);
+        from = s + 1;
+    }
+}
+
+/// Marks the i-number of a slot with an entry, unless the entry's name is `.` or `..`.
+fn note_named(slot: &Slot, named: &mut [bool])
+    ensures room { length named.new ≡ length named.old }
+    ensures kept { (i : ℕ) → slice_index_or named.old i false ≡ true → slice_index_or named.new i false ≡ true }
+    ensures noted { is_noted named.new (Some (name_of slot.now.name, slot.now.inode)) ≡ true }
+    ensures only { (i : ℕ) → slice_index_or named.new i false ≡ true
+        → (slice_index_or named.old i false ≡ true) ⊎ ((i ≡ slot.now.inode) × (is_dots (name_of slot.now.name) ≡ false)) }
+{
+    let i = slot.inode as usize;
+    if i < named.len() && !is_dots(slot.name()) {
         named[i] = true;
     }
 }

@@ -3,8 +3,8 @@ ghost use Rattle.std.specs.Prelude.{◌≡◌, ◌≤◌, length, IfOk};
 ghost use Rattle.vol_layout.specs.Geometry.{Fits};
 ghost use Rattle.vol_layout.specs.declared.mode.Kind.TheVariants as kinds;
 ghost use Rattle.vol_file.specs.Rules.{kind_at};
-ghost use Rattle.vol_reports.specs.Icheck.{is_kind, kind_count};
-ghost use Rattle.vol_inspect.specs.Inspect.{InspectsSuper, IsSuperReport, cached_numbers, flag_bytes, used};
+ghost use Rattle.vol_reports.specs.Icheck.{is_kind};
+ghost use Rattle.vol_inspect.specs.Inspect.{InspectsSuper, IsSuperReport, cached_numbers, flag_bytes, free_inode_count, used};
 
 use crate::fault::InspectFault;
 use crate::free_chain::link_numbers;
@@ -37,7 +37,7 @@ pub struct SuperReport {
     /// `s_inode`: the i-numbers in use in the cache, in order; the last is the next to be allocated. If the count is above 100, all numbers of the
     /// cache.
     pub cache: Vec<u16>,
-    /// The number of free i-nodes.
+    /// The number of free i-nodes. I-node 1 of the seventh edition, which is kept for bad blocks, isn't among them.
     pub free_inodes: u16,
     /// `s_flock`, `s_ilock`, `s_fmod` and `s_ronly`, as they are stored.
     pub flags: [u8; 4],
@@ -117,14 +117,15 @@ fn cached_numbers(alloc: Global, image: &Image, edition: Edition) -> Result<Vec<
 /// The number of i-numbers that the cache can hold.
 const CACHE_PLACES: u16 = 100;
 
-/// Returns the number of free i-nodes.
+/// Returns the number of free i-nodes, from the root's i-number on.
 fn free_inodes(image: &Image, geometry: &Geometry) -> u16
     requires { Fits geometry.now image.now }
-    ensures { result ≡ kind_count geometry.now image.now kinds.Free }
+    ensures { result ≡ free_inode_count geometry.now image.now }
 {
+    let root = geometry.edition.constants().root;
     let mut count = 0;
-    for before in 0..geometry.last_inode {
-        count += u16::from(is_free(image, geometry, before + 1));
+    for past in 0..geometry.last_inode - root + 1 {
+        count += u16::from(is_free(image, geometry, root + past));
     }
     count
 }

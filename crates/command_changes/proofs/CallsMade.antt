@@ -13,12 +13,12 @@ use Rattle.vol_volume.proofs.Journals.{reads_made}
 use Rattle.vol_import.specs.Make.{AreMade, AreStopped}
 use Rattle.command_faults.specs.ChangeFaults.{AreLeft, Makes, AreRefused, IsReason}
 use Rattle.command_faults.specs.Faults.{Concludes}
-use Rattle.command_changes.proofs.TwoCalls.{refused_reason}
 use Rattle.vol_layout.specs.declared.edition.Edition.{Edition}
 use Rattle.vol_layout.specs.declared.geometry.Geometry.{Geometry}
 use Rattle.vol_volume.specs.declared.calls.Call.{Call}
 use Rattle.vol_volume.specs.declared.calls.Done.{Done}
 use Rattle.vol_dir.specs.declared.refusal.Refusal.{Refusal}
+use Rattle.vol_dir.specs.declared.refusal.Refusal.TheVariants as refusals
 use Rattle.command_faults.specs.declared.answer.Answer.{Answer}
 use Rattle.command_faults.specs.declared.fault.Fault.{Fault}
 use Rattle.command_faults.specs.declared.fault.Fault.TheVariants as faults
@@ -77,6 +77,25 @@ all_made old new (call ∷ calls) sound made =
     let whole : IsSound mid.edition mid.image = subst (λ (edition : Edition). IsSound edition mid.image) (sym same) accepts.performed.changes.ready.sound in
     one_made old mid new.image call calls made.1 sound accepts
     (subst (λ (edition : Edition). Makes edition mid.image calls new.image) same (all_made mid new calls whole made.3))
+
+-- a refusal of calls is a reason not to make them
+pub refused_reason : (edition : Edition) (image : List ℕ) (calls : List Call) (refusal : Refusal) → IsSound edition image
+    → AreRefused (reads_as edition image) calls refusal → IsReason edition image calls (faults.Refused refusal)
+refused_reason edition image calls refusals.NotOwner sound refused = (sound, refused)
+refused_reason edition image calls refusals.NoEntry sound refused = (sound, refused)
+refused_reason edition image calls refusals.NoMemory sound refused = tt
+refused_reason edition image calls refusals.Access sound refused = (sound, refused)
+refused_reason edition image calls refusals.Exists sound refused = (sound, refused)
+refused_reason edition image calls refusals.NotDirectory sound refused = (sound, refused)
+refused_reason edition image calls refusals.IsDirectory sound refused = (sound, refused)
+refused_reason edition image calls refusals.Invalid sound refused = (sound, refused)
+refused_reason edition image calls refusals.TooBig sound refused = (sound, refused)
+refused_reason edition image calls refusals.NoSpace sound refused = (sound, refused)
+refused_reason edition image calls refusals.TooManyLinks sound refused = (sound, refused)
+refused_reason edition image calls refusals.NotEmpty sound refused = (sound, refused)
+refused_reason edition image calls refusals.NotRegular sound refused = (sound, refused)
+refused_reason edition image calls refusals.NoInode sound refused = (sound, refused)
+refused_reason edition image calls refusals.BadId sound refused = (sound, refused)
 
 -- after an accepted call the state is the result of this call's step
 state_after : (old mid : Mounted) (call : Call) (done : Done) → Accepts old mid call done

@@ -8,7 +8,7 @@ use Rattle.vol_layout.specs.declared.edition.Edition.{Edition}
 use Rattle.vol_volume.specs.Volume.{reads_as}
 use Rattle.vol_volume.specs.declared.calls.Call.{Call}
 use Rattle.vol_volume.specs.declared.calls.Call.TheVariants as calls
-use Rattle.vol_import.specs.MadeMembers.{HasArchive, HasDirectory, HasFile}
+use Rattle.vol_import.specs.MadeMembers.{HasArchive, HasDirectory}
 use Rattle.vol_import.specs.Members.{members}
 use Rattle.vol_import.specs.Options.{calls_with, chosen_members, left_out}
 use Rattle.vol_import.specs.declared.import_options.ImportOptions.{ImportOptions}
@@ -20,10 +20,11 @@ use Rattle.command_changes.specs.Import.{ImportsArchive}
 use Rattle.command_changes.specs.ImportLines.{left_lines}
 use Rattle.command_changes.specs.Mkdir.{mkdir_all_calls, mkdir_call}
 use Rattle.command_changes.specs.Mv.{HasMoved, move_calls}
-use Rattle.command_changes.specs.Put.{put_calls}
+use Rattle.command_changes.specs.Put.{HasPut, put_calls}
 use Rattle.command_changes.specs.Rm.{RemovesTree}
 use Rattle.command_changes.specs.Salvage.{SalvagesVolume}
 use Rattle.command_changes.specs.Touch.{touch_call}
+use Rattle.command_changes.specs.declared.kept.GivenFile.{GivenFile}
 use Rattle.command_changes.specs.declared.changes.Change.{Change}
 use Rattle.command_changes.specs.declared.changes.Change.TheVariants as changes
 
@@ -62,14 +63,15 @@ RemovesBelow edition image streams answer path now =
     RemovesTree edition image path now streams.said answer × Keeps streams.old streams.new × (streams.failed ≡ streams.had_failed)
 
 -- the result of a change, with these bytes of its file or archive: its calls are made, all or none, or the free list is rebuilt. Afterwards PATH of
--- `import` has the members of the archive that aren't left out below it; PATH of `put` leads to a file of these bytes; PATH of `mkdir` leads to a
+-- `import` has the members of the archive that aren't left out below it; PATH of `put` leads to a file of these bytes, with what is kept; PATH of `mkdir` leads to a
 -- directory, and so does PATH of `mkdir -p` unless its last name is `.` or `..`; FROM of `mv` leads nowhere, and the new path leads to the file that
 -- FROM led to (this project)
-abbrev pub Changes : Edition → List ℕ → List ℕ → Streams → Answer → Change → Type 0
-Changes edition image given streams answer (changes.Put path file now) =
-    CallsLeave edition image streams answer (put_calls (reads_as edition image).tree now path.now given) (λ tree. HasFile tree path.now given)
+abbrev pub Changes : Edition → List ℕ → GivenFile → Streams → Answer → Change → Type 0
+Changes edition image given streams answer (changes.Put path file keep now) =
+    CallsLeave edition image streams answer (put_calls (reads_as edition image).tree now path.now given.bytes.items given.kept)
+    (λ tree. HasPut tree path.now given.bytes.items given.kept)
 Changes edition image given streams answer (changes.Import path options now) =
-    ImportsBelow edition image given streams answer path.now options now
+    ImportsBelow edition image given.bytes.items streams answer path.now options now
 Changes edition image given streams answer (changes.Rm path now) = Calls edition image streams answer (calls.Unlink user now path.now ∷ [])
 Changes edition image given streams answer (changes.RmAll path now) = RemovesBelow edition image streams answer path.now now
 Changes edition image given streams answer (changes.Rmdir path now) = Calls edition image streams answer (calls.Rmdir user now path.now ∷ [])

@@ -8,6 +8,7 @@ use crate::changes::Change;
 use crate::chmod::chmod_call;
 use crate::chown::chown_call;
 use crate::import::import_archive;
+use crate::kept::GivenFile;
 use crate::ln::link_call;
 use crate::mkdir::{mkdir_all, mkdir_call};
 use crate::mv::mv;
@@ -28,19 +29,20 @@ pub fn do_change<O: Sink, E: Sink>(
     alloc: Global,
     edition: Edition,
     image: Vec<u8>,
-    given: Vec<u8>,
+    given: GivenFile,
     change: Change<'_>,
     _output: &mut O,
     errors: &mut E,
 ) -> Answer
-    ensures { Changes edition image.items given.items (streams O.contents O.failed _output.old _output.new (heard E.contents E.failed errors.old errors.new)) result change.entry }
+    ensures { Changes edition image.items given (streams O.contents O.failed _output.old _output.new (heard E.contents E.failed errors.old errors.new)) result change.entry }
 {
     let answer = perform(alloc, edition, image, given, change);
     tell(&answer.fault, errors);
     answer
 }
 
-/// Makes a change of the volume in an image, with calls as user 0. `given` holds the bytes of the file to put, or of the archive to import. If all
+/// Makes a change of the volume in an image, with calls as user 0. `given` holds the bytes of the file to put and what it gets besides them, or the
+/// bytes of the archive to import. If all
 /// calls were made, the answer has the bytes to save and status 0; otherwise it has no bytes, and status 1, or 4 if memory ran out.
 ///
 /// Takes memory to mount the image and for the calls, costs as much as the calls, and needs no right to wait.
@@ -48,16 +50,16 @@ pub fn perform(
     alloc: Global,
     edition: Edition,
     image: Vec<u8>,
-    given: Vec<u8>,
+    given: GivenFile,
     change: Change<'_>,
 ) -> Answer
     ensures { (known : Option (List ℕ)) (failed : Bool) (errors : ErrorStream) → Hears errors result.fault
-        → Changes edition image.items given.items (still known failed errors) result change.entry }
+        → Changes edition image.items given (still known failed errors) result change.entry }
 {
     let call = match change {
         Change::Put { path, now, .. } => return put(alloc, edition, image, path, given, now),
         Change::Import { path, options, now } => {
-            return import_archive(alloc, edition, image, given, path, options, now);
+            return import_archive(alloc, edition, image, given.bytes, path, options, now);
         }
         Change::RmAll { path, now } => return rm_all(alloc, edition, image, path, now),
         Change::MkdirAll { path, now } => return mkdir_all(alloc, edition, image, path, now),

@@ -1,23 +1,20 @@
 //! `put` puts a file into a volume; `put -t` puts several files into a directory.
-ghost use Rattle.std.specs.Prelude.{◌≡◌, ◌≢◌, ◌++◌, [], IfOk, IfErr, MatchBool, OnOk, Ok};
+ghost use Rattle.std.specs.Prelude.{◌≡◌, ◌++◌, [], IfOk, IfErr, OnOk, Ok};
 ghost use Rattle.std.specs.Io.KnownBytes.{Keeps};
 ghost use Rattle.vol_dir.specs.Access.{user};
-ghost use Rattle.vol_dir.specs.declared.refusal.Refusal.{Refusal};
-ghost use Rattle.vol_judge.specs.Sound.{IsSound};
 ghost use Rattle.vol_volume.specs.Answer.{answer};
-ghost use Rattle.vol_volume.specs.Journal.{Refuses};
-ghost use Rattle.vol_volume.specs.Volume.{Accepts, reads_as};
-ghost use Rattle.vol_volume.specs.declared.calls.Done.{Done};
+ghost use Rattle.vol_volume.specs.Volume.{reads_as};
 ghost use Rattle.vol_volume.specs.declared.queries.Query.TheVariants as questions;
 ghost use Rattle.vol_import.specs.Make.{Imports, IsReason as IsUnimported, told};
 ghost use Rattle.vol_import.specs.Plan.{Tells};
 ghost use Rattle.command_faults.specs.ChangeFaults.{Makes, IsReason, ChangesVolume};
 ghost use Rattle.command_faults.specs.Streams.{heard, says, ErrorStream, Hears};
 ghost use Rattle.command_changes.specs.Import.{ImportsArchive};
-ghost use Rattle.command_changes.specs.Put.{calls_to_put, emptying_by, file_calls, onto, put_calls, put_onto};
+ghost use Rattle.command_changes.specs.Put.{calls_to_put, emptying_by, kept_calls, onto, permissions_of, put_calls, put_onto, target_by, with_execution};
 
-use crate::calls::{make_call, push};
+use crate::calls::{make_calls, push};
 use crate::import::{self, Remarked};
+use crate::kept::{GivenFile, Kept};
 use crate::lookup::name_in;
 use command_faults::answer::{conclude, tell};
 use command_faults::mount::mount;
@@ -28,35 +25,52 @@ use vol_dir::{Cred, Refusal};
 use vol_import::{ImportFault, MemberFault, PlanFault, make};
 use vol_layout::Edition;
 use vol_layout::slot::NAME;
-use vol_volume::{Bytes, Call, Query, Volume};
+use vol_volume::{Bytes, Call, Query, Reply, Volume};
 
 /// The permissions of a new file.
 pub(crate) const FILE_PERMISSIONS: u16 = 0o644;
+
+/// The permissions to execute a file.
+const EXECUTION: u16 = 0o111;
+
+/// All other permissions.
+const NO_EXECUTION: u16 = 0o7666;
 
 /// A file to put into a directory of a volume.
 #[derive(Drop)]
 pub struct NewFile<'a> {
     /// Its name there, at most 14 bytes.
     pub name: &'a str,
-    /// Its bytes.
-    pub bytes: Vec<u8>,
+    /// Its bytes, and what it gets besides them.
+    pub content: GivenFile,
 }
 
-/// Empties a file, or makes an empty one, and writes the bytes of `file` into it, for `put`. Nothing is saved unless both
-/// calls are accepted.
+/// What is at the path of a file to put.
+#[derive(Clone, Copy)]
+pub(crate) enum Target {
+    /// Nothing.
+    Missing,
+    /// A node with these permissions.
+    Node { permissions: u16 },
+    /// What can't be told, since the path can't be walked.
+    Unknown,
+}
+
+/// Empties a file, or makes an empty one, writes the bytes of `file` into it, and gives it what is kept of the host's file, for `put`. Nothing is saved
+/// unless all calls are accepted.
 ///
-/// Takes the memory of [`Volume::mount`], and memory for two copies of the path, which the journal keeps; the file's bytes are in memory only once.
-/// Walks the path once per call, and once more first if the file is missing.
+/// Takes the memory of [`Volume::mount`], and memory for a copy of the path per call, which the journal keeps; the file's bytes are in memory only once.
+/// Walks the path once per call, and once more first.
 pub(crate) fn put(
     alloc: Global,
     edition: Edition,
     image: Vec<u8>,
     path: &str,
-    file: Vec<u8>,
+    file: GivenFile,
     now: u32,
 ) -> Answer
     ensures { (errors : ErrorStream) → Hears errors result.fault
-        → ChangesVolume edition image.items (put_calls (reads_as edition image.items).tree now path.now file.items) (says errors) result }
+        → ChangesVolume edition image.items (put_calls (reads_as edition image.items).tree now path.now file.bytes.items file.kept) (says errors) result }
 {
     conclude(put_file(alloc, edition, image, path, file, now))
 }
@@ -67,88 +81,33 @@ fn put_file(
     edition: Edition,
     image: Vec<u8>,
     path: &str,
-    file: Vec<u8>,
+    file: GivenFile,
     now: u32,
 ) -> Result<Vec<u8>, Fault>
-    ensures made { IfOk result (λ bytes. Makes edition image.items (put_calls (reads_as edition image.items).tree now path.now file.items) bytes.items) }
-    ensures fault { IfErr result (IsReason edition image.items (put_calls (reads_as edition image.items).tree now path.now file.items)) }
+    ensures made { IfOk result (λ bytes. Makes edition image.items
+        (put_calls (reads_as edition image.items).tree now path.now file.bytes.items file.kept) bytes.items) }
+    ensures fault { IfErr result (IsReason edition image.items
+        (put_calls (reads_as edition image.items).tree now path.now file.bytes.items file.kept)) }
 {
     let mut volume = mount(alloc, edition, image)?;
-    fill(alloc, &mut volume, path, file, now)?;
+    let calls = calls_for(alloc, &volume, path.as_bytes(), file, now)?;
+    make_calls(alloc, &mut volume, calls)?;
     Ok(volume.unmount())
 }
 
-/// Makes the calls of `put` on a volume.
-fn fill(
+/// Returns the calls that `put` makes.
+fn calls_for(
     alloc: Global,
-    volume: &mut Volume,
-    path: &str,
-    file: Vec<u8>,
+    volume: &Volume,
+    path: &[u8],
+    file: GivenFile,
     now: u32,
-) -> Result<(), Fault>
-    requires sound { IsSound volume.old.edition volume.old.image }
-    ensures made { OnOk result (Makes volume.old.edition volume.old.image
-        (put_calls (reads_as volume.old.edition volume.old.image).tree now path.now file.items) volume.new.image) }
-    ensures fault { IfErr result (IsReason volume.old.edition volume.old.image
-        (put_calls (reads_as volume.old.edition volume.old.image).tree now path.now file.items)) }
+) -> Result<Vec<Call>, AllocError>
+    ensures { IfOk result (λ calls. calls.items ≡ put_calls (reads_as volume.now.edition volume.now.image).tree now path.now file.bytes.items file.kept) }
 {
-    let path = path.as_bytes();
-    let target = Bytes::from_slice(alloc, path)?;
-    let emptied = Bytes::from_slice(alloc, path)?;
-    empty(alloc, volume, emptied, now)?;
-    let write = Call::Write {
-        cred: Cred::ROOT,
-        now,
-        path: target,
-        offset: 0,
-        bytes: Bytes::from_vec(file),
-    };
-    make_call(alloc, volume, write)
-}
-
-/// Empties a file, or makes an empty one if the first call is refused because the file is missing.
-fn empty(alloc: Global, volume: &mut Volume, path: Bytes, now: u32) -> Result<(), Fault>
-    ensures accepted { OnOk result ((done : Done) × Accepts volume.old volume.new
-        (emptying_by (answer (reads_as volume.old.edition volume.old.image).tree (questions.Stat user path)) now path) done) }
-    ensures refused { IfErr result (λ fault. (refusal : Refusal) × (fault ≡ Fault.Refused refusal)
-        × Refuses (reads_as volume.old.edition volume.old.image)
-        (emptying_by (answer (reads_as volume.old.edition volume.old.image).tree (questions.Stat user path)) now path) refusal) }
-{
-    let cred = Cred::ROOT;
-    let truncate = Call::Truncate {
-        cred,
-        now,
-        path,
-        length: 0,
-    };
-    let (refusal, call) = match volume.call(alloc, truncate) {
-        Ok(_) => return Ok(()),
-        Err(refused) => refused,
-    };
-    if !is_missing(refusal) {
-        return Err(Fault::Refused(refusal));
-    }
-    // A refused call is returned, with its path.
-    let Call::Truncate { path, .. } = call else {
-        unreachable!();
-    };
-    let create = Call::Create {
-        cred,
-        now,
-        path,
-        perm: FILE_PERMISSIONS,
-    };
-    make_call(alloc, volume, create)
-}
-
-/// True if a refusal reports a missing name.
-fn is_missing(refusal: Refusal) -> bool
-    ensures { MatchBool result (refusal ≡ Refusal.NoEntry) (refusal ≢ Refusal.NoEntry) }
-{
-    match refusal {
-        Refusal::NoEntry => true,
-        _ => false,
-    }
+    let mut calls = Vec::new(alloc);
+    push_calls(alloc, volume, path, file, now, &mut calls)?;
+    Ok(calls)
 }
 
 /// Puts files as [`put_files`] does, and writes the line of a fault to `errors`. Writes nothing to `_output`.
@@ -172,10 +131,10 @@ pub fn put_all<O: Sink, E: Sink>(
     answer
 }
 
-/// Puts files into a directory, each as `put` does, for `put -t`: a missing file is made with permissions 0644, an existing one is emptied, and then
-/// the bytes are written. If one of the files can't be put, nothing is saved, and the fault is the rule that the image breaks, the first name above
-/// 14 bytes, or the refusal of a call with its path. If two files have the same name, the second is refused as `Exists` if the name is new, and
-/// otherwise replaces the first.
+/// Puts files into a directory, each as `put` does, for `put -t`: a missing file is made with permissions 0644, an existing one is emptied, then the
+/// bytes are written, and then the file gets what is kept of the host's file. If one of the files can't be put, nothing is saved, and the fault is the
+/// rule that the image breaks, the first name above 14 bytes, or the refusal of a call with its path. If two files have the same name, the second is
+/// refused as `Exists` if the name is new, and otherwise replaces the first.
 ///
 /// Moves the files' bytes into the calls. Takes memory to mount the image and for two paths per file, and walks each file's path.
 pub fn put_files(
@@ -254,55 +213,141 @@ fn push_file(
         let name = Bytes::from_slice(alloc, file.name.as_bytes())?;
         return Err(PlanFault::Member(name, MemberFault::LongName));
     }
-    push_calls(alloc, volume, directory, file, now, calls)?;
+    let path = name_in(alloc, directory, file.name.as_bytes())?;
+    push_calls(alloc, volume, path.as_slice(), file.content, now, calls)?;
     Ok(())
 }
 
-/// Appends the calls that put a file.
+/// Appends the calls that put a file at a path. Costs a walk.
 fn push_calls(
     alloc: Global,
     volume: &Volume,
-    directory: &[u8],
-    file: NewFile<'_>,
+    path: &[u8],
+    file: GivenFile,
     now: u32,
     calls: &mut Vec<Call>,
 ) -> Result<(), AllocError>
-    ensures { OnOk result (calls.new.items ≡ calls.old.items ++ file_calls (reads_as volume.now.edition volume.now.image).tree now directory.now file.entry) }
+    ensures { OnOk result (calls.new.items ≡ calls.old.items
+        ++ put_calls (reads_as volume.now.edition volume.now.image).tree now path.now file.bytes.items file.kept) }
 {
-    let path = name_in(alloc, directory, file.name.as_bytes())?;
-    let empty = emptying_call(alloc, volume, path.as_slice(), now)?;
+    let target = find_target(alloc, volume, path)?;
+    let GivenFile { bytes, kept } = file;
+    let empty = emptying_call(alloc, target, path, now)?;
+    push(calls, empty)?;
     let write = Call::Write {
         cred: Cred::ROOT,
         now,
-        path,
+        path: Bytes::from_slice(alloc, path)?,
         offset: 0,
-        bytes: Bytes::from_vec(file.bytes),
+        bytes: Bytes::from_vec(bytes),
     };
-    push(calls, empty)?;
-    push(calls, write)
+    push(calls, write)?;
+    push_kept(alloc, target, path, kept, now, calls)
 }
 
-/// Returns the call that empties a file, or makes an empty one if it is missing. Costs a walk.
-fn emptying_call(alloc: Global, volume: &Volume, path: &[u8], now: u32) -> Result<Call, AllocError>
-    ensures { IfOk result (λ call. call ≡ emptying_by (answer (reads_as volume.now.edition volume.now.image).tree (questions.Stat user path.now)) now path.now) }
+/// Returns what is at the path of a file to put. Costs a walk.
+fn find_target(alloc: Global, volume: &Volume, path: &[u8]) -> Result<Target, AllocError>
+    ensures { IfOk result (λ target. target ≡ target_by (answer (reads_as volume.now.edition volume.now.image).tree (questions.Stat user path.now))) }
 {
     let query = Query::Stat {
         cred: Cred::ROOT,
         path: Bytes::from_slice(alloc, path)?,
     };
-    let path = Bytes::from_slice(alloc, path)?;
     match volume.ask(alloc, &query) {
-        Err(Refusal::NoEntry) => Ok(Call::Create {
-            cred: Cred::ROOT,
+        Ok(Reply::Stat(stat)) => Ok(Target::Node {
+            permissions: stat.permissions,
+        }),
+        Err(Refusal::NoEntry) => Ok(Target::Missing),
+        _ => Ok(Target::Unknown),
+    }
+}
+
+/// Returns the call that empties a file, or makes an empty one if it is missing.
+fn emptying_call(alloc: Global, target: Target, path: &[u8], now: u32) -> Result<Call, AllocError>
+    ensures { IfOk result (λ call. call ≡ emptying_by target now path.now) }
+{
+    let cred = Cred::ROOT;
+    let path = Bytes::from_slice(alloc, path)?;
+    match target {
+        Target::Missing => Ok(Call::Create {
+            cred,
             now,
             path,
             perm: FILE_PERMISSIONS,
         }),
-        _ => Ok(Call::Truncate {
-            cred: Cred::ROOT,
+        Target::Node { .. } | Target::Unknown => Ok(Call::Truncate {
+            cred,
             now,
             path,
             length: 0,
         }),
     }
+}
+
+/// Appends the calls that give a file what is kept of the host's file, besides its bytes.
+fn push_kept(
+    alloc: Global,
+    target: Target,
+    path: &[u8],
+    kept: Kept,
+    now: u32,
+    calls: &mut Vec<Call>,
+) -> Result<(), AllocError>
+    ensures { OnOk result (calls.new.items ≡ calls.old.items ++ kept_calls target now path.now kept) }
+{
+    let cred = Cred::ROOT;
+    match kept {
+        Kept::Nothing => Ok(()),
+        Kept::Execution { permissions } => {
+            let perm = with_execution(permissions_of(target), permissions);
+            let path = Bytes::from_slice(alloc, path)?;
+            push(
+                calls,
+                Call::Chmod {
+                    cred,
+                    now,
+                    path,
+                    perm,
+                },
+            )
+        }
+        Kept::All {
+            permissions,
+            modified,
+        } => {
+            let chmod = Call::Chmod {
+                cred,
+                now,
+                path: Bytes::from_slice(alloc, path)?,
+                perm: permissions,
+            };
+            push(calls, chmod)?;
+            let times = Call::Times {
+                cred,
+                now,
+                path: Bytes::from_slice(alloc, path)?,
+                atime: now,
+                mtime: modified,
+            };
+            push(calls, times)
+        }
+    }
+}
+
+/// Returns the permissions of a file after it was emptied or made.
+fn permissions_of(target: Target) -> u16
+    ensures { result ≡ permissions_of target }
+{
+    match target {
+        Target::Node { permissions } => permissions,
+        Target::Missing | Target::Unknown => FILE_PERMISSIONS,
+    }
+}
+
+/// Returns permissions with their execute bits replaced by those of others.
+#[tactic(auto, unfolding(crate::specs::Put::with_execution))]
+fn with_execution(own: u16, other: u16) -> u16
+    ensures { result ≡ with_execution own other }
+{
+    own & NO_EXECUTION | other & EXECUTION
 }

@@ -12,7 +12,7 @@ use Rattle.command_changes.proofs.change.perform.Goals.{in-Rm, in-Rmdir, in-Mkdi
 pub returns-in-Put : goal.returns-in-Put
 returns-in-Put c known failed errors hears =
     let does = c.put.ensures errors hears in
-    rw c.in-Put.is (does, search rules, refl, saved_leaves _ _ _ _ _ (λ bytes makes. put_leaves _ _ bytes _ _ _ makes) does)
+    rw c.in-Put.is (does, search rules, refl, saved_leaves _ _ _ _ _ (λ bytes makes. put_leaves _ _ bytes _ _ _ _ makes) does)
 
 pub returns-in-Import : goal.returns-in-Import
 returns-in-Import c known failed errors hears =

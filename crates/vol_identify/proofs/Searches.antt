@@ -1,5 +1,5 @@
 -- The search for a volume, block by block.
-use Rattle.std.proofs.Common.{◌≡◌, ◌∙◌, ℕ, zero, suc, ◌+◌, ◌-◌, ◌<◌, List, Option, None, Some, ap, sym, arith}
+use Rattle.std.proofs.Common.{◌≡◌, ◌∙◌, ℕ, zero, suc, ◌+◌, ◌-◌, ◌<◌, List, None, Some, ap, sym, arith}
 use Rattle.std.specs.Option.{option_or}
 use Rattle.vol_identify.specs.Guesses.{inside_at, inside_from}
 use Rattle.vol_identify.specs.declared.guess.Guess.{Guess}

@@ -1,5 +1,5 @@
 -- The front of a volume: the boot block, the super-block and the first block of the i-list.
-use Rattle.std.specs.Prelude.{ℕ, ◌+◌, ◌-◌, ◌*◌, Bool, true, false, ◌&&◌, ◌||◌, ◌==◌, nat_le, if◌then◌else◌, List, [], ◌∷◌, length, slice_range, Option, None, Some}
+use Rattle.std.specs.Prelude.{ℕ, ◌+◌, ◌-◌, ◌*◌, Bool, true, false, ◌&&◌, ◌||◌, ◌==◌, nat_le, nat_lt, max, if◌then◌else◌, List, [], ◌∷◌, length, slice_range, Option, None, Some}
 use Rattle.pdp_words.specs.Words.{word}
 use Rattle.vol_layout.specs.Edition.{constants, number}
 use Rattle.vol_layout.specs.Geometry.{block_count, geometry_of, in_zone, is_bounded}
@@ -46,11 +46,14 @@ has_free_head edition front =
 unfoldable pub begins : Edition → List ℕ → Bool
 begins edition front = is_bounded edition front && (has_free_head edition front && has_root edition front)
 
+-- a volume may begin with this front: rule 2 holds, and the head of the free list or the root is that of one (this project)
+unfoldable pub may_begin : Edition → List ℕ → Bool
+may_begin edition front = is_bounded edition front && (has_free_head edition front || has_root edition front)
+
 -- the image seems to be a whole volume: rules 1 and 2 hold, and the head of the free list or the root is that of one (this project)
 unfoldable pub is_volume : Edition → List ℕ → Bool
 is_volume edition image =
-    nat_le (512 * block_count edition image) (length image)
-    && (is_bounded edition image && (has_free_head edition image || has_root edition image))
+    nat_le (512 * block_count edition image) (length image) && may_begin edition image
 
 -- the volume that a super-block describes (filsys.h)
 abbrev pub volume_of : Edition → List ℕ → FoundVolume
@@ -60,3 +63,19 @@ volume_of edition front = record { edition = edition; blocks = block_count editi
 unfoldable pub begun : List ℕ → Option FoundVolume
 begun front =
     if begins V6 front then Some (volume_of V6 front) else if begins V7 front then Some (volume_of V7 front) else None
+
+-- the number of blocks of the volume of this edition that may begin with this front; 0 if none may (this project)
+unfoldable pub blocks_if : Edition → List ℕ → ℕ
+blocks_if edition front = if may_begin edition front then block_count edition front else 0
+
+-- the number of blocks of a volume; 0 if there is none (this project)
+abbrev pub blocks_of : Option FoundVolume → ℕ
+blocks_of None = 0
+blocks_of (Some volume) = volume.blocks
+
+-- the number of blocks that must be there for the volume which may begin an image to be whole, as it is or with each pair of bytes exchanged; 0 if
+-- none may (this project)
+unfoldable pub blocks_wanted : List ℕ → ℕ
+blocks_wanted image =
+    if nat_lt (length image) 1536 then 0
+    else max (max (blocks_if V6 image) (blocks_if V7 image)) (blocks_of (begun (swab (front_at image 0))))

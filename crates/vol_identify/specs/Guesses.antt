@@ -1,5 +1,5 @@
 -- What an image seems to be.
-use Rattle.std.specs.Prelude.{◌≡◌, ℕ, zero, suc, ◌+◌, ◌-◌, ◌*◌, ◌/◌, ◌^◌, min, Bool, true, nat_le, nat_lt, if◌then◌else◌, List, length, Option, None, Some, option_map}
+use Rattle.std.specs.Prelude.{◌≡◌, ℕ, zero, suc, ◌+◌, ◌-◌, ◌*◌, ◌/◌, ◌^◌, min, Bool, true, false, nat_le, nat_lt, if◌then◌else◌, List, length, Option, None, Some, option_map}
 use Rattle.std.specs.Option.{option_or, unwrap_or}
 use Rattle.ustar.specs.Read.{is_zeros}
 use Rattle.vol_layout.specs.declared.edition.Edition.TheVariants.{V6, V7}
@@ -66,3 +66,10 @@ guess_of image = unwrap_or (by_magic image) (if nat_lt (length image) 1536 then 
 abbrev pub IsJudgedSo : List ℕ → Guess → Option ℕ → Type 0
 IsJudgedSo image (Volume volume) broken = IsJudged true volume.edition image broken
 IsJudgedSo image _ broken = broken ≡ None
+
+-- true if a guess says something of all bytes, or of the first volume in them, so that further bytes could change it (this project)
+abbrev pub is_open : Guess → Bool
+is_open Empty = true
+is_open (Inside volume block) = true
+is_open Unknown = true
+is_open _ = false

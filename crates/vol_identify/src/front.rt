@@ -1,7 +1,7 @@
 //! The front of a volume: the boot block, the super-block and the first block of the i-list.
 ghost use Rattle.std.specs.Prelude.{◌≡◌, ◌+◌, ◌*◌, ◌≤◌, ◌++◌, length, vec_len, IfOk, OnOk};
 ghost use Rattle.vol_layout.specs.Geometry.{is_bounded};
-ghost use Rattle.vol_identify.specs.Front.{front_at, begins, begun, is_volume, has_free_head, has_root, swab, volume_of};
+ghost use Rattle.vol_identify.specs.Front.{blocks_if, blocks_wanted, front_at, begins, begun, is_volume, may_begin, has_free_head, has_root, swab, volume_of};
 
 use pdp_words::{BLOCK, Image};
 use std::alloc::{AllocError, Global};
@@ -63,9 +63,46 @@ pub(crate) fn is_volume(edition: Edition, image: &Image) -> bool
     ensures { result ≡ is_volume edition image.now }
 {
     let blocks = Super { edition }.block_count(image);
-    BLOCK * blocks as usize <= image.len()
-        && is_bounded(edition, image)
-        && (has_free_head(edition, image) || has_root(edition, image))
+    BLOCK * blocks as usize <= image.len() && may_begin(edition, image)
+}
+
+/// True if a volume of this edition may begin with this front: rule 2 holds, and the head of the free list or the root is that of a volume.
+#[tactic(auto, unfolding(crate::specs::Front::may_begin))]
+fn may_begin(edition: Edition, front: &Image) -> bool
+    requires { 1536 ≤ length front.now }
+    ensures { result ≡ may_begin edition front.now }
+{
+    is_bounded(edition, front) && (has_free_head(edition, front) || has_root(edition, front))
+}
+
+/// Returns the number of blocks of the volume of this edition that may begin with this front; 0 if none may.
+#[tactic(auto, unfolding(crate::specs::Front::blocks_if))]
+fn blocks_if(edition: Edition, front: &Image) -> u32
+    requires { 1536 ≤ length front.now }
+    ensures { result ≡ blocks_if edition front.now }
+{
+    if may_begin(edition, front) {
+        Super { edition }.block_count(front)
+    } else {
+        0
+    }
+}
+
+/// Returns the number of blocks that must be there for the volume which may begin an image to be whole, as it is or with each pair of bytes exchanged; 0
+/// if none may. Of a longer image, `identify` needs no more blocks to tell such a volume. Looks at the first three blocks alone.
+#[tactic(auto, unfolding(crate::specs::Front::blocks_wanted))]
+pub fn blocks_wanted(alloc: Global, image: &Image) -> Result<u32, AllocError>
+    ensures { IfOk result (λ blocks. blocks ≡ blocks_wanted image.now) }
+{
+    if image.len() < FRONT {
+        return Ok(0);
+    }
+    let straight = blocks_if(Edition::V6, image).max(blocks_if(Edition::V7, image));
+    let exchanged = match begun(&swapped_front(alloc, image)?) {
+        Some(volume) => volume.blocks,
+        None => 0,
+    };
+    Ok(straight.max(exchanged))
 }
 
 /// True if rule 2 holds of a super-block.

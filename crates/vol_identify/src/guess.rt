@@ -1,6 +1,6 @@
 //! The guess, and what the rules say of a volume.
 ghost use Rattle.std.specs.Prelude.{◌≡◌, ◌+◌, ◌*◌, ◌≤◌, length, IfOk};
-ghost use Rattle.vol_identify.specs.Guesses.{IsJudgedSo, by_front, by_magic, cut_off, fits_in, guess_of, inside, inside_at, swapped, whole};
+ghost use Rattle.vol_identify.specs.Guesses.{IsJudgedSo, is_open, by_front, by_magic, cut_off, fits_in, guess_of, inside, inside_at, swapped, whole};
 
 use crate::front::{FRONT, FoundVolume, begun, front_at, is_volume, swapped_front, volume_of};
 use crate::magic::{Packing, is_ext2, is_tar, packing_of};
@@ -33,6 +33,15 @@ pub enum Guess {
     Unknown,
 }
 
+impl Guess {
+    /// True if bytes after those of the image could change the guess: it says something of all bytes, or of the first volume in them.
+    pub fn is_open(self) -> bool
+        ensures { result ≡ is_open self }
+    {
+        matches!(self, Guess::Empty | Guess::Inside { .. } | Guess::Unknown)
+    }
+}
+
 /// What an image seems to be, and whether it is sound.
 #[derive(Clone, Copy)]
 pub struct Identified {
@@ -58,9 +67,9 @@ pub fn identify(alloc: Global, image: &Image) -> Result<Identified, AllocError>
     Ok(Identified { guess, broken })
 }
 
-/// Guesses what an image is: by its first bytes, and otherwise as a volume.
+/// Guesses what an image is: by its first bytes, and otherwise as a volume. Judges no volume.
 #[tactic(auto, unfolding(crate::specs::Guesses::guess_of))]
-fn guess_image(alloc: Global, image: &Image) -> Result<Guess, AllocError>
+pub fn guess_image(alloc: Global, image: &Image) -> Result<Guess, AllocError>
     ensures { IfOk result (λ guess. guess ≡ guess_of image.now) }
 {
     if let Some(guess) = by_magic(image) {

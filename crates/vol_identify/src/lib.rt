@@ -6,6 +6,6 @@ mod guess;
 mod magic;
 mod texts;
 
-pub use front::FoundVolume;
-pub use guess::{Guess, Identified, identify};
+pub use front::{FoundVolume, blocks_wanted};
+pub use guess::{Guess, Identified, guess_image, identify};
 pub use magic::{Packing, packing_of};

@@ -1,11 +1,12 @@
 -- Reading a script, line by line.
-use Rattle.std.proofs.Common.{◌≡◌, ◌≢◌, ℕ, ◌+◌, ◌∙◌, ◌==◌, false, List, [], ◌∷◌, ◌++◌, length, Option, Some, None, Result, Ok, Err, refl, sym, ap, append-nil, append_assoc, arith, length-append, drop, drop-cons, suc, ◌<◌, get_or, add-one}
+use Rattle.std.proofs.Common.{◌≡◌, ◌≢◌, Bool, IfOk, nat_lt, ℕ, ◌+◌, ◌∙◌, ◌==◌, false, List, [], ◌∷◌, ◌++◌, length, Option, Some, None, Result, Ok, Err, refl, sym, ap, append-nil, append_assoc, arith, length-append, drop, drop-cons, suc, ◌<◌, get_or, add-one}
 use Rattle.std.specs.Global.{Global}
 use Rattle.std.specs.Prelude.{Vec}
 use Rattle.command_faults.specs.declared.line_flaw.LineFlaw.TheVariants as flaws
 use Rattle.command_faults.specs.declared.line_flaw.WordForm.{WordForm}
-use Rattle.vol_scripts.specs.Flaws.{flaw_in}
-use Rattle.vol_scripts.specs.Scripts.{BadLine, asked_from, before, before_scripts, script_after, scripts_from, views_after}
+use Rattle.std.specs.List.{slice_split}
+use Rattle.vol_scripts.specs.Flaws.{flaw_in, has_bad_first}
+use Rattle.vol_scripts.specs.Scripts.{BadLine, asked_from, before, before_scripts, has_bad_start, is_for_view, script_after, scripts_from, views_after}
 use Rattle.vol_scripts.specs.declared.steps.Script.{Script}
 
 -- the steps read so far, followed by the steps of the remaining lines, unless one of these can't be read
@@ -109,3 +110,9 @@ module _ (all : Result (List Script) (ℕ × BadLine)) (front : List Script) (vi
 -- if no script is left, the scripts so far are all scripts
 pub all_read : (front : List Script) (number views : ℕ) → after_scripts front (scripts_from number views []) ≡ Ok front
 all_read front number views = rw append-nil refl
+
+-- bytes that aren't the beginning of a script for a view have a bad start if their first line has one
+pub started : {E : Type 0} (front : List ℕ) (lines : List (List ℕ)) (result : Result Bool E) → nat_lt (length front) 5 ≡ false → is_for_view front ≡ false
+    → lines ≡ slice_split (λ b. b == 10) front → IfOk result (λ bad. bad ≡ has_bad_first lines) → IfOk result (λ bad. bad ≡ has_bad_start front)
+started front lines (Ok bad) few other is same = rw (few, other) (same ∙ ap has_bad_first is)
+started front lines (Err e) few other is same = tt

@@ -1,5 +1,5 @@
 -- The first flaw of a line that can't be read.
-use Rattle.std.specs.Prelude.{ℕ, ◌+◌, ◌==◌, Bool, true, false, if◌then◌else◌, List, [], ◌∷◌, length, Option, Some, None, is_some}
+use Rattle.std.specs.Prelude.{ℕ, ◌+◌, ◌-◌, ◌==◌, nat_lt, Bool, true, false, if◌then◌else◌, List, [], ◌∷◌, length, Option, Some, None, is_some}
 use Rattle.std.specs.List.{slice_split}
 use Rattle.command_faults.specs.declared.line_flaw.LineFlaw.{LineFlaw}
 use Rattle.command_faults.specs.declared.line_flaw.LineFlaw.TheVariants as flaws
@@ -73,3 +73,30 @@ flaw_from at (form ∷ forms) (word ∷ words) =
 -- the first flaw of a line, which must have a time, a user, a group, a command of this form, and the command's words (this project)
 abbrev pub flaw_in : WordForm → List ℕ → Option LineFlaw
 flaw_in command line = flaw_from 0 (forms.Number ∷ forms.Id ∷ forms.Id ∷ command ∷ []) (slice_split (λ b. b == 32) line)
+
+-- true if no word that begins with `part`, which doesn't have this form, has it: a number keeps its digits, and the longest word of a command has 8
+-- letters (this project)
+abbrev pub cannot_become : WordForm → List ℕ → Bool
+cannot_become forms.Path part = false
+cannot_become forms.Bytes part = false
+cannot_become forms.Command part = nat_lt 8 (length part)
+cannot_become forms.Query part = nat_lt 8 (length part)
+cannot_become _ part = nat_lt 0 (length part)
+
+-- true if a flaw of the first `count` bytes of a line stays, whatever follows them: a word too many does, and so does a word of another form if a
+-- space follows it (this project)
+abbrev pub stays : ℕ → LineFlaw → Bool
+stays count (flaws.Word at word form) = if nat_lt (length word) (count - at) then true else cannot_become form word
+stays count (flaws.Extra at word) = true
+stays count _ = false
+
+-- true if there is a flaw and it stays, whatever follows the first `count` bytes of the line (this project)
+abbrev pub has_lasting : ℕ → Option LineFlaw → Bool
+has_lasting count None = false
+has_lasting count (Some flaw) = stays count flaw
+
+-- true if the first of a session's lines can't be read; the last of them may go on (this project)
+abbrev pub has_bad_first : List (List ℕ) → Bool
+has_bad_first [] = false
+has_bad_first (part ∷ []) = has_lasting (length part) (flaw_in forms.Command part)
+has_bad_first (line ∷ next ∷ lines) = is_some (flaw_in forms.Command line)

@@ -1,5 +1,5 @@
 -- Scripts with several lines, and several scripts.
-use Rattle.std.specs.Prelude.{◌≡◌, ℕ, ◌+◌, ◌==◌, ◌&&◌, nat_le, Bool, if◌then◌else◌, List, [], ◌∷◌, length, take, drop, Option, Some, None, Result, Ok, Err, Vec, codes}
+use Rattle.std.specs.Prelude.{◌≡◌, ℕ, ◌+◌, ◌==◌, ◌&&◌, nat_le, nat_lt, Bool, false, if◌then◌else◌, List, [], ◌∷◌, length, take, drop, Option, Some, None, Result, Ok, Err, Vec, codes}
 use Rattle.std.specs.Global.{Global}
 use Rattle.std.specs.List.{slice_split}
 use Rattle.std.specs.Result.{result_map_both}
@@ -8,7 +8,7 @@ use Rattle.command_faults.specs.declared.line_flaw.LineFlaw.{LineFlaw}
 use Rattle.command_faults.specs.declared.line_flaw.LineFlaw.TheVariants as flaws
 use Rattle.command_faults.specs.declared.line_flaw.WordForm.{WordForm}
 use Rattle.command_faults.specs.declared.line_flaw.WordForm.TheVariants as forms
-use Rattle.vol_scripts.specs.Flaws.{flaw_in}
+use Rattle.vol_scripts.specs.Flaws.{flaw_in, has_bad_first}
 use Rattle.vol_scripts.specs.Grammar.{query_in, step_in}
 use Rattle.vol_scripts.specs.declared.lines.LineFault.{LineFault}
 use Rattle.vol_scripts.specs.declared.lines.LineFault.TheVariants as faults
@@ -58,6 +58,13 @@ abbrev pub script_in : List ℕ → Result Script BadLine
 script_in script =
     if is_for_view script then result_map_both kinds.View (λ line. line) (asked_in query_in forms.Query 2 (drop 5 script))
     else result_map_both kinds.Session (λ line. line) (asked_in step_in forms.Command 1 script)
+
+-- true if the first line of a script that begins with these bytes can't be read, whatever follows them; fewer than 5 bytes may be the beginning of the
+-- line `view` (this project)
+abbrev pub has_bad_start : List ℕ → Bool
+has_bad_start front =
+    if nat_lt (length front) 5 then false
+    else if is_for_view front then false else has_bad_first (slice_split (λ b. b == 10) front)
 
 -- the script that was read is the expected one, or the first line that can't be read is this one; out of memory is possible in any case (this
 -- project)

@@ -1,6 +1,6 @@
 //! Finds the first flaw of a line that can't be read.
-ghost use Rattle.std.specs.Prelude.{◌≡◌, [], IfOk};
-ghost use Rattle.vol_scripts.specs.Flaws.{flaw_from, flaw_in, forms_after, has_form, names_query, wanted_after};
+ghost use Rattle.std.specs.Prelude.{◌≡◌, [], ℕ, List, length, IfOk};
+ghost use Rattle.vol_scripts.specs.Flaws.{cannot_become, flaw_from, flaw_in, forms_after, has_form, has_lasting, names_query, stays, wanted_after};
 
 use crate::commands::Command;
 use crate::lines::LineFault;
@@ -44,6 +44,45 @@ pub(crate) fn flaw_in(
         at += word.len() as u64 + 1;
     }
     Ok(missing(wanted))
+}
+
+/// The length of the longest word of a command, in bytes.
+const LONGEST_COMMAND: usize = 8;
+
+/// True if there is a flaw and it stays, whatever follows the first `count` bytes of the line.
+pub(crate) fn has_lasting(count: usize, flaw: &Option<LineFlaw>) -> bool
+    ensures { result ≡ has_lasting count flaw.now }
+{
+    match flaw {
+        Some(flaw) => stays(count, flaw),
+        None => false,
+    }
+}
+
+/// True if a flaw of the first `count` bytes of a line stays, whatever follows them.
+fn stays(count: usize, flaw: &LineFlaw) -> bool
+    ensures { result ≡ stays count flaw.now }
+{
+    match flaw {
+        LineFlaw::Word { at, word, wanted } => {
+            let length = word.as_slice().len();
+            let has_space = (length as u64) < (count as u64).saturating_sub(*at);
+            has_space || cannot_become(*wanted, length)
+        }
+        LineFlaw::Extra { .. } => true,
+        LineFlaw::Ends(_) | LineFlaw::Unended | LineFlaw::TooManyViews => false,
+    }
+}
+
+/// True if no word that begins with `count` bytes which don't have this form has it.
+fn cannot_become(form: WordForm, count: usize) -> bool
+    ensures { (part : List ℕ) → length part ≡ count → result ≡ cannot_become form part }
+{
+    match form {
+        WordForm::Path | WordForm::Bytes => false,
+        WordForm::Command | WordForm::Query => count > LONGEST_COMMAND,
+        WordForm::Number | WordForm::Id | WordForm::Permissions => count > 0,
+    }
 }
 
 /// Returns the flaw of a line that ends before words of these forms, or `None` if there are none.

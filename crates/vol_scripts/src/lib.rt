@@ -18,6 +18,6 @@ pub mod unread_scripts;
 
 pub use ending::finish;
 pub use played::Played;
-pub use read::{ScriptFault, ScriptsFault, read_script, read_scripts};
+pub use read::{ScriptFault, ScriptsFault, has_bad_start, read_script, read_scripts};
 pub use steps::{Script, ScriptStep, Sequence};
 pub use unread_scripts::refuse;

@@ -1,8 +1,9 @@
 //! Reads scripts.
-ghost use Rattle.std.specs.Prelude.{◌≡◌, ◌≤◌, ◌∷◌, ◌++◌, [], OnOk, IfErr};
-ghost use Rattle.vol_scripts.specs.Scripts.{ReadsScript, ReadsScripts, asked_in, script_after, script_in, views_after};
+ghost use Rattle.std.specs.Prelude.{◌≡◌, ◌≤◌, ◌∷◌, ◌++◌, [], IfOk, OnOk, IfErr};
+ghost use Rattle.vol_scripts.specs.Flaws.{has_bad_first};
+ghost use Rattle.vol_scripts.specs.Scripts.{ReadsScript, has_bad_start, ReadsScripts, asked_in, script_after, script_in, views_after};
 
-use crate::flaws::flaw_in;
+use crate::flaws::{flaw_in, has_lasting};
 use crate::lines::{FromLine, LineFault};
 use crate::pieces::Pieces;
 use crate::steps::{Script, Sequence};
@@ -47,6 +48,34 @@ pub fn read_script(alloc: Global, script: &[u8]) -> Result<Script, ScriptFault>
     match script.strip_prefix(VIEW_LINE) {
         Some(queries) => Ok(Script::View(read_lines(alloc, queries, WordForm::Query, 2)?)),
         None => Ok(Script::Session(read_lines(alloc, script, WordForm::Command, 1)?)),
+    }
+}
+
+/// True if the first line of a script that begins with these bytes can't be read, whatever follows them. Takes the memory of the line's flaw, and costs
+/// the length of the line.
+pub fn has_bad_start(alloc: Global, front: &[u8]) -> Result<bool, AllocError>
+    ensures { IfOk result (λ is_bad. is_bad ≡ has_bad_start front.now) }
+{
+    if front.len() < VIEW_LINE.len() {
+        return Ok(false);
+    }
+    if front.starts_with(VIEW_LINE) {
+        return Ok(false);
+    }
+    has_bad_first(alloc, Pieces::of(b'\n', front))
+}
+
+/// True if the first of a session's lines can't be read; the last of them may go on.
+fn has_bad_first(alloc: Global, mut lines: Pieces<'_>) -> Result<bool, AllocError>
+    ensures { IfOk result (λ is_bad. is_bad ≡ has_bad_first lines.entry) }
+{
+    let Some(line) = lines.take_next() else {
+        return Ok(false);
+    };
+    let flaw = flaw_in(alloc, WordForm::Command, line)?;
+    match lines.take_next() {
+        Some(_) => Ok(flaw.is_some()),
+        None => Ok(has_lasting(line.len(), &flaw)),
     }
 }
 

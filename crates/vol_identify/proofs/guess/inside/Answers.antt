@@ -1,4 +1,4 @@
-use Rattle.std.proofs.Common.{◌≡◌, ◌∙◌, ◌+◌, ◌-◌, ◌<◌, None, Some, ap, sym, arith, rules}
+use Rattle.std.proofs.Common.{◌≡◌, ◌∙◌, ◌+◌, ◌-◌, ◌<◌, None, ap, sym, arith, rules}
 use Rattle.vol_identify.specs.Guesses.{inside_from}
 use Rattle.vol_identify.proofs.Searches.{found, missed}
 use Rattle.vol_identify.proofs.guess.inside.Goals as goal

@@ -1,5 +1,5 @@
 -- The result of a command that shows part of an image.
-use Rattle.std.specs.Prelude.{◌≡◌, ◌⊎◌, ℕ, true, List, []}
+use Rattle.std.specs.Prelude.{◌≡◌, ◌⊎◌, ◌==◌, ℕ, true, if◌then◌else◌, List, [], length}
 use Rattle.std.specs.Io.KnownBytes.{Appends, Keeps}
 use Rattle.pdp_words.specs.Devices.{AppendsFront}
 use Rattle.command_faults.specs.Faults.{fault_status, fault_line}
@@ -43,6 +43,17 @@ PrintsWith wanted streams text status = IsPrintedWith wanted streams text status
 -- a text is printed; or standard output fails after a prefix of it (this project)
 abbrev pub Prints : Streams → List ℕ → ℕ → Type 0
 Prints streams text status = PrintsWith 0 streams text status
+
+-- a text is printed, and these lines are reported; the status is 0 if there are no lines (this project)
+pub record IsPrintedTelling (wanted : ℕ) (streams : Streams) (text lines : List ℕ) (code : ℕ) : Type 0 where
+  pub status : code ≡ (if length lines == 0 then 0 else wanted)
+  pub whole : Appends streams.old streams.new text
+  pub working : streams.failed ≡ streams.had_failed
+  pub said : streams.said lines
+
+-- a text is printed and lines are reported, with this status if there are any; or standard output fails after a prefix of the text (this project)
+abbrev pub PrintsTelling : ℕ → Streams → List ℕ → List ℕ → ℕ → Type 0
+PrintsTelling wanted streams text lines status = IsPrintedTelling wanted streams text lines status ⊎ IsBrokenOff streams text status
 
 -- one of some texts is printed, or one of some faults is reported (this project)
 abbrev pub PrintsOne : (List ℕ → Type 0) → (Fault → Type 0) → Streams → ℕ → Type 0

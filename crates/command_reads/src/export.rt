@@ -1,10 +1,10 @@
 //! The command that writes everything below a directory as an archive.
-ghost use Rattle.std.specs.Prelude.{◌≡◌, ◌==◌, IfOk, if◌then◌else◌, length};
+ghost use Rattle.std.specs.Prelude.{◌≡◌, ◌==◌, false, IfOk, if◌then◌else◌, length};
 ghost use Rattle.vol_layout.specs.Geometry.{Fits};
 ghost use Rattle.vol_dir.specs.Entries.{IsDirectory};
 ghost use Rattle.command_faults.specs.Faults.{line_after};
 ghost use Rattle.command_faults.specs.Streams.{ErrorStream, Hears, streams};
-ghost use Rattle.command_reads.specs.Export.{AreFound, Exports, ExportsTo, ExportsBelow, WritesBelow, told_status, unstarted, unstarted_status, unwritten};
+ghost use Rattle.command_reads.specs.Export.{AreFound, begun, Exports, ExportsTo, ExportsBelow, WritesBelow, told_status, unstarted, unstarted_status, unwritten};
 
 use crate::faults::unmeasured;
 use crate::looks::ExportOptions;
@@ -15,7 +15,8 @@ use command_faults::{Ending, Fault};
 use pdp_words::{Image, Sink};
 use std::alloc::{AllocError, Global};
 use vol_archive::{
-    ExportStart, MetEntry, StartFault, WriteFault, put_archive, start_of, walk, walk_lost,
+    ExportStart, MetEntry, StartFault, WriteFault, is_directory, lost_start_of, put_archive,
+    start_of, walk, walk_lost, walk_orphans,
 };
 use vol_dir::Refusal;
 use vol_inspect::lost_inodes;
@@ -23,7 +24,7 @@ use vol_layout::{Edition, Geometry};
 use vol_listing::Screen;
 
 /// Writes an archive of everything below the directory at a path. As an option, the archive also has the i-nodes that no entry names, with everything
-/// below them, under `lost+found`. The image must keep rules 1 and 2, and may be any bytes otherwise. The status is 0 for a sound image whose entries
+/// below them, under `lost+found`; then the path may lead to a root that is no directory, and the archive has only these. The image must keep rules 1 and 2, and may be any bytes otherwise. The status is 0 for a sound image whose entries
 /// are all in the archive; 1 if the image isn't sound, an entry is left out or the path leads to no directory. A graded status is 5 instead if an
 /// entry or an i-node isn't exported, and 6 if the image breaks rule 1 or 2. It is 3 if `output` failed, 4 if memory ran out. The fault has a line
 /// for each entry that is left out, with unprintable bytes escaped, for each i-node that no entry names, and for each other flaw of the image. An
@@ -44,7 +45,7 @@ pub(crate) fn export<O: Sink>(
         → Exports edition image.items path.now options screen (streams O.contents O.failed output.old output.new errors) result.status }
 {
     let image = Image::from_bytes(image);
-    match start_of(edition, &image, path.as_bytes()) {
+    match begun(edition, &image, path.as_bytes(), options.lost) {
         Ok(start) => export_to(alloc, edition, &image, &start, options, screen, output),
         Err(fault) => Ending {
             status: unstarted_status(options.graded, fault),
@@ -65,7 +66,7 @@ fn export_to<O: Sink>(
     output: &mut O,
 ) -> Ending
     requires fits { Fits start.now.geometry image.now }
-    requires directory { IsDirectory start.now.geometry image.now start.now.inode }
+    requires directory { options.lost ≡ false → IsDirectory start.now.geometry image.now start.now.inode }
     ensures { (errors : ErrorStream) → Hears errors result.fault
         → ExportsTo edition image.now start.now options (streams O.contents O.failed output.old output.new errors) result.status screen }
 {
@@ -85,7 +86,7 @@ fn export_below<O: Sink>(
     output: &mut O,
 ) -> Ending
     requires fits { Fits start.now.geometry image.now }
-    requires directory { IsDirectory start.now.geometry image.now start.now.inode }
+    requires directory { options.lost ≡ false → IsDirectory start.now.geometry image.now start.now.inode }
     ensures { (errors : ErrorStream) → Hears errors result.fault
         → ExportsBelow edition image.now start.now options (streams O.contents O.failed output.old output.new errors) result.status }
 {
@@ -105,11 +106,11 @@ fn write_below<O: Sink>(
     output: &mut O,
 ) -> Result<Remarks, Fault>
     requires fits { Fits start.now.geometry image.now }
-    requires directory { IsDirectory start.now.geometry image.now start.now.inode }
+    requires directory { options.lost ≡ false → IsDirectory start.now.geometry image.now start.now.inode }
     ensures { WritesBelow edition image.now start.now options (O.contents output.old) (O.contents output.new)
         (O.failed output.old) (O.failed output.new) result }
 {
-    let founds = find(alloc, image, &start.geometry, start.inode, options.lost)?;
+    let founds = walk_all(alloc, image, &start.geometry, start.inode, options.lost)?;
     let remarks = tell_all(alloc, edition, image, &start.geometry, &founds, options)?;
     match put_archive(alloc, image, &start.geometry, &founds, output) {
         Ok(()) => Ok(remarks),
@@ -117,8 +118,27 @@ fn write_below<O: Sink>(
     }
 }
 
-/// Returns everything below a directory. With `lost`, also returns the i-nodes that no entry names, with everything below them.
-fn find(
+/// Returns the directory to which a path leads. With `lost`, returns the root even if it is no directory.
+pub(crate) fn begun(
+    edition: Edition,
+    image: &Image,
+    path: &[u8],
+    lost: bool,
+) -> Result<ExportStart, StartFault>
+    ensures exact { result ≡ begun lost edition image.now path.now }
+    ensures fits { IfOk result (λ start. Fits start.geometry image.now) }
+    ensures directory { lost ≡ false → IfOk result (λ start. IsDirectory start.geometry image.now start.inode) }
+{
+    if lost {
+        lost_start_of(edition, image, path)
+    } else {
+        start_of(edition, image, path)
+    }
+}
+
+/// Returns everything below a directory. With `lost`, also returns the i-nodes that no entry names, with everything below them; only these, if the
+/// start is no directory.
+pub(crate) fn walk_all(
     alloc: Global,
     image: &Image,
     geometry: &Geometry,
@@ -126,14 +146,18 @@ fn find(
     lost: bool,
 ) -> Result<Vec<MetEntry>, AllocError>
     requires fits { Fits geometry.now image.now }
-    requires directory { IsDirectory geometry.now image.now start }
+    requires directory { lost ≡ false → IsDirectory geometry.now image.now start }
     ensures { IfOk result (λ founds. AreFound lost geometry.now image.now start founds.items) }
 {
     if !lost {
         return walk(alloc, image, geometry, start);
     }
     let inodes = lost_inodes(alloc, image, geometry)?;
-    walk_lost(alloc, image, geometry, start, &inodes)
+    if is_directory(image, geometry, start) {
+        walk_lost(alloc, image, geometry, start, &inodes)
+    } else {
+        walk_orphans(alloc, image, geometry, start, &inodes)
+    }
 }
 
 /// Returns the result of an export with some remarks or none.

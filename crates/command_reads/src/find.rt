@@ -1,26 +1,28 @@
 //! The command that prints the paths of everything below a directory.
-ghost use Rattle.std.specs.Prelude.{◌≡◌, ◌++◌, IfErr, IfOk, OnOk, option_map};
+ghost use Rattle.std.specs.Prelude.{◌≡◌, ◌++◌, true, IfErr, IfOk, OnOk, option_map};
 ghost use Rattle.std.specs.List.{flat_map};
-ghost use Rattle.vol_dir.specs.Entries.{IsDirectory};
-ghost use Rattle.vol_layout.specs.Geometry.{Fits};
-ghost use Rattle.vol_archive.specs.Walk.{IsWalk};
 ghost use Rattle.vol_listing.specs.Listings.{shown_path};
 ghost use Rattle.command_faults.specs.Streams.{ErrorStream, Hears, streams};
-ghost use Rattle.command_reads.specs.Find.{AreFound, Finds, IsFindFault, found_line, is_wanted};
+ghost use Rattle.command_reads.specs.Find.{AreFound, Finds, found_line, is_wanted};
+ghost use Rattle.command_reads.specs.Remarks.{limit_lines};
+ghost use Rattle.command_reads.specs.Sums.{IsManifestFault};
 
-use crate::export::unstarted;
-use crate::print::finish_bytes;
+use crate::export::{begun, unstarted, walk_all};
+use crate::print::{RemarkedText, print_remarked};
+use crate::remarks::{Remarks, push_limits};
 use command_faults::{Ending, Fault};
 use name_patterns::{is_like, last_name};
 use pdp_words::{Image, Sink};
 use std::alloc::{AllocError, Global};
-use vol_archive::{MetEntry, start_of, walk};
+use vol_archive::MetEntry;
 use vol_layout::Edition;
 use vol_listing::{Screen, joined, push_shown, shown_path};
 
 /// Prints the path of everything below the directory at a path, each on a line, in the order of an export. With a `pattern`, prints only paths whose
-/// last name matches it. The image must keep rules 1 and 2, and may be any bytes otherwise. The status is 0; 1 if the image breaks one of these rules
-/// or the path leads to no directory, 3 if `output` failed, 4 if memory ran out. Nothing is printed until the whole output is ready.
+/// last name matches it. With `lost`, also prints the i-nodes that no entry names, as an export has them. The image must keep rules 1 and 2, and may be
+/// any bytes otherwise. The status is 0; 1 if the image breaks one of these rules or the path leads to no directory, 3 if `output` failed, 4 if memory
+/// ran out, 5 if there are paths above 4,096 bytes: the fault has a line for each of them, and what is below them isn't printed. Nothing is printed
+/// until the whole output is ready.
 ///
 /// Costs the walk, and takes memory for all paths and for the text.
 pub(crate) fn find<O: Sink>(
@@ -29,36 +31,65 @@ pub(crate) fn find<O: Sink>(
     image: Vec<u8>,
     path: &str,
     pattern: Option<&str>,
+    lost: bool,
     screen: Screen,
     output: &mut O,
 ) -> Ending
     ensures { (errors : ErrorStream) → Hears errors result.fault
-        → Finds edition image.items path.now (option_map (λ word. word.now) pattern.entry) screen (streams O.contents O.failed output.old output.new errors) result.status }
+        → Finds edition image.items path.now (option_map (λ word. word.now) pattern.entry) lost screen (streams O.contents O.failed output.old output.new errors) result.status }
 {
     let image = Image::from_bytes(image);
-    let text = find_text(alloc, edition, &image, path.as_bytes(), pattern, screen);
-    finish_bytes(text, output)
+    match find_text(
+        alloc,
+        edition,
+        &image,
+        path.as_bytes(),
+        pattern,
+        lost,
+        screen,
+    ) {
+        Ok(found) => print_remarked(true, found, output),
+        Err(fault) => Ending::from(fault),
+    }
 }
 
-/// Returns the paths of everything below the directory at a path, each on a line.
+/// Returns the paths of everything below the directory at a path, each on a line, and remarks on those at which the walk stopped.
 fn find_text(
     alloc: Global,
     edition: Edition,
     image: &Image,
     path: &[u8],
     pattern: Option<&str>,
+    lost: bool,
     screen: Screen,
-) -> Result<Vec<u8>, Fault>
-    ensures text { IfOk result (λ text. AreFound edition image.now path.now (option_map (λ word. word.now) pattern.entry) screen text.items) }
-    ensures fault { IfErr result (λ fault. IsFindFault edition image.now path.now fault) }
+) -> Result<RemarkedText, Fault>
+    ensures text { IfOk result (λ found. AreFound edition image.now path.now (option_map (λ word. word.now) pattern.entry) lost screen found.text.items
+        found.remarks.lines.items) }
+    ensures short { IfOk result (λ found. found.remarks.is_short ≡ true) }
+    ensures fault { IfErr result (IsManifestFault edition image.now path.now lost) }
 {
-    match start_of(edition, image, path) {
-        Ok(start) => {
-            let founds = walk(alloc, image, &start.geometry, start.inode)?;
-            Ok(found_lines(alloc, path, &founds, pattern, screen)?)
-        }
-        Err(fault) => Err(unstarted(fault)),
-    }
+    let start = match begun(edition, image, path, lost) {
+        Ok(start) => start,
+        Err(fault) => return Err(unstarted(fault)),
+    };
+    let founds = walk_all(alloc, image, &start.geometry, start.inode, lost)?;
+    let text = found_lines(alloc, path, &founds, pattern, screen)?;
+    let remarks = limits(alloc, &founds)?;
+    Ok(RemarkedText { text, remarks })
+}
+
+/// Returns the remarks on the entries at which the walk stopped because their paths are too long.
+fn limits(alloc: Global, founds: &[MetEntry]) -> Result<Remarks, AllocError>
+    ensures lines { IfOk result (λ remarks. remarks.lines.items ≡ limit_lines founds.now) }
+    ensures short { IfOk result (λ remarks. remarks.is_short ≡ true) }
+{
+    let mut lines = Vec::new(alloc);
+    push_limits(&mut lines, founds)?;
+    Ok(Remarks {
+        rule: None,
+        lines,
+        is_short: true,
+    })
 }
 
 /// Returns the lines of the entries that the walk found below the directory at a path.

@@ -3,8 +3,11 @@ ghost use Rattle.std.specs.Prelude.{◌≡◌, ◌⊎◌, ℕ, true, IfErr, IfOk
 ghost use Rattle.std.specs.Io.KnownBytes.{Appends, Keeps};
 ghost use Rattle.pdp_words.specs.Devices.{AppendsFront};
 ghost use Rattle.command_faults.specs.Streams.{ErrorStream, Hears, streams};
-ghost use Rattle.command_reads.specs.Print.{IsTold, Prints, PrintsWith};
+ghost use Rattle.command_reads.specs.Export.{told_status};
+ghost use Rattle.command_reads.specs.Print.{IsTold, Prints, PrintsTelling, PrintsWith};
 
+use crate::export::ending_with;
+use crate::remarks::Remarks;
 use command_faults::status::DONE;
 use command_faults::{Ending, Fault};
 use pdp_words::{Sink, write_all};
@@ -34,6 +37,31 @@ pub(crate) fn finish_bytes<O: Sink>(text: Result<Vec<u8>, Fault>, output: &mut O
     match text {
         Ok(text) => print_with(&text, DONE, output),
         Err(fault) => Ending::from(fault),
+    }
+}
+
+/// A text to print, and the remarks on it.
+#[derive(Drop)]
+pub(crate) struct RemarkedText {
+    /// The text.
+    pub(crate) text: Vec<u8>,
+    /// The remarks.
+    pub(crate) remarks: Remarks,
+}
+
+/// Prints a text, and returns the remarks on it as a fault.
+pub(crate) fn print_remarked<O: Sink>(
+    graded: bool,
+    remarked: RemarkedText,
+    output: &mut O,
+) -> Ending
+    ensures { (errors : ErrorStream) → Hears errors result.fault
+        → PrintsTelling (told_status graded remarked.remarks.is_short) (streams O.contents O.failed output.old output.new errors) remarked.text.items
+        remarked.remarks.lines.items result.status }
+{
+    match write_all(output, &remarked.text) {
+        Ok(()) => ending_with(graded, remarked.remarks),
+        Err(_) => Ending::from(Fault::Output),
     }
 }
 

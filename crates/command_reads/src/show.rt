@@ -56,10 +56,12 @@ pub fn perform<O: Sink>(
         Look::Export { path, options } => {
             export(alloc, edition, image, path, options, screen, output)
         }
-        Look::Sums { path, form } => sums(alloc, edition, image, path, form, output),
+        Look::Sums { path, form } => sums(alloc, edition, image, path, form, false, output),
         Look::Block { block } => show_block(alloc, edition, image, block, output),
         Look::Free { form } => show_free(alloc, edition, image, form, output),
-        Look::Find { path, name } => find(alloc, edition, image, path, name, screen, output),
+        Look::Find { path, name } => {
+            find(alloc, edition, image, path, name, false, screen, output)
+        }
         Look::Inode { node, form } => show_inode(alloc, edition, image, node, form, output),
         Look::Super { form } => {
             show_super(alloc, edition, image, SuperPart::Fields, form, output)

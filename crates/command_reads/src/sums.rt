@@ -3,35 +3,21 @@ ghost use Rattle.std.specs.Prelude.{◌≡◌, IfErr, IfOk};
 ghost use Rattle.vol_dir.specs.Tree.{tree};
 ghost use Rattle.vol_layout.specs.Geometry.{Fits};
 ghost use Rattle.command_faults.specs.Streams.{ErrorStream, Hears, streams};
-ghost use Rattle.command_reads.specs.Sums.{IsManifest, IsManifestFault, PrintsManifest, Sums, sums_in};
+ghost use Rattle.command_reads.specs.Sums.{IsManifest, IsManifestFault, Sums, sums_in};
 
-use crate::export::{ending_with, unstarted};
+use crate::export::{begun, unstarted, walk_all};
 use crate::looks::{ExportOptions, OutputForm};
-use crate::remarks::{Remarks, tell_all};
+use crate::print::{RemarkedText, print_remarked};
+use crate::remarks::tell_all;
 use command_faults::{Ending, Fault};
-use pdp_words::{Image, Sink, write_all};
+use pdp_words::{Image, Sink};
 use std::alloc::{AllocError, Global};
-use vol_archive::{MetEntry, start_of, walk};
+use vol_archive::MetEntry;
 use vol_layout::{Edition, Geometry};
 use vol_listing::{sums_json, sums_text};
 
-/// The options of the export that has the same entries and the same remarks as a manifest.
-const PLAIN: ExportOptions = ExportOptions {
-    lost: false,
-    graded: false,
-};
-
-/// A manifest, and the remarks on it.
-#[derive(Drop)]
-struct Manifest {
-    /// The text.
-    text: Vec<u8>,
-    /// The remarks, which are the same as an export's.
-    remarks: Remarks,
-}
-
 /// Prints a manifest of everything below the directory at a path: each node in the order of an archive, with its path, its attributes, and the
-/// SHA-256 of a regular file's bytes. The image must keep rules 1 and 2, and may be any bytes otherwise. The status is 0 for a sound image whose
+/// SHA-256 of a regular file's bytes. With `lost`, also has the i-nodes that no entry names, as an export has. The image must keep rules 1 and 2, and may be any bytes otherwise. The status is 0 for a sound image whose
 /// entries are all in the manifest; 1 if the image isn't sound, an entry is left out or the path leads to no directory; 3 if `output` failed, 4 if
 /// memory ran out. The fault has the same lines as an export's. Nothing is printed until the whole manifest is ready.
 ///
@@ -43,14 +29,15 @@ pub(crate) fn sums<O: Sink>(
     image: Vec<u8>,
     path: &str,
     form: OutputForm,
+    lost: bool,
     output: &mut O,
 ) -> Ending
     ensures { (errors : ErrorStream) → Hears errors result.fault
-        → Sums edition image.items path.now form (streams O.contents O.failed output.old output.new errors) result.status }
+        → Sums edition image.items path.now form lost (streams O.contents O.failed output.old output.new errors) result.status }
 {
     let image = Image::from_bytes(image);
-    match make_manifest(alloc, edition, &image, path, form) {
-        Ok(manifest) => print_manifest(manifest, output),
+    match make_manifest(alloc, edition, &image, path, form, lost) {
+        Ok(manifest) => print_remarked(false, manifest, output),
         Err(fault) => Ending::from(fault),
     }
 }
@@ -62,18 +49,23 @@ fn make_manifest(
     image: &Image,
     path: &str,
     form: OutputForm,
-) -> Result<Manifest, Fault>
-    ensures made { IfOk result (λ made. IsManifest edition image.now path.now form made.text.items made.remarks.lines.items) }
-    ensures fault { IfErr result (IsManifestFault edition image.now path.now) }
+    lost: bool,
+) -> Result<RemarkedText, Fault>
+    ensures made { IfOk result (λ made. IsManifest edition image.now path.now form lost made.text.items made.remarks.lines.items) }
+    ensures fault { IfErr result (IsManifestFault edition image.now path.now lost) }
 {
-    let start = match start_of(edition, image, path.as_bytes()) {
+    let start = match begun(edition, image, path.as_bytes(), lost) {
         Ok(start) => start,
         Err(fault) => return Err(unstarted(fault)),
     };
-    let founds = walk(alloc, image, &start.geometry, start.inode)?;
-    let remarks = tell_all(alloc, edition, image, &start.geometry, &founds, PLAIN)?;
+    let founds = walk_all(alloc, image, &start.geometry, start.inode, lost)?;
+    let options = ExportOptions {
+        lost,
+        graded: false,
+    };
+    let remarks = tell_all(alloc, edition, image, &start.geometry, &founds, options)?;
     let text = sums_in(alloc, image, &start.geometry, &founds, form)?;
-    Ok(Manifest { text, remarks })
+    Ok(RemarkedText { text, remarks })
 }
 
 /// Returns the text of a manifest in this format.
@@ -90,16 +82,5 @@ fn sums_in(
     match form {
         OutputForm::Text => sums_text(alloc, image, geometry, founds),
         OutputForm::Json => Ok(sums_json(alloc, image, geometry, founds)?.into_bytes()),
-    }
-}
-
-/// Prints a manifest, and returns its remarks as a fault.
-fn print_manifest<O: Sink>(manifest: Manifest, output: &mut O) -> Ending
-    ensures { (errors : ErrorStream) → Hears errors result.fault
-        → PrintsManifest (streams O.contents O.failed output.old output.new errors) manifest.text.items manifest.remarks.lines.items result.status }
-{
-    match write_all(output, &manifest.text) {
-        Ok(()) => ending_with(false, manifest.remarks),
-        Err(_) => Ending::from(Fault::Output),
     }
 }

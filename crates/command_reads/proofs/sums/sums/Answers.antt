@@ -11,15 +11,15 @@ returns-in-Ok g c errors hears =
     inl (
       manifest.text.items,
       manifest.remarks.lines.items,
-      subst (λ (image : List ℕ). IsManifest c.args.edition image c.args.path.now c.args.form manifest.text.items manifest.remarks.lines.items) c.from_bytes-image.ensures
+      subst (λ (image : List ℕ). IsManifest c.args.edition image c.args.path.now c.args.form c.args.lost manifest.text.items manifest.remarks.lines.items) c.from_bytes-image.ensures
           c.in-Ok.ensures.made,
-      c.print_manifest.ensures errors hears,
+      c.print_remarked.ensures errors hears,
     )
 
 pub returns : goal.returns
 returns g c errors hears = inr (
   c.in-Err.fault,
-  subst (λ (image : List ℕ). IsManifestFault c.args.edition image c.args.path.now c.in-Err.fault) c.from_bytes-image.ensures c.in-Err.ensures.fault,
+  subst (λ (image : List ℕ). IsManifestFault c.args.edition image c.args.path.now c.args.lost c.in-Err.fault) c.from_bytes-image.ensures c.in-Err.ensures.fault,
   record {
     status = c.from.ensures.0;
     kept = Keeps-refl (g.O.Sink.contents c.args.output.now);

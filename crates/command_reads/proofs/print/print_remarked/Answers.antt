@@ -3,7 +3,7 @@ use Rattle.std.specs.Io.KnownBytes.{Appends}
 use Rattle.pdp_words.specs.Devices.{AppendsFront}
 use Rattle.command_faults.specs.Streams.{Hears, says}
 use Rattle.command_faults.specs.declared.fault.Fault.{Fault}
-use Rattle.command_reads.proofs.sums.print_manifest.Goals as goal
+use Rattle.command_reads.proofs.print.print_remarked.Goals as goal
 
 pub returns-in-Ok : goal.returns-in-Ok
 returns-in-Ok g c errors hears = inl (record {

@@ -155,7 +155,7 @@ asks_listing clock given edition image path (invocations.Salvage volume copy) te
 asks_listing clock given edition image path (invocations.Get volume p) test e_is i_is p_is none is = absurd (true≢false (sym test))
 asks_listing clock given edition image path (invocations.Serve volume serving) test e_is i_is p_is none is = absurd (true≢false (sym test))
 asks_listing clock given edition image path (invocations.Identify images) test e_is i_is p_is none is = absurd (true≢false (sym test))
-asks_listing clock given edition image path (invocations.Change volume (changes.Put p file now)) test e_is i_is p_is none is = absurd (true≢false (sym test))
+asks_listing clock given edition image path (invocations.Change volume (changes.Put p file keep now)) test e_is i_is p_is none is = absurd (true≢false (sym test))
 asks_listing clock given edition image path (invocations.Change volume (changes.Import p options now)) test e_is i_is p_is none is = absurd (true≢false (sym test))
 asks_listing clock given edition image path (invocations.Change volume (changes.Rm p now)) test e_is i_is p_is none is = absurd (true≢false (sym test))
 asks_listing clock given edition image path (invocations.Change volume (changes.RmAll p now)) test e_is i_is p_is none is = absurd (true≢false (sym test))
@@ -187,8 +187,8 @@ asks_listing clock given edition image path (invocations.Look volume (looks.List
   plain given listing.lines none is.1.1,
   to_names given listing.depth none is.1.2,
 )
-asks_listing clock given edition image path (invocations.Copy volume (copies.Put directory files now)) test e_is i_is p_is none is = absurd (true≢false (sym test))
-asks_listing clock given edition image path (invocations.Copy volume (copies.Get folder paths)) test e_is i_is p_is none is = absurd (true≢false (sym test))
+asks_listing clock given edition image path (invocations.Copy volume (copies.Put directory files keep now)) test e_is i_is p_is none is = absurd (true≢false (sym test))
+asks_listing clock given edition image path (invocations.Copy volume (copies.Get folder paths keeps)) test e_is i_is p_is none is = absurd (true≢false (sym test))
 asks_listing clock given edition image path (invocations.Work volume (works.Check checkers.Blocks workers form)) test e_is i_is p_is none is = absurd (true≢false (sym test))
 asks_listing clock given edition image path (invocations.Work volume (works.Check checkers.Entries workers form)) test e_is i_is p_is none is = absurd (true≢false (sym test))
 asks_listing clock given edition image path (invocations.Work volume (works.Check checkers.Names workers form)) test e_is i_is p_is none is = absurd (true≢false (sym test))

@@ -132,5 +132,8 @@ fn wrong_text(alloc: Global, word: WrongWord<'_>) -> Result<String, AllocError> 
         Said::Nothing => format!(in alloc; "no value for '<{name}>': {wanted}"),
         Said::Word(text) => format!(in alloc; "invalid value '{text}' for '<{name}>': {wanted}"),
         Said::Words(count) => format!(in alloc; "invalid value '{count}' for '<{name}>': {wanted}"),
+        Said::Option(other) => {
+            format!(in alloc; "the argument '--{name}' cannot be used with '--{other}'")
+        }
     }
 }

@@ -1,6 +1,6 @@
 -- Invocations of `put` and `get`: for one file, or for several.
 use Rattle.std.proofs.Common.{◌≡◌, ◌⊎◌, ◌∙◌, ℕ, List, [], Option, Some, None, Bool, true, false, true≢false, codes, map, option_map, sym, ap, inl, inr}
-use Rattle.command_words.specs.Invocations.{AreFilesGiven, ArePathsGiven, AsksForNothing, IsFirstWord, IsGiven, IsLeftOut, IsMomentGiven, IsNonEmptyWord, IsValue, Words, get_words, put_words, verb_of}
+use Rattle.command_words.specs.Invocations.{AreFilesGiven, ArePathsGiven, AsksForNothing, IsFirstWord, IsGiven, IsLeftOut, IsMomentGiven, IsNonEmptyWord, IsValue, Words, get_words, is_set, put_words, verb_of}
 use Rattle.command_words.specs.declared.invocation.Copying.TheVariants as copies
 use Rattle.command_words.specs.declared.invocation.Invocation.{Invocation}
 use Rattle.command_words.specs.declared.invocation.Invocation.TheVariants as invocations
@@ -22,7 +22,7 @@ IsPut clock given = ((file : List ℕ) × (now : ℕ) × IsFirstWord given (code
 
 -- one file is read by `get`, or several files are
 abbrev IsGot : Words → Type 0
-IsGot given = (IsLeftOut given (codes "MORE") × IsLeftOut given (codes "output"))
+IsGot given = (IsLeftOut given (codes "MORE") × IsLeftOut given (codes "output") × (is_set (given (codes "preserve")) ≡ false))
     ⊎ ((folder : List ℕ) × (paths : List (List ℕ)) × IsNonEmptyWord given (codes "output") folder × ArePathsGiven (get_words given) paths)
 
 -- true if the command is `put`
@@ -38,8 +38,8 @@ is_get _ = false
 -- every invocation of `put` puts one file or several
 puts : (clock : Option ℕ) (given : Words) (invocation : Invocation) → is_put (verb_of invocation) ≡ true → IsGiven clock given invocation → IsPut clock given
 unfolding is_put
-puts clock given (invocations.Change volume (changes.Put path file now)) put is = inl (file.now, now, is.1.1, is.1.2, is.1.3, is.1.4)
-puts clock given (invocations.Copy volume (copies.Put directory files now)) put is =
+puts clock given (invocations.Change volume (changes.Put path file keep now)) put is = inl (file.now, now, is.1.1, is.1.2, is.1.3, is.1.4)
+puts clock given (invocations.Copy volume (copies.Put directory files keep now)) put is =
     inr (directory.now, map (λ file. file.now) files.items, now.seconds, option_map (λ word. word.now) now.word, is.1.0, is.1.1)
 puts clock given (invocations.Change volume change) put is = absurd (true≢false (sym put))
 puts clock given (invocations.Get volume path) put is = absurd (true≢false (sym put))
@@ -70,9 +70,9 @@ puts clock given (invocations.Identify images) put is = absurd (true≢false (sy
 -- every invocation of `get` reads one file or several
 gets : (clock : Option ℕ) (given : Words) (invocation : Invocation) → is_get (verb_of invocation) ≡ true → IsGiven clock given invocation → IsGot given
 unfolding is_get
-gets clock given (invocations.Get volume path) got is = inl (is.1.1, is.1.2)
-gets clock given (invocations.Copy volume (copies.Get folder paths)) got is = inr (folder.now, map (λ path. path.now) paths.items, is.1.0, is.1.1)
-gets clock given (invocations.Change volume (changes.Put p file now)) got is = absurd (true≢false (sym got))
+gets clock given (invocations.Get volume path) got is = inl (is.1.1, is.1.2, is.1.3)
+gets clock given (invocations.Copy volume (copies.Get folder paths keeps)) got is = inr (folder.now, map (λ path. path.now) paths.items, is.1.0, is.1.1)
+gets clock given (invocations.Change volume (changes.Put p file keep now)) got is = absurd (true≢false (sym got))
 gets clock given (invocations.Change volume (changes.Import p options now)) got is = absurd (true≢false (sym got))
 gets clock given (invocations.Change volume (changes.Rm p now)) got is = absurd (true≢false (sym got))
 gets clock given (invocations.Change volume (changes.RmAll p now)) got is = absurd (true≢false (sym got))
@@ -195,6 +195,15 @@ too_many_got clock given left many = no_get clock given go
   where
     go : IsGot given → ⊥
     go (inl one) = many one.0
+    go (inr several) = both _ several.0 several.2.0 left
+
+-- if `--output` isn't given but `--preserve` is, `get` has no invocation
+pub kept_got : (clock : Option ℕ) (given : Words) → IsLeftOut given (codes "output") → is_set (given (codes "preserve")) ≡ true
+    → AsksForNothing clock verbs.Get given
+kept_got clock given left set = no_get clock given go
+  where
+    go : IsGot given → ⊥
+    go (inl one) = true≢false (sym set ∙ one.2)
     go (inr several) = both _ several.0 several.2.0 left
 
 -- if the edition isn't valid, `put` has no invocation

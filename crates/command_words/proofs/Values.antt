@@ -18,6 +18,7 @@ use Rattle.command_words.specs.declared.fault.WordFault.TheVariants as faults
 use Rattle.command_words.specs.declared.invocation.Copying.TheVariants as copies
 use Rattle.command_words.specs.declared.invocation.Invocation.{Invocation}
 use Rattle.command_words.specs.declared.invocation.Invocation.TheVariants as invocations
+use Rattle.command_words.specs.declared.invocation.Serving.TheVariants as servings
 use Rattle.command_words.specs.declared.invocation.Work.TheVariants as works
 use Rattle.command_words.specs.declared.verbs.Verb.{Verb}
 use Rattle.command_words.proofs.Names.{verb_name-injective}
@@ -70,8 +71,8 @@ values_given clock given (invocations.Mkfs image volume) is = (
   ),
 )
 values_given clock given (invocations.Migrate old new migration) is = (tt, (tt, (is.2.0.0, (is.2.1.0, ((migration.now, is.2.2), (tt, tt))))))
-values_given clock given (invocations.Get volume path) is = (edition_value volume.edition _ is.0.0, (tt, (tt, (tt, (tt, tt)))))
-values_given clock given (invocations.Change volume (changes.Put path file now)) is = (edition_value volume.edition _ is.0.0, (tt, (tt, (tt, (tt, (tt, (tt, tt)))))))
+values_given clock given (invocations.Get volume path) is = (edition_value volume.edition _ is.0.0, (tt, (tt, (tt, (tt, (tt, tt))))))
+values_given clock given (invocations.Change volume (changes.Put path file keep now)) is = (edition_value volume.edition _ is.0.0, (tt, (tt, (tt, (tt, (tt, (tt, (tt, (tt, tt)))))))))
 values_given clock given (invocations.Change volume (changes.Rm path now)) is = (edition_value volume.edition _ is.0.0, (tt, (tt, ((now, is.1.1), (tt, tt)))))
 values_given clock given (invocations.Change volume (changes.Rmdir path now)) is = (edition_value volume.edition _ is.0.0, (tt, (tt, ((now, is.1.1), tt))))
 values_given clock given (invocations.Change volume (changes.Mkdir path now)) is = (edition_value volume.edition _ is.0.0, (tt, (tt, ((now, is.1.1), (tt, tt)))))
@@ -103,14 +104,16 @@ values_given clock given (invocations.Change volume (changes.MkdirAll path now))
 values_given clock given (invocations.Change volume (changes.RmAll path now)) is = (edition_value volume.edition _ is.0.0, (tt, (tt, ((now, is.1.1), (tt, tt)))))
 values_given clock given (invocations.Change volume (changes.Mv from to now)) is =
     (edition_value volume.edition _ is.0.0, (tt, (tt, (tt, ((now, is.1.2), tt)))))
-values_given clock given (invocations.Copy volume (copies.Put directory files now)) is = (edition_value volume.edition _ is.0.0, (tt, (tt, (tt, (tt, (tt, (tt, tt)))))))
-values_given clock given (invocations.Copy volume (copies.Get folder paths)) is = (edition_value volume.edition _ is.0.0, (tt, (tt, (tt, (tt, tt)))))
+values_given clock given (invocations.Copy volume (copies.Put directory files keep now)) is = (edition_value volume.edition _ is.0.0, (tt, (tt, (tt, (tt, (tt, (tt, (tt, (tt, tt)))))))))
+values_given clock given (invocations.Copy volume (copies.Get folder paths keeps)) is = (edition_value volume.edition _ is.0.0, (tt, (tt, (tt, (tt, (tt, tt))))))
 values_given clock given (invocations.Work volume (works.Check checkers.Blocks workers form)) is = (edition_value volume.edition _ is.0.0, (tt, (is.1.0.0, (tt, tt))))
 values_given clock given (invocations.Work volume (works.Check checkers.Entries workers form)) is = (edition_value volume.edition _ is.0.0, (tt, (is.1.0.0, (tt, tt))))
 values_given clock given (invocations.Work volume (works.Check checkers.Names workers form)) is = (edition_value volume.edition _ is.0.0, (tt, (is.1.0.0, (tt, tt))))
 values_given clock given (invocations.Work volume (works.Play scripts journal)) is =
     (edition_value volume.edition _ is.0.0, (tt, (scripts_value scripts.items _ is.1.0 is.1.1 is.1.2, (tt, tt))))
-values_given clock given (invocations.Serve volume serving) is = (edition_value volume.edition _ is.0.0, (tt, (tt, (tt, tt))))
+values_given clock given (invocations.Serve volume servings.ReadOnly) is = (edition_value volume.edition _ is.0.0, (tt, (tt, (tt, (is.1.1, tt)))))
+values_given clock given (invocations.Serve volume (servings.Changes is_mine rescue)) is =
+    (edition_value volume.edition _ is.0.0, (tt, (tt, (tt, (is.1.2.1, tt)))))
 values_given clock given (invocations.Identify images) is = (tt, tt)
 
 -- if all words are valid, none of them is wrong

@@ -41,6 +41,8 @@ use Rattle.command_reads.specs.declared.looks.Picture.{Picture}
 use Rattle.command_reads.specs.declared.looks.Picture.TheVariants as pictures
 use Rattle.vol_check.specs.declared.checker.Checker.{Checker}
 use Rattle.vol_check.specs.declared.checker.Checker.TheVariants as checkers
+use Rattle.command_changes.specs.declared.kept.Keep.{Keep}
+use Rattle.command_changes.specs.declared.kept.Keep.TheVariants as keeps
 use Rattle.command_changes.specs.declared.changes.Change.{Change}
 use Rattle.command_changes.specs.declared.changes.Change.TheVariants as changes
 use Rattle.command_changes.specs.declared.migrate.Migration.{Migration}
@@ -157,7 +159,7 @@ work_verb (works.Play scripts journal) = verbs.Play
 
 -- the command for a change (this project)
 abbrev pub change_verb : Change → Verb
-change_verb (changes.Put path file now) = verbs.Put
+change_verb (changes.Put path file keep now) = verbs.Put
 change_verb (changes.Import path options now) = verbs.Import
 change_verb (changes.Rm path now) = verbs.Rm
 change_verb (changes.RmAll path now) = verbs.Rm
@@ -188,8 +190,8 @@ look_verb (looks.Slots path) = verbs.Ls
 
 -- the command that copies files (this project)
 abbrev pub copying_verb : Copying → Verb
-copying_verb (copies.Put directory files now) = verbs.Put
-copying_verb (copies.Get folder paths) = verbs.Get
+copying_verb (copies.Put directory files keep now) = verbs.Put
+copying_verb (copies.Get folder paths keeps) = verbs.Get
 
 -- the command of an invocation (this project)
 abbrev pub verb_of : Invocation → Verb
@@ -233,16 +235,24 @@ IsMigrationGiven clock given migration = IsNumberGiven 4294967295 (the_word give
 -- the words name this one file of a volume, and no other (this project)
 abbrev pub IsOnePathGiven : Words → List ℕ → Type 0
 IsOnePathGiven given path = (path ≡ the_word given (codes "PATH")) × IsLeftOut given (codes "MORE") × IsLeftOut given (codes "output")
+    × (is_set (given (codes "preserve")) ≡ false)
 
 -- the words describe these options of an import (this project)
 abbrev pub IsImportGiven : Words → ImportOptions → Type 0
 IsImportGiven given options =
     (options.skip_special ≡ is_set (given (codes "skip-special"))) × IsOwnerGiven (given (codes "owner")) options.owner
 
+-- the words choose what is kept of files that are put: all if that option is given, else the execute bits if that option is given (cp -p)
+abbrev pub IsKeepGiven : Words → Keep → Type 0
+IsKeepGiven given keeps.All = is_set (given (codes "preserve")) ≡ true
+IsKeepGiven given keeps.Execution = (is_set (given (codes "preserve")) ≡ false) × (is_set (given (codes "executable")) ≡ true)
+IsKeepGiven given keeps.Nothing = (is_set (given (codes "preserve")) ≡ false) × (is_set (given (codes "executable")) ≡ false)
+
 -- the words describe this change (this project)
 abbrev pub IsChangeGiven : Option ℕ → Words → Change → Type 0
-IsChangeGiven clock given (changes.Put path file now) = (path.now ≡ the_word given (codes "PATH")) × IsFirstWord given (codes "FILE") file.now
+IsChangeGiven clock given (changes.Put path file keep now) = (path.now ≡ the_word given (codes "PATH")) × IsFirstWord given (codes "FILE") file.now
     × IsMomentGiven clock (given (codes "NOW")) now × IsLeftOut given (codes "MORE") × IsLeftOut given (codes "target-directory")
+    × IsKeepGiven given keep
 IsChangeGiven clock given (changes.Import path options now) = IsPathGiven (given (codes "PATH")) path.now
     × IsMomentGiven clock (given (codes "NOW")) now × IsImportGiven given options
 IsChangeGiven clock given (changes.Rm path now) =
@@ -308,6 +318,7 @@ IsLookGiven given (looks.Check graded form) = (graded ≡ is_set (given (codes "
 IsLookGiven given (looks.List path listing) = (path.now ≡ the_word given (codes "PATH")) × AreLinesGiven given listing.lines
     × IsDepthGiven given listing.depth × (is_set (given (codes "slots")) ≡ false)
 IsLookGiven given (looks.Slots path) = (path.now ≡ the_word given (codes "PATH")) × (is_set (given (codes "slots")) ≡ true)
+    × (is_set (given (codes "json")) ≡ false)
 
 -- the words of `put` for several files, in order (this project)
 abbrev pub put_words : Words → List (List ℕ)
@@ -357,10 +368,11 @@ ArePathsGiven words paths = (1 ≤ length paths) × (are_apart paths ≡ true) �
 
 -- the words describe this copying (this project)
 abbrev pub IsCopyGiven : Option ℕ → Words → Copying → Type 0
-IsCopyGiven clock given (copies.Put directory files now) = IsNonEmptyWord given (codes "target-directory") directory.now
+IsCopyGiven clock given (copies.Put directory files keep now) = IsNonEmptyWord given (codes "target-directory") directory.now
     × AreFilesGiven clock (put_words given) (map (λ file. file.now) files.items) now.seconds (option_map (λ word. word.now) now.word)
-IsCopyGiven clock given (copies.Get folder paths) = IsNonEmptyWord given (codes "output") folder.now
-    × ArePathsGiven (get_words given) (map (λ path. path.now) paths.items)
+    × IsKeepGiven given keep
+IsCopyGiven clock given (copies.Get folder paths keeps) = IsNonEmptyWord given (codes "output") folder.now
+    × ArePathsGiven (get_words given) (map (λ path. path.now) paths.items) × (keeps ≡ is_set (given (codes "preserve")))
 
 -- the words describe this work with several threads (this project)
 abbrev pub IsWorkGiven : Words → Work → Type 0
@@ -369,11 +381,15 @@ IsWorkGiven given (works.Play scripts journal) =
     (map (λ script. script.now) scripts.items ≡ given (codes "SCRIPT")) × (1 ≤ length scripts.items) × (length scripts.items ≤ 64)
     × (journal ≡ is_set (given (codes "journal")))
 
--- the words choose how the volume is served: read-only if that option is given (this project)
+-- this file was named for a rescue; or none was (this project)
+abbrev pub IsRescueGiven : List (List ℕ) → Option (List ℕ) → Type 0
+IsRescueGiven words rescue = (rescue ≡ slice_get words 0) × IsPathWord words
+
+-- the words choose how the volume is served: read-only if that option is given; and the file for a rescue, which may be left out (this project)
 abbrev pub IsServingGiven : Words → Serving → Type 0
-IsServingGiven given servings.ReadOnly = is_set (given (codes "read-only")) ≡ true
-IsServingGiven given (servings.Changes is_mine) =
-    (is_set (given (codes "read-only")) ≡ false) × (is_mine ≡ is_set (given (codes "mine")))
+IsServingGiven given servings.ReadOnly = (is_set (given (codes "read-only")) ≡ true) × IsPathWord (given (codes "rescue"))
+IsServingGiven given (servings.Changes is_mine rescue) = (is_set (given (codes "read-only")) ≡ false) × (is_mine ≡ is_set (given (codes "mine")))
+    × IsRescueGiven (given (codes "rescue")) (option_map (λ word. word.now) rescue)
 
 -- the words describe this invocation (this project)
 abbrev pub IsGiven : Option ℕ → Words → Invocation → Type 0

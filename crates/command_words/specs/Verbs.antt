@@ -122,7 +122,7 @@ abbrev pub arguments_of : Verb → List Argument
 arguments_of verbs.Cat = on_volume (node ∷ [])
 arguments_of verbs.Ls = on_volume (maybe_path ∷ lettered (codes "long") 108 ∷ lettered (codes "recursive") 82
     ∷ lettered (codes "directory") 100 ∷ option (codes "json") ∷ option (codes "slots") ∷ [])
-arguments_of verbs.Get = on_volume (word (codes "PATH") ∷ more_words ∷ valued (codes "output") 111 values.Folder ∷ [])
+arguments_of verbs.Get = on_volume (word (codes "PATH") ∷ more_words ∷ valued (codes "output") 111 values.Folder ∷ lettered (codes "preserve") 112 ∷ [])
 arguments_of verbs.Find = on_volume (maybe_path ∷ valued (codes "name") 103 values.Pattern ∷ [])
 arguments_of verbs.Export = on_volume (maybe_path ∷ option (codes "lost") ∷ option (codes "status") ∷ [])
 arguments_of verbs.Sums = on_volume (maybe_path ∷ option (codes "json") ∷ [])
@@ -140,7 +140,7 @@ arguments_of verbs.Mkfs =
     on_volume ((codes "FSIZE", kinds.Blocks, needs.Once) ∷ maybe_number (codes "IBLOCKS") ∷ maybe_number (codes "UID") ∷ maybe_number (codes "GID") ∷ moment
     ∷ option (codes "new") ∷ [])
 arguments_of verbs.Put = on_volume (word (codes "PATH") ∷ maybe_word (codes "FILE") ∷ maybe_word (codes "NOW") ∷ more_words
-    ∷ valued (codes "target-directory") 116 values.Directory ∷ [])
+    ∷ valued (codes "target-directory") 116 values.Directory ∷ lettered (codes "preserve") 112 ∷ lettered (codes "executable") 120 ∷ [])
 arguments_of verbs.Import = on_volume (path needs.Maybe ∷ moment ∷ option (codes "skip-special")
     ∷ (codes "owner", kinds.Owner, needs.Value 111 values.Owner) ∷ [])
 arguments_of verbs.Rm = on_volume (word (codes "PATH") ∷ moment ∷ lettered (codes "recursive") 114 ∷ [])
@@ -155,7 +155,8 @@ arguments_of verbs.Salvage = on_volume (valued (codes "output") 111 values.Copy 
 arguments_of verbs.Play = on_volume ((codes "SCRIPT", kinds.Scripts, needs.Several) ∷ option (codes "journal") ∷ [])
 arguments_of verbs.Migrate =
     word (codes "OLD") ∷ word (codes "NEW") ∷ long_number (codes "FSIZE") ∷ number (codes "IBLOCKS") ∷ moment ∷ option (codes "new") ∷ []
-arguments_of verbs.Serve = on_volume (option (codes "read-only") ∷ option (codes "mine") ∷ [])
+arguments_of verbs.Serve = on_volume (option (codes "read-only") ∷ option (codes "mine")
+    ∷ (codes "rescue", kinds.Path, needs.Value 114 values.Rescue) ∷ [])
 arguments_of verbs.Identify = (codes "IMAGE", kinds.Text, needs.Several) ∷ []
 
 -- all commands, in the order in which the help lists them (this project)

@@ -33,6 +33,8 @@ pub enum Said<'a> {
     Word(&'a str),
     /// This number of words.
     Words(usize),
+    /// The option of this name, which doesn't go together with the argument.
+    Option(&'a str),
 }
 
 impl<'a> From<AllocError> for WordFault<'a> {

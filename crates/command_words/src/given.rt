@@ -4,7 +4,7 @@ ghost use Rattle.command_words.specs.Decimal.{IsNumberUpTo, IsNumberGiven, IsThr
 ghost use Rattle.command_words.specs.Octal.{IsOctalUpTo, IsOctalGiven};
 ghost use Rattle.command_words.specs.Disks.{AreBlocksOf};
 ghost use Rattle.command_words.specs.Owners.{IsOwnerGiven, IsOwnerIfAny, IsOwnerNamed, IsOwnerWord};
-ghost use Rattle.command_words.specs.Invocations.{IsEditionNamed, IsMomentGiven, IsNodeGiven, IsNodeWord, IsPathGiven, IsPathWord, IsValue, IsWordOr, IsWrong, TellsOf, is_path, is_set, the_word};
+ghost use Rattle.command_words.specs.Invocations.{IsEditionNamed, IsMomentGiven, IsNodeGiven, IsNodeWord, IsPathGiven, IsPathWord, IsRescueGiven, IsValue, IsWordOr, IsWrong, TellsOf, is_path, is_set, the_word};
 ghost use Rattle.command_words.specs.declared.parameters.WordKind.TheVariants as kinds;
 
 use crate::decimal::{long_of, threads_of, word_of};
@@ -80,6 +80,17 @@ pub(crate) fn path_in<'a, G: Given<'a>>(given: &G) -> Result<&'a str, WordFault<
         Some("") => Err(wrong("PATH", "", texts::EMPTY_PATH)),
         Some(path) => Ok(path),
         None => Ok(""),
+    }
+}
+
+/// Reads the file for a rescue, if one was named.
+pub(crate) fn rescue_in<'a, G: Given<'a>>(given: &G) -> Result<Option<&'a str>, WordFault<'a>>
+    ensures read { IfOk result (λ rescue. IsRescueGiven (G.words given.now (codes "rescue")) (option_map (λ word. word.now) rescue)) }
+    ensures refused { IfErr result (TellsOf (IsPathWord (G.words given.now (codes "rescue")) → ⊥)) }
+{
+    match given.first("rescue") {
+        Some("") => Err(wrong("rescue", "", texts::serve::EMPTY_RESCUE)),
+        rescue => Ok(rescue),
     }
 }
 

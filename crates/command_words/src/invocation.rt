@@ -1,5 +1,5 @@
 //! Invocations: a command with its arguments read.
-use command_changes::{Change, Migration};
+use command_changes::{Change, Keep, Migration};
 use command_reads::{Look, NodeName, OutputForm};
 use vol_check::Checker;
 use vol_layout::Edition;
@@ -51,26 +51,32 @@ pub struct Moment<'a> {
 /// Copying between a volume and files outside it.
 #[derive(Drop)]
 pub enum Copying<'a> {
-    /// Put files into a directory of the volume, each under its last name; `now` is the time of the calls.
+    /// Put files into a directory of the volume, each under its last name, and keep this of each; `now` is the time of the calls.
     Put {
         directory: &'a str,
         files: Vec<&'a str>,
+        keep: Keep,
         now: Moment<'a>,
     },
-    /// Write files of the volume into a folder, each under its last name.
+    /// Write files of the volume into a folder, each under its last name; if `keeps`, with their permissions and times of modification.
     Get {
         folder: &'a str,
         paths: Vec<&'a str>,
+        keeps: bool,
     },
 }
 
 /// A way of serving a volume.
 #[derive(Clone, Copy)]
-pub enum Serving {
+pub enum Serving<'a> {
     /// Read-only.
     ReadOnly,
-    /// With changes; if `is_mine`, all nodes are shown as belonging to the caller.
-    Changes { is_mine: bool },
+    /// With changes; if `is_mine`, all nodes are shown as belonging to the caller. If the image can't be saved at the end, it is written to the file
+    /// `rescue`, if one is named.
+    Changes {
+        is_mine: bool,
+        rescue: Option<&'a str>,
+    },
 }
 
 /// A command with its arguments.
@@ -125,7 +131,7 @@ pub enum Invocation<'a> {
     /// Serve the volume in a file to Linux's FUSE.
     Serve {
         volume: VolumeFile<'a>,
-        serving: Serving,
+        serving: Serving<'a>,
     },
     /// Guess what the images in these files are.
     Identify {

@@ -64,6 +64,8 @@ pub enum ValueName {
     Owner,
     /// A pattern for names.
     Pattern,
+    /// A file outside the volume, for a rescue.
+    Rescue,
 }
 
 impl ValueName {
@@ -75,6 +77,7 @@ impl ValueName {
             ValueName::Copy => "COPY",
             ValueName::Owner => "UID:GID",
             ValueName::Pattern => "GLOB",
+            ValueName::Rescue => "FILE",
         }
     }
 }
@@ -253,7 +256,7 @@ const FIRST_PUT: Parameter = Parameter {
     name: "PATH",
     kind: WordKind::Text,
     need: Need::Once,
-    help: texts::FIRST_PUT,
+    help: texts::put::FIRST,
 };
 
 const FILE: Parameter = Parameter {
@@ -274,28 +277,49 @@ const MORE_PUT: Parameter = Parameter {
     name: "MORE",
     kind: WordKind::Text,
     need: Need::Any,
-    help: texts::MORE_PUT,
+    help: texts::put::MORE_FILES,
 };
 
 const TARGET: Parameter = Parameter {
     name: "target-directory",
     kind: WordKind::Text,
     need: Need::Value('t', ValueName::Directory),
-    help: texts::TARGET,
+    help: texts::put::TARGET,
+};
+
+const KEPT_PUT: Parameter = Parameter {
+    name: "preserve",
+    kind: WordKind::Flag,
+    need: Need::Flag(Some('p')),
+    help: texts::put::PRESERVE,
+};
+
+const EXECUTABLE: Parameter = Parameter {
+    name: "executable",
+    kind: WordKind::Flag,
+    need: Need::Flag(Some('x')),
+    help: texts::put::EXECUTABLE,
 };
 
 const MORE_GOT: Parameter = Parameter {
     name: "MORE",
     kind: WordKind::Text,
     need: Need::Any,
-    help: texts::MORE_GOT,
+    help: texts::get::MORE_FILES,
 };
 
 const OUTPUT: Parameter = Parameter {
     name: "output",
     kind: WordKind::Text,
     need: Need::Value('o', ValueName::Folder),
-    help: texts::OUTPUT,
+    help: texts::get::OUTPUT,
+};
+
+const KEPT_GOT: Parameter = Parameter {
+    name: "preserve",
+    kind: WordKind::Flag,
+    need: Need::Flag(Some('p')),
+    help: texts::get::PRESERVE,
 };
 
 const FROM: Parameter = Parameter {
@@ -463,14 +487,21 @@ const READ_ONLY: Parameter = Parameter {
     name: "read-only",
     kind: WordKind::Flag,
     need: Need::Flag(None),
-    help: texts::READ_ONLY,
+    help: texts::serve::READ_ONLY,
 };
 
 const MINE: Parameter = Parameter {
     name: "mine",
     kind: WordKind::Flag,
     need: Need::Flag(None),
-    help: texts::MINE,
+    help: texts::serve::MINE,
+};
+
+const RESCUE: Parameter = Parameter {
+    name: "rescue",
+    kind: WordKind::Path,
+    need: Need::Value('r', ValueName::Rescue),
+    help: texts::serve::RESCUE,
 };
 
 const COPY: Parameter = Parameter {
@@ -531,7 +562,7 @@ pub static LS_WORDS: [Parameter; 8] = [
 ];
 
 /// The words that `get` takes.
-pub static GET_WORDS: [Parameter; 5] = [EDITION, IMAGE, REGULAR, MORE_GOT, OUTPUT];
+pub static GET_WORDS: [Parameter; 6] = [EDITION, IMAGE, REGULAR, MORE_GOT, OUTPUT, KEPT_GOT];
 
 /// The words that `find` takes.
 pub static FIND_WORDS: [Parameter; 4] = [EDITION, IMAGE, SEARCHED, NAME];
@@ -552,7 +583,9 @@ pub static MKFS_WORDS: [Parameter; 8] = [
 ];
 
 /// The words that `put` takes.
-pub static PUT_WORDS: [Parameter; 7] = [EDITION, IMAGE, FIRST_PUT, FILE, PUT_NOW, MORE_PUT, TARGET];
+pub static PUT_WORDS: [Parameter; 9] = [
+    EDITION, IMAGE, FIRST_PUT, FILE, PUT_NOW, MORE_PUT, TARGET, KEPT_PUT, EXECUTABLE,
+];
 
 /// The words that `rm` takes.
 pub static RM_WORDS: [Parameter; 5] = [EDITION, IMAGE, NAMED, CALL_NOW, RECURSIVE];
@@ -588,7 +621,7 @@ pub static PLAY_WORDS: [Parameter; 4] = [EDITION, IMAGE, SCRIPT, JOURNAL];
 pub static MIGRATE_WORDS: [Parameter; 6] = [OLD, NEW, BLOCKS, LIST_BLOCKS, MIGRATED, UNREPLACED];
 
 /// The words that `serve` takes.
-pub static SERVE_WORDS: [Parameter; 4] = [EDITION, IMAGE, READ_ONLY, MINE];
+pub static SERVE_WORDS: [Parameter; 5] = [EDITION, IMAGE, READ_ONLY, MINE, RESCUE];
 
 /// The words of `identify`.
 pub static IDENTIFY_WORDS: [Parameter; 1] = [IMAGES];

@@ -1,21 +1,21 @@
 //! Reads the words after a command.
-ghost use Rattle.std.specs.Prelude.{◌≡◌, ℕ, None, Option, IfOk, IfErr, codes};
-ghost use Rattle.command_words.specs.Invocations.{AreLinesGiven, AsksFor, AsksForNothing, IsDepthGiven, IsFormGiven, IsMadeGiven, IsOneWrong, IsPictureGiven, IsServingGiven, IsValue, IsVolumeGiven, TellsOf, checker_verb};
+ghost use Rattle.std.specs.Prelude.{◌≡◌, ℕ, false, true, None, Option, IfOk, IfErr, codes};
+ghost use Rattle.command_words.specs.Invocations.{AreLinesGiven, AsksFor, AsksForNothing, IsDepthGiven, IsFormGiven, IsKeepGiven, IsMadeGiven, IsOneWrong, IsPictureGiven, IsValue, IsVolumeGiven, TellsOf, checker_verb, is_set};
 ghost use Rattle.command_words.specs.Verbs.{arguments_of, of_checker};
 ghost use Rattle.command_words.specs.declared.parameters.WordKind.TheVariants as kinds;
 ghost use Rattle.command_words.specs.declared.verbs.Verb.TheVariants as verbs;
 
 use crate::disks::list_default;
-use crate::fault::WordFault;
+use crate::fault::{Said, WordFault, WrongWord};
 use crate::given::{
     Given, blocks_in, edition_in, flag_in, long_in, moment_in, node_in, owner_in, path_in,
-    permissions_in, scripts_in, text_in, threads_in, word_in, word_or,
+    permissions_in, rescue_in, scripts_in, text_in, threads_in, word_in, word_or,
 };
 use crate::invocation::{Copying, Invocation, MadeFile, Serving, VolumeFile, Work};
-use crate::several::{PutFiles, file_in, files_in, no_more, not_empty, paths_in};
+use crate::several::{PutFiles, file_in, files_in, no_more, not_empty, nothing_kept, paths_in};
 use crate::texts;
 use crate::verbs::Verb;
-use command_changes::{Change, Migration};
+use command_changes::{Change, Keep, Migration};
 use command_reads::{ExportOptions, Look, OutputForm, Picture};
 use std::alloc::Global;
 use vol_check::Checker;
@@ -84,11 +84,12 @@ fn read_cat<'a, G: Given<'a>>(given: &G) -> Result<Invocation<'a>, WordFault<'a>
 /// Reads the words of `ls`.
 fn read_ls<'a, G: Given<'a>>(given: &G) -> Result<Invocation<'a>, WordFault<'a>>
     ensures read { IfOk result (AsksFor None verbs.Ls (G.words given.now)) }
-    ensures refused { IfErr result (TellsOf (IsOneWrong None (G.words given.now) (arguments_of verbs.Ls))) }
+    ensures refused { (clock : Option ℕ) → IfErr result (TellsOf (AsksForNothing clock verbs.Ls (G.words given.now))) }
 {
     let volume = volume_in(given)?;
     let path = text_in(given, "PATH");
     let look = if flag_in(given, "slots") {
+        no_json(given)?;
         Look::Slots { path }
     } else {
         let listing = ListOptions {
@@ -98,6 +99,22 @@ fn read_ls<'a, G: Given<'a>>(given: &G) -> Result<Invocation<'a>, WordFault<'a>>
         Look::List { path, listing }
     };
     Ok(Invocation::Look { volume, look })
+}
+
+/// Succeeds if the words don't request JSON, in which slots aren't listed.
+fn no_json<'a, G: Given<'a>>(given: &G) -> Result<(), WordFault<'a>>
+    ensures none { IfOk result (λ _. is_set (G.words given.now (codes "json")) ≡ false) }
+    ensures refused { IfErr result (TellsOf (is_set (G.words given.now (codes "json")) ≡ true)) }
+{
+    if flag_in(given, "json") {
+        Err(WordFault::Wrong(WrongWord {
+            name: "slots",
+            said: Said::Option("json"),
+            wanted: texts::SLOTS,
+        }))
+    } else {
+        Ok(())
+    }
 }
 
 /// Reads the format of the lines.
@@ -134,14 +151,19 @@ fn read_get<'a, G: Given<'a>>(alloc: Global, given: &G) -> Result<Invocation<'a>
     let volume = volume_in(given)?;
     match given.first("output") {
         Some(folder) => {
-            not_empty("FOLDER", folder, texts::EMPTY_FOLDER)?;
+            not_empty("FOLDER", folder, texts::get::EMPTY_FOLDER)?;
             let paths = paths_in(alloc, given)?;
-            let copying = Copying::Get { folder, paths };
+            let copying = Copying::Get {
+                folder,
+                paths,
+                keeps: flag_in(given, "preserve"),
+            };
             Ok(Invocation::Copy { volume, copying })
         }
         None => {
             let path = text_in(given, "PATH");
-            no_more(given, texts::WANTS_OUTPUT)?;
+            no_more(given, texts::get::WANTS_OUTPUT)?;
+            nothing_kept(given)?;
             Ok(Invocation::Get { volume, path })
         }
     }
@@ -373,11 +395,12 @@ fn read_put<'a, G: Given<'a>>(
     let volume = volume_in(given)?;
     match given.first("target-directory") {
         Some(directory) => {
-            not_empty("DIR", directory, texts::EMPTY_TARGET)?;
+            not_empty("DIR", directory, texts::put::EMPTY_TARGET)?;
             let PutFiles { files, now } = files_in(alloc, given, clock)?;
             let copying = Copying::Put {
                 directory,
                 files,
+                keep: keep_in(given),
                 now,
             };
             Ok(Invocation::Copy { volume, copying })
@@ -385,11 +408,29 @@ fn read_put<'a, G: Given<'a>>(
         None => {
             let path = text_in(given, "PATH");
             let file = file_in(given)?;
-            no_more(given, texts::WANTS_TARGET)?;
+            no_more(given, texts::put::WANTS_TARGET)?;
             let now = moment_in(given, clock)?;
-            let change = Change::Put { path, file, now };
+            let change = Change::Put {
+                path,
+                file,
+                keep: keep_in(given),
+                now,
+            };
             Ok(Invocation::Change { volume, change })
         }
+    }
+}
+
+/// Reads what is kept of files that are put, besides their bytes.
+fn keep_in<'a, G: Given<'a>>(given: &G) -> Keep
+    ensures { IsKeepGiven (G.words given.now) result }
+{
+    if flag_in(given, "preserve") {
+        Keep::All
+    } else if flag_in(given, "executable") {
+        Keep::Execution
+    } else {
+        Keep::Nothing
     }
 }
 
@@ -620,10 +661,16 @@ fn read_serve<'a, G: Given<'a>>(given: &G) -> Result<Invocation<'a>, WordFault<'
     ensures refused { IfErr result (TellsOf (IsOneWrong None (G.words given.now) (arguments_of verbs.Serve))) }
 {
     let volume = volume_in(given)?;
-    Ok(Invocation::Serve {
-        volume,
-        serving: serving_in(given),
-    })
+    let rescue = rescue_in(given)?;
+    let serving = if flag_in(given, "read-only") {
+        Serving::ReadOnly
+    } else {
+        Serving::Changes {
+            is_mine: flag_in(given, "mine"),
+            rescue,
+        }
+    };
+    Ok(Invocation::Serve { volume, serving })
 }
 
 /// Reads the words of `identify`.
@@ -636,19 +683,6 @@ fn read_identify<'a, G: Given<'a>>(
 {
     let images = given.all(alloc, "IMAGE")?;
     Ok(Invocation::Identify { images })
-}
-
-/// Returns how a volume is served.
-fn serving_in<'a, G: Given<'a>>(given: &G) -> Serving
-    ensures { IsServingGiven (G.words given.now) result }
-{
-    if flag_in(given, "read-only") {
-        Serving::ReadOnly
-    } else {
-        Serving::Changes {
-            is_mine: flag_in(given, "mine"),
-        }
-    }
 }
 
 /// Reads the edition and the file of the volume.

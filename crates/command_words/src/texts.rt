@@ -5,9 +5,12 @@ pub mod df;
 pub mod export;
 pub mod find;
 pub mod free;
+pub mod get;
 pub mod identify;
 pub mod import;
+pub mod put;
 pub mod salvage;
+pub mod serve;
 pub mod sums;
 pub mod touch;
 
@@ -134,7 +137,7 @@ pub const UID: &str = "The root directory's user; by default, 0";
 pub const GID: &str = "The root directory's group; by default, 0";
 
 pub const NOW: &str =
-    "The time of the volume and its root: seconds since 1970, or a date like 2026-11-23T12:00:00Z; by default, now";
+    "The time of the volume and its root: seconds since 1970, or a date like 2026-11-23 or 2026-11-23T12:00:00Z; by default, now";
 
 pub const LS_ABOUT: &str = "Lists the names in a directory of a volume, or a file.";
 
@@ -185,48 +188,8 @@ pub const ALL_BELOW: &str = "List the directories below too";
 
 pub const ITSELF: &str = "List a directory itself, instead of the names in it";
 
-pub const SLOTS: &str = "List the directory's slots, and the names that were removed";
-
-pub const GET_ABOUT: &str = "Prints a file of a volume, or writes several files into a folder.";
-
-pub const GET_USAGE: &str = "\
-unixvol get [OPTIONS] <EDITION> <IMAGE> <PATH>
-       unixvol get [OPTIONS] <EDITION> <IMAGE> -o <FOLDER> <PATH>...";
-
-pub const GET_MORE: &str = "\
-Examples:
-  unixvol get 7 disk.img /etc/passwd > passwd
-  unixvol get 7 disk.img -o out /etc/passwd /etc/group
-
-The file's bytes are printed to standard output; missing blocks read as zeros.
-
-With -o, each file is written into FOLDER, which must exist, under the last name of its path. No two files may
-have the same last name. Nothing is written until all files have been read from the volume. An existing file is
-replaced without asking: a new file is written beside it and then takes its place, so each file is written whole
-or not at all.
-
-A path starts at the root, with or without a leading slash. Repeated slashes count as one, trailing slashes are
-ignored, and each name is cut to 14 bytes. The volume must be sound: its twelve rules are checked first.
-
-Status:
-  0  the file was printed, or all files were written
-  1  `unixvol: unsound, rule N`: this is the first rule that the volume breaks; `unixvol check` says what breaks it
-     `unixvol: 2 NoEntry`: there is no such file or directory
-     `unixvol: 20 NotDirectory`: PATH leads through something that isn't a directory
-     `unixvol: 21 IsDirectory`, `unixvol: 102 NotRegular`: PATH is a directory, or a special file
-     With -o, all of these lines but the first end with the path, as in `unixvol: 2 NoEntry: /etc/group`
-  2  the command line is wrong
-  3  `unixvol: cannot read IMAGE`, or `unixvol: cannot write -`: standard output failed; with -o,
-     `unixvol: cannot write FILE`: this file in FOLDER can't be written; the files before it were written
-  4  `unixvol: 12 NoMemory`";
-
-pub const MORE_GOT: &str = "With -o, more files";
-
-pub const OUTPUT: &str = "Write the files into this folder, each under its last name";
-
-pub const WANTS_OUTPUT: &str = "one file is printed, as by > FILE; several need -o FOLDER";
-
-pub const EMPTY_FOLDER: &str = "it is empty; the current folder is .";
+pub const SLOTS: &str =
+    "List the directory's slots, and the names that were removed; not with --json";
 
 pub const INODE_ABOUT: &str = "Shows an i-node: its fields, and what its blocks hold.";
 
@@ -328,57 +291,6 @@ Status:
   4  `unixvol: 12 NoMemory`";
 
 pub const CHECK_GRADED: &str = "Exit with status 6 if the image has no volume of this edition";
-
-pub const PUT_ABOUT: &str = "Puts a file into a volume, or several files into a directory of it.";
-
-pub const PUT_USAGE: &str = "\
-unixvol put [OPTIONS] <EDITION> <IMAGE> <PATH> <FILE> [NOW]
-       unixvol put [OPTIONS] <EDITION> <IMAGE> -t <DIR> <FILE>... [NOW]";
-
-pub const PUT_MORE: &str = "\
-Examples:
-  unixvol put 7 disk.img /etc/motd motd 173750400
-  unixvol put 7 disk.img -t /usr/src a.c b.c c.c
-
-PATH is in the volume, and comes before FILE, which is outside it. A new file is made with permissions 0644, user
-0 and group 0. An existing file is emptied first, and keeps its i-number, links and permissions.
-
-With -t, each file is put into DIR, a directory of the volume, under its last name. No two files may have the same
-last name, and a last name longer than 14 bytes is refused, never cut. An existing file gets the new bytes, as
-above. The image is saved once: with all files or with none. If the last of two or more words is a number or a
-date, it is NOW; if a file has that name too, nothing is put. Write the name of such a file as ./123.
-
-IMAGE is written only if everything succeeded: a new file is written beside it and then takes its place.
-The new file has IMAGE's permissions. If IMAGE is a device, the bytes are written into it; it can't be a pipe or a
-terminal.
-
-A path starts at the root, with or without a leading slash. Repeated slashes count as one, trailing slashes are
-ignored, and each name is cut to 14 bytes. The volume must be sound: its twelve rules are checked first.
-
-Status:
-  0  the file was put, or all files were, and the volume was saved
-  1  `unixvol: unsound, rule N`: this is the first rule that the volume breaks; `unixvol check` says what breaks it
-     `unixvol: 2 NoEntry`, `unixvol: 20 NotDirectory`: the parent of PATH doesn't exist, or isn't a directory
-     `unixvol: 21 IsDirectory`, `unixvol: 102 NotRegular`: PATH is a directory, or a special file
-     `unixvol: 27 TooBig`: the file, or its directory, would be larger than the edition allows
-     `unixvol: 28 NoSpace`, `unixvol: 103 NoInode`: there are too few free blocks, or there is no free i-node
-     With -t, all of these lines but the first end with the path in the volume, as in
-     `unixvol: 28 NoSpace: /src/a.c`; and `unixvol: NAME: a name above 14 bytes` has the last name of a file
-  2  the command line is wrong; or
-     `unixvol: WORD: a moment, and a file too`: WORD is a file and could be NOW; write ./WORD, or another NOW
-  3  `unixvol: cannot read IMAGE`, `unixvol: cannot read FILE`, `unixvol: cannot write IMAGE`
-  4  `unixvol: 12 NoMemory`";
-
-pub const FIRST_PUT: &str = "The file's path in the volume; with -t, the first file";
-
-pub const MORE_PUT: &str = "With -t, more files, then the time";
-
-pub const TARGET: &str =
-    "Put the files into this directory of the volume, each under its last name";
-
-pub const WANTS_TARGET: &str = "several files need -t DIR";
-
-pub const EMPTY_TARGET: &str = "it is empty; the root is /";
 
 pub const NO_FILE: &str = "a file is missing";
 
@@ -638,45 +550,10 @@ Status:
   3  `unixvol: cannot read OLD`, `unixvol: cannot write NEW`; with --new, also if something already has this path
   4  `unixvol: 12 NoMemory`";
 
-pub const SERVE_ABOUT: &str =
-    "Serves a volume over Linux's FUSE; `unixvol-mount` runs this command.";
-
-pub const SERVE_MORE: &str = "\
-Examples:
-  unixvol-mount 7 disk.img /mnt
-  unixvol serve 7 disk.img <&3 >&3
-
-Most users want `unixvol-mount`, which opens /dev/fuse, mounts it and starts this command (see its manual page).
-Each request of FUSE is one read from standard input, and each reply is one write to standard output, until the
-input ends or the volume is unmounted. So standard input is /dev/fuse, or a file or socket with requests.
-
-The image must be sound. It is locked until the command ends. Changes are kept in memory, and saved at each fsync
-of a file or directory and at the end: a new file takes the image's place, as with other commands. If a save
-fails, a line on standard error says so, and fsync returns an error. If the command is killed, all changes since
-the last save are lost.
-
-With --read-only the image is read once, before the first request, and is not locked or changed.
-The volume need not be sound. Only rules 1 and 2 are checked: the image's size, and the sizes in its super-block.
-If another rule doesn't hold, a line on standard error names the first that is broken, and everything that entries
-lead to is served. --mine then has no effect.
-
-Status:
-  0  the input ended, or the volume was unmounted, and everything is saved
-  1  `unixvol: unsound, rule N`: this is the first rule that the volume breaks; with --read-only, only rules 1 and 2
-  2  the command line is wrong
-  3  `unixvol: cannot read IMAGE`, `unixvol: cannot write IMAGE`, `unixvol: cannot read -` or
-     `unixvol: cannot write -`: a file or a stream failed
-  4  `unixvol: 12 NoMemory`";
-
-pub const READ_ONLY: &str = "Serve the volume read-only; it need not be sound";
-
-pub const MINE: &str =
-    "Show all files as the caller's; new files belong to user 0 of the volume, and chown is refused";
-
 pub const OLD: &str = "The disk image of the old volume";
 
 pub const MIGRATED: &str =
-    "The time of the volume and its i-nodes' changes: seconds since 1970, or a date like 2026-11-23T12:00:00Z; by default, now";
+    "The time of the volume and its i-nodes' changes: seconds since 1970, or a date like 2026-11-23 or 2026-11-23T12:00:00Z; by default, now";
 
 pub const ICHECK_ABOUT: &str =
     "Finds blocks that are used twice, lost or out of range, in any image.";
@@ -781,4 +658,4 @@ pub const NEW_NAME: &str = "The new path in the volume";
 pub const FILE: &str = "The file to put into the volume; only with -t may it be left out";
 
 pub const CALL_NOW: &str =
-    "The time of the change: seconds since 1970, or a date like 2026-11-23T12:00:00Z; by default, now";
+    "The time of the change: seconds since 1970, or a date like 2026-11-23 or 2026-11-23T12:00:00Z; by default, now";

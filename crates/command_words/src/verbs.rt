@@ -170,8 +170,8 @@ impl Verb {
     /// Returns the usage of the command, if it has more than one form.
     pub fn usage(self) -> Option<&'static str> {
         match self {
-            Verb::Get => Some(texts::GET_USAGE),
-            Verb::Put => Some(texts::PUT_USAGE),
+            Verb::Get => Some(texts::get::USAGE),
+            Verb::Put => Some(texts::put::USAGE),
             _ => None,
         }
     }
@@ -190,7 +190,7 @@ impl Verb {
         match self {
             Verb::Cat => texts::CAT_ABOUT,
             Verb::Ls => texts::LS_ABOUT,
-            Verb::Get => texts::GET_ABOUT,
+            Verb::Get => texts::get::ABOUT,
             Verb::Find => texts::find::ABOUT,
             Verb::Export => texts::export::ABOUT,
             Verb::Sums => texts::sums::ABOUT,
@@ -205,7 +205,7 @@ impl Verb {
             Verb::Dcheck => texts::DCHECK_ABOUT,
             Verb::Ncheck => texts::NCHECK_ABOUT,
             Verb::Mkfs => texts::MKFS_ABOUT,
-            Verb::Put => texts::PUT_ABOUT,
+            Verb::Put => texts::put::ABOUT,
             Verb::Import => texts::import::ABOUT,
             Verb::Rm => texts::RM_ABOUT,
             Verb::Rmdir => texts::RMDIR_ABOUT,
@@ -218,7 +218,7 @@ impl Verb {
             Verb::Salvage => texts::salvage::ABOUT,
             Verb::Play => texts::PLAY_ABOUT,
             Verb::Migrate => texts::MIGRATE_ABOUT,
-            Verb::Serve => texts::SERVE_ABOUT,
+            Verb::Serve => texts::serve::ABOUT,
             Verb::Identify => texts::identify::ABOUT,
         }
     }
@@ -228,7 +228,7 @@ impl Verb {
         match self {
             Verb::Cat => texts::CAT_MORE,
             Verb::Ls => texts::LS_MORE,
-            Verb::Get => texts::GET_MORE,
+            Verb::Get => texts::get::MORE,
             Verb::Find => texts::find::MORE,
             Verb::Export => texts::export::MORE,
             Verb::Sums => texts::sums::MORE,
@@ -243,7 +243,7 @@ impl Verb {
             Verb::Dcheck => texts::DCHECK_MORE,
             Verb::Ncheck => texts::NCHECK_MORE,
             Verb::Mkfs => texts::MKFS_MORE,
-            Verb::Put => texts::PUT_MORE,
+            Verb::Put => texts::put::MORE,
             Verb::Import => texts::import::MORE,
             Verb::Rm => texts::RM_MORE,
             Verb::Rmdir => texts::RMDIR_MORE,
@@ -256,7 +256,7 @@ impl Verb {
             Verb::Salvage => texts::salvage::MORE,
             Verb::Play => texts::PLAY_MORE,
             Verb::Migrate => texts::MIGRATE_MORE,
-            Verb::Serve => texts::SERVE_MORE,
+            Verb::Serve => texts::serve::MORE,
             Verb::Identify => texts::identify::MORE,
         }
     }

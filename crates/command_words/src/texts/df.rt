@@ -8,7 +8,8 @@ Example:
 
 All blocks of the volume, its data blocks and its i-nodes each have a line: how many there are, how many of them
 are used, and how many are free. A block is free if the free list has it. If the list has a fault, a last line
-reports it as `icheck` does, and blocks after the fault count as used. With --json, the same is one JSON object.
+reports it as `icheck` does, and blocks after the fault count as used. I-node 1 of the seventh edition, which is
+kept for bad blocks, counts as used. With --json, the same is one JSON object.
 
 The volume need not be sound. Only rules 1 and 2 are checked: the image's size, and the sizes in its super-block.
 

@@ -10,7 +10,8 @@ Examples:
 
 A POSIX ustar archive is written to standard output: files, directories and special files, with their permissions,
 owners and times of modification. The second and further names of a file are links to the first. Members are
-sorted by name, with paths that start at PATH, and no path occurs twice.
+sorted by name, with paths that start at PATH, and no path occurs twice. A header of pax comes before a member whose
+path or link is too long for its own header, and before no other. Paths above 4096 bytes are left out.
 
 The volume need not be sound. Only rules 1 and 2 are checked: the image's size, and the sizes in its super-block.
 Everything that entries lead to, from PATH on, is exported. Anything left out, and anything wrong with the volume,
@@ -22,7 +23,8 @@ has a line on standard error, and the status is then 1. There is a line for
 If a directory has a name more than once, the first entry counts, and the others have no line.
 
 With --lost, i-nodes that no entry names are exported too, with everything below them, each under its number:
-lost+found/#96 is i-node 96. Each keeps its owner and its time.
+lost+found/#96 is i-node 96, and the line of i-node 96 says so. Each keeps its owner and its time. If the root is no
+directory, these are all that is exported: then names are known only below them.
 
 Status:
   0  everything was exported, and the volume is sound
@@ -30,7 +32,8 @@ Status:
      `unixvol: unsound, rule 1`: the image is shorter than its super-block says
      `unixvol: unsound, rule 2`: the sizes in the super-block contradict one another
      `unixvol: 2 NoEntry`: there is no such file or directory
-     `unixvol: 20 NotDirectory`: PATH isn't a directory, or leads through something that isn't one
+     `unixvol: 20 NotDirectory`: PATH isn't a directory, or leads through something that isn't one. Of a root that
+     isn't one, --lost exports what is left
   2  the command line is wrong
   3  `unixvol: cannot read IMAGE`, or `unixvol: cannot write -`: standard output failed, or is a terminal
   4  `unixvol: 12 NoMemory`

@@ -17,8 +17,8 @@ last name is like GLOB are printed: in GLOB a * stands for any bytes or none, a 
 byte for itself.
 
 Entries without an i-node are printed too. What is below a directory isn't printed again if the directory was
-printed before, nor if its path is too long for an archive of `export`, some 250 bytes. On a terminal, bytes that
-aren't printable ASCII are shown as a backslash and three octal digits.
+printed before, nor if its path has more than 4096 bytes: such a path has a line on standard error, and the status
+is then 5. On a terminal, bytes that aren't printable ASCII are shown as a backslash and three octal digits.
 
 The volume need not be sound. Only rules 1 and 2 are checked: the image's size, and the sizes in its super-block.
 
@@ -29,4 +29,5 @@ Status:
      `unixvol: 2 NoEntry`, `unixvol: 20 NotDirectory`: PATH doesn't lead to a directory
   2  the command line is wrong
   3  `unixvol: cannot read IMAGE`, or `unixvol: cannot write -`: standard output failed
-  4  `unixvol: 12 NoMemory`";
+  4  `unixvol: 12 NoMemory`
+  5  a path has more than 4096 bytes, and what is below it isn't printed";

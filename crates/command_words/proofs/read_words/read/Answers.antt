@@ -8,8 +8,7 @@ returns-in-Cat-clause-refused g c =
     rw c.in-Cat.is (refuses_value c.args.clock verbs.Cat (g.G.Given.words c.args.given.now) c.read_cat.result c.read_cat.ensures.refused)
 
 pub returns-in-Ls-clause-refused : goal.returns-in-Ls-clause-refused
-returns-in-Ls-clause-refused g c =
-    rw c.in-Ls.is (refuses_value c.args.clock verbs.Ls (g.G.Given.words c.args.given.now) c.read_ls.result c.read_ls.ensures.refused)
+returns-in-Ls-clause-refused g c = rw c.in-Ls.is (c.read_ls.ensures.refused c.args.clock)
 
 pub returns-in-Get-clause-refused : goal.returns-in-Get-clause-refused
 returns-in-Get-clause-refused g c = rw c.in-Get.is (c.read_get.ensures.refused c.args.clock)

@@ -1,5 +1,5 @@
 use Rattle.std.proofs.Common.{sym}
-use Rattle.command_words.proofs.Copies.{empty_output, no_edition_get, no_paths, too_many_got}
+use Rattle.command_words.proofs.Copies.{empty_output, kept_got, no_edition_get, no_paths, too_many_got}
 use Rattle.command_words.proofs.Faults.{hands_on}
 use Rattle.command_words.proofs.read_words.read_get.Goals as goal
 
@@ -20,3 +20,8 @@ pub returns-in_err-not_empty-in-Some-clause-refused : goal.returns-in_err-not_em
 returns-in_err-not_empty-in-Some-clause-refused g c = λ clock.
     hands_on _ _ _ _ c.from_residual-in_err-not_empty-in-Some.ensures.1 c.in_err-not_empty-in-Some.ensures.refused
     (empty_output clock (g.G.Given.words c.args.given.now) c.in-Some.folder.now (sym c.in-Some.ensures))
+
+pub returns-in_err-nothing_kept-in-None-clause-refused : goal.returns-in_err-nothing_kept-in-None-clause-refused
+returns-in_err-nothing_kept-in-None-clause-refused g c = λ clock.
+    hands_on _ _ _ _ c.from_residual-in_err-nothing_kept-in-None.ensures.1 c.in_err-nothing_kept-in-None.ensures.refused
+    (kept_got clock (g.G.Given.words c.args.given.now) (sym c.in-None.ensures))

@@ -34,7 +34,7 @@ _unixvol() {
     case $command in
         cat) kinds='edition file any' options='--explain -h --help' ;;
         ls) kinds='edition file path' options='-l --long -R --recursive -d --directory --json --slots --explain -h --help' ;;
-        get) kinds='edition file path any...' options='-o --output --explain -h --help' valued='-o=file --output=file' others='edition file path...' ;;
+        get) kinds='edition file path any...' options='-o --output -p --preserve --explain -h --help' valued='-o=file --output=file' others='edition file path...' ;;
         find) kinds='edition file path' options='-g --name --explain -h --help' valued='-g=any --name=any' others='' ;;
         export) kinds='edition file path' options='--lost --status --explain -h --help' ;;
         sums) kinds='edition file path' options='--json --explain -h --help' ;;
@@ -49,7 +49,7 @@ _unixvol() {
         dcheck) kinds='edition file any' options='--json --explain -h --help' ;;
         ncheck) kinds='edition file any' options='--json --explain -h --help' ;;
         mkfs) kinds='edition file any any any any any' options='--new --explain -h --help' ;;
-        put) kinds='edition file path file any any...' options='-t --target-directory --explain -h --help' valued='-t=path --target-directory=path' others='edition file file...' ;;
+        put) kinds='edition file path file any any...' options='-t --target-directory -p --preserve -x --executable --explain -h --help' valued='-t=path --target-directory=path' others='edition file file...' ;;
         import) kinds='edition file path any' options='--skip-special -o --owner --explain -h --help' valued='-o=any --owner=any' others='' ;;
         rm) kinds='edition file path any' options='-r --recursive --explain -h --help' ;;
         rmdir) kinds='edition file path any' options='--explain -h --help' ;;
@@ -62,7 +62,7 @@ _unixvol() {
         salvage) kinds='edition file' options='-o --output -n --dry-run --explain -h --help' valued='-o=file --output=file' others='' ;;
         play) kinds='edition file file...' options='--journal --explain -h --help' ;;
         migrate) kinds='file file any any any' options='--new --explain -h --help' ;;
-        serve) kinds='edition file' options='--read-only --mine --explain -h --help' ;;
+        serve) kinds='edition file' options='--read-only --mine -r --rescue --explain -h --help' valued='-r=file --rescue=file' others='' ;;
         identify) kinds='file...' options='--explain -h --help' ;;
     esac
     if [[ $current == -* ]]; then

@@ -1,13 +1,16 @@
 #!/usr/bin/env bash
-# Mounts volumes of both editions with bin/unixvol-mount and the built program, and compares them, as the kernel shows them, with what `export`
-# writes. Volumes mounted with changes are compared with a folder of the host in which the same calls were made at random (serves/walk.py): WALKS
+# Mounts volumes of both editions with bin/unixvol-mount, by both its names, and the built program, and compares them, as the kernel shows them, with what
+# `export` writes. Volumes mounted with changes are compared with a folder of the host in which the same calls were made at random (serves/walk.py): WALKS
 # walks of STEPS calls for each edition, 2 of 400 unless they say otherwise.
-# It needs root and /dev/fuse, and otherwise says that it is skipped. Usage: tests/mount.sh PROGRAM. It prints a line for each row that fails, and
-# ends with 'N passed, N failed'.
+# It needs root and /dev/fuse, and otherwise says that it is skipped. It has a mount namespace of its own, so that no other program's keeps what it mounts.
+# Usage: tests/mount.sh PROGRAM. It prints a line for each row that fails, and ends with 'N passed, N failed'.
+[ -n "${ALONE:-}" ] || ! unshare -m true 2> /dev/null || ALONE=yes exec unshare -m -- bash "$0" "$@"
 walk=$(realpath "$(dirname "$0")/serves/walk.py")
 mount=$(realpath "$(dirname "$0")/../bin/unixvol-mount")
 . "$(dirname "$0")/rows.sh"
 export UNIXVOL=$program
+umount=$PWD/unixvol-umount
+ln -s "$mount" "$umount"
 linux="$samples/linux_made.v7"
 
 # refuses_mount STATUS LINE WORD..: nothing is mounted, and the wrapper prints this line
@@ -20,15 +23,48 @@ refuses_mount() {
 
 # Refusals before anything is mounted.
 mkdir mnt
-usage='unixvol-mount: usage: unixvol-mount [--read-only] [--mine] [--allow-other] EDITION IMAGE FOLDER'
+usage='unixvol-mount: usage: unixvol-mount [--read-only] [--mine] [--allow-other] [--background] [--rescue FILE] EDITION IMAGE FOLDER'
 refuses_mount 2 "$usage"
 refuses_mount 2 "$usage" --read-only 7 "$linux"
+refuses_mount 2 "$usage" --rescue
+refuses_mount 2 "$usage" --rescue '' 7 "$linux" mnt
+refuses_mount 2 "$usage" 7 "$linux" mnt --background
 refuses_mount 1 'unixvol: unsound, rule 2' --read-only 6 "$linux" mnt
+refuses_mount 1 'unixvol: unsound, rule 2' --background 6 "$linux" mnt
 refuses_mount 3 "unixvol: cannot read $PWD/none.img" --read-only 7 none.img mnt
 refuses_mount 3 "unixvol-mount: $PWD/none is no folder: make it by mkdir, or, if a server died there, unmount it by umount -l" --read-only 7 "$linux" none
 changed "$linux" links.img $((1024 + 64 * 93 + 2)) 09
 refuses_mount 1 'unixvol: unsound, rule 12' 7 links.img mnt
 UNIXVOL=nothing refuses_mount 3 'unixvol-mount: there is no program nothing: install unixvol, or set UNIXVOL to where it is' --read-only 7 "$linux" mnt
+
+# as_umount STATUS LINE WORD..: unixvol-umount prints this line, if it isn't empty, and ends with this status
+as_umount() {
+    : > line
+    [ -z "$2" ] || printf '%s\n' "$2" > line
+    timeout 20 "$umount" "${@:3}" > output 2> error < /dev/null
+    echo $? > status
+    wants "unixvol-umount ${*:3}" "$1" none line
+}
+
+as_umount 2 'unixvol-umount: usage: unixvol-umount FOLDER'
+as_umount 2 'unixvol-umount: usage: unixvol-umount FOLDER' --read-only mnt
+as_umount 3 "unixvol-umount: nothing is mounted on $PWD/mnt" mnt
+as_umount 3 "unixvol-umount: nothing is mounted on $PWD/none" none
+for wrapper in "$mount" "$umount"; do
+    has "the help of $wrapper" "usage: ${wrapper##*/} FOLDER" "$("$wrapper" --help 2> error | sed 's/-mount .*FOLDER/-mount FOLDER/')"
+done
+
+# called_with WORDS WORD..: the wrapper calls the program with these words, and shows what it says. (For a user who isn't root it adds --mine.)
+printf '%s\n' '#!/bin/sh' 'echo "$GLIBC_TUNABLES" "$@" >&2' 'exit 9' > words
+chmod +x words
+called_with() {
+    has "the words of unixvol-mount ${*:2}" "$1
+9" "$(UNIXVOL=./words "$mount" "${@:2}" 2>&1 | sed 's/ --mine / /'; echo "${PIPESTATUS[0]}")"
+}
+called_with "glibc.malloc.hugetlb=1 serve -- 7 $linux" 7 "$linux" mnt
+called_with "glibc.malloc.hugetlb=1 serve --read-only -- 6 $PWD/an image" --read-only --rescue file 6 'an image' mnt
+called_with "glibc.malloc.hugetlb=1 serve --rescue $PWD/a file -- 7 $PWD/x" --background --rescue 'a file' 7 x mnt
+GLIBC_TUNABLES=glibc.malloc.check=1 called_with 'glibc.malloc.check=1:glibc.malloc.hugetlb=1 serve --rescue /file -- 7 /x' --rescue /file 7 /x mnt
 
 # mounted EDITION IMAGE [OPTION..]: mounts the image on `mnt`, and waits until it is mounted; `wrapper` is the process
 mounted() {
@@ -69,7 +105,7 @@ if [ -n "$skipped" ]; then
     [ "$failed" = 0 ]
     exit
 fi
-trap 'umount -l mnt 2> /dev/null; rm -rf "$folder"' EXIT
+trap 'umount -l mnt room 2> /dev/null; rm -rf "$folder"' EXIT
 
 # same EDITION IMAGE: find, diff, grep, cp and stat find the same in `mnt` as the archive of the image has
 same() {
@@ -230,13 +266,175 @@ has 'the wrapper of a server that was killed after a save' "$killed" "$? $(grep 
 has 'what was saved' 'saved 1' "$("$program" get 7 volume /saved) $("$program" get 7 volume /new > none.txt 2>&1; echo $?)"
 sound 7 volume
 
+# in_background LINE EDITION IMAGE [OPTION..]: when the wrapper ends, the image is mounted on `mnt`, and it has printed this line, if it isn't empty. It
+# doesn't keep who reads that waiting.
+in_background() {
+    has "a mount of $3 in the background" "${1:+$1
+}0" "$(timeout 20 "$mount" --background "${@:4}" "$2" "$3" mnt 2>&1; echo $?)"
+    mountpoint -q mnt
+    has "$3 is mounted" 0 $?
+    server=$(pgrep -n -f "serve .*-- $2 $PWD/$3")
+}
+
+# all_saved LABEL IMAGE PATH: unixvol-umount saves the volume, and when it ends, nothing is mounted, the image isn't locked, and has a file
+all_saved() {
+    as_umount 0 '' mnt
+    has "$1: the image isn't locked" 0 "$(flock -n "$2" true; echo $?)"
+    mountpoint -q mnt
+    has "$1: nothing is mounted" 32 $?
+    has "$1: the file" new "$("$program" get 7 "$2" "/$3")"
+}
+
+in_background '' 7 volume
+echo new > mnt/first
+all_saved 'a mount in the background' volume first
+mounted 7 volume
+echo new > mnt/second
+all_saved 'a mount in the foreground' volume second
+unmounted 'unixvol-umount' 0 ''
+
+# By itself it goes on when the shell ends that began it; TERM unmounts.
+in_background '' 7 volume
+keeper=$(($(ps -o ppid= -p "$server")))
+kill -INT $keeper
+kill -HUP $keeper
+sleep 0.3
+has 'a file after INT and HUP' new "$(cat mnt/second)"
+echo new > mnt/third
+kill -TERM $keeper
+timeout 20 tail --pid=$keeper -f /dev/null
+mountpoint -q mnt
+has 'nothing is mounted after TERM' 32 $?
+has 'what TERM saved' new "$("$program" get 7 volume /third)"
+
+# A volume that is used stays mounted, and is saved.
+in_background '' 7 volume
+exec 9< mnt/third
+echo new > mnt/fourth
+LC_ALL=C as_umount 3 "unixvol-umount: $PWD/mnt is saved, but stays mounted: umount: $PWD/mnt: target is busy." mnt
+has 'what was saved while it is used' new "$("$program" get 7 volume /fourth)"
+exec 9<&-
+all_saved 'a volume that was used' volume fourth
+
+# A volume that can't be saved stays mounted, and can be saved later. What the server said is in a file, or is told by unixvol-umount.
+cp volume other
+unsaved="unixvol-umount: $PWD/mnt can't be saved, so it stays mounted: Input/output error"
+in_background '' 7 volume
+echo new > mnt/fifth
+mv volume aside
+cp other volume
+LC_ALL=C as_umount 3 "unixvol: cannot write $PWD/volume
+$unsaved" mnt
+mv aside volume
+as_umount 0 "unixvol: cannot write $PWD/volume" mnt
+has 'what was saved later' new "$("$program" get 7 volume /fifth)"
+timeout 20 "$mount" --background 7 volume mnt 2> told
+echo new > mnt/sixth
+mv volume aside
+cp other volume
+LC_ALL=C as_umount 3 "$unsaved" mnt
+has 'what the server said' "unixvol: cannot write $PWD/volume" "$(cat told)"
+mv aside volume
+all_saved 'a volume with lines in a file' volume sixth
+
+# Each save needs room for the image once more.
+mkdir room
+mount -t tmpfs -o size=1m none room
+cat "$linux" /dev/zero | head -c 614400 > room/volume
+room=$(df -B 1 --output=avail room | tail -n 1)
+in_background "unixvol-mount: each save needs room for the image once more, 614400 bytes, but $PWD/room/ has $room" 7 room/volume
+echo new > mnt/new
+LC_ALL=C as_umount 3 "unixvol: cannot write $PWD/room/volume
+$unsaved" mnt
+mount -o remount,size=2m room
+as_umount 0 "unixvol: cannot write $PWD/room/volume" mnt
+has 'what was saved once there was room' new "$("$program" get 7 room/volume /new)"
+mount -o remount,size=1m room
+in_background '' 7 room/volume --read-only
+as_umount 0 '' mnt
+umount room
+
+# A last save that fails goes into the file of --rescue.
+if "$program" serve --help | grep -q -e --rescue; then
+    "$program" mkfs 7 lost 400 10 0 0 1000
+    in_background '' 7 lost --rescue 'a rescue'
+    echo new > mnt/new
+    mv lost aside
+    cp other lost
+    umount mnt
+    timeout 20 tail --pid="$server" -f /dev/null
+    has 'what was rescued' new "$("$program" get 7 'a rescue' /new)"
+else
+    echo "skipped: --rescue, since this program's serve has none"
+fi
+
+# A volume that isn't sound; files and folders with spaces.
+in_background 'unixvol: unsound, rule 12' 7 links.img --read-only
+as_umount 0 '' mnt
+mkdir 'a folder'
+cp volume 'an image'
+has 'names with spaces' 0 "$("$mount" --background 7 'an image' 'a folder' 2>&1; echo $?)"
+echo new > 'a folder/seventh'
+as_umount 0 '' 'a folder'
+has 'what was saved in a file with a space' new "$("$program" get 7 'an image' /seventh)"
+
+# A volume that another namespace has mounted too is served until that ends.
+in_background '' 7 volume
+unshare -m sh -c 'echo ready; exec sleep 7' > pipe.txt &
+until [ -s pipe.txt ]; do sleep 0.1; done
+as_umount 0 "unixvol-umount: waiting for the server: it saves, or the volume is mounted in another namespace too, such as a container's" mnt
+wait $!
+
+# What no wrapper serves.
+mount -t tmpfs none mnt
+as_umount 3 "unixvol-umount: no unixvol-mount serves $PWD/mnt: unmount it by umount" mnt
+umount mnt
+
+# The server's own status, and servers that end before they serve: with /dev/null as standard input, all is well with these.
+serving='case $(readlink /proc/self/fd/0) in /dev/null) exit ;; esac'
+printf '%s\n' '#!/bin/sh' "$serving" "\"$program\" \"\$@\"" 'echo "unixvol: cannot write x" >&2' 'exit 3' > failing
+printf '%s\n' '#!/bin/sh' "$serving" 'echo "unixvol: 12 NoMemory" >&2' 'exit 4' > ending
+chmod +x failing ending
+UNIXVOL=./failing in_background '' 7 volume
+as_umount 3 'unixvol: cannot write x' mnt
+export UNIXVOL=$PWD/failing
+mounted 7 volume
+as_umount 3 "unixvol-umount: the server of $PWD/mnt ended with status 3, and said why where it was begun" mnt
+unmounted 'a server with a status' 3 'unixvol: cannot write x'
+export UNIXVOL=$PWD/ending
+refuses_mount 4 'unixvol: 12 NoMemory' 7 volume mnt
+refuses_mount 4 'unixvol: 12 NoMemory' --background 7 volume mnt
+export UNIXVOL=$program
+mkdir refusing
+printf '%s\n' '#!/bin/sh' 'echo "mount: not today" >&2' 'exit 32' > refusing/mount
+chmod +x refusing/mount
+PATH=$PWD/refusing:$PATH refuses_mount 3 "unixvol-mount: the volume can't be mounted: mount: not today" 7 volume mnt
+PATH=$PWD/refusing:$PATH refuses_mount 3 "unixvol-mount: the volume can't be mounted: mount: not today" --background 7 volume mnt
+mountpoint -q mnt
+has 'nothing is mounted after refusals' 32 $?
+
+# The server, or what waits for it, dies.
+in_background '' 7 volume
+keeper=$(($(ps -o ppid= -p "$server")))
+kill -KILL "$server"
+timeout 20 tail --pid=$keeper -f /dev/null
+as_umount 3 "unixvol-umount: nothing is mounted on $PWD/mnt" mnt
+in_background '' 7 volume
+kill -KILL $(ps -o ppid= -p "$server")
+as_umount 3 "unixvol-umount: no unixvol-mount serves $PWD/mnt: unmount it by umount" mnt
+umount mnt
+timeout 20 tail --pid="$server" -f /dev/null
+sound 7 volume
+
 # Another file in the image's place isn't replaced.
 mounted 7 small
 cp old put-there
 mv put-there small
 touch mnt/touched
 umount mnt
-unmounted 'an image that was replaced' 3 "unixvol: cannot write $PWD/small"
+unmounted 'an image that was replaced' 3 "unixvol: cannot write $PWD/small
+unixvol: $PWD/small: not saved; the volume is in $PWD/small.unixvol-rescue-0"
+has 'what was rescued' 'touched' "$("$program" ls 7 small.unixvol-rescue-0 | awk '$2 == "touched" { print $2 }')"
 has 'the file that replaced it' '' "$(cmp old small 2>&1)"
 
 # Within a user's namespace all files are his.

@@ -34,6 +34,14 @@ prints none serve 7 served
 prints none serve --mine 7 served
 saves 'a server without a change' served "$linux"
 
+# The file for a rescue must not exist, and isn't made without need.
+refuses 3 'unixvol: cannot write none' serve --rescue none 7 served
+misread "error: invalid value '' for '<rescue>': it is empty, and names no file" serve --rescue '' 7 served
+misread "error: invalid value '' for '<rescue>': it is empty, and names no file" serve --read-only --rescue '' 7 served
+prints none serve --rescue rescued 7 served
+prints none serve --read-only --rescue none 7 served
+has 'a rescue without need' 1 "$([ -e rescued ]; echo $?)"
+
 # node_at I: the offset of i-node I in an image of the edition
 node_at() { echo $((1024 + (edition == 6 ? 32 : 64) * ($1 - 1))); }
 
@@ -140,7 +148,10 @@ for edition in 6 7; do
     serves "an entry without a file in edition $edition" 80 "$(runs serve --read-only "$edition" free.img; cat error)" "$edition" free.img
 
     # Changes. Random ones leave a sound image.
-    for kind in session linux mine full replaced; do
+    rm -rf temporary
+    mkdir temporary
+    for kind in session linux mine full replaced rescued gone lost; do
+        rm -f empty.*
         "$program" mkfs "$edition" empty 6000 40 0 0 1000
         changes $kind empty
     done

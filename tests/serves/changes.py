@@ -4,6 +4,9 @@ Usage: changes.py session PROGRAM EDITION IMAGE      an empty volume of 6,000 bl
        changes.py linux PROGRAM EDITION IMAGE        requests that a kernel sent
        changes.py mine PROGRAM EDITION IMAGE         the same volume, with --mine
        changes.py replaced PROGRAM EDITION IMAGE     another file takes the image's place meanwhile
+       changes.py rescued PROGRAM EDITION IMAGE      the same, with --rescue
+       changes.py gone PROGRAM EDITION IMAGE         the image's folder is removed meanwhile
+       changes.py lost PROGRAM EDITION IMAGE         the same, and no other file can be written either
        changes.py full PROGRAM EDITION IMAGE         writes until the volume is full
 It prints a line for each thing that is wrong. Structs and numbers are those of Linux's include/uapi/linux/fuse.h."""
 import fcntl, os, struct, subprocess, sys, time
@@ -253,8 +256,31 @@ def replaced(volume):
     check("serving goes on", 0, error_of(volume.mknod(k.ROOT, b"g")))
     status, said = volume.end()
     line = f"unixvol: cannot write {volume.image}\n"
-    check("the status and the lines", (3, 2 * line), (status, said))
+    place = volume.image + (".kept" if "--rescue" in volume.options else ".unixvol-rescue-1")
+    check("the status and the lines", (3, 2 * line + f"unixvol: {volume.image}: not saved; the volume is in {place}\n"), (status, said))
     check("the other file", b"another file", open(volume.image, "rb").read())
+    is_rescued(volume, place)
+    check("a file that was there", b"earlier", open(volume.image + ".unixvol-rescue-0", "rb").read())
+
+
+def is_rescued(volume, place):
+    """The volume with files f and g was written to another file, for its owner alone."""
+    check("the files that were rescued", [b"f", b"g"], [line.split()[1] for line in printed(volume.program, "ls", volume.edition, place, "/").splitlines() if b"." not in line])
+    check("the permissions of what was rescued", 0o600, os.stat(place).st_mode & 0o7777)
+
+
+def gone(volume):
+    """Without its folder the image is written to TMPDIR, and if that fails too, a line says that it is lost."""
+    volume.mknod(k.ROOT, b"f")
+    os.remove(volume.image)
+    os.rmdir(os.path.dirname(volume.image))
+    volume.mknod(k.ROOT, b"g")
+    status, said = volume.end()
+    place = os.environ["TMPDIR"] + "/image.unixvol-rescue-0"
+    told = f"not saved; the volume is in {place}" if os.path.isdir(os.environ["TMPDIR"]) else "not saved, and nowhere else: changes are lost"
+    check("the status and the lines", (3, f"unixvol: cannot write {volume.image}\nunixvol: {volume.image}: {told}\n"), (status, said))
+    if os.path.isdir(os.environ["TMPDIR"]):
+        is_rescued(volume, place)
 
 
 def full(volume):
@@ -271,9 +297,17 @@ def full(volume):
 
 def main():
     kind, program, edition, image = sys.argv[1:5]
-    volume = Changing(program, edition, image, *(["--mine"] if kind == "mine" else []))
-    {"session": session, "linux": linux, "mine": mine, "replaced": replaced, "full": full}[kind](volume)
-    if kind != "replaced":
+    if kind in ("gone", "lost"):
+        os.mkdir(image + "-folder")
+        os.rename(image, image + "-folder/image")
+        image += "-folder/image"
+        os.environ["TMPDIR"] = os.path.abspath("temporary" if kind == "gone" else "no-such-folder")
+    if kind in ("replaced", "rescued"):
+        with open(image + ".unixvol-rescue-0", "wb") as file:
+            file.write(b"earlier")
+    volume = Changing(program, edition, image, *{"mine": ["--mine"], "rescued": ["--rescue", image + ".kept"]}.get(kind, []))
+    {"session": session, "linux": linux, "mine": mine, "replaced": replaced, "rescued": replaced, "gone": gone, "lost": gone, "full": full}[kind](volume)
+    if kind in ("session", "linux", "mine", "full"):
         check("the status and the lines", (0, ""), volume.end())
         is_sound("the end", volume)
     if kind == "session":

@@ -3,6 +3,7 @@
 
 mod archive_front;
 mod image_file;
+mod marks;
 mod noted;
 mod saved_files;
 mod volume_front;
@@ -10,6 +11,7 @@ mod volume_front;
 pub use image_file::{
     FileKind, ImageFiles, OpenFault, Stamp, expect_image, open_image, open_stamped,
 };
+pub use marks::{Marks, modified_in, permissions_of};
 pub use noted::{Noted, noted_reader, noted_writer};
-pub use saved_files::{Content, HeldFile, is_pipe, save_file, save_held};
-pub use volume_front::{FrontFault, UpTo, read_up_to};
+pub use saved_files::{Content, HeldFile, is_pipe, save_apart, save_file, save_held, save_marked};
+pub use volume_front::{FrontFault, UpTo, read_on, read_up_to};

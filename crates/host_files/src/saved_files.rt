@@ -4,6 +4,7 @@ ghost use Rattle.std.specs.Path.{path_bytes, path_buf_bytes};
 ghost use Rattle.host_files.specs.Save.{IsBeside, Grows, Saves, IsPlaced, Holds};
 
 use crate::image_file::{FileKind, ImageFiles, Stamp};
+use crate::marks::{Marks, give_marks};
 use crate::noted::noted_writer;
 use pdp_words::{SaveFault, Sink, write_all};
 use std::fs::{self, Files, Metadata, OpenFile, OpenOptions, Permissions};
@@ -112,8 +113,44 @@ pub fn save_file<R: ImageFiles + AllocGlobal>(
     ensures saved { OnOk result (Saves R.File.contents content.entry) }
     ensures unchanged { OnOk result (IfSome read R.stood) }
 {
-    put_content(rt, path, read, content)?;
+    put_content(rt, path, read, content, None)?;
     Ok(())
+}
+
+/// Saves a content in the file `path`, as [`save_file`] does, and gives a new file these marks before it takes the old one's place. Anything but a
+/// regular file keeps its own.
+///
+/// The errors are those of [`save_file`], or the system's if it refuses the marks.
+pub fn save_marked<R: ImageFiles + AllocGlobal>(
+    rt: &R,
+    path: &str,
+    content: Content<'_>,
+    marks: Marks,
+) -> io::Result<()>
+    ensures { OnOk result (Saves R.File.contents content.entry) }
+{
+    put_content(rt, path, None, content, Some(marks))?;
+    Ok(())
+}
+
+/// Saves a content in a new file at `path`, which only its owner may use. If there is anything at `path`, even a symbolic link, it stays, and the error
+/// is `AlreadyExists`. If the file can't be written or synchronised, it is removed, and the error is the system's.
+pub fn save_apart<R: ImageFiles>(rt: &R, path: &str, content: Content<'_>) -> io::Result<()>
+    ensures { OnOk result (Saves R.File.contents content.entry) }
+{
+    let mut options = OpenOptions::new();
+    options.write(true).create_new(true).mode(PRIVATE);
+    let file = options.open(rt, path)?;
+    match fill(rt, file, None, content, None) {
+        Ok(_) => {
+            sync_folder(rt, Path::new(path));
+            Ok(())
+        }
+        Err(error) => {
+            let _ = fs::remove_file(rt, path);
+            Err(error)
+        }
+    }
 }
 
 /// Saves a content in the file `path`, as [`save_file`] does with the stamp of `held`. `held` was opened at `path` and is locked. The new file is
@@ -132,19 +169,21 @@ pub fn save_held<R: ImageFiles + AllocGlobal>(
     ensures held { OnOk result (Holds R.File.contents R.had content.entry held.old held.new) }
     ensures kept { OnErr result (held.new ≡ held.old) }
 {
-    match put_content(rt, path, Some(held.stamp), content)? {
+    match put_content(rt, path, Some(held.stamp), content, None)? {
         Place::New(file, stamp) => *held = HeldFile { file, stamp },
         Place::Old(stamp) => held.stamp = stamp,
     }
     Ok(())
 }
 
-/// Saves a content in the file `path`, as [`save_file`] does, and returns the file in which it was saved.
+/// Saves a content in the file `path`, as [`save_file`] does, with these marks if it is a new file and some are given, and returns the file in which it
+/// was saved.
 fn put_content<R: ImageFiles + AllocGlobal>(
     rt: &R,
     path: &str,
     read: Option<Stamp>,
     content: Content<'_>,
+    marks: Option<Marks>,
 ) -> io::Result<Place<R::File>>
     ensures saved { IfOk result (IsPlaced R.File.contents R.had content.entry) }
     ensures unchanged { OnOk result (IfSome read R.stood) }
@@ -156,7 +195,7 @@ fn put_content<R: ImageFiles + AllocGlobal>(
             if metadata.is_file() {
                 let place = end_of_links(rt, path)?;
                 let old = Replaced { stamp, metadata };
-                replace(rt, place.as_path(), Some(&old), read, content)
+                replace(rt, place.as_path(), Some(&old), read, content, marks)
             } else {
                 expect_unchanged(rt, path, read)?;
                 expect_same(stamp, rt.stamp_at(path)?)?;
@@ -166,7 +205,7 @@ fn put_content<R: ImageFiles + AllocGlobal>(
         }
         Err(error) if error.kind() == ErrorKind::NotFound => {
             let place = end_of_links(rt, path)?;
-            replace(rt, place.as_path(), None, read, content)
+            replace(rt, place.as_path(), None, read, content, marks)
         }
         Err(error) => Err(error),
     }
@@ -235,21 +274,22 @@ fn is_end(error: io::Error) -> bool {
     kind == ErrorKind::InvalidInput || kind == ErrorKind::NotFound
 }
 
-/// Replaces the file at `path` by a new file with this content, and returns the new file, locked. `path` isn't a symbolic link, and must still have
-/// the stamp `read`, if one is given.
+/// Replaces the file at `path` by a new file with this content, and with these marks if some are given, and returns the new file, locked. `path` isn't a
+/// symbolic link, and must still have the stamp `read`, if one is given.
 fn replace<R: ImageFiles + AllocGlobal>(
     rt: &R,
     path: Path<'_>,
     old: Option<&Replaced>,
     read: Option<Stamp>,
     content: Content<'_>,
+    marks: Option<Marks>,
 ) -> io::Result<Place<R::File>>
     ensures saved { IfOk result (IsPlaced R.File.contents R.had content.entry) }
     ensures unchanged { OnOk result (IfSome read R.stood) }
 {
     expect_there(rt, path.as_str(), old)?;
     let (file, beside) = new_file(rt, path, old.is_some())?;
-    let result = match fill(rt, file, old, content) {
+    let result = match fill(rt, file, old, content, marks) {
         Ok(file) => rename_over(rt, file, beside.as_path(), path, old, read),
         Err(error) => Err(error),
     };
@@ -325,12 +365,13 @@ fn new_file<R: Files + AllocGlobal>(
     Err(io::Error::new(ErrorKind::AlreadyExists, NO_NAME))
 }
 
-/// Fills the new file `file`, waits until its bytes are on the disk, and returns the file.
+/// Fills the new file `file`, gives it these marks, if some are given, waits until its bytes are on the disk, and returns the file.
 fn fill<R: ImageFiles>(
     rt: &R,
     file: R::File,
     old: Option<&Replaced>,
     content: Content<'_>,
+    marks: Option<Marks>,
 ) -> io::Result<R::File>
     ensures { IfOk result (λ filled. Grows content.entry (R.File.contents file) (R.File.contents filled)) }
 {
@@ -338,6 +379,9 @@ fn fill<R: ImageFiles>(
         keep_owner(rt, &file, &old.metadata)?;
     }
     let file = write(file, content)?;
+    if let Some(marks) = marks {
+        give_marks(&file, marks)?;
+    }
     file.sync_all()?;
     Ok(file)
 }

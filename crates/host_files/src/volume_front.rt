@@ -110,8 +110,8 @@ fn read_volume<S: Source>(
     }
 }
 
-/// Appends bytes from the source to `bytes`, until `bytes` has `most` or the source ends.
-pub(crate) fn read_on<S: Source>(
+/// Appends bytes from the source to `bytes`, until `bytes` has `most` or the source ends. Takes memory for the bytes that are there, whatever `most` is.
+pub fn read_on<S: Source>(
     mut bytes: Vec<u8>,
     most: usize,
     source: &mut S,

@@ -10,6 +10,7 @@ use Rattle.command_changes.specs.ImportLines.{left_lines}
 use Rattle.vol_import.proofs.SortRuns.{none_left}
 use Rattle.vol_import.specs.Members.{members}
 use Rattle.vol_import.specs.declared.import_options.ImportOptions.{ImportOptions}
+use Rattle.command_changes.specs.declared.kept.GivenFile.{GivenFile}
 use Rattle.command_changes.specs.declared.changes.Change.{Change}
 use Rattle.command_changes.specs.declared.changes.Change.TheVariants as changes
 use Rattle.command_faults.specs.Streams.{Streams}
@@ -63,13 +64,13 @@ ends_import edition image given path options now streams taken answer status doe
         (subst (λ (paths : List (List ℕ)). streams.said (left_lines paths)) (none_left options (members given) is)) does.1 does.2 saved
 
 -- if a change is made and saved, the run ends as `Ends` requires, apart from what the change may report
-pub ends_change : (edition : Edition) (image given : List ℕ) (streams : Streams) (taken : List ℕ → Type 0) (answer : Answer) (status : ℕ) (change : Change)
+pub ends_change : (edition : Edition) (image : List ℕ) (given : GivenFile) (streams : Streams) (taken : List ℕ → Type 0) (answer : Answer) (status : ℕ) (change : Change)
     → Changes edition image given streams answer change → EndsSaved taken answer status
     → Ends (but_remarks (may_remark change) streams) status
-ends_change edition image given streams taken answer status (changes.Put path file now) does saved =
+ends_change edition image given streams taken answer status (changes.Put path file keep now) does saved =
     ends_concluded _ _ streams taken answer status does.0 does.1 does.2 saved
 ends_change edition image given streams taken answer status (changes.Import path options now) does saved =
-    ends_import edition image given path.now options now streams taken answer status does saved
+    ends_import edition image given.bytes.items path.now options now streams taken answer status does saved
 ends_change edition image given streams taken answer status (changes.Rm path now) does saved =
     ends_concluded _ _ streams taken answer status does.0 does.1 does.2 saved
 ends_change edition image given streams taken answer status (changes.RmAll path now) does saved =
@@ -96,7 +97,7 @@ ends_change edition image given streams taken answer status changes.Salvage does
 -- if the bytes that a change needs can't be read, the run ends as `Ends` requires
 pub ends_ungiven : {F G : Type 0} (remaining : F → Option (List ℕ)) (heard : G → Option (List ℕ)) (streams : Streams) (status : ℕ) (change : Change)
     → IsUngiven (IsUnread remaining) (IsUnread heard) change status → Keeps streams.old streams.new → Ends streams status
-ends_ungiven remaining heard streams status (changes.Put path file now) ungiven kept = ends_unread remaining streams status ungiven kept
+ends_ungiven remaining heard streams status (changes.Put path file keep now) ungiven kept = ends_unread remaining streams status ungiven kept
 ends_ungiven remaining heard streams status (changes.Import path options now) ungiven kept = ends_unread heard streams status ungiven kept
 ends_ungiven remaining heard streams status (changes.Rm path now) ungiven kept = absurd ungiven
 ends_ungiven remaining heard streams status (changes.RmAll path now) ungiven kept = absurd ungiven

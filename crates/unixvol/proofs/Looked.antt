@@ -1,7 +1,6 @@
 -- The end of a command that shows part of an image.
 use Rattle.std.proofs.Common.{◌≡◌, ℕ, ◌≤◌, ◌==◌, Bool, true, false, if◌then◌else◌, List, [], ◌∷◌, length, Option, Result, Ok, Err, inl, inr, sym, ap, subst, ◌∙◌, arith}
 use Rattle.std.proofs.lemmas.Bool.{ne_eqb}
-use Rattle.vol_archive.specs.Export.{start_of}
 use Rattle.vol_archive.specs.declared.export_tree.ExportStart.{ExportStart}
 use Rattle.vol_archive.specs.declared.export_tree.StartFault.{StartFault}
 use Rattle.vol_archive.specs.declared.export_tree.StartFault.TheVariants as starts
@@ -14,14 +13,15 @@ use Rattle.std.specs.Result.{is_ok}
 use Rattle.vol_layout.specs.Geometry.{geometry_read}
 use Rattle.vol_layout.specs.declared.edition.Edition.{Edition}
 use Rattle.command_reads.specs.Check.{Checks, verdict_status}
-use Rattle.command_reads.specs.Export.{ExportsBelow, ExportsFrom, ExportsTo, told_status, unstarted_status, whole, broken, short, unbegun}
+use Rattle.command_reads.specs.Export.{begun, ExportsBelow, ExportsFrom, ExportsTo, told_status, unstarted_status, whole, broken, short, unbegun}
 use Rattle.command_reads.specs.declared.looks.ExportOptions.{ExportOptions}
 use Rattle.command_reads.specs.Inode.{ShowsFound}
 use Rattle.command_reads.specs.Node.{node_fault, number_of}
 use Rattle.command_reads.specs.declared.node.NodeFault.{NodeFault}
 use Rattle.command_reads.specs.Look.{Looks}
 use Rattle.command_reads.specs.declared.looks.OutputForm.{OutputForm}
-use Rattle.command_reads.specs.Print.{IsBrokenOff, IsTold, PrintsOne, PrintsWith}
+use Rattle.command_reads.specs.Find.{Finds}
+use Rattle.command_reads.specs.Print.{IsBrokenOff, IsTold, PrintsOne, PrintsTelling, PrintsWith}
 use Rattle.command_reads.specs.Sums.{Sums}
 use Rattle.command_reads.specs.declared.looks.Look.{Look}
 use Rattle.command_reads.specs.declared.looks.Look.TheVariants as looks
@@ -130,23 +130,35 @@ ends_found : (edition : Edition) (image : List ℕ) (form : OutputForm) (streams
 ends_found edition image form streams status (Ok number) shows = ends_one _ _ streams status shows
 ends_found edition image form streams status (Err fault) told = ends_told 4 streams (node_fault fault) status (omega arith) told
 
-ends_sums : (edition : Edition) (image path : List ℕ) (form : OutputForm) (streams : Streams) (status : ℕ) → Sums edition image path form streams status
-    → IsEndWithin 4 streams status
-ends_sums edition image path form streams status (inl (text, lines, is, inl printed)) =
-    ends_lines 4 1 streams status lines (omega arith) (omega arith) printed.working printed.said printed.status
-ends_sums edition image path form streams status (inl (text, lines, is, inr cut)) = ends_broken 4 streams text status (omega arith) cut
-ends_sums edition image path form streams status (inr (fault, is, told)) = ends_told 4 streams fault status (omega arith) told
+-- a text that was printed with remarks satisfies `IsEndWithin`
+ends_telling : (most told : ℕ) (streams : Streams) (text lines : List ℕ) (status : ℕ) → 4 ≤ most → 1 ≤ told → told ≤ most
+    → PrintsTelling told streams text lines status → IsEndWithin most streams status
+ends_telling most told streams text lines status few least within (inl printed) =
+    ends_lines most told streams status lines least within printed.working printed.said printed.status
+ends_telling most told streams text lines status few least within (inr cut) = ends_broken most streams text status few cut
+
+ends_sums : (edition : Edition) (image path : List ℕ) (form : OutputForm) (lost : Bool) (streams : Streams) (status : ℕ)
+    → Sums edition image path form lost streams status → IsEndWithin 4 streams status
+ends_sums edition image path form lost streams status (inl (text, lines, is, printed)) =
+    ends_telling 4 1 streams text lines status (omega arith) (omega arith) (omega arith) printed
+ends_sums edition image path form lost streams status (inr (fault, is, told)) = ends_told 4 streams fault status (omega arith) told
+
+ends_finds : (edition : Edition) (image path : List ℕ) (pattern : Option (List ℕ)) (lost : Bool) (screen : Screen) (streams : Streams) (status : ℕ)
+    → Finds edition image path pattern lost screen streams status → IsEndWithin 5 streams status
+ends_finds edition image path pattern lost screen streams status (inl (text, lines, is, printed)) =
+    ends_telling 5 5 streams text lines status (omega arith) (omega arith) (omega arith) printed
+ends_finds edition image path pattern lost screen streams status (inr (fault, is, told)) = ends_told 5 streams fault status (omega arith) told
 
 ends_looks : (edition : Edition) (image : List ℕ) (screen : Screen) (streams : Streams) (status : ℕ) (look : Look)
     → Looks edition image screen streams status look → IsEndWithin (highest_status look) streams status
-ends_looks edition image screen streams status (looks.Export path options) shows = ends_from edition image options screen streams status (start_of edition image path.now) shows
-ends_looks edition image screen streams status (looks.Sums path form) shows = ends_sums edition image path.now form streams status shows
+ends_looks edition image screen streams status (looks.Export path options) shows = ends_from edition image options screen streams status (begun options.lost edition image path.now) shows
+ends_looks edition image screen streams status (looks.Sums path form) shows = ends_sums edition image path.now form false streams status shows
 ends_looks edition image screen streams status (looks.Inode node form) shows = ends_found edition image form streams status (number_of edition image node) shows
 ends_looks edition image screen streams status (looks.Super form) shows = ends_one _ _ streams status shows
 ends_looks edition image screen streams status (looks.Free form) shows = ends_one _ _ streams status shows
 ends_looks edition image screen streams status (looks.Block block) shows = ends_one _ _ streams status shows
 ends_looks edition image screen streams status (looks.Df form) shows = ends_one _ _ streams status shows
-ends_looks edition image screen streams status (looks.Find path name) shows = ends_one _ _ streams status shows
+ends_looks edition image screen streams status (looks.Find path name) shows = ends_finds edition image path.now _ false screen streams status shows
 ends_looks edition image screen streams status (looks.Map picture) shows = ends_one _ _ streams status shows
 ends_looks edition image screen streams status (looks.Check graded form) shows = ends_checks edition image graded form streams status shows
 ends_looks edition image screen streams status (looks.List path listing) shows = ends_one _ _ streams status shows

@@ -16,18 +16,19 @@ use Rattle.command_changes.specs.Import.{ImportsArchive}
 use Rattle.command_changes.specs.Put.{calls_to_put}
 use Rattle.command_reads.specs.declared.get.FileRead.{FileRead}
 use Rattle.command_reads.specs.declared.get.FilesRead.{FilesRead}
+use Rattle.command_changes.specs.declared.kept.Keep.{Keep}
 use Rattle.command_changes.specs.declared.put.NewFile.{NewFile}
-use Rattle.unixvol.specs.Runs.{Ends, EndsSaved, HostFiles, IsStatusOfFileOrMemory, RunsNothing}
+use Rattle.unixvol.specs.Runs.{Ends, EndsSaved, HostFiles, IsGivenFile, IsStatusOfFileOrMemory, RunsNothing}
 use Rattle.host_files.specs.declared.image_file.Stamp.{Stamp}
 
 -- the last name of a path; empty if the path ends in `..` or has no names (std::path)
 abbrev pub name_of : List ℕ → List ℕ
 name_of path = unwrap_or (path_file_name path) []
 
--- bytes read from files are new files, which have these names (this project)
-abbrev pub AreGiven : (List ℕ → Type 0) → List (List ℕ) → List NewFile → Type 0
-AreGiven given names news =
-    All (λ (file : NewFile). given file.bytes.items) news × (map (λ (file : NewFile). file.name.now) news ≡ names)
+-- bytes read from files are new files, with what is kept of them, and have these names (this project)
+abbrev pub AreGiven : (List ℕ → Type 0) → Keep → List (List ℕ) → List NewFile → Type 0
+AreGiven given keep names news =
+    All (λ (file : NewFile). IsGivenFile given keep file.content) news × (map (λ (file : NewFile). file.name.now) news ≡ names)
 
 -- the system's reports on whether something exists at a path (this project)
 abbrev pub Standing : Type 1
@@ -51,19 +52,19 @@ LeavesMoment streams stands now status =
 -- files with these names are put into a directory: nothing is done; or their bytes are read from files and put into an image, which is read from a
 -- file and may be changed, and the result of the calls is saved if the system reported that some file had the stamp of the image's file (this
 -- project)
-abbrev pub PutsFiles : Streams → HostFiles → Edition → List ℕ → List (List ℕ) → ℕ → ℕ → Type 0
-PutsFiles streams files edition directory names now status =
+abbrev pub PutsFiles : Streams → HostFiles → Edition → List ℕ → List (List ℕ) → Keep → ℕ → ℕ → Type 0
+PutsFiles streams files edition directory names keep now status =
     RunsNothing streams files status
-    ⊎ ((image : List ℕ) × (stamp : Stamp) × (news : List NewFile) × (answer : Answer) × files.opened edition image stamp × AreGiven files.given names news
+    ⊎ ((image : List ℕ) × (stamp : Stamp) × (news : List NewFile) × (answer : Answer) × files.opened edition image stamp × AreGiven files.given keep names news
     × ImportsArchive edition image (told (calls_to_put (reads_as edition image).tree now directory news)) [] streams.said answer
     × Keeps streams.old streams.new × (streams.failed ≡ streams.had_failed) × EndsSaved (λ saved. files.taken saved × files.stood stamp) answer status)
 
 -- several files are put at a time: if the word that was read as the time is also a file's path, nothing is done; otherwise the files are put (this
 -- project)
-abbrev pub RunsPut : Streams → HostFiles → Standing → Edition → List ℕ → List (List ℕ) → Moment → ℕ → Type 0
-RunsPut streams files stands edition directory names now status =
+abbrev pub RunsPut : Streams → HostFiles → Standing → Edition → List ℕ → List (List ℕ) → Keep → Moment → ℕ → Type 0
+RunsPut streams files stands edition directory names keep now status =
     LeavesMoment streams stands now status
-    ⊎ (IsMomentAlone stands now × PutsFiles streams files edition directory names now.seconds status)
+    ⊎ (IsMomentAlone stands now × PutsFiles streams files edition directory names keep now.seconds status)
 
 -- all bytes of each of these files were written to a file of the host (this project)
 abbrev pub AreSaved : (List ℕ → Type 0) → List FileRead → Type 0
@@ -85,9 +86,9 @@ RunsGet streams files edition paths status =
 
 -- several files are copied (this project)
 abbrev pub RunsCopy : Streams → HostFiles → Standing → Edition → Copying → ℕ → Type 0
-RunsCopy streams files stands edition (copyings.Put directory paths now) status =
-    RunsPut streams files stands edition directory.now (map (λ path. name_of path.now) paths.items) now status
-RunsCopy streams files stands edition (copyings.Get folder paths) status = RunsGet streams files edition (map (λ path. path.now) paths.items) status
+RunsCopy streams files stands edition (copyings.Put directory paths keep now) status =
+    RunsPut streams files stands edition directory.now (map (λ path. name_of path.now) paths.items) keep now status
+RunsCopy streams files stands edition (copyings.Get folder paths keeps) status = RunsGet streams files edition (map (λ path. path.now) paths.items) status
 
 -- a command that copies several files runs to its end, as a plain command does (this project)
 abbrev pub CopiesToEnd : HostFiles → Standing → Option (List ℕ) → Option (List ℕ) → Edition → Copying → ℕ → Type 0

@@ -18,6 +18,11 @@ use Rattle.command_reads.specs.declared.looks.Look.TheVariants as looks
 use Rattle.vol_listing.specs.declared.options.Screen.{Screen}
 use Rattle.vol_listing.specs.declared.options.Screen.TheVariants as screens
 use Rattle.command_changes.specs.Changes.{Changes}
+use Rattle.command_changes.specs.declared.kept.GivenFile.{GivenFile}
+use Rattle.command_changes.specs.declared.kept.Keep.{Keep}
+use Rattle.command_changes.specs.declared.kept.Keep.TheVariants as keeps
+use Rattle.command_changes.specs.declared.kept.Kept.{Kept}
+use Rattle.command_changes.specs.declared.kept.Kept.TheVariants as kepts
 use Rattle.command_changes.specs.declared.changes.Change.{Change}
 use Rattle.command_changes.specs.declared.changes.Change.TheVariants as changes
 use Rattle.command_reads.specs.Checkers.{Checks}
@@ -251,7 +256,7 @@ host_input remaining = record { unread = IsUnread remaining; given = GaveArchive
 
 -- the bytes that a change needs, from the file to put or from the archive on standard input, aren't read, with this status (this project)
 abbrev pub IsUngiven : (ℕ → Type 0) → (ℕ → Type 0) → Change → ℕ → Type 0
-IsUngiven unread unheard (changes.Put path file now) status = unread status
+IsUngiven unread unheard (changes.Put path file keep now) status = unread status
 IsUngiven unread unheard (changes.Import path options now) status = unheard status
 IsUngiven unread unheard _ status = ⊥
 
@@ -260,11 +265,23 @@ abbrev pub TakesNothing : Streams → HostFiles → HostInput → Change → ℕ
 TakesNothing streams files input change status =
     IsUngiven files.unread input.unread change status × Keeps streams.old streams.new × (streams.failed ≡ streams.had_failed) × streams.said []
 
--- the bytes to put were read from a file, and the archive to import from standard input; other changes need no bytes (this project)
-abbrev pub IsGivenTo : (List ℕ → Type 0) → (List ℕ → Type 0) → Change → List ℕ → Type 0
-IsGivenTo given heard (changes.Put path file now) bytes = given bytes
-IsGivenTo given heard (changes.Import path options now) bytes = heard bytes
-IsGivenTo given heard _ bytes = Unit {0}
+-- this may be kept of a file, besides its bytes: permissions of 12 bits, or these and a time (this project)
+abbrev pub IsKept : Keep → Kept → Type 0
+IsKept keeps.Nothing kepts.Nothing = Unit {0}
+IsKept keeps.Execution (kepts.Execution permissions) = permissions ≤ 4095
+IsKept keeps.All (kepts.All permissions modified) = permissions ≤ 4095
+IsKept keep kept = ⊥
+
+-- these bytes were read, and this may be kept of their file (this project)
+abbrev pub IsGivenFile : (List ℕ → Type 0) → Keep → GivenFile → Type 0
+IsGivenFile read keep given = read given.bytes.items × IsKept keep given.kept
+
+-- the bytes to put were read from a file, with what is kept of it, and the archive to import from standard input; other changes need no bytes (this
+-- project)
+abbrev pub IsGivenTo : (List ℕ → Type 0) → (List ℕ → Type 0) → Change → GivenFile → Type 0
+IsGivenTo read heard (changes.Put path file keep now) given = IsGivenFile read keep given
+IsGivenTo read heard (changes.Import path options now) given = heard given.bytes.items
+IsGivenTo read heard _ given = Unit {0}
 
 -- true if a change imports an archive from standard input, and standard input is a terminal (this project)
 abbrev pub wants_terminal : Bool → Change → Bool
@@ -280,8 +297,8 @@ LeavesTerminal streams status = (status ≡ 3) × Keeps streams.old streams.new 
 abbrev pub ChangesImage : Streams → HostFiles → HostInput → Edition → Change → ℕ → Type 0
 ChangesImage streams files input edition change status =
     RunsNothing streams files status ⊎ (TakesNothing streams files input change status
-    ⊎ ((image : List ℕ) × (stamp : Stamp) × (bytes : List ℕ) × (answer : Answer) × files.opened edition image stamp × IsGivenTo files.given input.given change bytes
-    × Changes edition image bytes streams answer change × EndsSaved (λ saved. files.taken saved × files.stood stamp) answer status))
+    ⊎ ((image : List ℕ) × (stamp : Stamp) × (given : GivenFile) × (answer : Answer) × files.opened edition image stamp × IsGivenTo files.given input.given change given
+    × Changes edition image given streams answer change × EndsSaved (λ saved. files.taken saved × files.stood stamp) answer status))
 
 -- a change runs: if an archive is needed from a terminal, nothing is done; otherwise the volume is changed (this project)
 abbrev pub RunsChange : Streams → HostFiles → HostInput → Bool → Edition → Change → ℕ → Type 0
@@ -378,7 +395,7 @@ pub record IsEndWithin (most : ℕ) (streams : Streams) (status : ℕ) : Type 0 
 abbrev pub IsEnd : Streams → ℕ → Type 0
 IsEnd streams status = IsEndWithin 4 streams status
 
--- the highest status of a command that shows part of an image: 6 if it is graded, else 4 (this project)
+-- the highest status of a command that shows part of an image: 6 if it is graded, 5 of `find`, else 4 (this project)
 abbrev pub highest_status : Look → ℕ
 highest_status (looks.Export path options) = if options.graded then 6 else 4
 highest_status (looks.Check graded form) = if graded then 6 else 4
@@ -388,7 +405,7 @@ highest_status (looks.Super form) = 4
 highest_status (looks.Free form) = 4
 highest_status (looks.Block block) = 4
 highest_status (looks.Df form) = 4
-highest_status (looks.Find path name) = 4
+highest_status (looks.Find path name) = 5
 highest_status (looks.Map picture) = 4
 highest_status (looks.List path listing) = 4
 highest_status (looks.Slots path) = 4

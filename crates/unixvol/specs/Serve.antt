@@ -105,7 +105,7 @@ RunsMounted files edition said moved result =
 -- `serve` runs in the way that its options choose (this project)
 abbrev pub RunsServe : HostFiles → Edition → Serving → (List ℕ → Type 0) → Messages → Result (Result (Unit {0}) ServeFault) ℕ → Type 0
 RunsServe files edition servings.ReadOnly said moved result = RunsReadOnly files edition said moved result
-RunsServe files edition (servings.Changes is_mine) said moved result = RunsMounted files edition said moved result
+RunsServe files edition (servings.Changes is_mine rescue) said moved result = RunsMounted files edition said moved result
 
 -- the exit status: the status of an image that wasn't served or couldn't be saved; otherwise 0 at the end of the requests, 4 if memory ran out, and 3
 -- if a reply couldn't be sent or a request couldn't be read (this project)

@@ -7,11 +7,11 @@ ghost use Rattle.unixvol.specs.Runs.{ChangesToEnd, Ends, GaveArchive, GaveBytes,
 use crate::explain::{NamedFile, explain_unread, finish, tell_fault};
 use crate::host::Surroundings;
 use crate::packed::packed_words;
-use crate::read::{Begun, begin, read_file, read_open};
+use crate::read::{Begun, begin, read_given, read_open};
 use crate::save::save_answer;
 use crate::subject::Subject;
-use command_changes::Change;
 use command_changes::change::perform;
+use command_changes::{Change, GivenFile, Kept};
 use command_faults::Ending;
 use command_line::VolumeFile;
 use host_files::{FileKind, ImageFiles, UpTo};
@@ -98,7 +98,7 @@ fn run<R: ImageFiles + Clock + Eprint + AllocGlobal, I: Read + Drop>(
         stamp,
         locked: _locked,
     } = begun;
-    *packed = packed_words(&given);
+    *packed = packed_words(&given.bytes);
     let answer = perform(host.rt.alloc(), volume.edition, image, given, change);
     let status = save_answer(host, volume.image, stamp, &answer);
     Ending {
@@ -117,23 +117,35 @@ fn wants_terminal(is_terminal: bool, change: Change<'_>) -> bool
     }
 }
 
-/// Returns the bytes of the file to put, or of the archive to import; empty for another change.
+/// Returns the bytes of the file to put, with what is kept of it, or of the archive to import; none for another change.
 fn given_to<R: ImageFiles + Eprint + AllocGlobal, I: Read + Drop>(
     host: &Surroundings<'_, R>,
     image: &str,
     input: I,
     change: Change<'_>,
-) -> Result<Vec<u8>, u8>
-    ensures given { IfOk result (λ given. IsGivenTo (GaveBytes R.File.remaining) (GaveArchive I.remaining) change.entry given.items) }
+) -> Result<GivenFile, u8>
+    ensures given { IfOk result (IsGivenTo (GaveBytes R.File.remaining) (GaveArchive I.remaining) change.entry) }
     ensures fault { IfErr result (IsUngiven (IsUnread R.File.remaining) (IsUnread I.remaining) change.entry) }
 {
     match change {
-        Change::Put { file, .. } => read_file(host, file),
+        Change::Put { file, keep, .. } => read_given(host, file, keep),
         Change::Import { .. } => {
             let blocks = archive_room(host.rt, image);
-            Ok(read_open(host, NamedFile::Input, UpTo::Archive(blocks), input)?.bytes)
+            let read = read_open(host, NamedFile::Input, UpTo::Archive(blocks), input)?;
+            Ok(with_nothing(read.bytes))
         }
-        _ => Ok(Vec::new(host.rt.alloc())),
+        _ => Ok(with_nothing(Vec::new(host.rt.alloc()))),
+    }
+}
+
+/// Returns bytes that aren't those of a file to put.
+fn with_nothing(bytes: Vec<u8>) -> GivenFile
+    ensures bytes { result.bytes ≡ bytes }
+    ensures kept { result.kept ≡ Kept.Nothing }
+{
+    GivenFile {
+        bytes,
+        kept: Kept::Nothing,
     }
 }
 

@@ -3,25 +3,25 @@ ghost use Rattle.std.specs.Prelude.{◌≡◌, ◌≢◌, ◌⊎◌, ℕ, All, B
 ghost use Rattle.std.specs.Process.{exit_status};
 ghost use Rattle.command_faults.specs.Streams.{ErrorStream, Hears, still};
 ghost use Rattle.unixvol.specs.Copies.{AreGiven, AreSaved, CopiesToEnd, IsFileToo, IsMomentAlone, ReadSaved, RunsCopy, RunsGet, RunsPut, name_of};
-ghost use Rattle.unixvol.specs.Runs.{Ends, GaveBytes, IsStatusOfFileOrMemory, IsUnread, host_files};
+ghost use Rattle.unixvol.specs.Runs.{Ends, GaveBytes, IsGivenFile, IsStatusOfFileOrMemory, IsUnread, host_files};
 ghost use Rattle.host_files.specs.Save.{IsTaken};
 
 use crate::explain::{
     NamedFile, explain_moment, explain_no_memory, explain_unwritten, finish, tell_fault,
 };
 use crate::host::Surroundings;
-use crate::read::{Begun, begin, read_file, read_stamped};
+use crate::read::{Begun, begin, read_given, read_stamped};
 use crate::save::{save_answer, save_new};
 use crate::subject::Subject;
+use command_changes::Keep;
 use command_changes::put::{NewFile, put_files};
 use command_faults::Ending;
 use command_faults::status::DONE;
 use command_line::{Copying, VolumeFile};
 use command_reads::get::{FileRead, FilesRead, get_files};
 use command_words::Moment;
-use host_files::{ImageFiles, Stamp, is_pipe};
+use host_files::{ImageFiles, Marks, Stamp, is_pipe};
 use pdp_words::IntoWrite;
-use std::fs::Files;
 use std::io::{self, Write};
 use std::path::Path;
 use std::process::ExitCode;
@@ -64,9 +64,14 @@ fn run<R: ImageFiles + Clock + Eprint + AllocGlobal>(
         Copying::Put {
             directory,
             files,
+            keep,
             now,
-        } => run_put(host, volume, directory, &files, now),
-        Copying::Get { folder, paths } => run_get(host, volume, folder, &paths),
+        } => run_put(host, volume, directory, &files, keep, now),
+        Copying::Get {
+            folder,
+            paths,
+            keeps,
+        } => run_get(host, volume, folder, &paths, keeps),
     }
 }
 
@@ -77,11 +82,12 @@ fn run_put<R: ImageFiles + Clock + Eprint + AllocGlobal>(
     volume: VolumeFile<'_>,
     directory: &str,
     paths: &[&str],
+    keep: Keep,
     now: Moment<'_>,
 ) -> Ending
     ensures runs { (known : Option (List ℕ)) (failed : Bool) (errors : ErrorStream) → Hears errors result.fault
         → RunsPut (still known failed errors) (host_files R.File.remaining R.File.contents R.had R.stood) R.stands volume.entry.edition directory.now
-        (map (λ path. name_of path.now) paths.now) now.entry result.status }
+        (map (λ path. name_of path.now) paths.now) keep now.entry result.status }
     ensures ends { (known : Option (List ℕ)) (failed : Bool) (errors : ErrorStream) → Hears errors result.fault
         → Ends (still known failed errors) result.status }
 {
@@ -92,9 +98,9 @@ fn run_put<R: ImageFiles + Clock + Eprint + AllocGlobal>(
         };
     }
     let read = ||
-        ensures given { IfOk result (λ files. AreGiven (GaveBytes R.File.remaining) (map (λ path. name_of path.now) paths.entry.now) files.items) }
+        ensures given { IfOk result (λ files. AreGiven (GaveBytes R.File.remaining) keep (map (λ path. name_of path.now) paths.entry.now) files.items) }
         ensures fault { IfErr result (IsUnread R.File.remaining) }
-    { read_named(host, paths) };
+    { read_named(host, paths, keep) };
     let begun = match begin(host, volume, read) {
         Ok(begun) => begun,
         Err(status) => {
@@ -129,21 +135,22 @@ fn moment_file<'a, R: ImageFiles>(rt: &R, now: Moment<'a>) -> Option<&'a str>
     if rt.is_there(word) { Some(word) } else { None }
 }
 
-/// Reads the files at some paths, in order, and names each by the last name of its path. If one can't be read, prints the fault and returns the
-/// status.
-fn read_named<'a, R: Files + Eprint + AllocGlobal>(
+/// Reads the files at some paths, in order, with what is kept of them, and names each by the last name of its path. If one can't be read, prints the
+/// fault and returns the status.
+fn read_named<'a, R: ImageFiles + Eprint + AllocGlobal>(
     host: &Surroundings<'_, R>,
     paths: &[&'a str],
+    keep: Keep,
 ) -> Result<Vec<NewFile<'a>>, u8>
-    ensures given { IfOk result (λ files. All (λ file. GaveBytes R.File.remaining file.bytes.items) files.items) }
+    ensures given { IfOk result (λ files. All (λ file. IsGivenFile (GaveBytes R.File.remaining) keep file.content) files.items) }
     ensures named { IfOk result (λ files. map (λ file. file.name.now) files.items ≡ map (λ path. name_of path.now) paths.now) }
     ensures fault { IfErr result (IsUnread R.File.remaining) }
 {
     let mut files = Vec::new(host.rt.alloc());
     'files: for path in paths {
-        let bytes = read_file(host, path)?;
+        let content = read_given(host, path, keep)?;
         let name = name_of(path);
-        let Ok(()) = files.push(NewFile { name, bytes }) else {
+        let Ok(()) = files.push(NewFile { name, content }) else {
             return Err(explain_no_memory(host));
         };
     }
@@ -164,6 +171,7 @@ fn run_get<R: ImageFiles + Clock + Eprint + AllocGlobal>(
     volume: VolumeFile<'_>,
     folder: &str,
     paths: &[&str],
+    keeps: bool,
 ) -> Ending
     ensures runs { (known : Option (List ℕ)) (failed : Bool) (errors : ErrorStream) → Hears errors result.fault
         → RunsGet (still known failed errors) (host_files R.File.remaining R.File.contents R.had R.stood) volume.entry.edition (map (λ path. path.now) paths.now) result.status }
@@ -180,24 +188,25 @@ fn run_get<R: ImageFiles + Clock + Eprint + AllocGlobal>(
         }
     };
     let read = get_files(host.rt.alloc(), volume.edition, image, paths);
-    let status = save_read(host, folder, stamp, &read);
+    let status = save_read(host, folder, stamp, &read, keeps);
     Ending {
         status,
         fault: read.fault,
     }
 }
 
-/// If files were read from a volume, saves them in a folder. Returns the exit status.
+/// If files were read from a volume, saves them in a folder, with their marks if `keeps`. Returns the exit status.
 fn save_read<R: ImageFiles + Clock + Eprint + AllocGlobal>(
     host: &Surroundings<'_, R>,
     folder: &str,
     image: Stamp,
     read: &FilesRead<'_>,
+    keeps: bool,
 ) -> u8
     ensures { ReadSaved (IsTaken R.File.contents) read.now result }
 {
     match &read.files {
-        Some(files) => save_files(host, folder, image, files, read.status),
+        Some(files) => save_files(host, folder, image, files, keeps, read.status),
         None => read.status,
     }
 }
@@ -209,12 +218,13 @@ fn save_files<R: ImageFiles + Clock + Eprint + AllocGlobal>(
     folder: &str,
     image: Stamp,
     files: &[FileRead<'_>],
+    keeps: bool,
     status: u8,
 ) -> u8
     ensures { ((result ≡ status) × AreSaved (IsTaken R.File.contents) files.now) ⊎ IsStatusOfFileOrMemory result }
 {
     'files: for file in files {
-        let saved = save_file_read(host, folder, image, file);
+        let saved = save_file_read(host, folder, image, file, keeps);
         if saved != DONE {
             return saved;
         }
@@ -222,13 +232,14 @@ fn save_files<R: ImageFiles + Clock + Eprint + AllocGlobal>(
     status
 }
 
-/// Saves a file of a volume in a folder, under the last name of its path, and returns the exit status. A pipe or a socket with this name isn't
-/// replaced.
+/// Saves a file of a volume in a folder, under the last name of its path, with its marks if `keeps`, and returns the exit status. A pipe or a socket
+/// with this name isn't replaced.
 fn save_file_read<R: ImageFiles + Clock + Eprint + AllocGlobal>(
     host: &Surroundings<'_, R>,
     folder: &str,
     image: Stamp,
     file: &FileRead<'_>,
+    keeps: bool,
 ) -> u8
     ensures { ((result ≡ 0) × IsTaken R.File.contents file.now.bytes.items) ⊎ IsStatusOfFileOrMemory result }
 {
@@ -239,5 +250,13 @@ fn save_file_read<R: ImageFiles + Clock + Eprint + AllocGlobal>(
     if is_pipe(host.rt, place) {
         return explain_unwritten(host, NamedFile::File(place), io::Error::other(PIPE));
     }
-    save_new(host, place, image, &file.bytes, DONE)
+    let marks = if keeps {
+        Some(Marks {
+            permissions: file.stat.permissions,
+            modified: file.stat.modified,
+        })
+    } else {
+        None
+    };
+    save_new(host, place, image, &file.bytes, marks, DONE)
 }

@@ -100,7 +100,7 @@ pub fn reason_of(error: Option<io::Error>) -> io::Error {
 }
 
 /// Prints the second line for a file that failed, if the user asked for it.
-fn tell_why<R: Eprint + AllocGlobal>(
+pub fn tell_why<R: Eprint + AllocGlobal>(
     host: &Surroundings<'_, R>,
     file: NamedFile<'_>,
     why: io::Error,

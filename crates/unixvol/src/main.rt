@@ -14,6 +14,7 @@ mod mounted;
 mod packed;
 mod read;
 mod replaced;
+mod rescue;
 mod save;
 mod serve;
 mod sizes;

@@ -9,6 +9,7 @@ use crate::explain::{NamedFile, explain_unread, tell_fault};
 use crate::host::Surroundings;
 use crate::moment;
 use crate::read::{Begun, begin};
+use crate::rescue::{expect_free, rescue};
 use crate::save::explain_unsaved;
 use crate::subject::Subject;
 use command_faults::mount::mount;
@@ -16,6 +17,7 @@ use command_faults::status::{BAD_FILE, NO_MEMORY};
 use command_line::VolumeFile;
 use host_files::{Content, HeldFile, ImageFiles, save_held};
 use pdp_words::{Image, Sink};
+use std::env::Env;
 use std::fs;
 use std::marker::PhantomData;
 use std::os::unix::fs::MetadataExt;
@@ -52,22 +54,23 @@ struct ImageSaver<'a, R: ImageFiles> {
 }
 
 /// Mounts the volume in a file, which stays locked, and serves it with changes until the requests end. The volume is saved in its file when the
-/// kernel asks for it, and at the end. The inner result is the server's; the outer error is the exit status if nothing was served, or if the volume
+/// kernel asks for it, and at the end. If that fails at the end, its image is written to another file: to `rescued`, if a path is given. The inner result is the server's; the outer error is the exit status if nothing was served, or if the volume
 /// couldn't be saved at the end. Its line has been printed.
-pub fn run<R: ImageFiles + Clock + Eprint + AllocGlobal, Q: Requests, P: Replies, E: Sink>(
+pub fn run<R: ImageFiles + Env + Clock + Eprint + AllocGlobal, Q: Requests, P: Replies, E: Sink>(
     host: &Surroundings<'_, R>,
     requests: &mut Q,
     replies: &mut P,
     errors: &mut E,
     volume: VolumeFile<'_>,
     is_mine: bool,
+    rescued: Option<&str>,
 ) -> Result<Result<(), ServeFault>, u8>
     ensures { RunsMounted (host_files R.File.remaining R.File.contents R.had R.stood) volume.entry.edition
         (says (heard E.contents E.failed errors.old errors.new)) (messages Q.taken P.sent requests.old requests.new replies.old replies.new) result }
 {
     let owner_told = ||
         ensures { IfErr result (IsUnread R.File.remaining) }
-    { owner(host, is_mine) };
+    { prepare(host, is_mine, rescued) };
     let begun = match begin(host, volume, owner_told) {
         Ok(begun) => begun,
         Err(status) => return Err(status),
@@ -93,7 +96,22 @@ pub fn run<R: ImageFiles + Clock + Eprint + AllocGlobal, Q: Requests, P: Replies
         saved: Vec::new(host.rt.alloc()),
     };
     let served = serve(host.rt.alloc(), &mut server, requests, replies, &mut saver);
+    if let Err(MountedFault::Unsaved) = served {
+        let _ = rescue(host, volume.image, rescued, server.volume().image());
+    }
     result_of(served, saver.ran_out)
+}
+
+/// Checks that there is no file yet for a rescue, and returns the user and the group to show, as [`owner`] does.
+fn prepare<R: ImageFiles + Eprint + AllocGlobal>(
+    host: &Surroundings<'_, R>,
+    is_mine: bool,
+    rescued: Option<&str>,
+) -> Result<Option<Owner>, u8>
+    ensures { IfErr result (IsUnread R.File.remaining) }
+{
+    expect_free(host, rescued)?;
+    owner(host, is_mine)
 }
 
 /// Returns the user and the group of the program, if all nodes are shown as belonging to them. If the system doesn't report them, prints the fault

@@ -3,17 +3,18 @@ ghost use Rattle.std.specs.Prelude.{◌≡◌, ◌⊎◌, false, true, All, Err,
 ghost use Rattle.pdp_words.specs.Devices.{LosesFront};
 ghost use Rattle.host_files.specs.OpenedFiles.{IsOpened};
 ghost use Rattle.host_files.specs.ReadParts.{IsPast, IsReadUpTo};
-ghost use Rattle.unixvol.specs.Runs.{Gave, GaveBytes, GaveImage, IsStatusOfFileOrMemory, IsUnread};
+ghost use Rattle.unixvol.specs.Runs.{Gave, GaveBytes, GaveImage, IsKept, IsStatusOfFileOrMemory, IsUnread};
 
 use crate::explain::{NamedFile, explain_no_memory, explain_unread, explain_unwritten, reason_of};
 use crate::host::Surroundings;
+use command_changes::{GivenFile, Keep, Kept};
 use command_line::VolumeFile;
 use host_files::{
-    FileKind, FrontFault, ImageFiles, Noted, OpenFault, Stamp, UpTo, expect_image, noted_reader,
-    open_image, open_stamped, read_up_to,
+    FileKind, FrontFault, ImageFiles, Noted, OpenFault, Stamp, UpTo, expect_image, modified_in,
+    noted_reader, open_image, open_stamped, permissions_of, read_up_to,
 };
 use pdp_words::Source;
-use std::fs::{self, Files};
+use std::fs::{self, Files, OpenFile};
 use std::io::{self, Read};
 use std::rt::Clock;
 use vol_layout::Edition;
@@ -42,6 +43,46 @@ pub fn read_file<R: Files + Eprint + AllocGlobal>(
     ensures fault { IfErr result (IsUnread R.File.remaining) }
 {
     read_so_far(host, UpTo::End, path)
+}
+
+/// Reads a file to put to its end, with what is kept of it besides its bytes. If it can't be read, or its time can't be kept, prints the fault and
+/// returns the status.
+pub fn read_given<R: ImageFiles + Eprint + AllocGlobal>(
+    host: &Surroundings<'_, R>,
+    path: &str,
+    keep: Keep,
+) -> Result<GivenFile, u8>
+    ensures given { IfOk result (λ given. GaveBytes R.File.remaining given.bytes.items) }
+    ensures kept { IfOk result (λ given. IsKept keep given.kept) }
+    ensures fault { IfErr result (IsUnread R.File.remaining) }
+{
+    let named = NamedFile::File(path);
+    let (file, stamp) = match open_stamped(host.rt, path) {
+        Ok(opened) => opened,
+        Err(why) => return Err(explain_unread(host, named, why)),
+    };
+    let kept = match kept_of(keep, &file, stamp) {
+        Ok(kept) => kept,
+        Err(why) => return Err(explain_unread(host, named, why)),
+    };
+    let bytes = read_open(host, named, UpTo::End, file)?.bytes;
+    Ok(GivenFile { bytes, kept })
+}
+
+/// Returns what is kept of an open file, which has this stamp, besides its bytes.
+fn kept_of<F: OpenFile>(keep: Keep, file: &F, stamp: Stamp) -> io::Result<Kept>
+    ensures { IfOk result (IsKept keep) }
+{
+    match keep {
+        Keep::Nothing => Ok(Kept::Nothing),
+        Keep::Execution => Ok(Kept::Execution {
+            permissions: permissions_of(file)?,
+        }),
+        Keep::All => Ok(Kept::All {
+            permissions: permissions_of(file)?,
+            modified: modified_in(stamp)?,
+        }),
+    }
 }
 
 /// Reads the image of the volume in a file. If it can't be read, prints the fault and returns the status.

@@ -1,5 +1,5 @@
 //! Saves the result of a command in its file, and returns the exit status.
-ghost use Rattle.std.specs.Prelude.{◌≡◌, ◌⊎◌, IfErr, IfSome};
+ghost use Rattle.std.specs.Prelude.{◌≡◌, ◌⊎◌, IfErr, IfSome, OnOk};
 ghost use Rattle.unixvol.specs.Runs.{IsStatusOfFileOrMemory, EndsPlayed, EndsSaved, MadeSaved};
 ghost use Rattle.host_files.specs.Save.{IsTaken, Saves};
 
@@ -10,7 +10,9 @@ use command_changes::MadeVolume;
 use command_faults::Answer;
 use command_faults::status::BAD_FILE;
 use command_line::MadeFile;
-use host_files::{Content, FileKind, ImageFiles, OpenFault, Stamp, open_image, save_file};
+use host_files::{
+    Content, FileKind, ImageFiles, Marks, OpenFault, Stamp, open_image, save_file, save_marked,
+};
 use std::io;
 use std::rt::Clock;
 
@@ -125,18 +127,20 @@ pub fn save_over<R: ImageFiles + Clock + Eprint + AllocGlobal>(
     ensures { ((result ≡ status) × IsTaken R.File.contents bytes.now) ⊎ IsStatusOfFileOrMemory result }
 {
     let held = held_at(host, path);
-    let saved = save_new(host, path, old, bytes, status);
+    let saved = save_new(host, path, old, bytes, None, status);
     tell_replaced(host, path, saved, held);
     saved
 }
 
 /// Saves bytes in the file `path`, and returns the exit status: `status` if they are saved. The bytes were made from the file with the stamp `old`;
-/// that file isn't replaced, whatever its path. An existing regular file is locked meanwhile, if it can be opened.
+/// that file isn't replaced, whatever its path. An existing regular file is locked meanwhile, if it can be opened. A new file gets these marks, if some
+/// are given.
 pub fn save_new<R: ImageFiles + Clock + Eprint + AllocGlobal>(
     host: &Surroundings<'_, R>,
     path: &str,
     old: Stamp,
     bytes: &[u8],
+    marks: Option<Marks>,
     status: u8,
 ) -> u8
     ensures { ((result ≡ status) × IsTaken R.File.contents bytes.now) ⊎ IsStatusOfFileOrMemory result }
@@ -148,7 +152,26 @@ pub fn save_new<R: ImageFiles + Clock + Eprint + AllocGlobal>(
         Ok(locked) => locked,
         Err(status) => return status,
     };
-    save(host, path, None, Content::Bytes(bytes), status)
+    match write_new(host, path, bytes, marks) {
+        Ok(()) => status,
+        Err(why) => explain_unsaved(host, path, why),
+    }
+}
+
+/// Saves bytes in the file `path`, with these marks, if some are given.
+fn write_new<R: ImageFiles + AllocGlobal>(
+    host: &Surroundings<'_, R>,
+    path: &str,
+    bytes: &[u8],
+    marks: Option<Marks>,
+) -> io::Result<()>
+    ensures { OnOk result (IsTaken R.File.contents bytes.now) }
+{
+    let content = Content::Bytes(bytes);
+    match marks {
+        Some(marks) => save_marked(host.rt, path, content, marks),
+        None => save_file(host.rt, path, None, content),
+    }
 }
 
 /// True if the file with a stamp is at `path`, perhaps through symbolic links.

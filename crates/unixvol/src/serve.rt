@@ -19,6 +19,7 @@ use command_faults::status::{DONE, NO_MEMORY, REFUSED};
 use command_line::{Serving, VolumeFile};
 use host_files::ImageFiles;
 use pdp_words::{Image, IntoWrite, Sink};
+use std::env::Env;
 use std::io::{self, Read, Write};
 use std::process::ExitCode;
 use std::rt::Clock;
@@ -34,7 +35,7 @@ const UNMOUNTED: i32 = 19;
 /// with one write to `output`, which is standard output. This ends when the input ends, or when the system reports that the volume is unmounted. A
 /// fault, or the first rule that the image breaks, is printed as one line on standard error; `errors` writes to standard error too.
 pub fn run_to_end<
-    R: ImageFiles + Clock + Eprint + AllocGlobal,
+    R: ImageFiles + Env + Clock + Eprint + AllocGlobal,
     I: Read + Drop,
     O: Write + Drop,
     E: Write + Drop,
@@ -44,9 +45,9 @@ pub fn run_to_end<
     output: O,
     errors: E,
     volume: VolumeFile<'_>,
-    serving: Serving,
+    serving: Serving<'_>,
 ) -> ExitCode
-    ensures { ServesToEnd (host_files R.File.remaining R.File.contents R.had R.stood) (E.contents errors) volume.entry.edition serving (exit_status result) }
+    ensures { ServesToEnd (host_files R.File.remaining R.File.contents R.had R.stood) (E.contents errors) volume.entry.edition serving.entry (exit_status result) }
 {
     let mut errors = IntoWrite::new(errors);
     let mut requests = RequestReader::new(input);
@@ -65,21 +66,21 @@ pub fn run_to_end<
 
 /// Serves the volume in a file. The inner result is the server's; the outer error is the exit status if nothing was served, or if the changes
 /// couldn't be saved.
-fn run<R: ImageFiles + Clock + Eprint + AllocGlobal, Q: Requests, P: Replies, E: Sink>(
+fn run<R: ImageFiles + Env + Clock + Eprint + AllocGlobal, Q: Requests, P: Replies, E: Sink>(
     host: &Surroundings<'_, R>,
     requests: &mut Q,
     replies: &mut P,
     errors: &mut E,
     volume: VolumeFile<'_>,
-    serving: Serving,
+    serving: Serving<'_>,
 ) -> Result<Result<(), ServeFault>, u8>
-    ensures { RunsServe (host_files R.File.remaining R.File.contents R.had R.stood) volume.entry.edition serving
+    ensures { RunsServe (host_files R.File.remaining R.File.contents R.had R.stood) volume.entry.edition serving.entry
         (says (heard E.contents E.failed errors.old errors.new)) (messages Q.taken P.sent requests.old requests.new replies.old replies.new) result }
 {
     match serving {
         Serving::ReadOnly => run_read_only(host, requests, replies, errors, volume),
-        Serving::Changes { is_mine } => {
-            mounted::run(host, requests, replies, errors, volume, is_mine)
+        Serving::Changes { is_mine, rescue } => {
+            mounted::run(host, requests, replies, errors, volume, is_mine, rescue)
         }
     }
 }

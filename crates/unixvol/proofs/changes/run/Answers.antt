@@ -33,13 +33,13 @@ returns-in-Err-clause-runs g c known failed errors hears =
 pub returns-clause-runs : goal.returns-clause-runs
 returns-clause-runs g c known failed errors hears =
     let called = c.in-Ok.ensures.given in
-    let given : IsGivenTo (GaveBytes g.R.File.Read.remaining) (GaveArchive g.I.Read.remaining) c.args.change c.in-Ok.begun.given.items = search rules in
+    let given : IsGivenTo (GaveBytes g.R.File.Read.remaining) (GaveArchive g.I.Read.remaining) c.args.change c.in-Ok.begun.given = search rules in
     inr (
       sym c.wants_terminal.ensures ∙ c.if-wants_terminal.false,
       inr (inr (
         c.in-Ok.begun.image.items,
         c.in-Ok.begun.stamp,
-        c.in-Ok.begun.given.items,
+        c.in-Ok.begun.given,
         c.perform-answer.result,
         c.in-Ok.ensures.image,
         given,
@@ -64,5 +64,5 @@ returns-in-Err-clause-ends g c known failed errors hears =
 
 pub returns-clause-ends : goal.returns-clause-ends
 returns-clause-ends g c known failed errors hears =
-    ends_change c.args.volume.edition c.in-Ok.begun.image.items _ (still known failed errors) _ c.perform-answer.result c.save_answer-status.result c.args.change
+    ends_change c.args.volume.edition c.in-Ok.begun.image.items c.in-Ok.begun.given (still known failed errors) _ c.perform-answer.result c.save_answer-status.result c.args.change
     (c.perform-answer.ensures known failed errors hears) c.save_answer-status.ensures

@@ -24,7 +24,7 @@ returns-in-Err-clause-runs g c known failed errors hears =
 pub returns-clause-runs : goal.returns-clause-runs
 returns-clause-runs g c known failed errors hears =
     let called = c.in-Ok.ensures.given in
-    let given : AreGiven (GaveBytes g.R.File.Read.remaining) _ c.in-Ok.begun.given.items = search rules in
+    let given : AreGiven (GaveBytes g.R.File.Read.remaining) c.args.keep _ c.in-Ok.begun.given.items = search rules in
     inr (
       c.moment_file.ensures.none c.in_default.is,
       inr (

@@ -1,9 +1,11 @@
 #!/usr/bin/env bash
 # Tests the built library from C, Python and Rust: each function, each refused allocation, threads, the examples, the installed files, and that the
 # declarations agree with the source. If a tool is missing, its tests are skipped with a message.
-# Usage: tests/library.sh FOLDER, which tools/library.sh built. It prints what fails, and ends with 'N passed, N failed, N skipped'.
+# Usage: tests/library.sh FOLDER [PROGRAM], which are what tools/library.sh built, and ./unixvol if no other is given. It prints what fails, and ends with
+# 'N passed, N failed, N skipped'.
 set -uo pipefail
-built=$(realpath "${1:?usage: $0 FOLDER}")
+built=$(realpath "${1:?usage: $0 FOLDER [PROGRAM]}")
+program=$(realpath -m "${2:-$(dirname "$0")/../unixvol}")
 cd "$(dirname "$0")/.." || exit 1
 top=$PWD
 room=$(mktemp -d)
@@ -21,7 +23,7 @@ runs() {
         passed=$((passed + 1))
     else
         failed=$((failed + 1))
-        echo "failed: $label"
+        echo "tests/library.sh:${BASH_LINENO[-2]}: failed: $label"
         sed 's/^/    /' "$room/output"
     fi
 }
@@ -115,6 +117,11 @@ test_python() {
     runs 'the lesson' diff "$room/lesson" bindings/python/examples/lesson.txt
     python3 bindings/python/examples/list_all.py 7 samples/linux_made.v7 > "$room/all" 2>&1
     runs 'list_all' grep -q '^drwxr-xr-x   2   0     688 ....-..-.. ..:.. games$' "$room/all"
+    if [ -x "$program" ]; then
+        runs 'saves of Python and of the program' python3 bindings/python/tests/beside_program.py "$program" "$room"
+    else
+        skips "$program is not built: saves of Python and of the program"
+    fi
     unset PYTHONPATH
     if python3 -m pip --version > "$room/output" 2>&1; then
         runs 'the wheel' python3 -m pip install --no-index -q --target "$room/wheel" "$built/python"

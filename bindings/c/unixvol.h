@@ -209,8 +209,8 @@ int32_t unixvol_cut(unixvol *volume);
 /* Keeps the report of a checker: icheck for the letter i, dcheck for d, ncheck for n. */
 int32_t unixvol_report(unixvol *volume, uint8_t letter);
 
-/* Keeps a tar archive of all that is below a directory. left_out is how many entries are left out, since a header has
- * no room for their paths. */
+/* Keeps a tar archive of all that is below a directory. left_out is how many entries are left out, since their
+ * paths have more than 4,096 bytes. */
 int32_t unixvol_export(unixvol *volume, const void *path, size_t path_count, size_t *left_out);
 
 /* The number of bytes of the answer. Needs no memory. */

@@ -15,8 +15,8 @@ from pathlib import Path
 
 HERE = Path(__file__).resolve().parent
 
-# Any Python 3, on Linux on x86-64: the object needs nothing newer than that year's C library.
-TAG = "py3-none-manylinux2014_x86_64"
+# Any Python 3, on Linux: the object needs nothing newer than that year's C library.
+TAG = "py3-none-manylinux2014_"
 
 
 def build_wheel(folder: str, config_settings: object = None, metadata_directory: object = None) -> str:
@@ -25,21 +25,23 @@ def build_wheel(folder: str, config_settings: object = None, metadata_directory:
         raise FileNotFoundError("the shared object isn't here: run `make library`, and install bindings/out/python")
     told = dict(re.findall(r'^(\w[\w-]*) = "(.*)"$', (HERE / "pyproject.toml").read_text(), re.M))
     name = f"unixvol-{told['version']}"
+    # `make library` adds the machine to pyproject.toml, if it is another one.
+    tag = TAG + told.get("machine", "x86_64")
     files = {f"unixvol/{it.name}": it.read_bytes() for it in sorted((HERE / "unixvol").iterdir()) if it.is_file()}
     files[f"{name}.dist-info/METADATA"] = (
         f"Metadata-Version: 2.1\nName: unixvol\nVersion: {told['version']}\nSummary: {told['description']}\n"
         f"License: MIT\nRequires-Python: {told['requires-python']}\n"
     ).encode()
     files[f"{name}.dist-info/LICENSE"] = (HERE / "LICENSE").read_bytes()
-    files[f"{name}.dist-info/WHEEL"] = f"Wheel-Version: 1.0\nRoot-Is-Purelib: false\nTag: {TAG}\n".encode()
+    files[f"{name}.dist-info/WHEEL"] = f"Wheel-Version: 1.0\nRoot-Is-Purelib: false\nTag: {tag}\n".encode()
     files[f"{name}.dist-info/RECORD"] = record_of(files, f"{name}.dist-info/RECORD").encode()
-    with zipfile.ZipFile(Path(folder, f"{name}-{TAG}.whl"), "w") as wheel:
+    with zipfile.ZipFile(Path(folder, f"{name}-{tag}.whl"), "w") as wheel:
         for path, data in files.items():
             entry = zipfile.ZipInfo(path)
             entry.external_attr = 0o644 << 16
             # Not compressed: releases are, as a whole, and versions of zlib compress to different bytes.
             wheel.writestr(entry, data, zipfile.ZIP_STORED)
-    return f"{name}-{TAG}.whl"
+    return f"{name}-{tag}.whl"
 
 
 def record_of(files: dict[str, bytes], itself: str) -> str:

@@ -1,18 +1,25 @@
 """Tests of the Python package. What the library itself does is proved; here it is that Python hands it on."""
 
 import copy
+import errno
+import fcntl
 import hashlib
+import io
 import os
 import pickle
 import re
 import stat
+import struct
 import tempfile
 import threading
 import unittest
+from contextlib import contextmanager
 from datetime import datetime, timedelta, timezone
 from pathlib import Path
+from unittest import mock
 
 import unixvol
+from unixvol import _files
 
 SAMPLES = Path(__file__).resolve().parents[3] / "samples"
 MOMENT = 300000000
@@ -202,7 +209,7 @@ class Faults(unittest.TestCase):
             self.assertRaises(unixvol.NoReport, volume.report, "fsck")
 
     def test_copies(self):
-        for fault in unixvol.NoEntry("/x"), unixvol.Unsound(7), unixvol.Closed("closed"):
+        for fault in unixvol.NoEntry("/x"), unixvol.Unsound(7), unixvol.Closed("closed"), unixvol.Changed("gone", "/x"):
             again = pickle.loads(pickle.dumps(fault))
             self.assertEqual((type(again), str(again), again.number), (type(fault), str(fault), fault.number))
         with made() as volume:
@@ -210,14 +217,31 @@ class Faults(unittest.TestCase):
             self.assertRaises(TypeError, copy.deepcopy, volume)
 
 
-class Images(unittest.TestCase):
+class InFolder(unittest.TestCase):
+    """Tests with a folder of their own, in which `disk.img` is made when it is asked for."""
+
     def setUp(self):
         folder = tempfile.TemporaryDirectory()
         self.addCleanup(folder.cleanup)
         self.folder = Path(folder.name)
+        self.name = self.folder / "disk.img"
 
+    def image(self, mode: int = 0o644) -> Path:
+        with made() as volume:
+            self.name.write_bytes(bytes(volume))
+        self.name.chmod(mode)
+        return self.name
+
+    def names(self) -> list[str]:
+        return sorted(it.name for it in self.folder.iterdir())
+
+    def mode(self) -> int:
+        return stat.S_IMODE(self.name.stat().st_mode)
+
+
+class Saving(InFolder):
     def test_save(self):
-        name = self.folder / "disk.img"
+        name = self.name
         with made() as volume:
             self.assertRaises(ValueError, volume.save)
             volume.save(name)
@@ -249,6 +273,261 @@ class Images(unittest.TestCase):
     def fails(self, _number):
         raise InterruptedError
 
+    def other_program(self):
+        """Makes the directory /x in the image, as the program's commands do."""
+        with unixvol.open(self.name, 7) as volume:
+            (volume / "x").mkdir()
+            (self.folder / "new").write_bytes(bytes(volume))
+        os.replace(self.folder / "new", self.name)
+
+    def refuses(self, kind: type[Exception], volume: unixvol.Volume, *words) -> str:
+        """The save is refused, and leaves everything as it was; returns what the exception says."""
+        before = {it.name: it.read_bytes() for it in self.folder.iterdir()}
+        with self.assertRaises(kind) as raised:
+            volume.save(*words)
+        self.assertEqual({it.name: it.read_bytes() for it in self.folder.iterdir()}, before)
+        return str(raised.exception)
+
+    def test_what_another_program_wrote_stays(self):
+        with unixvol.open(self.image(), 7) as volume:
+            (volume / "y").mkdir()
+            self.other_program()
+            why = self.refuses(unixvol.Changed, volume)
+            self.assertEqual(why, f"[Errno {errno.EBUSY}] it has changed since it was read or saved: '{self.name}'")
+            self.refuses(unixvol.Changed, volume, self.name)
+            volume.save(self.folder / "mine.img")
+        with unixvol.open(self.name, 7) as volume:
+            self.assertTrue((volume / "x").exists())
+        with unixvol.open(self.folder / "mine.img", 7) as volume:
+            self.assertTrue((volume / "y").exists())
+
+    def test_each_change_is_seen(self):
+        for change in (
+            lambda: os.truncate(self.name, 400 * 512 + 1),
+            lambda: os.utime(self.name, ns=(0, 1)),
+            lambda: (self.name.write_bytes(bytes(400 * 512)), os.utime(self.name, ns=(was.st_atime_ns, was.st_mtime_ns + 1))),
+            lambda: (self.other_program(), os.utime(self.name, ns=(was.st_atime_ns, was.st_mtime_ns))),
+            self.name.unlink,
+            lambda: (self.name.rename(self.folder / "old"), self.name.symlink_to("old")),
+        ):
+            with unixvol.open(self.image(), 7) as volume:
+                was = self.name.stat()
+                volume.save()
+                was = self.name.stat()
+                volume.save()
+                was = self.name.stat()
+                change()
+                if self.name.is_symlink():
+                    # It is the same file still.
+                    volume.save()
+                else:
+                    self.refuses(unixvol.Changed, volume)
+            for name in self.names():
+                (self.folder / name).unlink()
+
+    def test_a_change_while_it_is_saved(self):
+        with unixvol.open(self.image(), 7) as volume:
+            with mock.patch("os.fsync", lambda _number: os.utime(self.name, ns=(0, 1))):
+                self.refuses(unixvol.Changed, volume)
+        with unixvol.open(self.name, 7) as volume:
+            beside = self.folder / ".unixvol-0"
+            with mock.patch("os.fsync", lambda _number: (beside.unlink(), beside.write_bytes(b"another file"))):
+                self.refuses(unixvol.Changed, volume)
+            with mock.patch("os.fsync", lambda _number: self.name.unlink()):
+                self.assertRaises(unixvol.Changed, volume.save)
+            self.assertIn("it is gone", self.refuses(unixvol.Changed, volume))
+        self.assertEqual(self.names(), [])
+
+    def test_a_change_while_it_is_read(self):
+        class Changing(io.FileIO):
+            def read(self, size: int = -1) -> bytes:
+                data = super().read(size)
+                os.utime(self.fileno(), ns=(0, 1))
+                return data
+
+        self.image()
+        for lock in False, True:
+            with mock.patch("builtins.open", Changing):
+                volume = unixvol.open(self.name, 7, lock=lock)
+            with volume:
+                self.refuses(unixvol.Changed, volume)
+            self.image()
+
+    def test_files_that_it_was_saved_in(self):
+        with made() as volume:
+            self.name.write_bytes(b"something else")
+            volume.save(self.name)
+            (volume / "y").mkdir()
+            volume.save(os.path.relpath(self.name))
+            self.other_program()
+            self.refuses(unixvol.Changed, volume, self.name)
+            with mock.patch("os.fsync", lambda _number: (self.folder / "new").touch()):
+                self.assertRaises(unixvol.Changed, volume.save, self.folder / "new")
+            self.assertEqual((self.folder / "new").read_bytes(), b"")
+
+    def test_a_link_that_leads_elsewhere(self):
+        (self.folder / "link").symlink_to(self.image())
+        with unixvol.open(self.folder / "link", 7) as volume:
+            (self.folder / "other.img").write_bytes(bytes(volume))
+            (self.folder / "link").unlink()
+            (self.folder / "link").symlink_to("other.img")
+            self.refuses(unixvol.Changed, volume)
+
+    @contextmanager
+    def locked(self, kind: int = fcntl.LOCK_EX):
+        with self.name.open("rb") as file:
+            fcntl.flock(file, kind | fcntl.LOCK_NB)
+            yield file
+
+    def is_locked(self) -> bool:
+        try:
+            with self.locked():
+                return False
+        except BlockingIOError:
+            return True
+
+    def test_a_lock_of_another_program(self):
+        with unixvol.open(self.image(), 7) as volume:
+            with mock.patch.object(_files, "PATIENCE", 0.05):
+                for kind in fcntl.LOCK_EX, fcntl.LOCK_SH:
+                    with self.locked(kind):
+                        self.assertIn("locked for half a minute", self.refuses(unixvol.Locked, volume))
+                        self.assertRaises(BlockingIOError, unixvol.open, self.name, 7, lock=True)
+                    os.utime(self.name, ns=(0, 1))
+                    with mock.patch.object(_files, "PATIENCE", 3600), self.locked(kind):
+                        self.refuses(unixvol.Changed, volume)
+                    os.utime(self.name, ns=(0, volume._files[0].stamp.modified))
+            with self.locked() as file:
+                # It waits until the other one is done.
+                timer = threading.Timer(0.1, lambda: fcntl.flock(file, fcntl.LOCK_UN))
+                timer.start()
+                volume.save()
+                timer.join()
+            with mock.patch("os.fsync", lambda _number: seen.append(self.is_locked())):
+                seen: list[bool] = []
+                volume.save()
+            self.assertEqual((seen[0], self.is_locked()), (True, False))
+
+    def test_a_lock_that_is_kept(self):
+        with unixvol.open(self.image(), 7, lock=True) as volume:
+            for _ in range(2):
+                self.assertTrue(self.is_locked())
+                volume.save()
+            self.assertTrue(self.is_locked())
+            volume.save(self.folder / "copy.img")
+            self.other_program()
+            self.refuses(unixvol.Changed, volume)
+        self.image()
+        with unixvol.open(self.name, 7, lock=True) as volume:
+            volume.close()
+            self.assertFalse(self.is_locked())
+        self.name.write_bytes(bytes(2000))
+        with self.assertRaises(unixvol.Unsound):
+            unixvol.open(self.name, 7, lock=True)
+        self.assertFalse(self.is_locked())
+        self.assertRaises(ValueError, unixvol.open, b"", 7, lock=True)
+        self.assertRaises(ValueError, unixvol.open, "/dev/null", 7, lock=True)
+
+    def test_threads_that_save(self):
+        with unixvol.open(self.image(), 7) as volume:
+            threads = [threading.Thread(target=volume.save) for _ in range(8)]
+            for thread in threads:
+                thread.start()
+            for thread in threads:
+                thread.join()
+            (volume / "y").mkdir()
+            volume.save()
+            self.assertEqual(self.name.read_bytes(), bytes(volume))
+
+    def test_permissions(self):
+        for mode, kept in (0o600, 0o600), (0o4755, 0o755), (0o666, 0o666), (0o2640, 0o640):
+            with unixvol.open(self.image(mode), 7) as volume, mock.patch("os.fchmod", self.notes_mode):
+                self.modes: list[int] = []
+                mask = os.umask(0)
+                try:
+                    volume.save()
+                finally:
+                    os.umask(mask)
+            self.assertEqual((self.modes, self.mode()), ([0o600], kept))
+
+    def notes_mode(self, number: int, mode: int, fchmod=os.fchmod):
+        """The mode that an empty new file has before it is given another one."""
+        self.assertEqual(os.fstat(number).st_size, 0)
+        self.modes.append(stat.S_IMODE(os.fstat(number).st_mode))
+        fchmod(number, mode)
+
+    def test_permissions_of_a_new_file(self):
+        mask = os.umask(0o027)
+        try:
+            with made() as volume:
+                volume.save(self.name)
+        finally:
+            os.umask(mask)
+        self.assertEqual(self.mode(), 0o640)
+
+    @contextmanager
+    def user(self, uid: int, groups: list[int]):
+        """In a `with`: another user's rights, if it is root who tests."""
+        if os.geteuid() != 0:
+            yield
+            return
+        self.folder.chmod(0o777)
+        before = os.getgroups()
+        os.setgroups(groups)
+        os.setegid(uid)
+        os.seteuid(uid)
+        try:
+            yield
+        finally:
+            os.seteuid(0)
+            os.setegid(0)
+            os.setgroups(before)
+
+    def test_a_file_that_its_user_may_not_write(self):
+        with self.user(65534, []):
+            with unixvol.open(self.image(0o444), 7) as volume:
+                self.refuses(PermissionError, volume)
+
+    @unittest.skipUnless(os.geteuid() == 0, "only root can give files to others")
+    def test_owner_and_group_apart(self):
+        for mode, groups, kept in (
+            (0o660, [12345], (65534, 12345, 0o660)),
+            (0o666, [], (65534, 65534, 0o606)),
+            (0o626, [], (65534, 65534, 0o602)),
+        ):
+            os.chown(self.image(mode), 54321, 12345)
+            with self.user(65534, groups), unixvol.open(self.name, 7) as volume:
+                volume.save()
+            found = self.name.stat()
+            self.assertEqual((found.st_uid, found.st_gid, self.mode()), kept)
+            os.chown(self.name, 54321, 12345)
+            with unixvol.open(self.name, 7) as volume:
+                volume.save()
+            self.assertEqual((self.name.stat().st_uid, self.name.stat().st_gid), (54321, 12345))
+
+    def test_access_control_lists(self):
+        # user::rw-, user:65534:rw-, group::---, mask::rw-, other::---
+        entries = (1, 6, -1), (2, 6, 65534), (4, 0, -1), (16, 6, -1), (32, 0, -1)
+        acl = struct.pack("<I", 2) + b"".join(struct.pack("<HHi", *entry) for entry in entries)
+        try:
+            os.setxattr(self.image(0o600), _files.ACL, acl)
+        except OSError:
+            self.skipTest("the file system has no access control lists")
+        with unixvol.open(self.name, 7) as volume:
+            volume.save()
+            self.assertEqual((os.getxattr(self.name, _files.ACL), self.mode()), (acl, 0o660))
+            with mock.patch("os.setxattr", side_effect=OSError(errno.EPERM, "not now")):
+                volume.save()
+            self.assertEqual((_files.ACL in os.listxattr(self.name), self.mode()), (False, 0o600))
+        # A folder's list for new files gives nobody a right that the old file didn't.
+        self.image(0o640)
+        os.setxattr(self.folder, "system.posix_acl_default", acl)
+        with unixvol.open(self.name, 7) as volume:
+            volume.save()
+        self.assertEqual((_files.ACL in os.listxattr(self.name), self.mode()), (False, 0o640))
+
+
+class Images(InFolder):
     def test_rules(self):
         with made() as volume:
             sound = bytes(volume)

@@ -9,7 +9,8 @@ from ._library import text_of
 
 
 class UnixvolError(Exception):
-    """The base of all exceptions here. `number` is the one that the library for C returns."""
+    """The base of all exceptions here. `number` is the one that the library for C returns, which opens no files: so it
+    is 0 for `Changed` and `Locked`."""
 
     number: int
 
@@ -156,6 +157,32 @@ class NoReport(UnixvolError, ValueError):
     """No checker has that name."""
 
     number = 305
+
+
+class FileFault(UnixvolError, OSError):
+    """A volume can't be saved in a file, or a file can't be locked. The file is as it was."""
+
+    number = 0
+    code: ClassVar[int]
+
+    def __init__(self, reason: str, path: str):
+        super().__init__(self.code, reason, path)
+
+    def __reduce__(self):
+        return type(self), (self.strerror, self.filename)
+
+
+class Changed(FileFault):
+    """The file isn't as it was when the volume was last read from it or saved in it. Nothing is written: what another
+    program wrote stays."""
+
+    code = errno.EBUSY
+
+
+class Locked(FileFault, BlockingIOError):
+    """Another program, such as a mounted volume's, has had the file locked for half a minute."""
+
+    code = errno.EAGAIN
 
 
 _REFUSALS = {kind.number: kind for kind in Refusal.__subclasses__()}

@@ -148,10 +148,10 @@ class VolumePath:
         return self.read_bytes().decode(encoding)
 
     def export(self) -> tarfile.TarFile:
-        """A tar archive of all that is below a directory. Warns of entries that it has no room for."""
+        """A tar archive of all that is below a directory. Warns of entries whose paths have more than 4096 bytes, which are left out."""
         data, left_out = self.volume._export(str(self))
         if left_out:
-            warnings.warn(f"{left_out} entries are left out, since their paths are too long for tar", stacklevel=2)
+            warnings.warn(f"{left_out} entries are left out, since their paths have more than 4096 bytes", stacklevel=2)
         return tarfile.open(fileobj=io.BytesIO(data))
 
     # Calls

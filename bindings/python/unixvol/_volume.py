@@ -2,17 +2,14 @@
 
 from __future__ import annotations
 
-import builtins
 import ctypes
 import os
-import secrets
-import stat
 import threading
-from contextlib import suppress
 from dataclasses import dataclass
 from typing import Any, Literal
 
 from ._faults import NoReport, Unsound, check
+from ._files import ImageFile, read_image
 from ._library import Handle, Moment, Sizes, function, room, seconds, word
 from ._paths import VolumePath
 
@@ -42,11 +39,15 @@ class Volume:
     queries and calls are made one at a time.
     """
 
-    def __init__(self, handle: Handle, name: str | None = None, now: Moment = None):
+    def __init__(self, handle: Handle, file: ImageFile | None = None, now: Moment = None):
         """For `open` and `mkfs`, which make it."""
         self._handle = handle
         self._lock = threading.Lock()
-        self._name = name
+        # Held for a whole save, which may wait for another program.
+        self._saving = threading.Lock()
+        # The file that the volume was opened from comes first.
+        self._has_file = file is not None
+        self._files = [] if file is None else [file]
         self.uid = 0
         self.gid = 0
         self.now = now
@@ -88,7 +89,10 @@ class Volume:
         return VolumePath(self)
 
     def close(self) -> None:
-        """Closes the volume and frees its memory. It may be closed already."""
+        """Closes the volume, frees its memory, and ends the lock of its file. It may be closed already."""
+        with self._saving:
+            for file in self._files:
+                file.close()
         with self._lock:
             function("close")(self._handle)
 
@@ -100,7 +104,8 @@ class Volume:
         return About(sizes.edition, sizes.blocks, sizes.data_start, sizes.free_blocks, sizes.last_inode)
 
     def cut(self) -> None:
-        """Frees the memory of the calls that were made. It is freed by itself once it is more than the image."""
+        """Frees the memory of the calls that were made. It is freed by itself as soon as it counts more than an eighth of
+        the image."""
         with self._lock:
             check(function("cut")(self._handle))
 
@@ -113,13 +118,28 @@ class Volume:
             return os.fsdecode(self._answer())
 
     def save(self, name: str | os.PathLike[str] | None = None) -> None:
-        """Writes the image to a file, or to the one that it was opened from.
+        """Writes the image to a file, or to the one that it was opened from, as the program's commands do.
 
         A new file is written beside it, and then takes its name. So whatever happens, that name has the old bytes or
-        the new ones. The permissions stay, and the owner too, if the system allows it."""
-        if name is None and self._name is None:
+        the new ones. The permissions stay, and owner and group too, if the system allows it. The file is locked
+        meanwhile; if another program has it locked for half a minute, `Locked` is raised.
+
+        A file that the volume was read from, or saved in before, must be as it was then: if another program has changed
+        it since, `Changed` is raised, and nothing is written. `save` under another name then keeps both."""
+        if name is None and not self._has_file:
             raise ValueError("the volume was opened from no file, so save needs a name")
-        _replace(os.path.realpath(os.fspath(name) if name is not None else str(self._name)), bytes(self))
+        with self._saving:
+            data = bytes(self)
+            self._file_at(None if name is None else os.path.abspath(name)).save(data)
+
+    def _file_at(self, path: str | None) -> ImageFile:
+        if path is None:
+            return self._files[0]
+        for file in self._files:
+            if file.is_at(path):
+                return file
+        self._files.append(ImageFile(path))
+        return self._files[-1]
 
     # What paths call
 
@@ -149,12 +169,22 @@ class Volume:
         return into.raw
 
 
-def open(source: Source, edition: int) -> Volume:
-    """Opens the volume in a file, or in bytes. It must be sound, else `Unsound` is raised."""
-    data, handle = _data(source), Handle()
-    name = os.path.abspath(source) if isinstance(source, (str, os.PathLike)) else None
-    check(function("open")(handle, word(edition, 8, "edition"), data, len(data)))
-    return Volume(handle, name)
+def open(source: Source, edition: int, *, lock: bool = False) -> Volume:
+    """Opens the volume in a file, or in bytes. It must be sound, else `Unsound` is raised.
+
+    With `lock` the file, a regular one, stays locked until the volume is closed, also while it is saved: commands of the
+    program that change it, and other volumes here, wait until then, for half a minute. Without it `save` locks the file,
+    and looks then if it has changed."""
+    if not isinstance(source, (str, os.PathLike)):
+        if lock:
+            raise ValueError("bytes can't be locked, only a file")
+        return Volume(_opened(bytes(source), edition))
+    data, file = read_image(os.path.abspath(source), lock)
+    try:
+        return Volume(_opened(data, edition), file)
+    except BaseException:
+        file.close()
+        raise
 
 
 def mkfs(edition: int, blocks: int, list_blocks: int, *, uid: int = 0, gid: int = 0, now: Moment = None) -> Volume:
@@ -204,43 +234,13 @@ def salvage(source: Source, edition: int) -> bytes:
     return bytes(data)
 
 
+def _opened(data: bytes, edition: int) -> Handle:
+    handle = Handle()
+    check(function("open")(handle, word(edition, 8, "edition"), data, len(data)))
+    return handle
+
+
 def _data(source: Source) -> bytes:
-    if isinstance(source, (bytes, bytearray, memoryview)):
-        return bytes(source)
-    with builtins.open(source, "rb") as file:
-        return file.read()
-
-
-def _replace(name: str, data: bytes) -> None:
-    """Replaces a regular file, or makes one, by a new file beside it and a rename."""
-    old = None
-    with suppress(FileNotFoundError):
-        old = os.stat(name)
-    if old is not None and not stat.S_ISREG(old.st_mode):
-        raise ValueError(f"{name} is no regular file")
-    folder = os.path.dirname(name)
-    beside = os.path.join(folder, f".unixvol-{secrets.token_hex(8)}")
-    try:
-        with builtins.open(beside, "xb") as file:
-            file.write(data)
-            file.flush()
-            if old is not None:
-                with suppress(PermissionError):
-                    os.fchown(file.fileno(), old.st_uid, old.st_gid)
-                os.fchmod(file.fileno(), stat.S_IMODE(old.st_mode))
-            os.fsync(file.fileno())
-        os.replace(beside, name)
-    except BaseException:
-        with suppress(FileNotFoundError):
-            os.unlink(beside)
-        raise
-    _sync_folder(folder)
-
-
-def _sync_folder(folder: str) -> None:
-    """Has the folder's entries written to the disk."""
-    number = os.open(folder, os.O_RDONLY)
-    try:
-        os.fsync(number)
-    finally:
-        os.close(number)
+    if isinstance(source, (str, os.PathLike)):
+        return read_image(os.path.abspath(source))[0]
+    return bytes(source)

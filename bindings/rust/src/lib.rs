@@ -210,7 +210,8 @@ impl Volume {
         done(unsafe { unixvol_times(&mut self.0, by.uid, by.gid, by.now, path, count, accessed, modified) }, ())
     }
 
-    /// Frees the memory of the calls that were made. It is freed by itself once it is more than the image.
+    /// Frees the memory of the calls that were made. It is freed by itself as soon as it counts more than an eighth of the
+    /// image.
     pub fn cut(&mut self) -> Result<(), Error> {
         done(unsafe { unixvol_cut(&mut self.0) }, ())
     }
@@ -221,7 +222,7 @@ impl Volume {
         self.answer()
     }
 
-    /// A tar archive of all that is below a directory, and how many entries it has no room for.
+    /// A tar archive of all that is below a directory, and how many entries are left out of it, since their paths have more than 4,096 bytes.
     pub fn export(&mut self, path: &[u8]) -> Result<(Vec<u8>, usize), Error> {
         let mut left_out = 0;
         done(unsafe { unixvol_export(&mut self.0, path.as_ptr(), path.len(), &mut left_out) }, ())?;

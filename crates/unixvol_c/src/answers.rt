@@ -38,7 +38,7 @@ pub extern "C" fn unixvol_report(alloc: Global, handle: &mut Handle, letter: u8)
 }
 
 /// Stores a tar archive of everything below a directory as the handle's answer, and sets `left_out` to the number of entries that are left out
-/// because a header has no room for their paths. The empty path is the root.
+/// because their paths have more than 4,096 bytes. The empty path is the root.
 ///
 /// Costs the walk over the tree. Takes memory for all paths and for the archive.
 #[unsafe(no_mangle)]

@@ -1,6 +1,6 @@
 #!/usr/bin/env bash
-# Installs what was built here, if that is the program, else the release in dist/, and prints which. Usage: tools/install.sh PREFIX. DESTDIR, if it is set, is
-# a folder in which PREFIX is.
+# Installs what was built here, if that is the program, else what dist/ has for this machine, and prints which. Usage: tools/install.sh PREFIX. DESTDIR, if it
+# is set, is a folder in which PREFIX is.
 set -euo pipefail
 prefix=$(realpath -m "${1:?usage: $0 PREFIX}")
 cd "$(dirname "$0")/.."
@@ -13,6 +13,7 @@ if [ -x unixvol ]; then
     [ -d "$tree/lib" ] || echo 'without the library, since `make library` has built none here'
 else
     . tools/unpack.sh
+    unpacks_own
     tree=$release
     echo "${release##*/}, from dist/, to ${DESTDIR:-}$prefix"
 fi

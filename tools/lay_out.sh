@@ -1,15 +1,18 @@
 #!/usr/bin/env bash
 # Lays out what was built here in FOLDER: bin/, share/, and if the library was built, include/, lib/ and the Python wheel.
-# Usage: tools/lay_out.sh FOLDER. LIBRARY names the folder of the built library, if it isn't bindings/out.
+# Usage: tools/lay_out.sh FOLDER. PROGRAM names the built program, if it isn't ./unixvol, and LIBRARY the folder of the built library, if it isn't bindings/out.
 set -euo pipefail
 folder=$(realpath -m "${1:?usage: $0 FOLDER}")
 cd "$(dirname "$0")/.."
+program=${PROGRAM:-unixvol}
 built=${LIBRARY:-bindings/out}
-if [ -x unixvol ]; then
-    install -D -m 755 unixvol "$folder/bin/unixvol"
+if [ -x "$program" ]; then
+    install -D -m 755 "$program" "$folder/bin/unixvol"
     install -D -m 755 bin/unixvol-mount "$folder/bin/unixvol-mount"
+    ln -sf unixvol-mount "$folder/bin/unixvol-umount"
     install -D -m 644 manual/unixvol.1 "$folder/share/man/man1/unixvol.1"
     install -D -m 644 manual/unixvol-mount.1 "$folder/share/man/man1/unixvol-mount.1"
+    install -D -m 644 manual/unixvol-umount.1 "$folder/share/man/man1/unixvol-umount.1"
     install -D -m 644 manual/unixvol.bash "$folder/share/bash-completion/completions/unixvol"
     install -D -m 644 manual/_unixvol "$folder/share/zsh/site-functions/_unixvol"
 fi

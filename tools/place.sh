@@ -74,5 +74,5 @@ case ${DESTDIR:-}$prefix in
     /usr | /usr/local) PATH=$PATH:/sbin:/usr/sbin ldconfig || true ;;
 esac
 if [ -e bin/unixvol ] && ! bin/unixvol --version >/dev/null 2>&1; then
-    echo 'the program does not run here: it needs Linux on x86-64 with glibc 2.34 or later' >&2
+    echo 'the program does not run here: it is for another machine or a later C library; README.md says which archive is for which' >&2
 fi

@@ -7,6 +7,7 @@ if [ -x unixvol ]; then
     echo './unixvol, as it was built here:' >&2
 else
     . tools/unpack.sh
+    unpacks_own
     program=$release/bin/unixvol
     echo "${release##*/}, from dist/:" >&2
 fi

@@ -1,11 +1,16 @@
 #!/usr/bin/env bash
 # Prints the SHA-256 checksum of the sources from which a crate is built, the program `unixvol` or the library `unixvol_c`: the crate and those that it needs,
-# their lines of crates.txt, HANDLES, and the name of the toolchain; for the library also what tools/library.sh puts beside it.
-# Usage: tools/sources.sh [CRATE]. Without CRATE it is unixvol.
+# their lines of crates.txt, HANDLES, and the name of the toolchain; for the library also what tools/library.sh puts beside it. For `ports` it is that of both,
+# and of what tools/ports.sh adds.
+# Usage: tools/sources.sh [CRATE | ports]. Without CRATE it is unixvol.
 set -euo pipefail
 export LC_ALL=C
 cd "$(dirname "$0")/.."
 crate=${1:-unixvol}
+if [ "$crate" = ports ]; then
+    { tools/sources.sh unixvol && tools/sources.sh unixvol_c && sha256sum tools/ports.sh ports/machines ports/*.c ports/*.awk; } | sha256sum | cut -d' ' -f1
+    exit
+fi
 lines=$(awk -v crate="$crate" -f tools/crate_lines.awk crates.txt)
 names=$(sed 's/[: ].*//' <<<"$lines")
 {

@@ -56,7 +56,8 @@ ready_graph geometry image ready =
     let dots = subst (λ g. HasDots g image) (sym ready.sizes) (sound_dots geometry.edition image ready.sound) in
     let tree = subst (λ g. IsTree g image) (sym ready.sizes) (sound_tree geometry.edition image ready.sound) in
     let links = subst (λ g. HasLinks g image) (sym ready.sizes) (sound_links geometry.edition image ready.sound) in
-    graph_from_rules geometry image (ready_whole geometry image ready).sound.sizes (ready_entries geometry image ready) dots tree links
+    let files = ready_whole geometry image ready in
+    graph_from_rules geometry image ready.fits files.sound.kinds files.sound.sizes (ready_entries geometry image ready) dots tree links
 
 -- if the sizes don't change, they stay within their bounds
 pub bounded_kept : (edition : Edition) (old new : List ℕ) → geometry_of edition new ≡ geometry_of edition old → is_bounded edition old ≡ true

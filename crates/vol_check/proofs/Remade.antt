@@ -207,15 +207,15 @@ remade_whole geometry old new used fits after marked keeps free kinds sizes zone
 
 -- the rules about directories hold after the rebuild
 remade_graph : (geometry : Geometry) (old new : List ℕ) (used : List Bool) → Fits geometry old → AreNamed geometry old used
-    → KeepsUsed geometry used old new → IsZoned geometry old → HasSizes geometry old → HasSizes geometry new
+    → KeepsUsed geometry used old new → IsZoned geometry old → HasKinds geometry old → HasSizes geometry old → HasSizes geometry new
     → HasEntries geometry old → HasDots geometry old → IsTree geometry old → HasLinks geometry old
     → HasEntries geometry new × HasDots geometry new × IsTree geometry new × HasLinks geometry new
-remade_graph geometry old new used fits marked keeps zoned sizes later entries dots reached links =
+remade_graph geometry old new used fits marked keeps zoned known sizes later entries dots reached links =
     let content : (j : ℕ) → 1 ≤ j → j ≤ geometry.last_inode → KeepsContent geometry old new j =
     λ j first last. remade_content geometry old new used j fits marked keeps zoned first last in
     rules_from_graph geometry new later
     (same_sound (graph_of geometry old) (graph_of geometry new) (root_of geometry) geometry.last_inode (graph_within geometry old)
-    (graph_within geometry new) (graph_from_rules geometry old sizes entries dots reached links)
+    (graph_within geometry new) (graph_from_rules geometry old fits known sizes entries dots reached links)
     (same_graph geometry old new (λ x first last. kind_same geometry old new x (content x first last))
     (λ x first last. ap (λ node. node.links) (inode_of_kept geometry old new x (remade_inode geometry old new used x fits keeps first last)))
     (λ x is. (content x is.first is.last).size)
@@ -231,7 +231,7 @@ salvaged edition old new used rules fits after marked keeps free =
     let around = remade_around geometry old new used fits keeps in
     let same : geometry_of edition new ≡ geometry = geometry_kept geometry old new around in
     let whole = remade_whole geometry old new used fits after marked keeps free (rules 3) (rules 4) (rules 5) (rules 7).0 in
-    let graph = remade_graph geometry old new used fits marked keeps (rules 5) (rules 4) whole.sound.sizes (rules 9) (rules 10) (rules 11) (rules 12) in
+    let graph = remade_graph geometry old new used fits marked keeps (rules 5) (rules 3) (rules 4) whole.sound.sizes (rules 9) (rules 10) (rules 11) (rules 12) in
     record {
       rules = rules;
       sound = sound_by edition geometry new same (whole_kept edition old new same keeps.len (rules 1)) (bounded_kept edition old new same (rules 2)) whole graph;

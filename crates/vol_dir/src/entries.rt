@@ -16,7 +16,7 @@ use vol_layout::slot::{NAME, SLOT};
 use vol_layout::{Geometry, Slot};
 
 /// The number of slots in a block.
-pub(crate) const SLOTS: u32 = 32;
+pub const SLOTS: u32 = 32;
 
 /// The target of a search over the slots of a directory.
 #[derive(Clone, Copy)]
@@ -64,7 +64,7 @@ pub fn is_dots(name: &[u8]) -> bool
 }
 
 /// Returns the number of slots of directory `dir`.
-pub(crate) fn slot_count(image: &Image, geometry: &Geometry, dir: u16) -> u32
+pub fn slot_count(image: &Image, geometry: &Geometry, dir: u16) -> u32
     requires fits { Fits geometry.now image.now }
     requires first { 1 ≤ dir }
     requires last { dir ≤ geometry.now.last_inode }

@@ -216,7 +216,7 @@ module _ (geometry : Geometry) (uid gid now : ℕ) (image : List ℕ) (new : IsN
     itself = λ d directory.
         let is : d ≡ root = only_directory d directory in
         (0, record { directory = directory; entry = subst (λ e. entry_at geometry image e 0 ≡ Some (dot, e)) (sym is) entry_dot });
-    root = (1, record { directory = root_directory; entry = entry_dot_dot });
+    root = λ is. (1, record { directory = root_directory; entry = entry_dot_dot });
     parent = λ d directory other. absurd (other (only_directory d directory));
   }
 

@@ -1,14 +1,17 @@
-# Targets of this repository. All but `make run`, `make install` and `make uninstall` need the Rattle toolchain (its command `rt`); `make bench` and
-# `make faults` also need rustc.
+# Targets of this repository. All but `make run`, `make install`, `make uninstall` and `make rows` need the Rattle toolchain (its command `rt`); `make bench`
+# and `make faults` also need rustc.
 
 RT ?= rt
 PREFIX ?= /usr/local
 
 .DEFAULT_GOAL := help
-.PHONY: help run install uninstall build library test library-test bench faults wrong-bodies manual release verify
+.PHONY: help run install uninstall build rows library ports test library-test ports-test bench faults wrong-bodies manual figures release verify
 
-# The test scripts that the gate runs the built program through.
-ROWS = program words volumes looks identify checks checkers changes trees many_trees archives migrations plays explaining serve mount manual readme lessons release
+# The scripts of rows, tests/NAME.sh, that the gate runs the built program through. Those that take longest come first.
+ROWS = many_trees saving checkers looks volumes icheck scripts checks archives release calls explaining examples manual mkfs cat changes trees plays migrations words \
+    identify salvage lessons failures readme serve mount
+PROGRAM = ./unixvol
+PARTS = counts rows
 
 help:
 	@echo 'Without the Rattle toolchain:'
@@ -18,18 +21,25 @@ help:
 	@echo 'make uninstall PREFIX=FOLDER  removes what was installed there'
 	@echo 'With it:'
 	@echo 'make build                    proves and builds the program, and leaves it as ./unixvol'
+	@echo 'make rows                     runs the built program from the shell, and says of each row that fails where it is and what came; ROWS="looks plays" runs'
+	@echo '                              only tests/looks.sh and tests/plays.sh, PROGRAM=FILE runs another program'
 	@echo 'make library                  proves and builds the library for C, Python and Rust, and leaves it in bindings/out'
-	@echo 'make test                     the whole gate: every proof and test from nothing, then the built program from the shell, and library-test if the library'
-	@echo '                              was built; then it compares what was built with dist/, if that is of the same sources'
+	@echo 'make ports                    builds the program from the proved crates for Linux on aarch64, riscv64 and any x86-64, and the library for aarch64, and leaves'
+	@echo '                              them in ports/out; a machine whose compiler is missing is skipped aloud'
+	@echo 'make test                     the whole gate: every proof and test from nothing, then the built program from the shell, and library-test and ports-test if'
+	@echo '                              these were built; then it compares what was built with dist/, if that is of the same sources'
 	@echo 'make library-test             tests that library, as two compilers make it, from each of the three; a tool that is missing is skipped aloud'
+	@echo 'make ports-test               runs rows of the tests through the programs for other machines, by qemu-user; what is missing is skipped aloud'
 	@echo 'make bench                    times the program against one in plain Rust that does the same; needs rustc, and some minutes'
 	@echo 'make faults                   refuses each allocation in turn, of the libraries and of the program, and runs the program 10,000 times where memory, the'
 	@echo '                              stack, the disk or a descriptor fails it, or a signal ends it; needs rustc, and some minutes'
 	@echo 'make wrong-bodies             tries the wrong bodies that the gate leaves out, on a copy: the prover has to refuse each; CRATES="NAME .." tries those of'
 	@echo '                              some crates'
 	@echo 'make manual                   builds the program, and makes the manual page and the completions anew from what it says of itself'
-	@echo 'make release                  packs what was built, the program and the library, into dist/'
-	@echo 'make verify                   proves and builds the program and the library, and compares them with those in dist/, byte for byte'
+	@echo 'make figures                  writes what is counted and measured into docs/FIGURES.md: the counts and the rows; PARTS="gate commands .." measures other'
+	@echo '                              parts, as tools/figures.sh says'
+	@echo 'make release                  packs what was built, the program and the library, with those for other machines, into dist/'
+	@echo 'make verify                   proves and builds all of these, and compares them with those in dist/, byte for byte'
 
 run:
 	tools/run.sh
@@ -49,13 +59,24 @@ test:
 	$(RT) ci
 	cp -f crates/unixvol/out/unixvol unixvol
 	RT=$(RT) tools/sources.sh > crates/unixvol/out/sources
-	@set -e; for rows in $(ROWS); do echo "tests/$$rows.sh ./unixvol"; tests/$$rows.sh ./unixvol; done
+	RT=$(RT) tests/run.sh ./unixvol $(ROWS)
 	@# The gate proves the library's crate, but builds no archive: rt would prove all crates below it once more for that.
 	@if [ -e bindings/out/libunixvol.a ]; then $(MAKE) library-test; else echo 'library-test: skipped, since `make library` has built no library here'; fi
+	@if [ -d ports/out ]; then $(MAKE) ports-test; else echo 'ports-test: skipped, since `make ports` has built nothing here'; fi
 	@RT=$(RT) tools/compare.sh
+
+rows:
+	RT=$(RT) tests/run.sh "$(PROGRAM)" $(ROWS)
 
 library:
 	RT=$(RT) tools/library.sh
+
+# The crates are proved for x86-64 by `make build` or the gate; here what these proofs kept is taken, or they are made anew.
+ports:
+	RT=$(RT) tools/ports.sh
+
+ports-test:
+	RT=$(RT) tests/ports.sh ports/out
 
 library-test: library
 	tests/library.sh bindings/out
@@ -80,6 +101,9 @@ wrong-bodies:
 manual: build
 	manual/make.sh ./unixvol manual
 
+figures:
+	tools/figures.sh $(PARTS)
+
 # A release is made from what the gate has passed.
 release:
 	RT=$(RT) tools/release.sh
@@ -87,5 +111,5 @@ release:
 # The sources are compared first, since the proofs take long.
 verify:
 	@RT=$(RT) tools/compare.sh sources
-	$(MAKE) build library
+	$(MAKE) build library ports
 	@RT=$(RT) tools/compare.sh all

@@ -156,17 +156,81 @@ unixvol: unsound, rule 9' "$edition" ring.img
     has 'the members beside a ring' 'drwxr-xr-x d/ -rw-r--r-- kept' "$(tar -tvf output | awk '{ print $1, $6 }' | paste -s -d ' ' -)"
 done
 
-# Paths that don't fit in a header: sixteen nested directories fit, and the next doesn't.
+# Paths that don't fit in a header: sixteen nested directories fit, and the next two don't. Links to such paths, which come before and after them.
 path=
 lines=()
 for _ in $(seq 18); do
     path=$path/$nested
     lines+=("1000 3 5 mkdir $path 755")
 done
-played 7 deep.img "${lines[@]}" "1000 3 5 create $path/deep 644" "1000 0 0 write $path/deep 0 $(digits 'deep\n')"
-seventeen=${path%/*}
-exports 'a long path' 1 "unixvol: ${seventeen#/}: the path is too long for an archive" 7 deep.img
-has 'the members above a long path' 16 "$(tar -tf output | wc -l)"
+played 7 deep.img "${lines[@]}" "1000 3 5 create $path/deep 644" "1000 0 0 write $path/deep 0 $(digits 'deep\n')" \
+    "1000 0 0 link $path/deep /zdeep" "1000 0 0 link $path/deep $path/deeper"
+exports 'a long path' 0 '' 7 deep.img
+cp output deep.tar
+has 'the members of long paths' 21 "$(tar -tf deep.tar | wc -l)"
+has 'the members of long paths, as Python reads them' 21 "$(python3 -c 'import sys, tarfile; print(len(tarfile.open(sys.argv[1]).getnames()))' deep.tar)"
+has 'the bytes at a long path' deep "$(tar -xOf deep.tar "${path#/}/deep")"
+has 'a link to a long path' "h ${path#/}/deep" "$(tar -tvf deep.tar zdeep | sed 's/^\(.\).* link to /\1 /')"
+has 'the headers of pax' 5 "$(LC_ALL=C grep -abo '././@PaxHeader' deep.tar | wc -l)"
+tar -tf deep.tar | sed 's,/$,,; s,^,/,' > deep_names
+for edition in 6 7; do
+    cp "blank.v$edition" deep_again.img
+    "$program" import "$edition" deep_again.img / 2000 < deep.tar > output 2> error
+    has "an import of long paths into edition $edition" 0 "$?$(cat error)"
+    exports 'long paths that were imported' 0 '' "$edition" deep_again.img
+    saves 'an archive of long paths, imported and exported' output deep.tar
+    prints deep_names find "$edition" deep_again.img
+done
+
+# A path above 4,096 bytes isn't followed: 273 nested directories fit, and the next doesn't.
+"$program" mkfs 7 far.img 600 40 0 0 1000
+path=
+for _ in $(seq 274); do
+    path=$path/$nested
+    echo "1000 3 5 mkdir $path 755"
+done > script
+"$program" play 7 far.img script > output 2> error
+has 'a volume with a path above 4,096 bytes' 0 "$?$(cat error)"
+echo "unixvol: ${path#/}: a path above 4096 bytes" > line
+"$program" find 7 far.img > output 2> error
+has 'the status of find where a path is too long' 5 $?
+cmp -s error line
+has 'what find says of a path that is too long' 0 $?
+has 'the paths up to one that is too long' 274 "$(wc -l < output)"
+exports 'a path that is too long' 1 "$(cat line)" 7 far.img
+has 'the members above a path that is too long' 273 "$(tar -tf output | wc -l)"
+"$program" export --status 7 far.img > output 2> error
+has 'the graded status where a path is too long' 5 $?
+"$program" sums 7 far.img > output 2> error
+has 'the status of a manifest where a path is too long' 1 $?
+cmp -s error line
+has 'what sums says of a path that is too long' 0 $?
+
+# An i-node with a mode that is none of the edition's.
+played 7 odd.img '1000 3 5 create /odd 644'
+put odd.img "$(node_at 7 "$(number 7 odd.img /odd)")" 'A4 11'
+exports 'an i-node of no kind' 1 'unixvol: odd: an i-node of no known kind
+unixvol: unsound, rule 3' 7 odd.img
+
+# A root whose i-node is free, or a file's: with --lost everything that is left is exported, with the names that directories give.
+for edition in 6 7; do
+    played "$edition" rooted.img '1000 3 5 mkdir /d 755' '1000 3 5 create /d/file 644' "1000 0 0 write /d/file 0 $(digits 'rescued\n')" \
+        '1000 3 5 mkdir /d/in 755' '1000 3 5 create /d/in/deep 644' '1000 3 5 create /top 644'
+    d=$(number "$edition" rooted.img /d)
+    top=$(number "$edition" rooted.img /top)
+    for mode in '00 00' 'A4 81'; do
+        cp rooted.img rootless.img
+        put rootless.img "$(node_at "$edition" $((edition - 5)))" "$mode"
+        refuses 1 'unixvol: 20 NotDirectory' export "$edition" rootless.img ''
+        "$program" export --lost "$edition" rootless.img > output 2> error
+        has 'the status of what is left without a root' 1 $?
+        has 'what is left without a root' "lost+found/#$top lost+found/#$d/ lost+found/#$d/file lost+found/#$d/in/ lost+found/#$d/in/deep" \
+            "$(tar -tf output | paste -s -d ' ' -)"
+        has 'the bytes of a file that is left without a root' rescued "$(tar -xOf output "lost+found/#$d/file")"
+        has 'what is said of it' "unixvol: i-node $top: a file of 0 bytes, which nothing names, rescued as lost+found/#$top
+unixvol: i-node $d: a directory with 4 entries, which nothing names, rescued as lost+found/#$d" "$(head -n 2 error)"
+    done
+done
 
 # A name with a slash.
 played 6 slash.img '1000 3 5 create /up_and_over 644'
@@ -175,6 +239,26 @@ exports 'a name with a slash' 1 'unixvol: ../..d_over: the name is empty or has 
 unixvol: unsound, rule 9' 6 slash.img
 image end.tar 1024
 saves 'an archive without members' output end.tar
+
+# A first member `n/./`, as GNU tar writes it of `.` under another name, is the same as `n/`.
+mkdir -p dots/in
+echo one > dots/in/one
+chmod 750 dots
+for names in 's,^,n/,' 's,^\.,n,'; do
+    tar --owner=3 --group=5 --mtime=@1000000000 --sort=name --transform "$names" -cf named.tar -C dots .
+    for edition in 6 7; do
+        cp "blank.v$edition" named.img
+        "$program" import "$edition" named.img / 2000 < named.tar > output 2> error
+        has "an import of names by $names into edition $edition" 0 "$?$(cat error)"
+        listed "$edition" named.img > "named.$edition"
+        [ "$names" = 's,^,n/,' ] && cp "named.$edition" "dotted.$edition"
+    done
+done
+for edition in 6 7; do
+    cmp -s "named.$edition" "dotted.$edition"
+    has "a tree from n/./ in edition $edition" 0 $?
+    has "a directory from n/./ in edition $edition" drwxr-x--- "$(awk '$NF == "n" { print $1 }' "dotted.$edition")"
+done
 
 # Archives of GNU tar in three formats, imported. The ustar one is exported again byte for byte; the others make the same image.
 mkdir wanted

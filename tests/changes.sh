@@ -55,6 +55,21 @@ mkdir in
 printf other > in/f
 : > in/g
 printf x > in/fourteen.bytes
+printf run > in/run
+: > in/bare
+printf user > in/user
+printf plain > in/plain
+: > in/old
+: > in/late
+chmod 7751 in/run
+chmod 0 in/bare
+chmod 744 in/user
+chmod 640 in/plain
+touch -d @1000000000.9 in/run
+touch -d @0 in/bare
+touch -d @4294967295 in/plain
+touch -d @-1 in/old
+touch -d @4294967296 in/late
 
 # A directory and a file in it, of another user; and below /d nested directories, a large file, files with further names, one of them outside the
 # tree, and two that become special files.
@@ -178,6 +193,56 @@ read /d/fourteen.bytes 0 100000:read 78
 stat /d/g:stat * file 0644 * 0 0 *
 stat /g:2 NoEntry
 END
+
+    # What is kept of files outside: permissions and the time of modification, or the execute bits alone; and what files outside get.
+    cp tree.img marks.img
+    prints none put -p "$edition" marks.img /all in/run 3000
+    prints none put "$edition" marks.img -x /executable in/run 3000
+    prints none put "$edition" marks.img /plain in/run 3000
+    prints none put -p -x "$edition" marks.img -t /d in/run in/bare 3000
+    prints none chmod "$edition" marks.img /d/f 6640 3000
+    prints none put -x "$edition" marks.img /d/f in/user 3000
+    prints none put "$edition" marks.img /d/g in/user 3000
+    prints none put --executable "$edition" marks.img --target-directory /d in/g 3000
+    prints none put --preserve "$edition" marks.img /plain in/bare 4000
+    prints none put -p "$edition" marks.img /plain in/plain 4000
+    answers marks.img << 'END'
+stat /all:stat * file 7751 1 0 0 3
+read /all 0 9:read 72756e
+stat /executable:stat * file 0755 1 0 0 3
+stat /d/run:stat * file 7751 1 0 0 3
+stat /d/bare:stat * file 0000 1 0 0 0
+stat /d/f:stat * file 6740 1 0 0 4
+read /d/f 0 9:read 75736572
+stat /d/g:stat * file 0644 1 0 0 0
+stat /plain:stat * file 0640 1 0 0 5
+END
+    for row in /all:3000:1000000000 /executable:3000:3000 /d/run:3000:1000000000 /d/bare:3000:0 /d/f:3000:3000 /plain:4000:4294967295; do
+        IFS=: read -r path atime mtime <<< "$row"
+        found=$("$program" inode "$edition" marks.img "$path" | grep time)
+        has "the time of modification of $path" "mtime $mtime" "$(grep mtime <<< "$found")"
+        case $path in /all | /d/run | /d/bare | /plain) has "the time of access of $path" "atime $atime" "$(grep atime <<< "$found")" ;; esac
+    done
+    cp marks.img marked.img
+    for words in '/new in/old' '-t /d in/run in/old' '-t / in/late'; do
+        # shellcheck disable=SC2086
+        refuses 3 "unixvol: cannot read ${words##* }" put -p "$edition" marks.img $words 5000
+    done
+    refuses 1 'unixvol: 21 IsDirectory' put -p "$edition" marks.img /d in/run 5000
+    refuses 1 'unixvol: 2 NoEntry: /x/run' put -x "$edition" marks.img -t /x in/run 5000
+    saves 'files that were not put with their marks' marks.img marked.img
+    prints none put -x "$edition" marks.img /new in/old 5000
+    rm -rf given
+    mkdir given
+    : > given/executable
+    chmod 400 given/executable
+    prints none get -p "$edition" marked.img -o given /all executable d/f
+    prints none get --preserve "$edition" marked.img /plain --output given
+    has 'the marks of files that were got' '751 1000000000 755 3000 740 3000 640 4294967295' \
+        "$(cd given && stat -c '%a %Y' all executable f plain | paste -s -d ' ' -)"
+    has 'the bytes of files that were got' 'run run user plain' "$(cd given && paste -d ' ' all executable f plain)"
+    (umask 027 && "$program" get "$edition" marked.img -o given /d/run)
+    has 'a file that was got without its marks' '640 yes' "$(stat -c %a given/run) $([ "$(stat -c %Y given/run)" -gt 1000000000 ] && echo yes)"
 
     # A tree is removed at once or part by part, and all of its blocks and i-nodes are free.
     shown before.img > before

@@ -1,6 +1,6 @@
 #!/usr/bin/env bash
 # Runs the checkers of the built program, `icheck`, `dcheck` and `ncheck`, each with 1, 2, 7 and 64 threads, on images that are sound or not, and
-# compares their reports byte by byte. tests/program.sh has further reports, and the refusals of the three commands.
+# compares their reports byte by byte. tests/icheck.sh has small volumes, and the refusals of the three commands.
 # Usage: tests/checkers.sh PROGRAM. It prints a line for each row that fails, and ends with 'N passed, N failed'.
 . "$(dirname "$0")/rows.sh"
 

@@ -19,9 +19,6 @@ volume() {
     has "the calls on $file" "$#" "$(grep -c '^1\.[0-9]* ok ' played)"
 }
 
-# repeated COUNT TEXT: the text COUNT times
-repeated() { printf "$2%.0s" $(seq "$1"); }
-
 volume directory.6 'mkdir /d 755'
 volume nested.6 'mkdir /d 755' 'mkdir /d/e 755'
 volume file.6 'create /a 644'
@@ -42,11 +39,16 @@ make() {
 # each NAME TEST: for each row of tests/checks/NAME, calls TEST with its edition and its first line, when its image is in `image` and its other lines
 # are in `lines`
 each() {
-    local given=() line
+    local given=() line number=0
     has "rows in $1" yes "$(grep -q '^image ' "$rows/$1" && echo yes)"
     while IFS= read -r line; do
+        number=$((number + 1))
         case $line in
-            'image '*) read -r -a given <<< "${line#image }" && : > lines ;;
+            '#'*) ;;
+            'image '*)
+                row_at=$(called "$rows/$1"):$number
+                read -r -a given <<< "${line#image }" && : > lines
+                ;;
             '')
                 [ ${#given[@]} -gt 0 ] || continue
                 make image "${given[@]}"
@@ -55,7 +57,8 @@ each() {
                 ;;
             *) echo "$line" >> lines ;;
         esac
-    done < <(grep -v '^#' "$rows/$1" && echo)
+    done < <(cat "$rows/$1" && echo)
+    row_at=
 }
 
 # The rules, with the findings in `lines`; a rule that isn't in `lines` holds.
@@ -116,6 +119,28 @@ reported | tail -n 4 > wanted
 runs_within 20 check 7 shared.7
 sed -i -n '9,$p' output
 wants 'check of directories that name one empty block everywhere' 1 wanted none
+
+# Eight directories of the greatest size, whose 229 million entries are in one block: one number of four in it is an entry's, the others name it again.
+ringed ringed.7 40755 1082201088 1 8 0100030000000b0000000b0000000b00
+printf '%s\n' '3 i-node 1 is neither free nor a file' '5 no data block: i-node 1, number 65539' '7 not asked' '8 neither named nor free: block 3' \
+    '9 no i-number of the volume: directory 1, slot 0' '10 not asked' '11 a second entry for a directory: directory 1, slot 1' \
+    '12 a wrong link count: i-node 1, entries 228878848, links 1' > lines
+reported > wanted
+(ulimit -t 8; runs check 7 ringed.7)
+wants 'check of directories whose entries are in a ring' 1 wanted none
+
+# 65,502 directories of the greatest size, which are holes: 70 TB in all.
+"$program" mkfs 7 holes.7 8300 8190 0 0 1
+python3 - << 'PYTHON'
+import struct
+image = bytearray(open("holes.7", "rb").read())
+image[1152:1024 + 64 * 65504] = 65502 * struct.pack("<6H52x", 0o40755, 1, 0, 0, 1082201088 >> 16, 1082201088 & 0xFFFF)
+open("holes.7", "wb").write(image)
+PYTHON
+printf '%s\n' '10 no . for itself: directory 3' '11 not reached from the root: directory 3' '12 a wrong link count: i-node 3, entries 0, links 1' > lines
+reported > wanted
+(ulimit -t 1; runs check 7 holes.7)
+wants 'check of directories that are holes' 1 wanted none
 
 # I-nodes and super-blocks, as text and as JSON.
 python3 "$rows/as_json.py" "$rows/i_nodes" "$rows/supers" > objects

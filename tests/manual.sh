@@ -1,24 +1,8 @@
 #!/usr/bin/env bash
 # Compares the manual page and the completions in manual/ with the program's help, and tries the completion for bash.
 # Usage: tests/manual.sh PROGRAM. It prints a line for each row that fails, and ends with 'N passed, N failed'.
-set -uo pipefail
-program=$(realpath "${1:?usage: tests/manual.sh PROGRAM}")
-manual=$(realpath "$(dirname "$0")/../manual")
-samples=$(realpath "$(dirname "$0")/../samples")
-folder=$(mktemp -d)
-trap 'rm -rf "$folder"' EXIT
-passed=0
-failed=0
-
-# counts LABEL STATUS: a row, which holds if the status is 0
-counts() {
-    if [ "$2" -eq 0 ]; then
-        passed=$((passed + 1))
-    else
-        failed=$((failed + 1))
-        echo "failed: $1"
-    fi
-}
+. "$(dirname "$0")/rows.sh"
+manual=${samples%/*}/manual
 
 # unixvol WORD..: the program, as the completion calls it
 unixvol() { "$program" "$@"; }
@@ -30,22 +14,17 @@ completes() {
     COMP_WORDS=(unixvol "$@")
     COMP_CWORD=$#
     _unixvol
-    [ "${COMPREPLY[*]}" = "$wanted" ]
-    counts "completion of 'unixvol $*': '${COMPREPLY[*]}', wanted '$wanted'" $?
+    has "completion of 'unixvol $*'" "$wanted" "${COMPREPLY[*]}"
 }
 
 "$manual/make.sh" "$program" "$folder"
-for file in unixvol.1 unixvol.bash _unixvol; do
-    cmp -s "$folder/$file" "$manual/$file"
-    counts "manual/$file isn't what manual/make.sh makes of the program's help: run it" $?
-done
+for file in unixvol.1 unixvol.bash _unixvol; do saves "manual/$file, as \`make manual\` makes it of the program's help" "$file" "$manual/$file"; done
 
-# holds FILE TEXT: FILE has TEXT, as the manual page writes it if FILE is the page
-holds() {
+# mentions FILE TEXT: FILE has TEXT, as the manual page writes it if FILE is the page
+mentions() {
     local text=$2
     [ "$1" = unixvol.1 ] && text=${text//-/\\-}
-    grep -qF -- "$text" "$manual/$1"
-    counts "$2 in manual/$1" $?
+    has "$2 in manual/$1" yes "$(grep -qF -- "$text" "$manual/$1" && echo yes)"
 }
 
 # listed NAME WORD..: the first word of each line in a section of the help
@@ -56,16 +35,15 @@ listed() {
 # Nothing that the help lists is missing.
 for command in '' $(listed Commands | grep -v help); do
     for option in $(listed Options $command | sed -E -e 's/,//g' -e 's/<[A-Z:]+>//'); do
-        for file in unixvol.1 unixvol.bash _unixvol; do holds $file "$option"; done
+        for file in unixvol.1 unixvol.bash _unixvol; do mentions $file "$option"; done
     done
 done
 for command in $(listed Commands); do
-    holds unixvol.1 ".SS $command"
-    holds unixvol.bash "$command"
-    holds _unixvol "'$command:"
+    mentions unixvol.1 ".SS $command"
+    mentions unixvol.bash "$command"
+    mentions _unixvol "'$command:"
 done
 
-cd "$folder" || exit 1
 source "$manual/unixvol.bash"
 cp "$samples/linux_made.v7" disk.img
 mkdir away
@@ -77,7 +55,8 @@ completes 'etc/empty etc/motd etc/passwd' get 7 disk.img etc/
 completes '--help' rm --he
 completes '--recursive' rm --re
 completes '--svg' map --s
-completes '--read-only' serve --re
+completes '--read-only' serve --rea
+completes '--read-only --rescue' serve --re
 completes '' rm 7 disk.img /etc/motd 1
 completes '/etc' put 7 disk.img -t /et
 completes 'disk.img' put 7 disk.img -t /etc disk

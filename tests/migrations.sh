@@ -1,6 +1,6 @@
 #!/usr/bin/env bash
 # Migrates worked volumes with the built program. Compares whole images byte for byte, and for larger volumes the names, the bytes of files and the
-# fields of i-nodes.
+# fields of i-nodes. Then the command's files, refusals and words.
 # Usage: tests/migrations.sh PROGRAM. It prints a line for each row that fails, and ends with 'N passed, N failed'.
 . "$(dirname "$0")/rows.sh"
 
@@ -74,7 +74,7 @@ migrated old full 10 5
 carried wanted 10
 saves 'a full volume with a directory and a file' full wanted
 
-# Sizes that no volume has. A special file is checked after them, and before the i-list and the blocks. tests/program.sh has more refusals.
+# Sizes that no volume has. A special file is checked after them, and before the i-list and the blocks. More refusals are below.
 cp new.6 device
 plays device <<< 'create /t 644'
 put device 2016 'A4 A1'
@@ -205,6 +205,110 @@ nodes grown new 1 32
 { printf abcseen && head -c 4089 /dev/zero; } > seen
 prints seen get 6 grown /t
 prints seen get 7 new /t
+
+# The command: the files that it reads and makes, the order of its refusals, and wrong words.
+cp new.6 made
+"$program" mkfs 7 made7 100 2 0 0 168496141
+mkfifo pipe
+
+# Volumes of the seventh edition that are made from volumes of the sixth. `old` has `/d`, i-number 32, and in it `/d/f`, 31, of three bytes.
+cp made old
+printf abc > letters
+prints none mkdir 6 old /d 168496141
+prints none put 6 old /d/f letters 168496142
+cp old before
+stood=$(stat -c '%i %y' old)
+prints none migrate old new 100 5 168496143
+has 'the old volume once it is migrated' "$stood" "$(stat -c '%i %y' old)"
+saves 'the old volume once it is migrated' old before
+has 'the size of the new volume' 51200 "$(wc -c < new)"
+# 90 blocks are free, 41 of them in the super-block: the last, which is taken first, is block 10, and the first is block 50, which has the rest.
+holds 'the super-block of the new volume' new 512 '07 00 00 00 64 00 29 00 00 00 32 00'
+holds 'the next free block of the new volume' new 680 '00 00 0A 00'
+holds 'the i-node of the new root' new 1088 'FF 41 03 00 00 00 00 00 00 00 30 00 00 07 00 00 00 00'
+holds 'the times of the new root' new 1140 '0B 0A 0D 0C 0B 0A 0D 0C 0B 0A 0F 0C'
+holds 'the i-node of the new file' new $((1024 + 64 * 31)) 'A4 81 01 00 00 00 00 00 00 00 03 00 00 08 00 00 00 00'
+edition=7
+finds 0 dcheck new
+finds 0 ncheck new '32 /d/f' '33 /d'
+mapfile -t found < <(totals 1 2 0 0 3 90 0)
+finds 0 icheck new "${found[@]}"
+edition=6
+prints letters get 7 new /d/f
+printf '%s\n' '    2 .' '    2 ..' '   33 d' > lines
+prints lines ls 7 new /
+echo something > other
+chmod 640 other
+prints none migrate old other 10 5 168496143 # no block is left
+has 'the permissions of a file that was replaced' 640 "$(stat -c %a other)"
+has 'the size of a full volume' 5120 "$(wc -c < other)"
+holds 'the super-block of a full volume' other 512 '07 00 00 00 0A 00 00 00'
+refuses 1 'unixvol: 103 NoInode' migrate old missing 100 4 1
+refuses 1 'unixvol: 28 NoSpace' migrate old missing 9 5 1
+refuses 1 'unixvol: bounds' migrate old missing 7 5 1
+refuses 1 'unixvol: bounds' migrate old missing 4294967295 65535 1
+has 'the file of a volume that was not made' none "$([ -e missing ] && echo some || echo none)"
+cp made device
+prints none put 6 device /t none 1
+put device 2016 'A4 A1' # `/t` is a character special file
+refuses 1 'unixvol: 105 HasDevice' migrate device missing 100 5 1
+refuses 1 'unixvol: 103 NoInode' migrate old missing 9 4 1 # before the want of blocks
+refuses 1 'unixvol: unsound, rule 2' migrate made7 missing 100 5 1
+changed old damaged 1026 '05'
+refuses 1 'unixvol: unsound, rule 12' migrate damaged missing 7 5 1 # before the sizes
+refuses 3 'unixvol: cannot read missing' migrate missing . 7 5 1
+refuses 3 'unixvol: cannot read .' migrate . missing 7 5 1
+refuses 1 'unixvol: bounds' migrate old no/folder 7 5 1 # before the file that can't be made
+refuses 3 'unixvol: cannot write no/folder' migrate old no/folder 100 5 1
+refuses 3 'unixvol: cannot write .' migrate old . 100 5 1
+refuses 3 'unixvol: cannot write /dev/full' migrate old /dev/full 100 5 1
+# The old volume can't be the new one, whatever path leads to it.
+ln -s old leads_to_old
+ln old second_name
+for path in old ./old "$folder/old" leads_to_old second_name; do
+    refuses 3 "unixvol: cannot write $path" migrate old "$path" 100 5 1
+    refuses 3 'unixvol: cannot write old' migrate "$path" old 100 5 1
+done
+has 'a link to an old volume' old "$(readlink leads_to_old)"
+saves 'an old volume that was to become a new one' old before
+has 'an old volume that was not to be written' "$stood" "$(stat -c '%i %y' old)"
+refuses 1 'unixvol: bounds' migrate old old 7 5 1
+rm -f leads_to_old second_name
+# A new file at the end of a link, and one that another program has locked for less than half a minute.
+ln -s made_there leads_on
+prints none migrate old leads_on 100 5 168496143
+saves 'what a link leads to, migrated' made_there new
+rm -f leads_on made_there
+if command -v flock > /dev/null; then
+    cp other locked
+    exec 9< locked
+    flock 9
+    (sleep 1; flock -u 9) &
+    prints none migrate old locked 100 5 168496143
+    wait
+    exec 9<&-
+    saves 'a file that was locked for a while' locked new
+fi
+cat old > pipe &
+prints none migrate pipe fresh 100 5 168496143
+wait
+saves 'a volume that came through a pipe' fresh new
+cat pipe > through &
+prints none migrate old pipe 100 5 168496143
+wait
+saves 'a volume that went into a pipe' through new
+cp other before
+(ulimit -f 8; trap '' XFSZ; runs migrate old other 100 5 1)
+echo 'unixvol: cannot write other' > line
+wants 'migrate where the new file finds no room' 3 none line
+saves 'a file in whose place the new volume found no room' other before
+misread 'error: the following required arguments were not provided' migrate old new 100
+misread 'error: unexpected argument' migrate 6 old new 100 5 1
+for number in 4294967296 +1 one ''; do
+    misread "error: invalid value '$number' for '<FSIZE>'" migrate old new "$number" 5 1
+    misread "error: invalid value '$number' for '<NOW>'" migrate old new 100 5 "$number"
+done
+misread "error: invalid value '65536' for '<IBLOCKS>'" migrate old new 100 65536 1
 
 echo "$passed passed, $failed failed"
 [ "$failed" = 0 ]

@@ -51,11 +51,11 @@ shown() {
 compare() {
     local same=0
     if [ "$2" = "$3" ]; then
-        passed=$((passed + 1))
+        passes
     else
-        failed=$((failed + 1))
+        fails "${1:0:100}"
         while [ "${2:same:10}" = "${3:same:10}" ]; do same=$((same + 10)); done
-        echo "failed: ${1:0:100}: ${3:same:60}, wanted ${2:same:60}, from character $same on"
+        printf '    %s\n' "wanted: ${2:same:60}" "came:   ${3:same:60}" "from character $same on"
     fi
 }
 
@@ -190,6 +190,7 @@ play_rows() {
     while IFS= read -r row; do
         number=$((number + 1))
         place="${1##*/} $number"
+        row_at=$(called "$1"):$number
         case $row in
             '' | '#'*) ;;
             *)
@@ -199,6 +200,7 @@ play_rows() {
         esac
     done < "$1"
     play_again
+    row_at=
 }
 
 compare 'the files of rows' 9 "$(ls "$rows"/*.rows | wc -l)"
@@ -380,7 +382,7 @@ for size in '4 1' '5 1' '53 1' '54 1' '55 2' '103 1' '104 1' '105 2' '128 3' '12
     done
 done
 
-# Owners at their limits, which are no faults; tests/program.sh has the others.
+# Owners at their limits, which are no faults; tests/calls.sh has the others.
 prints none mkfs 6 new 20 2 255 255 168496141
 prints none mkfs 7 new 100 2 256 32767 168496141
 

@@ -115,10 +115,14 @@ done << 'END'
 '2026-11-23 12:00:00.000Z' | 1795435200
 1970-01-01T00:00:00Z | 0
 2106-02-07T06:28:15Z | 4294967295
+1979-01-10 | 284774400
+1970-01-01 | 0
+2106-02-07 | 4294944000
+19700102 | 19700102
 12 | 12
  | clock
 END
-for word in 2026-11-23 2026-11-23T12:00:00 2026-11-23T12:00:00.5Z 1969-12-31T23:59:59Z 2106-02-07T06:28:16Z now ''; do
+for word in 2026-11-23T 2026-11-23Z 2026-13-01 2026-02-29 26-11-23 1969-12-31 2106-02-08 2026-11-23T12:00:00 2026-11-23T12:00:00.5Z 1969-12-31T23:59:59Z 2106-02-07T06:28:16Z now ''; do
     misread "error: invalid value '$word' for '<NOW>': not a decimal number from 0" rm 7 disk /f "$word"
 done
 
@@ -204,9 +208,15 @@ put 7 disk -t /d x/a b y/a | invalid value 'a' for '<FILE>': two files have this
 put 7 disk -t /d a a/. 8 | invalid value 'a' for '<FILE>'
 put 7 disk -o /d a | unexpected argument '-o'
 get 7 disk /d/f /d/g | invalid value '/d/g' for '<MORE>': one file is printed, as by > FILE; several need -o FOLDER
+get 7 disk -p /d/f | no value for '<FOLDER>': -p is for files in a folder: it needs -o FOLDER
+get 7 disk /d/f --preserve /d/g | invalid value '/d/g' for '<MORE>': one file is printed, as by > FILE; several need -o FOLDER
+put 7 disk -p -p /d/f a | '--preserve' cannot be used multiple times
+get 7 disk -x -o out /d/f | unexpected argument '-x'
 get 7 disk -o out | <PATH>
 get 7 disk -o out -o out /d/f | '--output <FOLDER>' cannot be used multiple times
 get 7 disk -o out /d/f /e/f/ | invalid value 'f' for '<PATH>': two files have this last name
+ls --slots --json 7 disk / | the argument '--slots' cannot be used with '--json'
+ls 7 disk --json -l --slots | the argument '--slots' cannot be used with '--json'
 inode 7 disk | <INO>
 map --svg --svg 7 disk | --svg
 --explain | subcommand
@@ -264,7 +274,7 @@ done << 'END'
 inode 7 disk 017 | i-node 17;mode 0100644 file 0644;nlink 1;uid 0;gid 0;size 5;addr 5 0
 inode 7 disk 017 --json | {"addr":[5,0,0,0,0,0,0,0,0,0,0,0,0],"atime":0,"ctime":0,"extents":[{"block":5,"count":1,"inside":true,"level":0,"logical":0}],"gid":0,"i-node":17,"kind":"file","mode":33188,
 super 7 disk | isize 5;fsize 6;nfree 0;
-super 7 disk --json | {"data blocks":1,"fault":null,"flock":0,"fmod":0,"free":[],"free blocks":0,"free i-nodes":23,"fsize":6,"i-nodes":24,
+super 7 disk --json | {"data blocks":1,"fault":null,"flock":0,"fmod":0,"free":[],"free blocks":0,"free i-nodes":22,"fsize":6,"i-nodes":24,
 map 7 disk | 6 blocks, 1 in each cell;
 map 7 disk -- | 6 blocks, 1 in each cell;
 map 7 --svg disk | <svg xmlns='http://www.w3.org/2000/svg'

@@ -43,6 +43,14 @@ pub fn next_inode(image: &Image, geometry: &Geometry) -> Option<u16>
     }
 }
 
+/// True if an i-number above the root's is free. Costs as much as [`next_inode`].
+pub fn any_inode(image: &Image, geometry: &Geometry) -> bool
+    requires { Fits geometry.now image.now }
+    ensures { IsTrue result ↔ ((i : ℕ) × IsFreeNumber geometry.now image.now i) }
+{
+    next_inode(image, geometry).is_some()
+}
+
 /// Adds i-number `i` to the cache if it has room; else changes nothing. Takes no memory.
 pub fn give_inode(image: &mut Image, geometry: &Geometry, i: u16)
     requires { Fits geometry.now image.old }

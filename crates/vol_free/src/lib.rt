@@ -8,4 +8,4 @@ pub mod laws;
 
 pub use free_list::{free_count, give, rebuild, take};
 pub use free_walk::{FreeBlocks, FreeFault, FreeWalk, walk_free};
-pub use i_numbers::{give_inode, is_free_inode, next_inode, take_inode};
+pub use i_numbers::{any_inode, give_inode, is_free_inode, next_inode, take_inode};

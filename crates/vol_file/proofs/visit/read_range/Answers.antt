@@ -45,7 +45,7 @@ loop-b-preserved g c =
       block = block;
       called = c.visit.ensures;
     } in (
-      subst (λ j. LooksUp geometry image j c.number_at-block.new.self) inode c.number_at-block.ensures.own,
+      subst (λ j. LooksUp geometry image j c.number_at-block.new.numbers) inode c.number_at-block.ensures.own,
       rw (range_to c.args.first b (omega arith)) (FoldsTo-push (Visits g.F.FnMut geometry image i) _ _ _ b _ c.loop-b.invariant.1 visits),
       search of_calls,
     )

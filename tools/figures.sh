@@ -5,6 +5,7 @@
 #   counts    crates, lines and wrong bodies, counted
 #   rows      make rows                                    the built program, some minutes
 #   gate      bench/gate.sh                                everything proved from nothing, about an hour
+#   loop      bench/loop.sh                                the short loop in a fresh clone, about as long
 #   commands  make bench                                   needs rustc, some minutes
 #   mounted   bench/mounted.sh ./unixvol                   needs root, /dev/fuse and fuse2fs
 #   library   bench/library.sh bindings/out
@@ -36,6 +37,7 @@ about() {
         rows) printf '%s\n\n%s\n' '## Rows' 'By `make rows`: scripts side by side, with how long each took.' ;;
         gate) printf '%s\n\n%s\n' '## The gate' 'By `bench/gate.sh`: everything from nothing, in processor minutes. The parts of a crate are its proof, its tests, the check over which its wrong bodies
 are tried, these, and the building of a program; `rt` is the tool itself.' ;;
+        loop) printf '%s\n\n%s\n' '## The short loop' 'By `bench/loop.sh`: the steps of CONTRIBUTING in a fresh clone, in minutes by the clock and of the processors.' ;;
         commands) printf '%s\n\n%s\n' '## Commands' 'By `make bench`, beside a program in plain Rust; SPEED says how, and what the columns are.' ;;
         mounted) printf '%s\n\n%s\n' '## Mounted volumes' 'By `bench/mounted.sh`, beside fuse2fs with an ext2 image of the same files.' ;;
         library) printf '%s\n\n%s\n' '## The library' 'By `bench/library.sh`, on a volume of 200 MB.' ;;
@@ -49,6 +51,7 @@ measured() {
         counts) counts ;;
         rows) make -s rows ;;
         gate) bench/gate.sh | sed -n '/^processor minutes/,$p' ;;
+        loop) bench/loop.sh ;;
         commands) make -s bench ;;
         mounted) bench/mounted.sh ./unixvol ;;
         library) bench/library.sh bindings/out ;;
@@ -77,7 +80,7 @@ done
 What was counted and measured, each part with the day, the commit and the machine. `tools/figures.sh` writes this page; the other documents have no numbers
 that age.
 END
-    for part in counts rows gate commands mounted library; do
+    for part in counts rows gate loop commands mounted library; do
         [ -e "$room/$part" ] || awk -v head="$(about "$part" | head -n 1)" '/^## / { on = $0 == head } on && /^    |^$/ { sub(/^    /, ""); print }' "$figures" |
             sed -e '/./,$!d' | sed -e :a -e '/^\n*$/{$d;N;ba' -e '}' > "$room/$part"
         [ -s "$room/$part" ] || continue

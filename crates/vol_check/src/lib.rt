@@ -28,3 +28,4 @@ pub use salvage_volume::{SalvageFault, salvage};
 pub use seats::{CheckSeat, Piece};
 pub use sweeps::Sweep;
 pub use vol_free::FreeFault;
+pub use vol_reports::{Line, Report};

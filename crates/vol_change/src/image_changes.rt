@@ -6,7 +6,7 @@ pub mod create;
 pub mod link;
 pub mod mkdir;
 pub mod rmdir;
+pub mod times;
 pub mod truncate;
 pub mod unlink;
-pub mod utime;
 pub mod write;

@@ -7,7 +7,7 @@ use Rattle.vol_change.proofs.OneNode.{content_then}
 use Rattle.vol_change.proofs.ReadyLaws.{ready_whole}
 use Rattle.vol_change.proofs.UnusedBytes.{unused_then}
 use Rattle.vol_change.proofs.UnusedNodes.{time_unused, inode_alone}
-use Rattle.vol_change.proofs.image_changes.utime.utime.Goals as goal
+use Rattle.vol_change.proofs.image_changes.times.utime.Goals as goal
 
 pub put_times-requires : goal.put_times-requires
 put_times-requires c =

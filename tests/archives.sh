@@ -319,6 +319,26 @@ number 124 0000000000x\x0007346545000\x00010674\x00\x20
 ROWS
 saves 'an image into which no header was imported' disk.img blank.v7
 
+# Records of pax on sparse files, by hand: a path after the file's own, which doesn't replace it; and a map for all later members.
+cat > sparse.py << 'PYTHON'
+import tarfile
+
+def records(pairs):
+    return b"".join(tarfile.TarInfo._create_pax_generic_header({key: value}, tarfile.XHDTYPE, "utf-8")[512:].rstrip(b"\0") for key, value in pairs)
+
+def archive(name, kind, pairs):
+    """Writes an archive of a header of pax with these records, in this order, and an empty file `ok`."""
+    body = records(pairs)
+    head = tarfile.TarInfo("pax")
+    head.type, head.size = kind, len(body)
+    with open(name, "wb") as file:
+        file.write(head.tobuf(tarfile.USTAR_FORMAT) + body.ljust(-(-len(body) // 512) * 512, b"\0"))
+        file.write(tarfile.TarInfo("ok").tobuf(tarfile.USTAR_FORMAT) + bytes(1024))
+
+archive("named.tar", tarfile.XHDTYPE, [("GNU.sparse.name", "own"), ("path", "GNUSparseFile.1/own")])
+archive("all.tar", tarfile.XGLTYPE, [("GNU.sparse.major", "1")])
+PYTHON
+
 for edition in 6 7; do
     # Directories that aren't members, and members that occur twice.
     cp "blank.v$edition" disk.img
@@ -381,6 +401,12 @@ great_owner|ok: an owner or a group above the edition's highest
 given_owners|archive, byte 0: records of pax that can't be followed
 given_paths|archive, byte 0: records of pax that can't be followed
 ROWS
+    # Sparse files, by the formats of GNU tar and bsdtar: each is told by its own path.
+    for name in gnu pax_1 bsd; do unimported 'unixvol: dir/holes: a sparse file' "$edition" "$archives/sparse_$name.tar"; done
+    for name in long pax pax_0; do unimported "unixvol: ${eight#/}/holes: a sparse file" "$edition" "$archives/sparse_$name.tar"; done
+    python3 sparse.py
+    unimported 'unixvol: own: a sparse file' "$edition" named.tar
+    unimported "unixvol: archive, byte 0: records of pax that can't be followed" "$edition" all.tar
     changed "$archives/given_owner.tar" odd_owner.tar 519 78
     unimported "unixvol: archive, byte 0: records of pax that can't be read" "$edition" odd_owner.tar
     unimported 'unixvol: 2 NoEntry: /x/ok' "$edition" "$archives/ok.tar" /x

@@ -30,6 +30,7 @@ archive_fails (archives.LoneZeroBlock at) is = omega (arith, is)
 archive_fails (archives.Header at fault) is = omega (arith, is)
 archive_fails (archives.Records at) is = omega (arith, is)
 archive_fails (archives.Unsupported at) is = omega (arith, is)
+archive_fails (archives.Sparse path) is = omega (arith, is)
 archive_fails archives.NoMemory is = omega (arith, is)
 
 -- the status of a fault isn't 0

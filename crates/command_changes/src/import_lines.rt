@@ -13,6 +13,9 @@ use vol_dir::Refusal;
 use vol_import::{ArchiveFault, ImportFault, MemberFault};
 use vol_volume::{Bytes, Call};
 
+/// The reason in the line about a member that is a sparse file.
+pub const SPARSE_FILE: &[u8] = b"a sparse file";
+
 /// Returns the fault of a command that can't import an archive for this reason, or out of memory if there is too little memory for its line.
 pub(crate) fn fault_of(alloc: Global, why: &ImportFault) -> Fault
     ensures { TellsFault why.now (λ line. fault_line result ≡ line) (fault_status result) }
@@ -30,7 +33,7 @@ fn worded(alloc: Global, why: &ImportFault) -> Result<Fault, AllocError>
 {
     match why {
         ImportFault::Unsound(rule) => Ok(Fault::Unsound(*rule)),
-        ImportFault::Archive(fault) => unread(alloc, *fault),
+        ImportFault::Archive(fault) => unread(alloc, fault),
         ImportFault::Member(path, cause) => unmade(alloc, path.as_slice(), *cause),
         ImportFault::Refused(refusal, call) => refused_at(
             alloc,
@@ -42,18 +45,19 @@ fn worded(alloc: Global, why: &ImportFault) -> Result<Fault, AllocError>
 }
 
 /// Returns the fault for an archive that can't be read.
-fn unread(alloc: Global, fault: ArchiveFault) -> Result<Fault, AllocError>
-    ensures status { IfOk result (λ unread. fault_status unread ≡ archive_status fault) }
-    ensures line { IfOk result (λ unread. fault_line unread ≡ archive_line fault) }
+fn unread(alloc: Global, fault: &ArchiveFault) -> Result<Fault, AllocError>
+    ensures status { IfOk result (λ unread. fault_status unread ≡ archive_status fault.now) }
+    ensures line { IfOk result (λ unread. fault_line unread ≡ archive_line fault.now) }
 {
     let lines = match fault {
-        ArchiveFault::Truncated(at) => line_at(alloc, at, b"cut off")?,
-        ArchiveFault::LoneZeroBlock(at) => line_at(alloc, at, b"a lone block of zeros")?,
-        ArchiveFault::Header(at, fault) => line_at(alloc, at, header_text(fault))?,
-        ArchiveFault::Records(at) => line_at(alloc, at, b"records of pax that can't be read")?,
+        ArchiveFault::Truncated(at) => line_at(alloc, *at, b"cut off")?,
+        ArchiveFault::LoneZeroBlock(at) => line_at(alloc, *at, b"a lone block of zeros")?,
+        ArchiveFault::Header(at, fault) => line_at(alloc, *at, header_text(*fault))?,
+        ArchiveFault::Records(at) => line_at(alloc, *at, b"records of pax that can't be read")?,
         ArchiveFault::Unsupported(at) => {
-            line_at(alloc, at, b"records of pax that can't be followed")?
+            line_at(alloc, *at, b"records of pax that can't be followed")?
         }
+        ArchiveFault::Sparse(path) => worded_line(alloc, path.as_slice(), SPARSE_FILE)?,
         ArchiveFault::NoMemory => return Ok(Fault::Refused(Refusal::NoMemory)),
     };
     Ok(Fault::Worded { rule: None, lines })

@@ -81,6 +81,7 @@ archive_few (archives.LoneZeroBlock at) = omega arith
 archive_few (archives.Header at fault) = omega arith
 archive_few (archives.Records at) = omega arith
 archive_few (archives.Unsupported at) = omega arith
+archive_few (archives.Sparse path) = omega arith
 archive_few archives.NoMemory = omega arith
 
 import_few : (fault : ImportFault) → import_status fault ≤ 4

@@ -58,6 +58,7 @@ unread_plans archive (archives.LoneZeroBlock at) = tt
 unread_plans archive (archives.Header at fault) = unheaded_plans archive at fault
 unread_plans archive (archives.Records at) = tt
 unread_plans archive (archives.Unsupported at) = tt
+unread_plans archive (archives.Sparse path) = tt
 
 pub told_plans : (plan : Result (List Call) PlanFault) (fault : ImportFault) → told plan ≡ Err fault → IsPlans fault
 told_plans (Ok calls) fault e = absurd (cc)

@@ -63,6 +63,7 @@ unread archive (archives.LoneZeroBlock at) = faults.Archive (archives.LoneZeroBl
 unread archive (archives.Header at fault) = unheaded archive at fault
 unread archive (archives.Records at) = faults.Archive (archives.Records at)
 unread archive (archives.Unsupported at) = faults.Archive (archives.Unsupported at)
+unread archive (archives.Sparse path) = faults.Archive (archives.Sparse path)
 
 -- reporting a fault takes memory: if a field of a header isn't a number, for the member's path (this project)
 abbrev pub TakesMemory : ArchiveFault → Type 0

@@ -139,7 +139,8 @@ fn unread(alloc: Global, archive: &[u8], fault: ArchiveFault) -> ImportFault
         | ArchiveFault::LoneZeroBlock(_)
         | ArchiveFault::Header(_, _)
         | ArchiveFault::Records(_)
-        | ArchiveFault::Unsupported(_) => ImportFault::Archive(fault),
+        | ArchiveFault::Unsupported(_)
+        | ArchiveFault::Sparse(_) => ImportFault::Archive(fault),
     }
 }
 

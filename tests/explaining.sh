@@ -1,6 +1,7 @@
 #!/usr/bin/env bash
 # Runs the built program with `--explain`, and compares the second lines of its faults; without it there is one line.
 # Usage: tests/explaining.sh PROGRAM. It prints a line for each row that fails, and ends with 'N passed, N failed'.
+archives=$(realpath "$(dirname "$0")/archives")
 . "$(dirname "$0")/rows.sh"
 linux="$samples/linux_made.v7"
 
@@ -221,6 +222,8 @@ for row in 'a gzip file: `gzip -dc` prints the archive in it|gzip -c' 'a bzip2 f
     "$program" import 6 "$image" --explain < packed > output 2> error
     has "what is said of an archive in ${row%%[:,]*}" "1 2 unixvol: standard input: it is ${row%|*}" "$? $(wc -l < error) $(tail -n 1 error)"
 done
+"$program" import 6 "$image" --explain < "$archives/sparse_bsd.tar" > output 2> error
+has 'a member that is a sparse file' '1 unixvol: dir/holes: a sparse file unixvol: this member: it is stored without its zeros; `tar` without -S, or `bsdtar --no-read-sparse`, stores it whole' "$? $(paste -s -d ' ' error)"
 : > d
 tar --format=ustar -cf file.tar d
 "$program" import 6 "$image" --explain < file.tar > output 2> error

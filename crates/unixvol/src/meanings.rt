@@ -3,6 +3,7 @@
 use crate::line_meanings::line_meaning;
 use crate::sizes::Sizes;
 use crate::subject::{About, Subject};
+use command_changes::SPARSE_FILE;
 use command_faults::{Fault, LineFlaw};
 use command_words::Verb;
 use escaped_text::push_escaped;
@@ -16,6 +17,10 @@ pub const NO_MEMORY: &str = "there was too little memory for this";
 /// The meaning of BadId.
 const BAD_ID: &str =
     "the user or the group is above the edition's highest, 255 in the sixth and 32767 in the seventh";
+
+/// The meaning of a sparse file in an archive.
+const STORED_SPARSE: &str =
+    "it is stored without its zeros; `tar` without -S, or `bsdtar --no-read-sparse`, stores it whole";
 
 /// The text for an export that wrote nothing.
 const NOTHING_EXPORTED: &str = "; nothing is exported";
@@ -46,7 +51,7 @@ pub fn meaning_of(
 ) -> Result<Option<String>, AllocError> {
     match fault {
         Fault::Unsound(rule) => rule_meaning(alloc, Some(*rule), subject, sizes),
-        Fault::Worded { rule: None, .. } => packed_meaning(alloc, subject),
+        Fault::Worded { rule: None, lines } => unread_meaning(alloc, lines, subject),
         Fault::Worded { rule, .. } => rule_meaning(alloc, *rule, subject, sizes),
         Fault::BadLine {
             script,
@@ -82,14 +87,30 @@ fn meaning(alloc: Global, about: String, words: &str) -> Result<Option<String>, 
     Ok(Some(format!(in alloc; "{about}: {words}")?))
 }
 
-/// Returns the meaning of an archive that can't be read because it is compressed.
-fn packed_meaning(alloc: Global, subject: Subject<'_>) -> Result<Option<String>, AllocError> {
+/// Returns the meaning of an archive that can't be read because it is compressed, or has a sparse file.
+fn unread_meaning(
+    alloc: Global,
+    lines: &[u8],
+    subject: Subject<'_>,
+) -> Result<Option<String>, AllocError> {
     match (subject.verb, subject.packed) {
         (Verb::Import, Some(words)) => {
             let input = shown(alloc, "standard input")?;
             meaning(alloc, input, words)
         }
+        (Verb::Import, None) if is_about_sparse(lines) => {
+            let member = shown(alloc, "this member")?;
+            meaning(alloc, member, STORED_SPARSE)
+        }
         _ => Ok(None),
+    }
+}
+
+/// True if a line says that a member is a sparse file.
+fn is_about_sparse(lines: &[u8]) -> bool {
+    match lines.strip_suffix(b"\n".as_slice()) {
+        Some(line) => line.ends_with(SPARSE_FILE),
+        None => false,
     }
 }
 

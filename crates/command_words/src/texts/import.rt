@@ -15,8 +15,9 @@ exist.
 
 If a directory on the way to a member is missing, it is made too, with permissions 0755, user 0 and group 0. A
 directory that the volume already has stays as it is. A name longer than 14 bytes is refused, never cut, and so is
-a path longer than 4096 bytes. Sparse files and symbolic links are refused, as these systems have none. Special
-files are refused too: these systems make them with mknod, but no command here does.
+a path longer than 4096 bytes. Symbolic links are refused, as these systems have none. Special files are refused
+too: these systems make them with mknod, but no command here does. Files stored as sparse are refused: make the
+archive with tar without -S, or with bsdtar --no-read-sparse.
 
 With --skip-special, special files are left out, and each has a line on standard error. These are character and
 block files, FIFOs, and links to what is left out.
@@ -30,7 +31,7 @@ Status:
      `unixvol: archive, byte N: WHY`: the archive can't be read from the header at this byte on
      `unixvol: MEMBER: WHY`: this member can't be made as it is, because of its kind, its path, the path of the file
      that it links to, a field of its header that isn't a number, or an owner or group above the edition's highest,
-     255 in the sixth and 32767 in the seventh
+     255 in the sixth and 32767 in the seventh; or it is a sparse file
      `unixvol: 17 Exists: MEMBER`: its path, or that of a directory on the way, is taken by something that isn't
      the directory wanted
      `unixvol: 2 NoEntry: MEMBER`: PATH doesn't exist, or the file that the member links to doesn't

@@ -1,17 +1,21 @@
 -- The result of printing a text.
-use Rattle.std.proofs.Common.{◌≡◌, ℕ, true, List, [], Option, Result, Ok, Err, IfOk, IfErr, inl, inr, refl, subst}
-use Rattle.std.specs.Prelude.{String}
+use Rattle.std.proofs.Common.{◌≡◌, ℕ, true, List, [], Option, None, Some, Result, Ok, Err, IfOk, IfErr, inl, inr, refl, subst}
+use Rattle.std.specs.Prelude.{OnOk, String}
 use Rattle.std.specs.Global.{Vec}
 use Rattle.std.specs.String.{string_bytes}
 use Rattle.std.specs.declared.alloc.Global.{Global}
 use Rattle.std.specs.Io.KnownBytes.{Appends, Keeps}
 use Rattle.std.proofs.KnownBytes.{Keeps-refl}
 use Rattle.pdp_words.specs.Devices.{AppendsFront}
-use Rattle.command_faults.specs.Faults.{fault_line}
+use Rattle.vol_archive.specs.Write.{Writes}
+use Rattle.vol_archive.specs.declared.write.WriteFault.{WriteFault}
+use Rattle.vol_archive.specs.declared.write.WriteFault.TheVariants as writes
+use Rattle.command_faults.specs.Faults.{fault_line, fault_status, line_after}
 use Rattle.command_faults.specs.Streams.{Streams}
 use Rattle.command_faults.specs.declared.fault.Fault.{Fault}
 use Rattle.command_faults.specs.declared.fault.Fault.TheVariants as faults
-use Rattle.command_reads.specs.Print.{IsTold, Prints, PrintsWith, PrintsOne}
+use Rattle.command_reads.specs.Export.{unwritten}
+use Rattle.command_reads.specs.Print.{IsTold, Prints, PrintsInPieces, PrintsWith, PrintsOne}
 
 -- if all bytes of a text were written, the text is printed
 pub printed : (wanted : ℕ) (streams : Streams) (text bytes : List ℕ) → bytes ≡ text → Appends streams.old streams.new bytes
@@ -50,3 +54,26 @@ one_of_bytes IsText IsFault streams status (Err fault) is why prints told = inr 
 -- if nothing is written, the contents of a stream stay the same
 pub kept_same : (known : Option (List ℕ)) → Keeps known known
 kept_same known = Keeps-refl known
+
+-- a text that was written piece by piece, whole or not, is printed so
+pub in_pieces : (wanted : ℕ) (streams : Streams) (text : List ℕ) (status : ℕ) (told : Option Fault) (written : Result (Unit {0}) WriteFault)
+    → Writes streams.old streams.new streams.had_failed streams.failed text written → OnOk written ((status ≡ wanted) × (told ≡ None))
+    → IfErr written (λ fault. (status ≡ fault_status (unwritten fault)) × (told ≡ Some (unwritten fault))) → streams.said (line_after told)
+    → PrintsInPieces wanted streams text status
+in_pieces wanted streams text status told (Ok done) written whole why said = inl (inl (record {
+  status = whole.0;
+  whole = written.0;
+  working = written.1;
+  said = subst (λ t. streams.said (line_after t)) whole.1 said;
+}))
+in_pieces wanted streams text status told (Err writes.NoMemory) cut whole why said = inr (record {
+  status = why.0;
+  front = (cut.count, cut.front);
+  said = subst (λ t. streams.said (line_after t)) why.1 said;
+})
+in_pieces wanted streams text status told (Err writes.Output) cut whole why said = inl (inr (record {
+  status = why.0;
+  front = (cut.count, cut.front);
+  broken = cut.cause refl;
+  said = subst (λ t. streams.said (line_after t)) why.1 said;
+}))

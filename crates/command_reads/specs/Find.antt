@@ -1,20 +1,17 @@
 -- The command that prints the paths of everything below a directory.
-use Rattle.std.specs.Prelude.{◌≡◌, ◌⊎◌, ℕ, Bool, true, if◌then◌else◌, List, [], ◌∷◌, ◌++◌, Option, None, Some, Ok, Err}
+use Rattle.std.specs.Prelude.{◌≡◌, ◌⊎◌, ℕ, Bool, true, if◌then◌else◌, List, [], ◌∷◌, ◌++◌, Option, None, Some, Ok}
 use Rattle.std.specs.List.{flat_map}
 use Rattle.name_patterns.specs.Like.{is_like, last_name}
-use Rattle.vol_archive.specs.Export.{start_of}
 use Rattle.vol_archive.specs.declared.export_tree.ExportStart.{ExportStart}
-use Rattle.vol_archive.specs.declared.export_tree.StartFault.{StartFault}
 use Rattle.vol_archive.specs.declared.met_entries.MetEntry.{MetEntry}
 use Rattle.vol_layout.specs.declared.edition.Edition.{Edition}
 use Rattle.vol_listing.specs.Lines.{shown}
 use Rattle.vol_listing.specs.Listings.{shown_path}
 use Rattle.vol_listing.specs.Places.{joined}
 use Rattle.vol_listing.specs.declared.options.Screen.{Screen}
-use Rattle.command_faults.specs.Faults.{no_memory}
 use Rattle.command_faults.specs.Streams.{Streams}
 use Rattle.command_faults.specs.declared.fault.Fault.{Fault}
-use Rattle.command_reads.specs.Export.{AreFound as AreVisited, begun, unstarted}
+use Rattle.command_reads.specs.Export.{AreFound as AreVisited, begun}
 use Rattle.command_reads.specs.Print.{IsTold, PrintsTelling}
 use Rattle.command_reads.specs.Remarks.{limit_lines}
 use Rattle.command_reads.specs.Sums.{IsManifestFault}
@@ -37,11 +34,6 @@ pub record AreFound (edition : Edition) (image path : List ℕ) (pattern : Optio
   pub walk : AreVisited lost start.geometry image start.inode founds
   pub paths : text ≡ flat_map (found_line screen pattern (shown_path path)) founds
   pub limits : lines ≡ limit_lines founds
-
--- the reason why nothing of a directory is shown: out of memory, or it can't be reached (this project)
-pub data IsFindFault (edition : Edition) (image path : List ℕ) : Fault → Type 0 where
-  unbegun : (fault : StartFault) → start_of edition image path ≡ Err fault → IsFindFault edition image path (unstarted fault)
-  memory : IsFindFault edition image path no_memory
 
 -- the paths of everything below the directory at a path are printed, with status 5 if the walk stopped at one of them, or a fault is reported (find)
 abbrev pub Finds : Edition → List ℕ → List ℕ → Option (List ℕ) → Bool → Screen → Streams → ℕ → Type 0

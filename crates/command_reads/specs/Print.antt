@@ -2,7 +2,7 @@
 use Rattle.std.specs.Prelude.{◌≡◌, ◌⊎◌, ◌==◌, ℕ, true, if◌then◌else◌, List, [], length}
 use Rattle.std.specs.Io.KnownBytes.{Appends, Keeps}
 use Rattle.pdp_words.specs.Devices.{AppendsFront}
-use Rattle.command_faults.specs.Faults.{fault_status, fault_line}
+use Rattle.command_faults.specs.Faults.{fault_status, fault_line, no_memory}
 use Rattle.command_faults.specs.Streams.{Streams}
 use Rattle.command_faults.specs.declared.fault.Fault.{Fault}
 use Rattle.command_faults.specs.declared.fault.Fault.TheVariants as faults
@@ -24,6 +24,12 @@ pub record IsBrokenOff (streams : Streams) (bytes : List ℕ) (code : ℕ) : Typ
   pub front : (count : ℕ) × AppendsFront streams.old streams.new bytes count
   pub broken : streams.failed ≡ true
   pub said : streams.said (fault_line faults.Output)
+
+-- memory ran out after some of the bytes were written, and this is reported (this project)
+pub record IsCutShort (streams : Streams) (bytes : List ℕ) (code : ℕ) : Type 0 where
+  pub status : code ≡ 4
+  pub front : (count : ℕ) × AppendsFront streams.old streams.new bytes count
+  pub said : streams.said (fault_line no_memory)
 
 -- a text is printed, with a status and no line (this project)
 pub record IsPrintedWith (wanted : ℕ) (streams : Streams) (text : List ℕ) (code : ℕ) : Type 0 where
@@ -59,3 +65,12 @@ PrintsTelling wanted streams text lines status = IsPrintedTelling wanted streams
 abbrev pub PrintsOne : (List ℕ → Type 0) → (Fault → Type 0) → Streams → ℕ → Type 0
 PrintsOne IsText IsFault streams status =
     ((text : List ℕ) × IsText text × Prints streams text status) ⊎ ((fault : Fault) × IsFault fault × IsTold streams fault status)
+
+-- a text is printed piece by piece, with this status; or standard output fails, or memory runs out, after a prefix of it (this project)
+abbrev pub PrintsInPieces : ℕ → Streams → List ℕ → ℕ → Type 0
+PrintsInPieces wanted streams text status = PrintsWith wanted streams text status ⊎ IsCutShort streams text status
+
+-- one of some texts is printed piece by piece, or one of some faults is reported (this project)
+abbrev pub PrintsOneInPieces : (List ℕ → Type 0) → (Fault → Type 0) → Streams → ℕ → Type 0
+PrintsOneInPieces IsText IsFault streams status =
+    ((text : List ℕ) × IsText text × PrintsInPieces 0 streams text status) ⊎ ((fault : Fault) × IsFault fault × IsTold streams fault status)

@@ -1,8 +1,9 @@
 -- The command that shows the slots of a directory.
-use Rattle.std.specs.Prelude.{◌≡◌, ℕ, ◌-◌, ◌*◌, ◌==◌, ◌&&◌, Bool, if◌then◌else◌, List, [], ◌∷◌, ◌++◌, length, decimal, Ok}
+use Rattle.std.specs.Prelude.{◌≡◌, ℕ, ◌-◌, ◌*◌, ◌==◌, ◌&&◌, Bool, if◌then◌else◌, List, [], ◌∷◌, ◌++◌, length, decimal, Ok, Err}
 use Rattle.std.specs.List.{flat_map, list_all, range_with_len, repeat}
 use Rattle.vol_archive.specs.Export.{start_of}
 use Rattle.vol_archive.specs.declared.export_tree.ExportStart.{ExportStart}
+use Rattle.vol_archive.specs.declared.export_tree.StartFault.{StartFault}
 use Rattle.vol_dir.specs.Entries.{slot_count}
 use Rattle.vol_layout.specs.Body.{body}
 use Rattle.vol_layout.specs.Slot.{name_of, slot_at}
@@ -12,8 +13,9 @@ use Rattle.vol_layout.specs.declared.slot.Slot.{Slot}
 use Rattle.vol_listing.specs.Lines.{shown}
 use Rattle.vol_listing.specs.declared.options.Screen.{Screen}
 use Rattle.command_faults.specs.Streams.{Streams}
-use Rattle.command_reads.specs.Find.{IsFindFault}
-use Rattle.command_reads.specs.Print.{PrintsOne}
+use Rattle.command_faults.specs.declared.fault.Fault.{Fault}
+use Rattle.command_reads.specs.Export.{unstarted}
+use Rattle.command_reads.specs.Print.{PrintsOneInPieces}
 
 -- a number, right-aligned in 5 columns, or in as many as it has digits (ls -i)
 abbrev pub aligned : ℕ → List ℕ
@@ -43,7 +45,11 @@ pub record IsSlotsText (edition : Edition) (image path : List ℕ) (screen : Scr
   pub begins : start_of edition image path ≡ Ok start
   pub lines : text ≡ slot_lines screen start.geometry image start.inode 0 (slot_count start.geometry image start.inode)
 
--- the slots of the directory at a path are shown, or a fault is reported, as by `find` (this project)
+-- the reason why no slots are shown: the directory can't be reached (this project)
+abbrev pub IsSlotsFault : Edition → List ℕ → List ℕ → Fault → Type 0
+IsSlotsFault edition image path fault = (why : StartFault) × (start_of edition image path ≡ Err why) × (fault ≡ unstarted why)
+
+-- the slots of the directory at a path are shown piece by piece, or a fault is reported (this project)
 abbrev pub ShowsSlots : Edition → List ℕ → List ℕ → Screen → Streams → ℕ → Type 0
 ShowsSlots edition image path screen streams status =
-    PrintsOne (IsSlotsText edition image path screen) (IsFindFault edition image path) streams status
+    PrintsOneInPieces (IsSlotsText edition image path screen) (IsSlotsFault edition image path) streams status

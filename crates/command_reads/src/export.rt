@@ -210,7 +210,7 @@ pub(crate) fn unstarted(fault: StartFault) -> Fault
 }
 
 /// Returns the fault of an export that stopped for this reason.
-fn unwritten(fault: WriteFault) -> Fault
+pub(crate) fn unwritten(fault: WriteFault) -> Fault
     ensures { result ≡ unwritten fault }
 {
     match fault {

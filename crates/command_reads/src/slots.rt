@@ -1,18 +1,19 @@
 //! `ls --slots`: shows the slots of a directory, and the names that empty slots keep.
-ghost use Rattle.std.specs.Prelude.{◌≡◌, ◌+◌, ◌*◌, ◌≤◌, ◌==◌, ◌++◌, IfErr, IfOk, OnOk, string_bytes};
+ghost use Rattle.std.specs.Prelude.{◌≡◌, ◌+◌, ◌*◌, ◌≤◌, ◌==◌, ◌++◌, IfOk, OnOk, string_bytes};
 ghost use Rattle.std.specs.List.{list_all};
 ghost use Rattle.vol_layout.specs.Geometry.{Fits};
 ghost use Rattle.vol_dir.specs.Entries.{slot_count};
 ghost use Rattle.command_faults.specs.Streams.{ErrorStream, Hears, streams};
-ghost use Rattle.command_reads.specs.Find.{IsFindFault};
-ghost use Rattle.command_reads.specs.Slots.{is_blank, slot_columns, slot_line, slot_lines, IsSlotsText, ShowsSlots};
+ghost use Rattle.vol_archive.specs.Write.{Writes};
+ghost use Rattle.command_reads.specs.Slots.{is_blank, slot_columns, slot_line, slot_lines, ShowsSlots};
 
 use crate::export::unstarted;
-use crate::print::finish_bytes;
-use command_faults::{Ending, Fault};
+use crate::print::{ending_after, put};
+use command_faults::Ending;
+use command_faults::status::DONE;
 use pdp_words::{BLOCK, Image, Sink};
 use std::alloc::{AllocError, Global};
-use vol_archive::start_of;
+use vol_archive::{WriteFault, start_of};
 use vol_file::{block_at, next_block};
 use vol_layout::i_list::size;
 use vol_layout::slot::SLOT;
@@ -25,10 +26,10 @@ const SLOTS: u32 = 32;
 /// Shows the slots of the directory at a path, in order, each on a line: its number, its i-number and its name. An empty slot has i-number 0, and still
 /// has the name of the entry that was removed. A slot with only zero bytes has no line. The path is walked as user 0. The image must keep rules 1 and
 /// 2, and may be any bytes otherwise. The status is 0; 1 if the image breaks one of these rules or the path leads to no directory, 3 if `output`
-/// failed, 4 if memory ran out. Nothing is printed until the whole output is ready.
+/// failed, 4 if memory ran out. With 3 or 4 some of the lines may have been printed.
 ///
 /// Costs the walk of the path, and two block-map lookups and a read of its slots for each stored logical block of the directory: the time depends on
-/// the number of these blocks, not on the directory's size. Takes memory for the text: up to 67,637,568 lines if the block map has a block many times.
+/// the number of these blocks, not on the directory's size. Takes memory for the lines of one block, which are printed before the next block's.
 pub(crate) fn show_slots<O: Sink>(
     alloc: Global,
     edition: Edition,
@@ -41,53 +42,79 @@ pub(crate) fn show_slots<O: Sink>(
         → ShowsSlots edition image.items path.now screen (streams O.contents O.failed output.old output.new errors) result.status }
 {
     let image = Image::from_bytes(image);
-    let text = slots_text(alloc, edition, &image, path.as_bytes(), screen);
-    finish_bytes(text, output)
+    print_slots(alloc, edition, &image, path.as_bytes(), screen, output)
 }
 
-/// Returns the lines of the slots of the directory at a path.
-fn slots_text(
+/// Prints the lines of the slots of the directory at a path.
+#[tactic(auto, using(crate::proofs::Printed::kept_same))]
+fn print_slots<O: Sink>(
     alloc: Global,
     edition: Edition,
     image: &Image,
     path: &[u8],
     screen: Screen,
-) -> Result<Vec<u8>, Fault>
-    ensures text { IfOk result (λ text. IsSlotsText edition image.now path.now screen text.items) }
-    ensures fault { IfErr result (λ fault. IsFindFault edition image.now path.now fault) }
+    output: &mut O,
+) -> Ending
+    ensures { (errors : ErrorStream) → Hears errors result.fault
+        → ShowsSlots edition image.now path.now screen (streams O.contents O.failed output.old output.new errors) result.status }
 {
     match start_of(edition, image, path) {
         Ok(start) => {
-            let lines = slot_lines(alloc, image, &start.geometry, start.inode, screen)?;
-            Ok(lines)
+            let written = put_slots(alloc, image, &start.geometry, start.inode, screen, output);
+            ending_after(written, DONE)
         }
-        Err(fault) => Err(unstarted(fault)),
+        Err(fault) => Ending::from(unstarted(fault)),
     }
 }
 
-/// Returns the lines of the slots of directory `dir`.
-fn slot_lines(
+/// Writes the lines of the slots of directory `dir`, those of one block at a time.
+fn put_slots<O: Sink>(
     alloc: Global,
     image: &Image,
     geometry: &Geometry,
     dir: u16,
     screen: Screen,
-) -> Result<Vec<u8>, AllocError>
+    output: &mut O,
+) -> Result<(), WriteFault>
     requires fits { Fits geometry.now image.now }
     requires first { 1 ≤ dir }
     requires last { dir ≤ geometry.now.last_inode }
-    ensures { IfOk result (λ text. text.items ≡ slot_lines screen geometry.now image.now dir 0 (slot_count geometry.now image.now dir)) }
+    ensures { Writes (O.contents output.old) (O.contents output.new) (O.failed output.old) (O.failed output.new)
+        (slot_lines screen geometry.now image.now dir 0 (slot_count geometry.now image.now dir)) result }
 {
     let count = slot_count(image, geometry, dir);
     let blocks = count.div_ceil(SLOTS);
-    let mut text = Vec::new(alloc);
     let mut b = next_block(image, geometry, dir, 0, blocks);
     while b < blocks {
         let few = (count - SLOTS * b).min(SLOTS);
-        push_block(alloc, image, geometry, dir, b, few, screen, &mut text)?;
+        put_block(alloc, image, geometry, dir, b, few, screen, output)?;
         b = next_block(image, geometry, dir, b + 1, blocks);
     }
-    Ok(text)
+    Ok(())
+}
+
+/// Writes the lines of the first `count` slots in logical block `b` of directory `dir`.
+fn put_block<O: Sink>(
+    alloc: Global,
+    image: &Image,
+    geometry: &Geometry,
+    dir: u16,
+    b: u32,
+    count: u32,
+    screen: Screen,
+    output: &mut O,
+) -> Result<(), WriteFault>
+    requires fits { Fits geometry.now image.now }
+    requires first { 1 ≤ dir }
+    requires last { dir ≤ geometry.now.last_inode }
+    requires few { count ≤ 32 }
+    requires within { 32 * b + count ≤ slot_count geometry.now image.now dir }
+    ensures { Writes (O.contents output.old) (O.contents output.new) (O.failed output.old) (O.failed output.new)
+        (slot_lines screen geometry.now image.now dir (32 * b) count) result }
+{
+    let mut text = Vec::new(alloc);
+    push_block(alloc, image, geometry, dir, b, count, screen, &mut text)?;
+    put(&text, output)
 }
 
 /// Returns the number of slots of directory `dir`.

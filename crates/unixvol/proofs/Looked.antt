@@ -21,7 +21,7 @@ use Rattle.command_reads.specs.declared.node.NodeFault.{NodeFault}
 use Rattle.command_reads.specs.Look.{Looks}
 use Rattle.command_reads.specs.declared.looks.OutputForm.{OutputForm}
 use Rattle.command_reads.specs.Find.{Finds}
-use Rattle.command_reads.specs.Print.{IsBrokenOff, IsTold, PrintsOne, PrintsTelling, PrintsWith}
+use Rattle.command_reads.specs.Print.{IsBrokenOff, IsTold, PrintsInPieces, PrintsOne, PrintsOneInPieces, PrintsTelling, PrintsWith}
 use Rattle.command_reads.specs.Sums.{Sums}
 use Rattle.command_reads.specs.declared.looks.Look.{Look}
 use Rattle.command_reads.specs.declared.looks.Look.TheVariants as looks
@@ -52,6 +52,18 @@ ends_prints most wanted streams text status few within (inr is) = ends_broken mo
 ends_one : (IsText : List ℕ → Type 0) (IsFault : Fault → Type 0) (streams : Streams) (status : ℕ) → PrintsOne IsText IsFault streams status → IsEndWithin 4 streams status
 ends_one IsText IsFault streams status (inl (text, is, prints)) = ends_prints 4 0 streams text status (omega arith) (omega arith) prints
 ends_one IsText IsFault streams status (inr (fault, is, told)) = ends_told 4 streams fault status (omega arith) told
+
+-- a text that is printed piece by piece
+ends_pieces : (most wanted : ℕ) (streams : Streams) (text : List ℕ) (status : ℕ) → 4 ≤ most → wanted ≤ most → PrintsInPieces wanted streams text status
+    → IsEndWithin most streams status
+ends_pieces most wanted streams text status few within (inl prints) = ends_prints most wanted streams text status few within prints
+ends_pieces most wanted streams text status few within (inr cut) =
+    ends_badly most streams status (omega (arith, cut.status)) (omega (arith, cut.status, few))
+
+ends_one_in_pieces : (IsText : List ℕ → Type 0) (IsFault : Fault → Type 0) (streams : Streams) (status : ℕ) → PrintsOneInPieces IsText IsFault streams status
+    → IsEndWithin 4 streams status
+ends_one_in_pieces IsText IsFault streams status (inl (text, is, pieces)) = ends_pieces 4 0 streams text status (omega arith) (omega arith) pieces
+ends_one_in_pieces IsText IsFault streams status (inr (fault, is, told)) = ends_told 4 streams fault status (omega arith) told
 
 -- the highest status, graded or not, is at least 4
 most_few : (graded : Bool) → 4 ≤ (if graded then 6 else 4)
@@ -162,7 +174,7 @@ ends_looks edition image screen streams status (looks.Find path name) shows = en
 ends_looks edition image screen streams status (looks.Map picture) shows = ends_one _ _ streams status shows
 ends_looks edition image screen streams status (looks.Check graded form) shows = ends_checks edition image graded form streams status shows
 ends_looks edition image screen streams status (looks.List path listing) shows = ends_one _ _ streams status shows
-ends_looks edition image screen streams status (looks.Slots path) shows = ends_one _ _ streams status shows
+ends_looks edition image screen streams status (looks.Slots path) shows = ends_one_in_pieces _ _ streams status shows
 
 -- the highest status of a command is at least 4
 highest_few : (look : Look) → 4 ≤ highest_status look

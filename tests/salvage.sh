@@ -126,6 +126,19 @@ has 'a volume that was only read' "$stood" "$(stat -c '%i %y' damaged)"
 has 'salvage -o to a full device' '3 unixvol: cannot write -' "$? $(cat error)"
 saves 'a volume salvaged without a report' salvaged made
 misread 'error: a value is required' salvage 6 damaged -o
+# Where the copy goes to standard output, by any name, the report goes to standard error.
+for path in /dev/stdout /proc/self/fd/1 /dev/fd/1; do
+    "$program" salvage 6 damaged -o "$path" 2> error | cat > copied
+    saves "a volume salvaged to a pipe, $path," copied made
+    has "the report of salvage -o $path" "$(cat wanted)" "$(cat error)"
+    runs salvage 6 damaged -o "$path"
+    wants "salvage -o $path into a file" 0 made wanted
+done
+"$program" salvage 6 damaged -o copied > copied 2> error
+has 'the report of salvage -o to the file of standard output' "0 $(cat wanted)" "$? $(cat error)"
+saves 'a volume salvaged to the file of standard output' copied made
+"$program" salvage 6 damaged -o /dev/stdout > /dev/full 2> error
+has 'salvage -o /dev/stdout to a full device' '3 unixvol: cannot write /dev/stdout' "$? $(cat error)"
 
 echo "$passed passed, $failed failed"
 [ "$failed" = 0 ]

@@ -1,5 +1,6 @@
 -- The end of `salvage -n` and of `salvage -o`.
-use Rattle.std.proofs.Common.{◌≡◌, ℕ, ◌≤◌, List, Option, None, Some, inl, inr, sym, subst, arith}
+use Rattle.std.proofs.Common.{◌≡◌, ℕ, ◌≤◌, true, List, Option, None, Some, inl, inr, sym, subst, arith}
+use Rattle.std.specs.Option.{is_some}
 use Rattle.std.specs.Io.KnownBytes.{Keeps}
 use Rattle.command_faults.proofs.Concluded.{fault_few}
 use Rattle.command_faults.specs.Streams.{Streams}
@@ -8,8 +9,9 @@ use Rattle.command_reads.specs.Print.{IsTold, Prints}
 use Rattle.host_files.specs.Save.{IsTaken}
 use Rattle.host_files.specs.declared.image_file.Stamp.{Stamp}
 use Rattle.vol_layout.specs.declared.edition.Edition.{Edition}
-use Rattle.unixvol.proofs.Concluded.{ends_unread}
-use Rattle.unixvol.specs.Runs.{Ends, IsStatusOfFileOrMemory, ReportsSalvage, RunsSalvage, SavesCopy, host_files}
+use Rattle.unixvol.proofs.Concluded.{ends_remarked, ends_unread}
+use Rattle.unixvol.specs.Reports.{IsReportTold}
+use Rattle.unixvol.specs.Runs.{Ends, IsStatusOfFileOrMemory, ReportsSalvage, RunsSalvage, SavesCopy, but_remarks, host_files}
 
 -- the end of a run that reports a fault
 ends_told : (streams : Streams) (fault : Fault) (status : ℕ) → IsTold streams fault status → Ends streams status
@@ -38,19 +40,30 @@ ends_unsaved streams status (inl three) kept =
 ends_unsaved streams status (inr four) kept =
     record { within = omega (arith, four); silent = λ _ _. kept; whole = λ e. absurd (omega (arith, four, e)) }
 
-ends_copy : (streams : Streams) (taken : List ℕ → Type 0) (bytes report : List ℕ) (status : ℕ) → SavesCopy streams taken bytes report status → Ends streams status
-ends_copy streams taken bytes report status (inl saved) = ends_printed streams report status saved.1
-ends_copy streams taken bytes report status (inr unsaved) = ends_unsaved streams status unsaved.0 unsaved.1
+-- the end of a run that succeeds with a report on standard error
+ends_reporting : (streams : Streams) (report : List ℕ) (status : ℕ) → IsReportTold streams report status → Ends (but_remarks true streams) status
+ends_reporting streams report status told =
+    record { within = omega (arith, told.status); silent = λ some _. absurd (some told.status); whole = λ _. (told.working, tt) }
 
-ends_reported : {A : Type 0} (copy : Option A) (streams : Streams) (taken : List ℕ → Type 0) (bytes report : List ℕ) (status : ℕ)
-    → ReportsSalvage copy streams taken bytes report status → Ends streams status
-ends_reported None streams taken bytes report status prints = ends_printed streams report status prints
-ends_reported (Some copy) streams taken bytes report status saves = ends_copy streams taken bytes report status saves
+ends_copy : (streams : Streams) (taken : List ℕ → Type 0) (stood : Stamp → Type 0) (bytes report : List ℕ) (status : ℕ)
+    → SavesCopy streams taken stood bytes report status → Ends (but_remarks true streams) status
+ends_copy streams taken stood bytes report status (inl saved) = ends_remarked true streams status (ends_printed streams report status saved.1)
+ends_copy streams taken stood bytes report status (inr (inl (one, saved, told))) = ends_reporting streams report status told
+ends_copy streams taken stood bytes report status (inr (inr unsaved)) =
+    ends_remarked true streams status (ends_unsaved streams status unsaved.0 unsaved.1)
 
--- `salvage -n` and `salvage -o` end as a plain command does
+ends_reported : {A : Type 0} (copy : Option A) (streams : Streams) (taken : List ℕ → Type 0) (stood : Stamp → Type 0) (bytes report : List ℕ) (status : ℕ)
+    → ReportsSalvage copy streams taken stood bytes report status → Ends (but_remarks (is_some copy) streams) status
+ends_reported None streams taken stood bytes report status prints = ends_printed streams report status prints
+ends_reported (Some copy) streams taken stood bytes report status saves = ends_copy streams taken stood bytes report status saves
+
+-- `salvage -n` and `salvage -o` end as a plain command does, except that `-o` may report on standard error
 pub ends_salvage : {F A : Type 0} (remaining contents : F → Option (List ℕ)) (had : F → Stamp → Type 0) (stood : Stamp → Type 0) (streams : Streams)
-    (edition : Edition) (copy : Option A) (status : ℕ) → RunsSalvage streams (host_files remaining contents had stood) edition copy status → Ends streams status
-ends_salvage remaining contents had stood streams edition copy status (inl nothing) = ends_unread remaining streams status nothing.0 nothing.1
-ends_salvage remaining contents had stood streams edition copy status (inr (image, given, inl (fault, why, told))) = ends_told streams fault status told
+    (edition : Edition) (copy : Option A) (status : ℕ) → RunsSalvage streams (host_files remaining contents had stood) edition copy status
+    → Ends (but_remarks (is_some copy) streams) status
+ends_salvage remaining contents had stood streams edition copy status (inl nothing) =
+    ends_remarked (is_some copy) streams status (ends_unread remaining streams status nothing.0 nothing.1)
+ends_salvage remaining contents had stood streams edition copy status (inr (image, given, inl (fault, why, told))) =
+    ends_remarked (is_some copy) streams status (ends_told streams fault status told)
 ends_salvage remaining contents had stood streams edition copy status (inr (image, given, inr (bytes, report, is, reports))) =
-    ends_reported copy streams (IsTaken contents) bytes report status reports
+    ends_reported copy streams (IsTaken contents) stood bytes report status reports

@@ -1,3 +1,4 @@
 pub mod Copies
+pub mod Reports
 pub mod Runs
 pub mod Serve

@@ -59,6 +59,7 @@ use Rattle.host_files.specs.declared.volume_front.UpTo.{UpTo}
 use Rattle.host_files.specs.declared.volume_front.UpTo.TheVariants.{End, Volume, Archive}
 use Rattle.host_files.specs.Save.{IsTaken}
 use Rattle.host_files.specs.declared.image_file.Stamp.{Stamp}
+use Rattle.unixvol.specs.Reports.{IsOneFile, IsReportTold, may_report_read}
 
 -- these bytes were read from some file, up to this end (std::io::Read)
 abbrev pub Gave : {F : Type 0} → UpTo → (F → Option (List ℕ)) → List ℕ → Type 0
@@ -172,17 +173,19 @@ RunsMigrate streams files migration status =
     ⊎ ((image : List ℕ) × (answer : Answer) × files.shown V6 image × MigratesVolume image migration streams.said answer
     × Keeps streams.old streams.new × (streams.failed ≡ streams.had_failed) × EndsSaved files.taken answer status)
 
--- a volume is saved in a file, and then its report is printed; or it isn't saved, and nothing is printed (this project)
-abbrev pub SavesCopy : Streams → (List ℕ → Type 0) → List ℕ → List ℕ → ℕ → Type 0
-SavesCopy streams taken bytes report status =
+-- a volume is saved in a file, and then its report is printed, on standard error if the system said that the file is standard output; or it isn't
+-- saved, and nothing is printed (this project)
+abbrev pub SavesCopy : Streams → (List ℕ → Type 0) → (Stamp → Type 0) → List ℕ → List ℕ → ℕ → Type 0
+SavesCopy streams taken stood bytes report status =
     (taken bytes × Prints streams report status)
+    ⊎ (IsOneFile stood × taken bytes × IsReportTold streams report status)
     ⊎ (IsStatusOfFileOrMemory status × Keeps streams.old streams.new × (streams.failed ≡ streams.had_failed) × streams.said [])
 
 -- the report on a salvaged volume is printed; if a file is named for the volume, it is saved there first, and if that fails nothing is printed (this
 -- project)
-abbrev pub ReportsSalvage : {A : Type 0} → Option A → Streams → (List ℕ → Type 0) → List ℕ → List ℕ → ℕ → Type 0
-ReportsSalvage None streams taken bytes report status = Prints streams report status
-ReportsSalvage (Some copy) streams taken bytes report status = SavesCopy streams taken bytes report status
+abbrev pub ReportsSalvage : {A : Type 0} → Option A → Streams → (List ℕ → Type 0) → (Stamp → Type 0) → List ℕ → List ℕ → ℕ → Type 0
+ReportsSalvage None streams taken stood bytes report status = Prints streams report status
+ReportsSalvage (Some copy) streams taken stood bytes report status = SavesCopy streams taken stood bytes report status
 
 -- `salvage -n` or `-o` runs: nothing is done; or the reason why the image that a file gave can't be salvaged is reported; or it is salvaged, and reported
 -- on (this project)
@@ -191,7 +194,7 @@ RunsSalvage streams files edition copy status =
     RunsNothing streams files status
     ⊎ ((image : List ℕ) × files.shown edition image
     × (((fault : Fault) × IsUnsalvaged edition image fault × IsTold streams fault status)
-    ⊎ ((bytes : List ℕ) × (report : List ℕ) × IsReported edition image bytes report × ReportsSalvage copy streams files.taken bytes report status)))
+    ⊎ ((bytes : List ℕ) × (report : List ℕ) × IsReported edition image bytes report × ReportsSalvage copy streams files.taken files.stood bytes report status)))
 
 -- `get` runs: nothing is done; or the file at a path of an image, which is read from a file, is printed (this project)
 abbrev pub RunsGetOne : Streams → HostFiles → Edition → List ℕ → ℕ → Type 0
@@ -377,13 +380,18 @@ pub record Ends (streams : Streams) (status : ℕ) : Type 0 where
   pub silent : status ≢ 0 → status ≢ 3 → Keeps streams.old streams.new
   pub whole : status ≡ 0 → (streams.failed ≡ streams.had_failed) × streams.said []
 
+-- the streams; if a run may succeed and report something, nothing is required of the reported lines (this project)
+abbrev pub but_remarks : Bool → Streams → Streams
+but_remarks true streams = record streams { said = λ bytes. Unit {0} }
+but_remarks false streams = streams
+
 -- the program runs to its end, from the contents of its two streams: their contents afterwards, whether they failed, and the status of the run, which
 -- is also the exit status unless the run's is 0 and the exit status is 3 (this project)
 abbrev pub RunsToEnd : HostFiles → Option (List ℕ) → Option (List ℕ) → Result Invocation Error → ℕ → Type 0
 RunsToEnd files output errors read end =
     (new : Option (List ℕ)) × (failed : Bool) × (told : Option (List ℕ)) × (untold : Bool) × (status : ℕ)
     × RunsRead (record { old = output; new = new; had_failed = false; failed = failed; said = Gets untold errors told }) files status read
-    × Ends (record { old = output; new = new; had_failed = false; failed = failed; said = Gets untold errors told }) status
+    × Ends (but_remarks (may_report_read read) (record { old = output; new = new; had_failed = false; failed = failed; said = Gets untold errors told })) status
     × ((end ≡ status) ⊎ ((status ≡ 0) × (end ≡ 3)))
 
 -- a run that may have printed something with any status ends: the status is at most `most`; if it is 0, no output failed and no fault was reported (this project)
@@ -431,11 +439,6 @@ LooksToEnd files screen output errors edition look end =
 abbrev pub may_remark : Change → Bool
 may_remark (changes.Import path options now) = options.skip_special
 may_remark _ = false
-
--- the streams; if a change may succeed and report something, nothing is required of the reported lines (this project)
-abbrev pub but_remarks : Bool → Streams → Streams
-but_remarks true streams = record streams { said = λ bytes. Unit {0} }
-but_remarks false streams = streams
 
 -- a change runs to its end, as a plain command does, except that it may report members left out (this project)
 abbrev pub ChangesToEnd : HostFiles → HostInput → Bool → Option (List ℕ) → Option (List ℕ) → Edition → Change → ℕ → Type 0

@@ -1,9 +1,11 @@
 //! `cat`, `get`, `mkfs`, `migrate`, `salvage -n`, `salvage -o` and `identify`, which print all or nothing: the files they open and save.
-ghost use Rattle.std.specs.Prelude.{◌≡◌, ◌≢◌, ◌≤◌, ℕ, Bool, List, Option, IfOk, string_bytes};
+ghost use Rattle.std.specs.Prelude.{◌≡◌, ◌≢◌, ◌≤◌, ℕ, Bool, true, List, Option, IfOk, string_bytes};
 ghost use Rattle.std.specs.Io.KnownBytes.{Keeps};
 ghost use Rattle.std.specs.Process.{exit_status};
+ghost use Rattle.command_faults.specs.Faults.{line_after};
 ghost use Rattle.command_faults.specs.Streams.{ErrorStream, Hears, still, streams};
-ghost use Rattle.unixvol.specs.Runs.{IsPlainCommand, IsUnread, Gave, PrintsBody, RunsMigrate, RunsMkfs, RunsSalvage, Runs, RunsRead, SavesCopy, RunsToEnd, Ends, host_files};
+ghost use Rattle.unixvol.specs.Reports.{IsOneFile, may_report, may_report_read};
+ghost use Rattle.unixvol.specs.Runs.{IsPlainCommand, IsUnread, Gave, PrintsBody, RunsMigrate, RunsMkfs, RunsSalvage, Runs, RunsRead, SavesCopy, RunsToEnd, Ends, but_remarks, host_files};
 ghost use Rattle.host_files.specs.Save.{IsTaken};
 
 use crate::explain::{explain_cat, explain_command_line, finish, tell_fault};
@@ -18,8 +20,8 @@ use command_changes::Migration;
 use command_changes::migrate::migrate_image;
 use command_changes::mkfs::make_volume;
 use command_changes::salvage::{ReportedVolume, salvage_with_report};
-use command_faults::Ending;
 use command_faults::status::DONE;
+use command_faults::{Ending, Fault};
 use command_line::{Invocation, MadeFile, VolumeFile};
 use command_reads::NodeName;
 use command_reads::cat::print_file;
@@ -61,7 +63,7 @@ fn run<R: ImageFiles + Clock + Eprint + AllocGlobal, O: Sink>(
     ensures runs { (errors : ErrorStream) → Hears errors result.fault
         → RunsRead (streams O.contents O.failed output.old output.new errors) (host_files R.File.remaining R.File.contents R.had R.stood) result.status read.entry }
     ensures ends { (errors : ErrorStream) → Hears errors result.fault
-        → Ends (streams O.contents O.failed output.old output.new errors) result.status }
+        → Ends (but_remarks (may_report_read read.entry) (streams O.contents O.failed output.old output.new errors)) result.status }
 {
     match read {
         Ok(invocation) => carry_out(host, output, invocation),
@@ -82,7 +84,7 @@ fn carry_out<R: ImageFiles + Clock + Eprint + AllocGlobal, O: Sink>(
     ensures runs { (errors : ErrorStream) → Hears errors result.fault
         → Runs (streams O.contents O.failed output.old output.new errors) (host_files R.File.remaining R.File.contents R.had R.stood) result.status invocation.entry }
     ensures ends { (errors : ErrorStream) → Hears errors result.fault
-        → Ends (streams O.contents O.failed output.old output.new errors) result.status }
+        → Ends (but_remarks (may_report invocation.entry) (streams O.contents O.failed output.old output.new errors)) result.status }
 {
     match invocation {
         Invocation::Cat { volume, node } => Ending {
@@ -199,23 +201,24 @@ fn run_salvage<R: ImageFiles + Clock + Eprint + AllocGlobal, O: Sink>(
         Err(fault) => return Ending::from(fault),
     };
     match copy {
-        Some(copy) => save_copy(host, output, copy, stamp, &salvaged),
+        Some(copy) => save_copy(host, output, copy, stamp, salvaged),
         None => print_with(salvaged.report.as_bytes(), DONE, output),
     }
 }
 
 /// Saves a salvaged volume in the file `copy`, prints its report, and returns how the run ends. The file with the stamp `old`, from which
-/// it was made, isn't replaced.
+/// it was made, isn't replaced. If the file is standard output, the report goes to standard error.
 fn save_copy<R: ImageFiles + Clock + Eprint + AllocGlobal, O: Sink>(
     host: &Surroundings<'_, R>,
     output: &mut O,
     copy: &str,
     old: Stamp,
-    salvaged: &ReportedVolume,
+    salvaged: ReportedVolume,
 ) -> Ending
     ensures { (errors : ErrorStream) → Hears errors result.fault
-        → SavesCopy (streams O.contents O.failed output.old output.new errors) (IsTaken R.File.contents) salvaged.now.bytes.items (string_bytes salvaged.now.report) result.status }
+        → SavesCopy (streams O.contents O.failed output.old output.new errors) (IsTaken R.File.contents) R.stood salvaged.bytes.items (string_bytes salvaged.report) result.status }
 {
+    let is_output = is_output(host.rt, copy);
     let status = save_over(host, copy, old, &salvaged.bytes, DONE);
     if status != DONE {
         return Ending {
@@ -223,5 +226,35 @@ fn save_copy<R: ImageFiles + Clock + Eprint + AllocGlobal, O: Sink>(
             fault: None,
         };
     }
+    if is_output {
+        return tell_report(salvaged.report);
+    }
     print_with(salvaged.report.as_bytes(), DONE, output)
+}
+
+/// Returns the result of a run that succeeds, and has a report for standard error.
+fn tell_report(report: String) -> Ending
+    ensures status { result.status ≡ 0 }
+    ensures line { line_after result.fault ≡ string_bytes report }
+{
+    Ending {
+        status: DONE,
+        fault: Some(Fault::Worded {
+            rule: None,
+            lines: report.into_bytes(),
+        }),
+    }
+}
+
+/// The path of standard output.
+const OUTPUT: &str = "/dev/stdout";
+
+/// True if the file at `path`, perhaps through symbolic links, is the one that standard output writes to.
+fn is_output<R: ImageFiles>(rt: &R, path: &str) -> bool
+    ensures { result ≡ true → IsOneFile R.stood }
+{
+    match (rt.stamp_at(path), rt.stamp_at(OUTPUT)) {
+        (Ok(file), Ok(output)) => file.is_of(output),
+        _ => false,
+    }
 }

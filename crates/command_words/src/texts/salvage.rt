@@ -18,7 +18,8 @@ With -o the salvaged volume goes into another file, COPY, and IMAGE is only read
 `unixvol migrate` does with its new volume: it must be a different file, and if standard error is a terminal, a
 line says what a replaced file held. With -n nothing is written, and the volume is salvaged in memory.
 
-With each of them a line says how the free list changes, with -o once COPY is written:
+With each of them a line says how the free list changes, with -o once COPY is written, on standard error if COPY is
+standard output:
   free list: 12 blocks added, 3 taken away
 The first number is of blocks that are free afterwards and weren't before, the second of blocks that were and
 aren't. If the old list has a fault, only the blocks before it count as free before.

@@ -12,9 +12,9 @@ returns-in-Mkfs-clause-runs g c errors hears =
     rw c.in-Mkfs.is (c.run_mkfs.ensures (g.O.Sink.contents c.args.output.now) (g.O.Sink.failed c.args.output.now) errors hears)
 
 pub returns-in-Mkfs-clause-ends : goal.returns-in-Mkfs-clause-ends
-returns-in-Mkfs-clause-ends g c errors hears =
+returns-in-Mkfs-clause-ends g c errors hears = rw c.in-Mkfs.is (
     let runs = c.run_mkfs.ensures (g.O.Sink.contents c.args.output.now) (g.O.Sink.failed c.args.output.now) errors hears in
-    record { within = runs.within.0; silent = λ _ _. runs.unprinted; whole = λ e. (runs.unused, runs.quiet e) }
+    record { within = runs.within.0; silent = λ _ _. runs.unprinted; whole = λ e. (runs.unused, runs.quiet e) })
 
 pub returns-in-Migrate-clause-runs : goal.returns-in-Migrate-clause-runs
 returns-in-Migrate-clause-runs g c errors hears =
@@ -25,31 +25,26 @@ returns-in-Cat-clause-runs g c errors hears = rw c.in-Cat.is (c.run_cat.ensures.
 
 pub returns-in-Cat-clause-ends : goal.returns-in-Cat-clause-ends
 returns-in-Cat-clause-ends g c errors hears =
-    record {
-      within = c.run_cat.ensures.within;
-      silent = c.run_cat.ensures.silent;
-      whole = λ e. (c.run_cat.ensures.whole e, hears);
-    }
+    rw c.in-Cat.is (record { within = c.run_cat.ensures.within; silent = c.run_cat.ensures.silent; whole = λ e. (c.run_cat.ensures.whole e, hears) })
 
 pub returns-in-Get-clause-ends : goal.returns-in-Get-clause-ends
-returns-in-Get-clause-ends g c errors hears = c.run_get.ensures.ends errors hears
+returns-in-Get-clause-ends g c errors hears =
+    rw c.in-Get.is (c.run_get.ensures.ends errors hears)
 
 pub returns-in-Migrate-clause-ends : goal.returns-in-Migrate-clause-ends
-returns-in-Migrate-clause-ends g c errors hears = c.run_migrate.ensures.ends (g.O.Sink.contents c.args.output.now) (g.O.Sink.failed c.args.output.now) errors hears
+returns-in-Migrate-clause-ends g c errors hears =
+    rw c.in-Migrate.is (c.run_migrate.ensures.ends (g.O.Sink.contents c.args.output.now) (g.O.Sink.failed c.args.output.now) errors hears)
 
 pub returns-in-Identify-clause-runs : goal.returns-in-Identify-clause-runs
 returns-in-Identify-clause-runs g c errors hears = rw c.in-Identify.is (rw c.deref.ensures.value at (c.run_identify.ensures errors hears))
 
 pub returns-in-Identify-clause-ends : goal.returns-in-Identify-clause-ends
 returns-in-Identify-clause-ends g c errors hears =
-    ends_identified (streams g.O.Sink.contents g.O.Sink.failed c.args.output.now c.run_identify.new.output errors)
-    (host_files g.R.File.Read.remaining g.R.File.Write.contents g.R.ImageFiles.had g.R.ImageFiles.stood) _ c.run_identify.result.status
-    (c.run_identify.ensures errors hears)
+    rw c.in-Identify.is (ends_identified (streams g.O.Sink.contents g.O.Sink.failed c.args.output.now c.run_identify.new.output errors) (host_files g.R.File.Read.remaining g.R.File.Write.contents g.R.ImageFiles.had g.R.ImageFiles.stood) _ c.run_identify.result.status (c.run_identify.ensures errors hears))
 
 pub returns-in-Salvage-clause-runs : goal.returns-in-Salvage-clause-runs
 returns-in-Salvage-clause-runs g c errors hears = rw c.in-Salvage.is (c.run_salvage.ensures errors hears)
 
 pub returns-in-Salvage-clause-ends : goal.returns-in-Salvage-clause-ends
 returns-in-Salvage-clause-ends g c errors hears =
-    ends_salvage g.R.File.Read.remaining g.R.File.Write.contents g.R.ImageFiles.had g.R.ImageFiles.stood _ c.in-Salvage.volume.edition c.in-Salvage.copy c.run_salvage.result.status
-    (c.run_salvage.ensures errors hears)
+    rw c.in-Salvage.is (ends_salvage g.R.File.Read.remaining g.R.File.Write.contents g.R.ImageFiles.had g.R.ImageFiles.stood _ c.in-Salvage.volume.edition c.in-Salvage.copy c.run_salvage.result.status (c.run_salvage.ensures errors hears))

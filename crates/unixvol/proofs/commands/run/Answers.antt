@@ -17,14 +17,14 @@ returns-in-Err-clause-runs g c errors hears =
 
 pub returns-in-Err-clause-ends : goal.returns-in-Err-clause-ends
 returns-in-Err-clause-ends g c errors hears =
-    record {
+    rw c.in-Err.is (record {
       within = c.explain_command_line.ensures.within;
       silent = c.explain_command_line.ensures.silent;
       whole = λ e. (c.explain_command_line.ensures.whole e, hears);
-    }
+    })
 
 pub returns-in-Ok-clause-runs : goal.returns-in-Ok-clause-runs
 returns-in-Ok-clause-runs g c errors hears = rw c.in-Ok.is (c.carry_out.ensures.runs errors hears)
 
 pub returns-in-Ok-clause-ends : goal.returns-in-Ok-clause-ends
-returns-in-Ok-clause-ends g c errors hears = c.carry_out.ensures.ends errors hears
+returns-in-Ok-clause-ends g c errors hears = rw c.in-Ok.is (c.carry_out.ensures.ends errors hears)

@@ -12,8 +12,8 @@ returns-in-Some g c errors hears =
     )
 
 -- only its report is printed
-pub returns : goal.returns
-returns g c errors hears =
+pub returns-in-None : goal.returns-in-None
+returns-in-None g c errors hears =
     let made = c.in-Ok-salvage_with_report in
     inr (
       c.in-Ok.read.0.items,

@@ -1,7 +1,8 @@
 use Rattle.std.specs.Process.{exit_status}
 use Rattle.pdp_words.specs.Adapters.{writer_in, has_write_failed}
 use Rattle.command_faults.specs.Streams.{heard}
-use Rattle.unixvol.specs.Runs.{RunsRead, Ends, host_files}
+use Rattle.unixvol.specs.Reports.{may_report_read}
+use Rattle.unixvol.specs.Runs.{RunsRead, Ends, but_remarks, host_files}
 use Rattle.unixvol.proofs.Begun.{begun, ended}
 use Rattle.unixvol.proofs.commands.run_to_end.Goals as goal
 
@@ -17,7 +18,7 @@ returns g c =
       status,
       begun (λ streams. RunsRead streams files status c.args.read) (g.O.Write.contents c.args.output) (g.E.Write.contents c.args.errors) _ _ _ _ _ _ _
           c.noted_writer-output.ensures.bytes c.new-errors.ensures.bytes c.noted_writer-output.ensures.fresh (c.run-ending.ensures.runs after c.tell_fault.ensures),
-      begun (λ streams. Ends streams status) (g.O.Write.contents c.args.output) (g.E.Write.contents c.args.errors) _ _ _ _ _ _ _
+      begun (λ streams. Ends (but_remarks (may_report_read c.args.read) streams) status) (g.O.Write.contents c.args.output) (g.E.Write.contents c.args.errors) _ _ _ _ _ _ _
           c.noted_writer-output.ensures.bytes c.new-errors.ensures.bytes c.noted_writer-output.ensures.fresh (c.run-ending.ensures.ends after c.tell_fault.ensures),
       ended status c.finish.result (exit_status c.from.result) c.from.ensures c.finish.ensures,
     )

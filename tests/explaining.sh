@@ -79,6 +79,14 @@ explains 1 'unixvol: unsound, rule 12' 'unixvol: broken.v7: it breaks rule 12, t
 explains 1 'unixvol: unsound, rule 1' 'unixvol: hello: it breaks rule 1, that the image has all blocks of the volume' super 6 hello
 explains 1 'unixvol: unsound, rule 1' 'unixvol: hello: it breaks rule 1, that the image has all blocks of the volume' cat 6 hello 1
 
+# The variable UNIXVOL_EXPLAIN asks for the second line if it is 1, and for nothing else if it has another value.
+for row in '1 2' '0 1' '2 1' 'yes 1'; do
+    UNIXVOL_EXPLAIN=${row% *} "$program" get 6 disk.v6 /none > output 2> error
+    has "the lines where UNIXVOL_EXPLAIN is ${row% *}" "1 ${row#* }" "$? $(wc -l < error)"
+done
+UNIXVOL_EXPLAIN=1 refuses 1 $'unixvol: 2 NoEntry\nunixvol: /none: no file or directory has this name' get 6 disk.v6 /none
+UNIXVOL_EXPLAIN=0 refuses 1 $'unixvol: 2 NoEntry\nunixvol: /none: no file or directory has this name' get 6 disk.v6 /none --explain
+
 # The sizes of a truncated image, and the other edition if its rules 1 and 2 hold. A pipe isn't read again.
 head -c 100000 disk.v7 > cut.v7
 explains 1 'unixvol: unsound, rule 1' 'unixvol: cut.v7: it breaks rule 1, that the image has all blocks of the volume: it has 195 blocks, its super-block says 400' super 7 cut.v7

@@ -3,6 +3,7 @@
 set -uo pipefail
 : "${1:?usage: $0 PROGRAM}"
 program=$(realpath "$1")
+unset UNIXVOL_EXPLAIN
 rows_script=$(realpath "$0")
 samples=$(realpath "$(dirname "${BASH_SOURCE[0]}")/../samples")
 folder=$(mktemp -d)

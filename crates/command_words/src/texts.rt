@@ -23,7 +23,7 @@ command line, 3 if a file can't be read or written, and 4 if memory runs out.
 
 With --explain, before or after the command, a second line says what the fault means, what it is about, and, if a
 file failed, the system's own reason. If standard error is a terminal, this line is printed without --explain too;
-set the variable UNIXVOL_EXPLAIN to 0 to turn that off.";
+set the variable UNIXVOL_EXPLAIN to 0 to turn that off, or to 1 to have the line everywhere, as in logs.";
 
 pub const EXPLAIN: &str = "Explain a fault in a second line";
 

@@ -46,8 +46,14 @@ fn has_colours<R: Env + AllocGlobal>(rt: &R) -> bool {
     !refused && !is_variable(rt, "TERM", "dumb")
 }
 
+/// True if the second line of faults is wanted: if the variable UNIXVOL_EXPLAIN is 1, or standard error is a terminal and it isn't 0.
+pub fn wants_meanings<R: Env + AllocGlobal>(rt: &R, is_watched: bool) -> bool {
+    let unasked = is_watched && !is_variable(rt, "UNIXVOL_EXPLAIN", "0");
+    unasked || is_variable(rt, "UNIXVOL_EXPLAIN", "1")
+}
+
 /// True if a variable of the environment has this value.
-pub fn is_variable<R: Env + AllocGlobal>(rt: &R, name: &str, value: &str) -> bool {
+fn is_variable<R: Env + AllocGlobal>(rt: &R, name: &str, value: &str) -> bool {
     match env::var(rt, name) {
         Ok(text) => text.as_str() == value,
         Err(_) => false,

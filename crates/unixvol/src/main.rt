@@ -46,7 +46,7 @@ fn main(rt: HostRuntime) -> ExitCode {
         words: words.as_slice(),
         is_watched,
         explains: command_line::asks_to_explain(words.as_slice())
-            || is_watched && !looks::is_variable(&rt, "UNIXVOL_EXPLAIN", "0"),
+            || looks::wants_meanings(&rt, is_watched),
     };
     let output = rt.stdout();
     let screen = looks::screen(&rt, output.is_terminal());

@@ -93,6 +93,46 @@ runs identify six.img missing text
 wants 'an image that is missing' 3 lines line
 runs identify missing
 wants 'only one that is missing' 3 none line
+printf '%s\n' 'unixvol: cannot read missing' 'unixvol: cannot read .' > line
+runs identify missing six.img . text
+wants 'two that cannot be read' 3 lines line
+
+# No more of a file is read than its guess needs, and each line comes before the next file is read.
+by=', by its first 268435456 bytes'
+looks /dev/zero "looks empty: it has no bytes but zeros$by"
+body sparse 3000000000
+looks sparse "looks empty: it has no bytes but zeros$by"
+cp sparse unknown
+put unknown 0 79
+looks unknown "looks like nothing that unixvol knows$by"
+{ cat text && head -c 1018 /dev/zero && cat six.img; } > pack.img
+truncate -s 3000000000 pack.img
+looks pack.img "looks like a larger pack: at block 2 begins a volume of edition 6, with 8 blocks$by"
+cp six.img longer.img
+truncate -s 3000000000 longer.img
+printf '%s\n' 'six.img: looks like a volume of edition 6, with 8 blocks, sound' "sparse: looks empty: it has no bytes but zeros$by" \
+    'text: looks like nothing that unixvol knows' > line
+(ulimit -v 2000000; runs identify six.img sparse text)
+wants 'a file of 3 GB in 2 GB of memory' 0 line none
+echo 'unixvol: 12 NoMemory: sparse' > line
+(ulimit -v 100000; runs identify six.img sparse text)
+wants 'a file that is too long for the memory' 4 lines line
+echo 'unixvol: cannot read missing' >> line
+(ulimit -v 100000; runs identify sparse six.img missing text)
+wants 'the greatest status of several files' 4 lines line
+echo 'longer.img: looks like a volume of edition 6, with 8 blocks, sound' > line
+(ulimit -v 100000; runs identify longer.img)
+wants 'a file of 3 GB that begins with a volume' 0 line none
+mkfifo fifo
+timeout 60 "$program" identify six.img fifo > output 2> error &
+for _ in $(seq 300); do
+    [ ! -s output ] || break
+    sleep 0.1
+done
+has 'the line of a file before the next one is read' "$(head -n 1 lines)" "$(cat output)"
+timeout 20 sh -c 'cat text > fifo'
+wait $!
+has 'the lines of a file and a pipe' "0 $(sed 's/^text/fifo/' lines)" "$? $(cat output)"
 misread 'error: the following required arguments were not provided' identify
 helps identify --help
 [ ! -e /dev/full ] || {

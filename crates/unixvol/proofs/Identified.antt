@@ -1,45 +1,128 @@
--- The end of a run of `identify`.
-use Rattle.std.proofs.Common.{◌≡◌, ◌<◌, ◌∙◌, ◌⊎◌, ◌∷◌, ℕ, List, [], Bool, true, false, inl, inr, length, map, refl, arith}
+-- The lines of `identify`, and the end of its run.
+use Rattle.std.proofs.Common.{◌≡◌, ◌≤◌, ◌<◌, ◌∙◌, ◌∷◌, ◌++◌, ◌+◌, max, true, ℕ, List, [], Option, inl, inr, length, map, take, drop, get_or, length-append, refl, sym, ap, subst, arith}
+use Rattle.std.proofs.lemmas.List.{append_assoc, append-nil, drop_at, get_or-map, length-map, take_all, take_at, take_more}
+use Rattle.std.proofs.KnownBytes.{Appends-trans}
+use Rattle.std.proofs.Math.Seq.{take-add}
+use Rattle.std.specs.Io.KnownBytes.{Appends}
+use Rattle.pdp_words.specs.Devices.{AppendsFront}
 use Rattle.std.specs.Borrow.{Bor}
-use Rattle.command_reads.specs.Print.{PrintsWith}
+use Rattle.command_faults.specs.Faults.{fault_line}
 use Rattle.command_faults.specs.Streams.{Streams}
-use Rattle.unixvol.specs.Runs.{AreIdentified, Ends, HostFiles, RunsIdentify, status_with}
+use Rattle.command_faults.specs.declared.fault.Fault.TheVariants.{Output}
+use Rattle.unixvol.specs.Identify.{AreIdentified, IsLine, RunsIdentify}
+use Rattle.unixvol.specs.Runs.{IsEnd}
 
--- a file that isn't read makes the status that of a file
-with_status : (is_read : Bool) (others status : ℕ) → status ≡ status_with is_read others → (others ≡ 0) ⊎ (others ≡ 3) → (status ≡ 0) ⊎ (status ≡ 3)
-with_status true others status is (inl none) = inl (is ∙ none)
-with_status true others status is (inr file) = inr (is ∙ file)
-with_status false others status is few = inr is
+-- after the lines of some files, the line of one more
+pub one_more : {F : Type 0} (remaining : F → Option (List ℕ)) (paths : List (List ℕ)) (path lines line : List ℕ) (read one : ℕ)
+    → AreIdentified remaining paths lines read → IsLine remaining path line one
+    → AreIdentified remaining (paths ++ path ∷ []) (lines ++ line) (max read one)
+one_more remaining [] path lines line read one are is =
+    (line, one, [], 0, is, (refl, refl), ap (λ xs. xs ++ line) are.0 ∙ sym (append-nil line), omega (arith, are.1))
+one_more remaining (first ∷ more) path lines line read one (had, status, rest, others, was, are, whole, greatest) is = (
+  had,
+  status,
+  rest ++ line,
+  max others one,
+  was,
+  one_more remaining more path rest line others one are is,
+  ap (λ xs. xs ++ line) whole ∙ append_assoc had rest line,
+  omega (arith, greatest),
+)
 
--- the status of the lines is 0, or that of a file
-identified_status : (files : HostFiles) (paths : List (List ℕ)) (lines : List ℕ) (status : ℕ) → AreIdentified files paths lines status
-    → (status ≡ 0) ⊎ (status ≡ 3)
-identified_status files [] lines status are = inl are.1
-identified_status files (path ∷ more) lines status are = with_status are.1 are.3 status are.7 (identified_status files more are.2 are.3 are.5)
+-- the path of a file
+abbrev pub path_of : Bor (List ℕ) → List ℕ
+path_of path = path.now
 
--- a run that prints lines ends
-ends_lines : (streams : Streams) (lines : List ℕ) (read status : ℕ) → (read ≡ 0) ⊎ (read ≡ 3) → PrintsWith read streams lines status → Ends streams status
-ends_lines streams lines read status few (inl printed) = record {
-  within = elim few [ inl e ↦ omega (arith, printed.status, e) | inr e ↦ omega (arith, printed.status, e) ];
-  silent = λ done file. absurd (elim few [ inl e ↦ done (printed.status ∙ e) | inr e ↦ file (printed.status ∙ e) ]);
-  whole = λ e. (printed.working, printed.said);
+-- the paths of the first `k + 1` files are those of the first `k` and one more
+pub paths_more : (images : List (Bor (List ℕ))) (k : ℕ) (d : Bor (List ℕ)) → k < length images
+    → take (k + 1) (map path_of images) ≡ take k (map path_of images) ++ (get_or images k d).now ∷ []
+paths_more images k d within =
+    take_more (map path_of images) k d.now (omega (arith, within, length-map images path_of))
+    ∙ ap (λ path. take k (map path_of images) ++ path ∷ []) (get_or-map path_of images k d d.now within)
+
+-- the lines of the first `k` files are printed, with the greatest of their statuses
+pub record ArePrinted {F : Type 0} (remaining : F → Option (List ℕ)) (images : List (Bor (List ℕ))) (k : ℕ) (old new : Option (List ℕ)) (status : ℕ) : Type 0 where
+  pub lines : List ℕ
+  pub are : AreIdentified remaining (take k (map path_of images)) lines status
+  pub whole : Appends old new lines
+
+-- after one more file, those of `k + 1` files are
+pub printed_more : {F : Type 0} (remaining : F → Option (List ℕ)) (images : List (Bor (List ℕ))) (k : ℕ) (d : Bor (List ℕ)) (a b c : Option (List ℕ)) (status one : ℕ)
+    → k < length images → ArePrinted remaining images k a b status
+    → (line : List ℕ) × IsLine remaining (get_or images k d).now line one × Appends b c line
+    → ArePrinted remaining images (k + 1) a c (max status one)
+printed_more remaining images k d a b c status one within had (line, is, out) = record {
+  lines = had.lines ++ line;
+  are = subst (λ paths. AreIdentified remaining paths (had.lines ++ line) (max status one)) (sym (paths_more images k d within))
+      (one_more remaining (take k (map path_of images)) (get_or images k d).now had.lines line status one had.are is);
+  whole = Appends-trans a b c had.lines line had.whole out;
 }
-ends_lines streams lines read status few (inr broken) = record {
-  within = omega (arith, broken.status);
-  silent = λ done file. absurd (file broken.status);
-  whole = λ e. absurd (omega (arith, broken.status, e));
-}
 
--- `identify` ends
-pub ends_identified : (streams : Streams) (files : HostFiles) (paths : List (List ℕ)) (status : ℕ) → RunsIdentify streams files paths status
-    → Ends streams status
-ends_identified streams files paths status (inl none) =
-    record { within = omega (arith, none.0); silent = λ _ _. none.1; whole = λ e. absurd (omega (arith, none.0, e)) }
-ends_identified streams files paths status (inr printed) =
-    ends_lines streams printed.0 printed.1 status (identified_status files paths printed.0 printed.1 printed.2) printed.3
+-- the first bytes of two lists, behind the first one
+take_past : (xs ys : List ℕ) (n : ℕ) → take (length xs + n) (xs ++ ys) ≡ xs ++ take n ys
+take_past xs ys n =
+    take-add (length xs) n (xs ++ ys)
+    ∙ (ap (λ t. t ++ take n (drop (length xs) (xs ++ ys))) (take_at xs ys (length xs) refl)
+    ∙ ap (λ t. xs ++ take n t) (drop_at xs ys (length xs) refl))
 
--- no files have no lines
-pub identified_none : (files : HostFiles) (images : List (Bor (List ℕ))) → length images < 1
-    → AreIdentified files (map (λ (image : Bor (List ℕ)). image.now) images) [] 0
-identified_none files [] few = (refl, refl)
-identified_none files (image ∷ more) few = absurd (omega (arith, few))
+-- if standard output fails at the line of one more file, the run breaks off
+pub breaks_off : {F : Type 0} (remaining : F → Option (List ℕ)) (images : List (Bor (List ℕ))) (k : ℕ) (d : Bor (List ℕ)) (streams : Streams) (b : Option (List ℕ))
+    (status : ℕ) (line : List ℕ) (count : ℕ) → k < length images → ArePrinted remaining images k streams.old b status
+    → IsLine remaining (get_or images k d).now line 0 → AppendsFront b streams.new line count → streams.failed ≡ true
+    → streams.said (fault_line Output) → RunsIdentify remaining streams (map path_of images) 3
+breaks_off remaining images k d streams b status line count within had is cut broken said =
+    inr (
+      k + 1,
+      had.lines ++ line,
+      max status 0,
+      subst (λ paths. AreIdentified remaining paths (had.lines ++ line) (max status 0)) (sym (paths_more images k d within))
+          (one_more remaining (take k (map path_of images)) (get_or images k d).now had.lines line status 0 had.are is),
+      record {
+        status = refl;
+        front = (
+          length had.lines + count,
+          (
+            omega (arith, length-append had.lines line, cut.0),
+            subst (Appends streams.old streams.new) (sym (take_past had.lines line count)) (Appends-trans streams.old b streams.new had.lines (take count line) had.whole cut.1),
+          ),
+        );
+        broken = broken;
+        said = said;
+      },
+    )
+
+-- if the lines of all files are printed, the run is over
+pub printed_all : {F : Type 0} (remaining : F → Option (List ℕ)) (images : List (Bor (List ℕ))) (k : ℕ) (streams : Streams) (status : ℕ) → length images ≤ k
+    → ArePrinted remaining images k streams.old streams.new status → streams.failed ≡ streams.had_failed → streams.said []
+    → RunsIdentify remaining streams (map path_of images) status
+printed_all remaining images k streams status all had working said =
+    let whole : take k (map path_of images) ≡ map path_of images = take_all k (map path_of images) (omega (arith, all, length-map images path_of)) in
+    inl (
+      had.lines,
+      status,
+      subst (λ paths. AreIdentified remaining paths had.lines status) whole had.are,
+      record { status = refl; whole = had.whole; working = working; said = said },
+    )
+
+-- the status of a line is at most 4
+line_few : {F : Type 0} (remaining : F → Option (List ℕ)) (path line : List ℕ) (one : ℕ) → IsLine remaining path line one → one ≤ 4
+line_few remaining path line one (inl printed) = omega (arith, printed.0)
+line_few remaining path line one (inr (inl three, none)) = omega (arith, three)
+line_few remaining path line one (inr (inr four, none)) = omega (arith, four)
+
+-- so is the greatest of them
+lines_few : {F : Type 0} (remaining : F → Option (List ℕ)) (paths : List (List ℕ)) (lines : List ℕ) (read : ℕ) → AreIdentified remaining paths lines read → read ≤ 4
+lines_few remaining [] lines read are = omega (arith, are.1)
+lines_few remaining (path ∷ more) lines read (line, one, rest, others, is, are, whole, greatest) =
+    let few = line_few remaining path line one is in
+    let rest_few = lines_few remaining more rest others are in
+    omega (arith, greatest, few, rest_few)
+
+-- a run of `identify` ends as that of a command that shows part of an image
+pub ends_identified : {F : Type 0} (remaining : F → Option (List ℕ)) (streams : Streams) (paths : List (List ℕ)) (status : ℕ)
+    → RunsIdentify remaining streams paths status → IsEnd streams status
+ends_identified remaining streams paths status (inl (lines, read, are, printed)) =
+    let few = lines_few remaining paths lines read are in
+    record { within = omega (arith, few, printed.status); whole = λ e. (printed.working, printed.said) }
+ends_identified remaining streams paths status (inr (count, lines, read, are, broken)) =
+    record { within = omega (arith, broken.status); whole = λ e. absurd (omega (arith, broken.status, e)) }

@@ -1,4 +1,5 @@
 pub mod Copies
+pub mod Identify
 pub mod Reports
 pub mod Runs
 pub mod Serve

@@ -1,5 +1,5 @@
 -- The result of a run of the program, from the bytes that its files give.
-use Rattle.std.specs.Prelude.{All, length, map, codes, ◌≡◌, ◌≢◌, ◌⊎◌, ◌↔◌, ◌≤◌, ◌++◌, ◌∷◌, ℕ, false, true, List, [], Option, None, Some, IsSome, IfSome, Result, Ok, Err, IsErrAnd, Bool, if◌then◌else◌}
+use Rattle.std.specs.Prelude.{All, length, ◌≡◌, ◌≢◌, ◌⊎◌, ◌↔◌, ◌≤◌, ℕ, false, true, List, [], Option, None, Some, IsSome, IfSome, Result, Ok, Err, IsErrAnd, Bool, if◌then◌else◌}
 use Rattle.std.specs.Io.KnownBytes.{Keeps}
 use Rattle.clap.specs.Words.{kind_of}
 use Rattle.clap.specs.declared.error.Error.{Error}
@@ -10,7 +10,6 @@ use Rattle.vol_mkfs.specs.Mkfs.{is_size}
 use Rattle.vol_layout.specs.Ids.{is_bad_id}
 use Rattle.pdp_words.specs.Devices.{LosesFront}
 use Rattle.command_reads.specs.Get.{GetsFile}
-use Rattle.command_reads.specs.Print.{PrintsWith}
 use Rattle.command_reads.specs.Look.{Looks}
 use Rattle.command_reads.specs.declared.looks.Look.{Look}
 use Rattle.command_reads.specs.declared.looks.OutputForm.{OutputForm}
@@ -38,9 +37,6 @@ use Rattle.vol_layout.specs.declared.edition.Edition.{Edition}
 use Rattle.vol_layout.specs.declared.edition.Edition.TheVariants.{V6}
 use Rattle.std.specs.Global.{Vec}
 use Rattle.vol_play.specs.Play.{PlaysVolume}
-use Rattle.vol_identify.specs.Guesses.{IsJudgedSo, guess_of}
-use Rattle.vol_identify.specs.Texts.{identified_text}
-use Rattle.vol_identify.specs.declared.guess.Identified.{Identified}
 use Rattle.command_faults.specs.declared.answer.Answer.{Answer}
 use Rattle.command_reads.specs.declared.cat.CatFault.{CatFault}
 use Rattle.command_reads.specs.declared.cat.CatFault.TheVariants.{Writer}
@@ -309,36 +305,10 @@ RunsChange streams files input is_terminal edition change status =
     ((wants_terminal is_terminal change ≡ true) × LeavesTerminal streams status)
     ⊎ ((wants_terminal is_terminal change ≡ false) × ChangesImage streams files input edition change status)
 
--- the line of an image: its path, and the words for what it looks like (this project)
-abbrev pub identified_line : List ℕ → Identified → List ℕ
-identified_line path found = path ++ (codes ": " ++ (identified_text found.guess found.broken ++ 10 ∷ []))
-
--- the line of the image in a file: one that the file gave, with what that image seems to be; or none, if the file isn't read (this project)
-abbrev pub IsLine : HostFiles → List ℕ → List ℕ → Bool → Type 0
-IsLine files path line true = (image : List ℕ) × (found : Identified) × files.given image × (found.guess ≡ guess_of image)
-    × IsJudgedSo image found.guess found.broken × (line ≡ identified_line path found)
-IsLine files path line false = files.unread 3 × (line ≡ [])
-
--- the status after a file that may have been read, and others with this status (this project)
-abbrev pub status_with : Bool → ℕ → ℕ
-status_with is_read others = if is_read then others else 3
-
--- these are the lines of the images in these files, in order, and the status: 3 if one isn't read, else 0 (this project)
-abbrev pub AreIdentified : HostFiles → List (List ℕ) → List ℕ → ℕ → Type 0
-AreIdentified files [] lines status = (lines ≡ []) × (status ≡ 0)
-AreIdentified files (path ∷ more) lines status =
-    (line : List ℕ) × (is_read : Bool) × (rest : List ℕ) × (others : ℕ) × IsLine files path line is_read
-    × AreIdentified files more rest others × (lines ≡ line ++ rest) × (status ≡ status_with is_read others)
-
--- `identify` runs: nothing is printed, for want of memory; or the lines of the images in these files are (this project)
-abbrev pub RunsIdentify : Streams → HostFiles → List (List ℕ) → ℕ → Type 0
-RunsIdentify streams files paths status =
-    ((status ≡ 4) × Keeps streams.old streams.new × (streams.failed ≡ streams.had_failed) × streams.said [])
-    ⊎ ((lines : List ℕ) × (read : ℕ) × AreIdentified files paths lines read × PrintsWith read streams lines status)
-
--- the invocation is a plain command: it doesn't show part of an image, change a volume, copy several files or use several threads (this project)
+-- the invocation is a plain command: it doesn't show part of an image, guess what images are, change a volume, copy several files or use several threads (this project)
 abbrev pub IsPlainCommand : Invocation → Type 0
 IsPlainCommand (invocations.Look volume look) = ⊥
+IsPlainCommand (invocations.Identify images) = ⊥
 IsPlainCommand (invocations.Change volume change) = ⊥
 IsPlainCommand (invocations.Copy volume copying) = ⊥
 IsPlainCommand (invocations.Work volume work) = ⊥
@@ -351,7 +321,7 @@ Runs streams files status (invocations.Cat volume node) = RunsCat streams files 
 Runs streams files status (invocations.Get volume path) = RunsGetOne streams files volume.edition path.now status
 Runs streams files status (invocations.Mkfs image volume) = RunsMkfs streams files.taken volume status
 Runs streams files status (invocations.Migrate old new migration) = RunsMigrate streams files migration status
-Runs streams files status (invocations.Identify images) = RunsIdentify streams files (map (λ image. image.now) images.items) status
+Runs streams files status (invocations.Identify images) = ⊥
 Runs streams files status (invocations.Salvage volume copy) = RunsSalvage streams files volume.edition copy status
 Runs streams files status (invocations.Look volume look) = ⊥
 Runs streams files status (invocations.Change volume change) = ⊥

@@ -1,4 +1,4 @@
-//! `cat`, `get`, `mkfs`, `migrate`, `salvage -n`, `salvage -o` and `identify`, which print all or nothing: the files they open and save.
+//! `cat`, `get`, `mkfs`, `migrate`, `salvage -n` and `salvage -o`, which print all or nothing: the files they open and save.
 ghost use Rattle.std.specs.Prelude.{◌≡◌, ◌≢◌, ◌≤◌, ℕ, Bool, true, List, Option, IfOk, string_bytes};
 ghost use Rattle.std.specs.Io.KnownBytes.{Keeps};
 ghost use Rattle.std.specs.Process.{exit_status};
@@ -10,7 +10,6 @@ ghost use Rattle.host_files.specs.Save.{IsTaken};
 
 use crate::explain::{explain_cat, explain_command_line, finish, tell_fault};
 use crate::host::Surroundings;
-use crate::identify::run_identify;
 use crate::looks::run_get;
 use crate::read::{read_stamped, read_volume};
 use crate::save::{save_made, save_migrated, save_over};
@@ -98,9 +97,9 @@ fn carry_out<R: ImageFiles + Clock + Eprint + AllocGlobal, O: Sink>(
             new,
             migration,
         } => run_migrate(host, old, new, migration),
-        Invocation::Identify { images } => run_identify(host, output, &images),
         Invocation::Salvage { volume, copy } => run_salvage(host, output, volume, copy),
-        Invocation::Look { .. }
+        Invocation::Identify { .. }
+        | Invocation::Look { .. }
         | Invocation::Change { .. }
         | Invocation::Copy { .. }
         | Invocation::Work { .. }

@@ -302,9 +302,23 @@ pub fn explain_no_memory<R: Eprint>(host: &Surroundings<'_, R>) -> u8
     ensures { result ≡ 4 }
 {
     let _ = eprintln!(host.rt; "{NO_MEMORY_LINE}");
+    tell_no_memory(host);
+    NO_MEMORY
+}
+
+/// Prints that memory ran out for a file, and returns the status.
+pub fn explain_no_memory_for<R: Eprint>(host: &Surroundings<'_, R>, path: &str) -> u8
+    ensures { result ≡ 4 }
+{
+    let _ = eprintln!(host.rt; "{NO_MEMORY_LINE}: {path}");
+    tell_no_memory(host);
+    NO_MEMORY
+}
+
+/// Prints the second line for out of memory, if the user asked for it.
+fn tell_no_memory<R: Eprint>(host: &Surroundings<'_, R>) {
     if host.explains {
         let words = meanings::NO_MEMORY;
         let _ = eprintln!(host.rt; "unixvol: {words}");
     }
-    NO_MEMORY
 }

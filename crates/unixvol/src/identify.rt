@@ -1,84 +1,122 @@
-//! `identify`, which guesses what images are: the files that it reads.
-ghost use Rattle.std.specs.Prelude.{◌≡◌, ◌++◌, ℕ, List, IfErr, IfOk, map, string_bytes};
+//! `identify`, which guesses what images are, file after file: each has its line before the next is read.
+ghost use Rattle.std.specs.Prelude.{◌≡◌, true, List, ℕ, length, map, IfErr, IfOk, OnErr, string_bytes};
+ghost use Rattle.std.specs.Io.KnownBytes.{Appends};
+ghost use Rattle.std.specs.Process.{exit_status};
 ghost use Rattle.command_faults.specs.Streams.{ErrorStream, Hears, streams};
-ghost use Rattle.unixvol.specs.Runs.{AreIdentified, IsLine, RunsIdentify, host_files};
+ghost use Rattle.pdp_words.specs.Devices.{AppendsFront};
+ghost use Rattle.unixvol.specs.Identify.{IdentifiesToEnd, IsLine, RunsIdentify, identified_line, is_cut};
+ghost use Rattle.unixvol.specs.Runs.{IsStatusOfFileOrMemory};
 
-use crate::explain::explain_no_memory;
+use crate::explain::{explain_no_memory_for, finish_printed, tell_fault};
+use crate::guesses::{MOST, read_to_guess};
 use crate::host::Surroundings;
-use crate::read::read_file;
-use command_faults::Ending;
-use command_faults::status::{BAD_FILE, DONE};
-use command_reads::print::print_with;
-use host_files::ImageFiles;
-use pdp_words::{Image, Sink};
-use std::fmt::Write;
-use vol_identify::identify;
+use command_faults::status::DONE;
+use command_faults::{Ending, Fault};
+use host_files::{ImageFiles, noted_writer};
+use pdp_words::{IntoWrite, SaveFault, Sink, write_all};
+use std::alloc::{AllocError, Global};
+use std::io::Write;
+use std::process::ExitCode;
+use vol_identify::{Guess, Identified, identify};
 
-/// Prints a line for each image in these files, once all are read, and returns how the run ends. A file that can't be read has its
-/// fault on standard error, and no line; the others are read.
-pub fn run_identify<R: ImageFiles + Eprint + AllocGlobal, O: Sink>(
+/// Prints a line for each image in these files, and returns the exit code: the greatest of their statuses. A file that can't be read, or for which
+/// there is too little memory, has its fault on standard error, and no line; the files after it are read all the same.
+pub fn run_to_end<R: ImageFiles + Eprint + AllocGlobal, O: Write + Drop, E: Write + Drop>(
+    host: &Surroundings<'_, R>,
+    output: O,
+    errors: E,
+    images: &[&str],
+) -> ExitCode
+    ensures { IdentifiesToEnd R.File.remaining (O.contents output) (E.contents errors) (map (λ image. image.now) images.now) (exit_status result) }
+{
+    let mut errors = IntoWrite::new(errors);
+    let mut output = noted_writer(output);
+    let ending = print_lines(host, &mut output, images);
+    tell_fault(host, &mut errors, &ending.fault, output.error(), None);
+    ExitCode::from(finish_printed(host, output.into_inner().into_inner(), ending.status))
+}
+
+/// Prints the lines of the images in these files, each before the next file is read, and returns how the run ends. If standard output fails, no
+/// further file is read.
+fn print_lines<R: ImageFiles + Eprint + AllocGlobal, O: Sink>(
     host: &Surroundings<'_, R>,
     output: &mut O,
     images: &[&str],
 ) -> Ending
     ensures { (errors : ErrorStream) → Hears errors result.fault
-        → RunsIdentify (streams O.contents O.failed output.old output.new errors) (host_files R.File.remaining R.File.contents R.had R.stood) (map (λ image. image.now) images.now) result.status }
+        → RunsIdentify R.File.remaining (streams O.contents O.failed output.old output.new errors) (map (λ image. image.now) images.now) result.status }
 {
-    let mut lines = String::new(host.rt.alloc());
-    let status = match push_lines(host, images, &mut lines) {
-        Ok(status) => status,
-        Err(status) => {
-            return Ending {
-                status,
-                fault: None,
-            };
+    let mut status = DONE;
+    'images: for image in images {
+        match print_line(host, output, image) {
+            Ok(one) => status = status.max(one),
+            Err(_) => return Ending::from(Fault::Output),
         }
-    };
-    print_with(lines.as_bytes(), status, output)
-}
-
-/// Appends the lines of the images in these files, and returns the status: 3 if one can't be read. Fails, with the status for that,
-/// only if memory runs out.
-fn push_lines<R: ImageFiles + Eprint + AllocGlobal>(
-    host: &Surroundings<'_, R>,
-    images: &[&str],
-    lines: &mut String,
-) -> Result<u8, u8>
-    ensures lines { IfOk result (λ status. (added : List ℕ) × (string_bytes lines.new ≡ string_bytes lines.old ++ added)
-        × AreIdentified (host_files R.File.remaining R.File.contents R.had R.stood) (map (λ image. image.now) images.now) added status) }
-    ensures memory { IfErr result (λ status. status ≡ 4) }
-{
-    match images {
-        [first, rest @ ..] => {
-            let is_read = push_line(host, first, lines)?;
-            let others = push_lines(host, rest, lines)?;
-            Ok(if is_read { others } else { BAD_FILE })
-        }
-        [] => Ok(DONE),
+    }
+    Ending {
+        status,
+        fault: None,
     }
 }
 
-/// Appends the line of the image in a file, and returns true; or false if the file can't be read, after printing the fault. Fails,
-/// with the status for that, only if memory runs out.
-fn push_line<R: ImageFiles + Eprint + AllocGlobal>(
+/// Prints the line of the image in a file, and returns its status. If it has no line, prints the fault. Fails only if standard output does.
+fn print_line<R: ImageFiles + Eprint + AllocGlobal, O: Sink>(
+    host: &Surroundings<'_, R>,
+    output: &mut O,
+    path: &str,
+) -> Result<u8, SaveFault>
+    ensures printed { IfOk result (λ status. (line : List ℕ) × IsLine R.File.remaining path.now line status
+        × Appends (O.contents output.old) (O.contents output.new) line × (O.failed output.new ≡ O.failed output.old)) }
+    ensures broken { OnErr result ((line : List ℕ) × (count : ℕ) × IsLine R.File.remaining path.now line 0
+        × AppendsFront (O.contents output.old) (O.contents output.new) line count × (O.failed output.new ≡ true)) }
+{
+    match line_text(host, path) {
+        Ok(line) => {
+            write_all(output, line.as_bytes())?;
+            Ok(DONE)
+        }
+        Err(status) => Ok(status),
+    }
+}
+
+/// Returns the line of the image in a file. If it has none, prints the fault and returns the status.
+fn line_text<R: ImageFiles + Eprint + AllocGlobal>(
     host: &Surroundings<'_, R>,
     path: &str,
-    lines: &mut String,
-) -> Result<bool, u8>
-    ensures line { IfOk result (λ is_read. (added : List ℕ) × (string_bytes lines.new ≡ string_bytes lines.old ++ added)
-        × IsLine (host_files R.File.remaining R.File.contents R.had R.stood) path.now added is_read) }
-    ensures memory { IfErr result (λ status. status ≡ 4) }
+) -> Result<String, u8>
+    ensures line { IfOk result (λ line. IsLine R.File.remaining path.now (string_bytes line) 0) }
+    ensures fault { IfErr result IsStatusOfFileOrMemory }
 {
-    let bytes = match read_file(host, path) {
-        Ok(bytes) => bytes,
-        Err(BAD_FILE) => return Ok(false),
-        Err(status) => return Err(status),
+    let front = read_to_guess(host, path)?;
+    let Ok(found) = identify(host.rt.alloc(), &front) else {
+        return Err(explain_no_memory_for(host, path));
     };
-    let Ok(found) = identify(host.rt.alloc(), &Image::from_bytes(bytes)) else {
-        return Err(explain_no_memory(host));
-    };
-    match writeln!(lines, "{path}: {found}") {
-        Ok(()) => Ok(true),
-        Err(_) => Err(explain_no_memory(host)),
+    match written_line(host.rt.alloc(), path, found, front.len()) {
+        Ok(line) => Ok(line),
+        Err(_) => Err(explain_no_memory_for(host, path)),
     }
+}
+
+/// Returns the line of an image of which so many bytes were looked at.
+fn written_line(
+    alloc: Global,
+    path: &str,
+    found: Identified,
+    bytes: usize,
+) -> Result<String, AllocError>
+    ensures { IfOk result (λ line. string_bytes line ≡ identified_line path.now found bytes) }
+{
+    if is_cut(found.guess, bytes) {
+        format!(in alloc; "{path}: {found}, by its first {bytes} bytes\n")
+    } else {
+        format!(in alloc; "{path}: {found}\n")
+    }
+}
+
+/// True if a guess by so many bytes could be changed by bytes after them, which weren't read.
+#[tactic(auto, unfolding(crate::specs::Identify::is_cut))]
+fn is_cut(guess: Guess, bytes: usize) -> bool
+    ensures { result ≡ is_cut guess bytes }
+{
+    guess.is_open() && MOST <= bytes
 }

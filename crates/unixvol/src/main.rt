@@ -5,6 +5,7 @@ mod changes;
 mod commands;
 mod copy;
 mod explain;
+mod guesses;
 mod host;
 mod identify;
 mod line_meanings;
@@ -29,7 +30,7 @@ use std::process::ExitCode;
 use std::rt::Clock;
 use std::time::{SystemTime, UNIX_EPOCH};
 
-/// Reads the words of the command line, and continues in one of six functions. Each has only the rights that it needs: only commands with several
+/// Reads the words of the command line, and continues in one of seven functions. Each has only the rights that it needs: only commands with several
 /// threads may wait, only those that show part of an image may print something and fail, only a change and a server read standard input, and only
 /// those that copy files to the host save several files.
 fn main(rt: HostRuntime) -> ExitCode {
@@ -75,6 +76,9 @@ fn main(rt: HostRuntime) -> ExitCode {
         }
         Ok(Invocation::Serve { volume, serving }) => {
             serve::run_to_end(&host, rt.stdin(), output, rt.stderr(), volume, serving)
+        }
+        Ok(Invocation::Identify { images }) => {
+            identify::run_to_end(&host, output, rt.stderr(), &images)
         }
         read => commands::run_to_end(&host, output, rt.stderr(), read),
     }

@@ -23,10 +23,15 @@ other commands must be told the edition. The first of these that fits is printed
 A volume has sizes that fit (rules 1 and 2), and a free list that can begin so or a root that is a directory. One
 that is swapped, cut off or further on has all three. If both editions fit, the sixth is named.
 
-Status:
+At most 268435456 bytes of an image are read; or, if a volume may begin it, that volume and one block more. If the
+bytes after them could change the guess, its line ends with `, by its first 268435456 bytes`. Each line is printed
+before the next image is read.
+
+Status, the greatest if there are several:
   0  all images were read
   2  the command line is wrong
-  3  `unixvol: cannot read IMAGE`: the others were read; or `unixvol: cannot write -`: standard output failed
-  4  `unixvol: 12 NoMemory`";
+  3  `unixvol: cannot read IMAGE`: the others were read; or `unixvol: cannot write -`: standard output failed, and
+     the images after that line weren't read
+  4  `unixvol: 12 NoMemory: IMAGE`: the others were read";
 
 pub const IMAGES: &str = "The disk images, one or more";

@@ -1,6 +1,5 @@
 use Rattle.command_faults.specs.Streams.{streams}
 use Rattle.unixvol.specs.Runs.{host_files}
-use Rattle.unixvol.proofs.Identified.{ends_identified}
 use Rattle.unixvol.proofs.Salvaged.{ends_salvage}
 use Rattle.unixvol.proofs.commands.carry_out.Goals as goal
 
@@ -34,13 +33,6 @@ returns-in-Get-clause-ends g c errors hears =
 pub returns-in-Migrate-clause-ends : goal.returns-in-Migrate-clause-ends
 returns-in-Migrate-clause-ends g c errors hears =
     rw c.in-Migrate.is (c.run_migrate.ensures.ends (g.O.Sink.contents c.args.output.now) (g.O.Sink.failed c.args.output.now) errors hears)
-
-pub returns-in-Identify-clause-runs : goal.returns-in-Identify-clause-runs
-returns-in-Identify-clause-runs g c errors hears = rw c.in-Identify.is (rw c.deref.ensures.value at (c.run_identify.ensures errors hears))
-
-pub returns-in-Identify-clause-ends : goal.returns-in-Identify-clause-ends
-returns-in-Identify-clause-ends g c errors hears =
-    rw c.in-Identify.is (ends_identified (streams g.O.Sink.contents g.O.Sink.failed c.args.output.now c.run_identify.new.output errors) (host_files g.R.File.Read.remaining g.R.File.Write.contents g.R.ImageFiles.had g.R.ImageFiles.stood) _ c.run_identify.result.status (c.run_identify.ensures errors hears))
 
 pub returns-in-Salvage-clause-runs : goal.returns-in-Salvage-clause-runs
 returns-in-Salvage-clause-runs g c errors hears = rw c.in-Salvage.is (c.run_salvage.ensures errors hears)

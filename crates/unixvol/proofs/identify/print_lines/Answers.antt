@@ -1,0 +1,26 @@
+use Rattle.std.proofs.Common.{◌∙◌, ◌+◌, ℕ, List, Option, arith, map, subst, sym}
+use Rattle.std.specs.Borrow.{Bor}
+use Rattle.command_faults.specs.Faults.{line_after}
+use Rattle.command_faults.specs.Streams.{says, streams}
+use Rattle.command_faults.specs.declared.fault.Fault.{Fault}
+use Rattle.unixvol.specs.Identify.{RunsIdentify}
+use Rattle.unixvol.proofs.Identified.{ArePrinted, breaks_off, printed_more}
+use Rattle.unixvol.proofs.identify.print_lines.Goals as goal
+
+pub returns-in-Err : goal.returns-in-Err
+returns-in-Err g c errors hears =
+    let cut = c.in-Err.ensures.broken in
+    let run = streams g.O.Sink.contents g.O.Sink.failed c.args.output.now c.print_line.new.output errors in
+    subst (λ (status : ℕ). RunsIdentify g.R.File.Read.remaining run (map (λ (image : Bor (List ℕ)). image.now) c.args.images.now) status) (sym c.from.ensures.0)
+    (breaks_off g.R.File.Read.remaining c.args.images.now c.images.image-index _ run (g.O.Sink.contents c.images.output) c.images.status cut.0 cut.1 (omega arith)
+    c.images.invariant.0 cut.2 cut.3 cut.4 (subst (λ (fault : Option Fault). says errors (line_after fault)) c.from.ensures.1 hears))
+
+pub images-preserved : goal.images-preserved
+images-preserved g c =
+    let line = c.in-Ok.ensures.printed in (
+      subst (λ (status : ℕ). ArePrinted g.R.File.Read.remaining c.args.images.now (c.images.image-index + 1) (g.O.Sink.contents c.args.output.now)
+          (g.O.Sink.contents c.print_line.new.output) status) (sym c.max-status.ensures)
+          (printed_more g.R.File.Read.remaining c.args.images.now c.images.image-index _ (g.O.Sink.contents c.args.output.now) (g.O.Sink.contents c.images.output)
+          (g.O.Sink.contents c.print_line.new.output) c.images.status c.in-Ok.one (omega arith) c.images.invariant.0 (line.0, line.1, line.2)),
+      line.3 ∙ c.images.invariant.1,
+    )

@@ -1,0 +1,65 @@
+//! Reads as much of a file as a guess needs.
+ghost use Rattle.std.specs.Prelude.{◌≡◌, ◌*◌, ◌+◌, false, true, Err, IfErr, IfOk, IsErrOf};
+ghost use Rattle.unixvol.specs.Identify.{GaveFront, IsFrontRead, most_bytes};
+ghost use Rattle.unixvol.specs.Runs.{IsStatusOfFileOrMemory};
+
+use crate::explain::{NamedFile, explain_no_memory_for, explain_unread, reason_of};
+use crate::host::Surroundings;
+use host_files::{FrontFault, noted_reader, read_on};
+use pdp_words::{BLOCK, Image, Source};
+use std::alloc::{AllocError, Global};
+use std::fs::{self, Files};
+use vol_identify::blocks_wanted;
+
+/// The number of bytes of a file that are read where no volume may begin at its front.
+pub const MOST: usize = 268_435_456;
+
+/// The number of bytes that say whether a volume may begin at the front.
+const HEAD: usize = 3 * BLOCK;
+
+/// Reads the front of a file for a guess. If it can't be read, prints the fault and returns the status.
+pub fn read_to_guess<R: Files + Eprint + AllocGlobal>(
+    host: &Surroundings<'_, R>,
+    path: &str,
+) -> Result<Image, u8>
+    ensures given { IfOk result (GaveFront R.File.remaining) }
+    ensures fault { IfErr result IsStatusOfFileOrMemory }
+{
+    let named = NamedFile::File(path);
+    let file = match fs::open(host.rt, path) {
+        Ok(file) => file,
+        Err(why) => return Err(explain_unread(host, named, why)),
+    };
+    let mut source = noted_reader(file);
+    match read_front(host.rt.alloc(), &mut source) {
+        Ok(front) => Ok(front),
+        Err(FrontFault::NoMemory) => Err(explain_no_memory_for(host, path)),
+        Err(_) => Err(explain_unread(host, named, reason_of(source.error()))),
+    }
+}
+
+/// Reads the front of a source for a guess: the blocks of the volume that may begin there, and one block more; or [`MOST`] bytes if none may. Takes
+/// memory for the bytes that are there.
+fn read_front<S: Source>(alloc: Global, source: &mut S) -> Result<Image, FrontFault>
+    requires { S.failed source.old ≡ false }
+    ensures front { IfOk result (IsFrontRead (S.remaining source.old) (S.remaining source.new)) }
+{
+    let head = Image::from_bytes(read_on(Vec::new(alloc), HEAD, source)?);
+    let Ok(most) = most_bytes(alloc, &head) else {
+        return Err(FrontFault::NoMemory);
+    };
+    Ok(Image::from_bytes(read_on(head.into_bytes(), most, source)?))
+}
+
+/// Returns the greatest number of bytes of a file that are read for a guess, by its first three blocks.
+#[tactic(auto, unfolding(crate::specs::Identify::most_bytes))]
+fn most_bytes(alloc: Global, head: &Image) -> Result<usize, AllocError>
+    ensures { IfOk result (λ most. most ≡ most_bytes head.now) }
+{
+    let blocks = blocks_wanted(alloc, head)?;
+    if blocks == 0 {
+        Ok(MOST)
+    } else {
+        Ok(BLOCK * blocks as usize + BLOCK)
+    }
+}

@@ -96,6 +96,33 @@ explains 1 'unixvol: unsound, rule 2' 'unixvol: disk.v7: it breaks rule 2, that 
 cut='unixvol: /dev/stdin: it breaks rule 1, that the image has all blocks of the volume'
 has 'the second line of a pipe' "$cut" "$(head -c 2000 disk.v7 | "$program" cat 7 /dev/stdin 2 --explain 2>&1 | tail -n 1)"
 
+# Where rule 1 or 2 fails, the guess of `identify` says what the file seems to hold, and how to go on.
+one='it breaks rule 1, that the image has all blocks of the volume'
+two='it breaks rule 2, that the sizes are within their limits'
+gzip -nc disk.v7 | head -c 1000 > packed.img
+explains 1 'unixvol: unsound, rule 1' "unixvol: packed.img: $one; it looks packed by gzip: \`gzip -dc packed.img\` prints what is in it" ls 7 packed.img
+explains 1 'unixvol: unsound, rule 1' "unixvol: packed.img: $one; it looks packed by gzip: \`gzip -dc packed.img\` prints what is in it; nothing is exported" export 7 packed.img
+for row in 'bzip2 -dc|425a68' 'xz -dc|fd377a585a00' 'zstd -dc|28b52ffd' 'unzip -p|504b0304'; do
+    image zipped.img 1000
+    put zipped.img 0 "${row#*|}"
+    name=${row%% *}
+    explains 1 'unixvol: unsound, rule 1' "unixvol: zipped.img: $one; it looks packed by ${name#un}: \`${row%|*} zipped.img\` prints what is in it" ls 6 zipped.img
+done
+dd if=disk.v7 of=swapped.img conv=swab status=none
+explains 1 'unixvol: unsound, rule 1' "unixvol: swapped.img: $one; it looks like a volume of edition 7, with 400 blocks, with each pair of bytes exchanged: \`dd if=swapped.img of=NEW conv=swab\` exchanges them again" get 7 swapped.img /d/f
+{ head -c 102400 /dev/zero | tr '\0' y && cat disk.v7; } > pack.img
+explains 1 'unixvol: unsound, rule 1' "unixvol: pack.img: $one; it looks like a larger pack: at block 200 begins a volume of edition 7, with 400 blocks: \`dd if=pack.img of=NEW bs=512 skip=200 count=400\` copies it" ls 7 pack.img
+dd if=pack.img of=NEW bs=512 skip=200 count=400 status=none
+saves 'a volume that was copied from a pack as the second line says' NEW disk.v7
+tar --format=ustar -cf tape.img hello
+explains 1 'unixvol: unsound, rule 1' "unixvol: tape.img: $one; it looks like an archive of tar" salvage 6 tape.img
+image linux.img 4096
+put linux.img 1080 53ef
+explains 1 'unixvol: unsound, rule 2' "unixvol: linux.img: $two; it looks like a volume of ext2, ext3 or ext4" cat 6 linux.img 1
+image zeros.img 4096
+explains 1 'unixvol: unsound, rule 2' "unixvol: zeros.img: $two; it looks empty: it has no bytes but zeros" rm 7 zeros.img /a
+explains 1 'unixvol: unsound, rule 2' "unixvol: cut.v7: $two; it looks like a volume of edition 7, with 400 blocks, cut off after 195" ls 6 cut.v7
+
 # On a terminal the second line is printed without the option, unless UNIXVOL_EXPLAIN is 0.
 if [ -n "$(command -v script)" ]; then
     # watched: the lines on a terminal for a path that leads nowhere

@@ -9,7 +9,7 @@ use host_files::{FrontFault, noted_reader, read_on};
 use pdp_words::{BLOCK, Image, Source};
 use std::alloc::{AllocError, Global};
 use std::fs::{self, Files};
-use vol_identify::blocks_wanted;
+use vol_identify::{Guess, blocks_wanted, guess_image};
 
 /// The number of bytes of a file that are read where no volume may begin at its front.
 pub const MOST: usize = 268_435_456;
@@ -36,6 +36,13 @@ pub fn read_to_guess<R: Files + Eprint + AllocGlobal>(
         Err(FrontFault::NoMemory) => Err(explain_no_memory_for(host, path)),
         Err(_) => Err(explain_unread(host, named, reason_of(source.error()))),
     }
+}
+
+/// Guesses what the image in a file is, without a word about a fault. Returns `None` if the file can't be read, or memory ran out.
+pub fn guess_at<R: Files + AllocGlobal>(rt: &R, path: &str) -> Option<Guess> {
+    let mut source = noted_reader(fs::open(rt, path).ok()?);
+    let front = read_front(rt.alloc(), &mut source).ok()?;
+    guess_image(rt.alloc(), &front).ok()
 }
 
 /// Reads the front of a source for a guess: the blocks of the volume that may begin there, and one block more; or [`MOST`] bytes if none may. Takes

@@ -6,6 +6,7 @@ mod commands;
 mod copy;
 mod explain;
 mod guesses;
+mod hints;
 mod host;
 mod identify;
 mod line_meanings;

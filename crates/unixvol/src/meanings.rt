@@ -1,5 +1,6 @@
 //! The meanings of faults, in words.
 
+use crate::hints::{hint, is_no_volume};
 use crate::line_meanings::line_meaning;
 use crate::sizes::Sizes;
 use crate::subject::{About, Subject};
@@ -128,7 +129,7 @@ fn rule_meaning(
     let number = rule.number();
     let sentence = rule.sentence();
     let more = match rule {
-        Rule::Whole | Rule::Bounded => sizes_meaning(alloc, rule, sizes)?,
+        Rule::Whole | Rule::Bounded => sizes_meaning(alloc, rule, &image, subject, sizes)?,
         _ => String::from_str(alloc, "; `unixvol check` says what breaks it")?,
     };
     let end = match (rule, subject.verb) {
@@ -139,11 +140,23 @@ fn rule_meaning(
     Ok(Some(text))
 }
 
-/// Describes the sizes in an image that breaks rule 1 or rule 2, and the edition that the image may belong to.
-fn sizes_meaning(alloc: Global, rule: Rule, sizes: Option<Sizes>) -> Result<String, AllocError> {
+/// Describes the sizes in an image that breaks rule 1 or rule 2, and the edition that the image may belong to; or what its file holds, if that begins
+/// with no volume. `image` is its path as it is shown.
+fn sizes_meaning(
+    alloc: Global,
+    rule: Rule,
+    image: &str,
+    subject: Subject<'_>,
+    sizes: Option<Sizes>,
+) -> Result<String, AllocError> {
     let mut text = String::new(alloc);
     let Some(sizes) = sizes else {
         return Ok(text);
+    };
+    let more = match sizes.guess {
+        Some(guess) if is_no_volume(guess) => return hint(alloc, image, subject.edition, guess),
+        Some(guess) => hint(alloc, image, subject.edition, guess)?,
+        None => String::new(alloc),
     };
     if let (Rule::Whole, Some(said)) = (rule, sizes.said) {
         let blocks = sizes.blocks;
@@ -156,6 +169,7 @@ fn sizes_meaning(alloc: Global, rule: Rule, sizes: Option<Sizes>) -> Result<Stri
         let number = edition_number(other);
         write!(text, "; rules 1 and 2 hold for edition {number}")?;
     }
+    text.push_str(&more)?;
     Ok(text)
 }
 

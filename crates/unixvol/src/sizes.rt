@@ -1,15 +1,17 @@
-//! The sizes of an image in a file.
+//! The sizes of an image in a file, and what the file seems to hold.
 
+use crate::guesses::guess_at;
 use host_files::{FileKind, ImageFiles, UpTo, noted_reader, read_up_to};
 use pdp_words::{BLOCK, Image};
 use std::fs;
 use vol_findings::other_edition;
+use vol_identify::Guess;
 use vol_layout::{Edition, Geometry, Super};
 
 /// The number of bytes up to the end of the super-block.
 const HEAD: usize = 2 * BLOCK;
 
-/// The sizes of an image in a file.
+/// The sizes of an image in a file, and what the file seems to hold.
 #[derive(Clone, Copy)]
 pub struct Sizes {
     /// The number of whole blocks in the file.
@@ -18,11 +20,14 @@ pub struct Sizes {
     pub said: Option<u32>,
     /// The other edition, if rules 1 and 2 hold for it.
     pub other: Option<Edition>,
+    /// The guess of `identify`.
+    pub guess: Option<Guess>,
 }
 
 /// Returns the sizes of an image of an edition in a regular file. Returns `None` if the file isn't regular, or can't be read.
 ///
-/// Reads the file up to the last block that its super-block records in the other edition, and takes memory for that.
+/// Reads the file as far as [`guess_at`] does, and then up to the last block that its super-block records in the other edition; takes memory for one
+/// of these at a time.
 pub fn sizes_in<R: ImageFiles + AllocGlobal>(
     rt: &R,
     path: &str,
@@ -32,6 +37,7 @@ pub fn sizes_in<R: ImageFiles + AllocGlobal>(
     if stamp.kind != FileKind::Regular {
         return None;
     }
+    let guess = guess_at(rt, path);
     let other = other_edition(edition);
     let mut source = noted_reader(fs::open(rt, path).ok()?);
     let image = read_up_to(rt.alloc(), UpTo::Volume(other), &mut source).ok()?;
@@ -39,6 +45,7 @@ pub fn sizes_in<R: ImageFiles + AllocGlobal>(
         blocks: stamp.size / BLOCK as u64,
         said: said_in(edition, &image),
         other: Geometry::read(other, &image).ok().map(|_| other),
+        guess,
     })
 }
 

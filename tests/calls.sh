@@ -160,6 +160,13 @@ for number in $(seq 126); do "$program" ln 6 volumes/small /f1 "/l$number" 1 || 
 refuses 1 'unixvol: 31 TooManyLinks' ln 6 volumes/small /f1 /l127 1
 body great 16777216
 refuses 1 'unixvol: 27 TooBig' put 6 volumes/small /f1 great 1
+# Of a file without end, no more is read than one byte above the greatest size.
+echo 'unixvol: 27 TooBig' > line
+(ulimit -v 200000; runs_within 20 put 6 volumes/small /f1 /dev/zero 1)
+wants 'put of a file without end' 1 none line
+echo 'unixvol: 27 TooBig: /zero' > line
+(ulimit -v 200000; runs_within 20 put 6 volumes/small -t / /dev/zero none 1)
+wants 'put -t of a file without end' 1 none line
 prints none mkfs 6 volumes/special 20 2 0 0 0
 prints none put 6 volumes/special /tty none 1
 put volumes/special $((1024 + 32 * 31)) 'A4 A1'

@@ -4,6 +4,7 @@ pub mod Checked
 pub mod Concluded
 pub mod Copied
 pub mod Done
+pub mod Given
 pub mod Identified
 pub mod Looked
 pub mod MadeVolumes

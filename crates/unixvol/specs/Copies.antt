@@ -55,7 +55,7 @@ LeavesMoment streams stands now status =
 abbrev pub PutsFiles : Streams → HostFiles → Edition → List ℕ → List (List ℕ) → Keep → ℕ → ℕ → Type 0
 PutsFiles streams files edition directory names keep now status =
     RunsNothing streams files status
-    ⊎ ((image : List ℕ) × (stamp : Stamp) × (news : List NewFile) × (answer : Answer) × files.opened edition image stamp × AreGiven files.given keep names news
+    ⊎ ((image : List ℕ) × (stamp : Stamp) × (news : List NewFile) × (answer : Answer) × files.opened edition image stamp × AreGiven (files.put edition) keep names news
     × ImportsArchive edition image (told (calls_to_put (reads_as edition image).tree now directory news)) [] streams.said answer
     × Keeps streams.old streams.new × (streams.failed ≡ streams.had_failed) × EndsSaved (λ saved. files.taken saved × files.stood stamp) answer status)
 

@@ -1,12 +1,13 @@
 -- The result of a run of the program, from the bytes that its files give.
-use Rattle.std.specs.Prelude.{All, length, ◌≡◌, ◌≢◌, ◌⊎◌, ◌↔◌, ◌≤◌, ℕ, false, true, List, [], Option, None, Some, IsSome, IfSome, Result, Ok, Err, IsErrAnd, Bool, if◌then◌else◌}
-use Rattle.std.specs.Io.KnownBytes.{Keeps}
+use Rattle.std.specs.Prelude.{All, length, map, codes, ◌≡◌, ◌≢◌, ◌⊎◌, ◌↔◌, ◌≤◌, ◌+◌, ◌++◌, ◌∷◌, ℕ, false, true, List, [], Option, None, Some, IsSome, IfSome, Result, Ok, Err, IsErrAnd, Bool, if◌then◌else◌}
+use Rattle.std.specs.Io.KnownBytes.{Consumes, Keeps}
 use Rattle.clap.specs.Words.{kind_of}
 use Rattle.clap.specs.declared.error.Error.{Error}
 use Rattle.clap.specs.declared.error.kind.ErrorKind.{ErrorKind}
 use Rattle.clap.specs.declared.error.kind.ErrorKind.TheVariants as kinds
 use Rattle.vol_mkfs.specs.Blank.{blank_of, IsMade}
 use Rattle.vol_mkfs.specs.Mkfs.{is_size}
+use Rattle.vol_layout.specs.Edition.{constants}
 use Rattle.vol_layout.specs.Ids.{is_bad_id}
 use Rattle.pdp_words.specs.Devices.{LosesFront}
 use Rattle.command_reads.specs.Get.{GetsFile}
@@ -65,6 +66,13 @@ Gave {F} up_to remaining bytes = (old : F) × (new : F) × IsReadUpTo up_to (rem
 abbrev pub GaveBytes : {F : Type 0} → (F → Option (List ℕ)) → List ℕ → Type 0
 GaveBytes remaining bytes = Gave End remaining bytes
 
+-- these bytes of a file to put into a volume of an edition were read from it: all of them; or, if the file is larger than any file of the edition, its
+-- first bytes, one more than the greatest size, which no file of the volume takes (std::io::Read)
+abbrev pub GavePut : {F : Type 0} → Edition → (F → Option (List ℕ)) → List ℕ → Type 0
+GavePut {F} edition remaining bytes =
+    GaveBytes remaining bytes
+    ⊎ ((length bytes ≡ (constants edition).greatest + 1) × (old : F) × (new : F) × Consumes (remaining old) (remaining new) bytes)
+
 -- this archive, of at most `blocks` blocks, was read from some file; the bytes after it, if any, may not have been read (std::io::Read)
 abbrev pub GaveArchive : {F : Type 0} → (F → Option (List ℕ)) → List ℕ → Type 0
 GaveArchive remaining archive = (blocks : ℕ) × Gave (Archive blocks) remaining archive
@@ -78,12 +86,13 @@ GaveImage edition remaining image = Gave (Volume edition) remaining image ⊎ Ga
 abbrev pub IsUnread : {F : Type 0} → (F → Option (List ℕ)) → ℕ → Type 0
 IsUnread {F} remaining status = (status ≡ 3) ⊎ ((status ≡ 4) × (old : F) × (new : F) × LosesFront (remaining old) (remaining new))
 
--- the effects of files on the program: none could be read, with this status; these bytes were read from one; this image of a volume of an edition was
--- read from one; this image or the whole file was read from one; such an image was read from a file that will be changed and that had this stamp
+-- the effects of files on the program: none could be read, with this status; these bytes were read from one; these bytes of a file to put
+-- into a volume of an edition were read from it; this image of a volume of an edition was read from one; this image or the whole file was read from one; such an image was read from a file that will be changed and that had this stamp
 -- before; these bytes were written to one; the file at some path had this stamp (this project)
 pub record HostFiles : Type 1 where
   pub unread : ℕ → Type 0
   pub given : List ℕ → Type 0
+  pub put : Edition → List ℕ → Type 0
   pub shown : Edition → List ℕ → Type 0
   pub checked : Edition → List ℕ → Type 0
   pub opened : Edition → List ℕ → Stamp → Type 0
@@ -96,6 +105,7 @@ host_files remaining contents had stood =
     record {
       unread = IsUnread remaining;
       given = GaveBytes remaining;
+      put = λ edition. GavePut edition remaining;
       shown = λ edition. Gave (Volume edition) remaining;
       checked = λ edition. GaveImage edition remaining;
       opened = λ edition. IsOpened edition remaining had;
@@ -296,7 +306,7 @@ LeavesTerminal streams status = (status ≡ 3) × Keeps streams.old streams.new 
 abbrev pub ChangesImage : Streams → HostFiles → HostInput → Edition → Change → ℕ → Type 0
 ChangesImage streams files input edition change status =
     RunsNothing streams files status ⊎ (TakesNothing streams files input change status
-    ⊎ ((image : List ℕ) × (stamp : Stamp) × (given : GivenFile) × (answer : Answer) × files.opened edition image stamp × IsGivenTo files.given input.given change given
+    ⊎ ((image : List ℕ) × (stamp : Stamp) × (given : GivenFile) × (answer : Answer) × files.opened edition image stamp × IsGivenTo (files.put edition) input.given change given
     × Changes edition image given streams answer change × EndsSaved (λ saved. files.taken saved × files.stood stamp) answer status))
 
 -- a change runs: if an archive is needed from a terminal, nothing is done; otherwise the volume is changed (this project)

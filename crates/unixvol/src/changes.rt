@@ -2,7 +2,7 @@
 ghost use Rattle.std.specs.Prelude.{◌≡◌, ◌+◌, ◌*◌, ◌/◌, ◌^◌, ◌≤◌, min, ℕ, Bool, IfErr, IfOk, List, Option};
 ghost use Rattle.std.specs.Process.{exit_status};
 ghost use Rattle.command_faults.specs.Streams.{ErrorStream, Hears, still};
-ghost use Rattle.unixvol.specs.Runs.{ChangesToEnd, Ends, GaveArchive, GaveBytes, IsGivenTo, IsUngiven, IsUnread, RunsChange, but_remarks, host_files, host_input, may_remark, wants_terminal};
+ghost use Rattle.unixvol.specs.Runs.{ChangesToEnd, Ends, GaveArchive, GavePut, IsGivenTo, IsUngiven, IsUnread, RunsChange, but_remarks, host_files, host_input, may_remark, wants_terminal};
 
 use crate::explain::{NamedFile, explain_unread, finish, tell_fault};
 use crate::host::Surroundings;
@@ -82,7 +82,7 @@ fn run<R: ImageFiles + Clock + Eprint + AllocGlobal, I: Read + Drop>(
             fault: None,
         };
     }
-    let begun = match begin(host, volume, || given_to(host, volume.image, input, change)) {
+    let begun = match begin(host, volume, || given_to(host, volume, input, change)) {
         Ok(begun) => begun,
         Err(status) => {
             return Ending {
@@ -120,17 +120,17 @@ fn wants_terminal(is_terminal: bool, change: Change<'_>) -> bool
 /// Returns the bytes of the file to put, with what is kept of it, or of the archive to import; none for another change.
 fn given_to<R: ImageFiles + Eprint + AllocGlobal, I: Read + Drop>(
     host: &Surroundings<'_, R>,
-    image: &str,
+    volume: VolumeFile<'_>,
     input: I,
     change: Change<'_>,
 ) -> Result<GivenFile, u8>
-    ensures given { IfOk result (IsGivenTo (GaveBytes R.File.remaining) (GaveArchive I.remaining) change.entry) }
+    ensures given { IfOk result (IsGivenTo (GavePut volume.entry.edition R.File.remaining) (GaveArchive I.remaining) change.entry) }
     ensures fault { IfErr result (IsUngiven (IsUnread R.File.remaining) (IsUnread I.remaining) change.entry) }
 {
     match change {
-        Change::Put { file, keep, .. } => read_given(host, file, keep),
+        Change::Put { file, keep, .. } => read_given(host, volume.edition, file, keep),
         Change::Import { .. } => {
-            let blocks = archive_room(host.rt, image);
+            let blocks = archive_room(host.rt, volume.image);
             let read = read_open(host, NamedFile::Input, UpTo::Archive(blocks), input)?;
             Ok(with_nothing(read.bytes))
         }

@@ -3,7 +3,7 @@ ghost use Rattle.std.specs.Prelude.{◌≡◌, ◌≢◌, ◌⊎◌, ℕ, All, B
 ghost use Rattle.std.specs.Process.{exit_status};
 ghost use Rattle.command_faults.specs.Streams.{ErrorStream, Hears, still};
 ghost use Rattle.unixvol.specs.Copies.{AreGiven, AreSaved, CopiesToEnd, IsFileToo, IsMomentAlone, ReadSaved, RunsCopy, RunsGet, RunsPut, name_of};
-ghost use Rattle.unixvol.specs.Runs.{Ends, GaveBytes, IsGivenFile, IsStatusOfFileOrMemory, IsUnread, host_files};
+ghost use Rattle.unixvol.specs.Runs.{Ends, GavePut, IsGivenFile, IsStatusOfFileOrMemory, IsUnread, host_files};
 ghost use Rattle.host_files.specs.Save.{IsTaken};
 
 use crate::explain::{
@@ -26,6 +26,7 @@ use std::io::{self, Write};
 use std::path::Path;
 use std::process::ExitCode;
 use std::rt::Clock;
+use vol_layout::Edition;
 
 /// The message if a file's name in the folder belongs to a pipe or a socket.
 const PIPE: &str = "it is a pipe or a socket, which keeps no file";
@@ -98,9 +99,9 @@ fn run_put<R: ImageFiles + Clock + Eprint + AllocGlobal>(
         };
     }
     let read = ||
-        ensures given { IfOk result (λ files. AreGiven (GaveBytes R.File.remaining) keep (map (λ path. name_of path.now) paths.entry.now) files.items) }
+        ensures given { IfOk result (λ files. AreGiven (GavePut volume.edition R.File.remaining) keep (map (λ path. name_of path.now) paths.entry.now) files.items) }
         ensures fault { IfErr result (IsUnread R.File.remaining) }
-    { read_named(host, paths, keep) };
+    { read_named(host, volume.edition, paths, keep) };
     let begun = match begin(host, volume, read) {
         Ok(begun) => begun,
         Err(status) => {
@@ -135,20 +136,21 @@ fn moment_file<'a, R: ImageFiles>(rt: &R, now: Moment<'a>) -> Option<&'a str>
     if rt.is_there(word) { Some(word) } else { None }
 }
 
-/// Reads the files at some paths, in order, with what is kept of them, and names each by the last name of its path. If one can't be read, prints the
-/// fault and returns the status.
+/// Reads the files at some paths to put into a volume of an edition, in order, with what is kept of them, and names each by the last name of its path.
+/// If one can't be read, prints the fault and returns the status.
 fn read_named<'a, R: ImageFiles + Eprint + AllocGlobal>(
     host: &Surroundings<'_, R>,
+    edition: Edition,
     paths: &[&'a str],
     keep: Keep,
 ) -> Result<Vec<NewFile<'a>>, u8>
-    ensures given { IfOk result (λ files. All (λ file. IsGivenFile (GaveBytes R.File.remaining) keep file.content) files.items) }
+    ensures given { IfOk result (λ files. All (λ file. IsGivenFile (GavePut edition R.File.remaining) keep file.content) files.items) }
     ensures named { IfOk result (λ files. map (λ file. file.name.now) files.items ≡ map (λ path. name_of path.now) paths.now) }
     ensures fault { IfErr result (IsUnread R.File.remaining) }
 {
     let mut files = Vec::new(host.rt.alloc());
     'files: for path in paths {
-        let content = read_given(host, path, keep)?;
+        let content = read_given(host, edition, path, keep)?;
         let name = name_of(path);
         let Ok(()) = files.push(NewFile { name, content }) else {
             return Err(explain_no_memory(host));

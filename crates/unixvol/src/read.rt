@@ -1,9 +1,9 @@
 //! Reads files to their ends, or to the end of the volume or archive in them.
-ghost use Rattle.std.specs.Prelude.{◌≡◌, ◌⊎◌, false, true, All, Err, IfErr, IfOk, IsErrOf, Ok, OnErr, length};
+ghost use Rattle.std.specs.Prelude.{◌≡◌, ◌⊎◌, [], false, true, All, Err, IfErr, IfOk, IsErrOf, Ok, OnErr, length};
 ghost use Rattle.pdp_words.specs.Devices.{LosesFront};
 ghost use Rattle.host_files.specs.OpenedFiles.{IsOpened};
-ghost use Rattle.host_files.specs.ReadParts.{IsPast, IsReadUpTo};
-ghost use Rattle.unixvol.specs.Runs.{Gave, GaveBytes, GaveImage, IsKept, IsStatusOfFileOrMemory, IsUnread};
+ghost use Rattle.host_files.specs.ReadParts.{IsPast, IsReadOn, IsReadUpTo};
+ghost use Rattle.unixvol.specs.Runs.{Gave, GaveBytes, GaveImage, GavePut, IsKept, IsStatusOfFileOrMemory, IsUnread};
 
 use crate::explain::{NamedFile, explain_no_memory, explain_unread, explain_unwritten, reason_of};
 use crate::host::Surroundings;
@@ -11,7 +11,7 @@ use command_changes::{GivenFile, Keep, Kept};
 use command_line::VolumeFile;
 use host_files::{
     FileKind, FrontFault, ImageFiles, Noted, OpenFault, Stamp, UpTo, expect_image, modified_in,
-    noted_reader, open_image, open_stamped, permissions_of, read_up_to,
+    noted_reader, open_image, open_stamped, permissions_of, read_on, read_up_to,
 };
 use pdp_words::Source;
 use std::fs::{self, Files, OpenFile};
@@ -45,14 +45,16 @@ pub fn read_file<R: Files + Eprint + AllocGlobal>(
     read_so_far(host, UpTo::End, path)
 }
 
-/// Reads a file to put to its end, with what is kept of it besides its bytes. If it can't be read, or its time can't be kept, prints the fault and
+/// Reads a file to put into a volume of an edition, with what is kept of it besides its bytes. A file that is larger than any file of the edition is
+/// read up to one byte more than the greatest size, with which its put is refused. If it can't be read, or its time can't be kept, prints the fault and
 /// returns the status.
 pub fn read_given<R: ImageFiles + Eprint + AllocGlobal>(
     host: &Surroundings<'_, R>,
+    edition: Edition,
     path: &str,
     keep: Keep,
 ) -> Result<GivenFile, u8>
-    ensures given { IfOk result (λ given. GaveBytes R.File.remaining given.bytes.items) }
+    ensures given { IfOk result (λ given. GavePut edition R.File.remaining given.bytes.items) }
     ensures kept { IfOk result (λ given. IsKept keep given.kept) }
     ensures fault { IfErr result (IsUnread R.File.remaining) }
 {
@@ -65,8 +67,22 @@ pub fn read_given<R: ImageFiles + Eprint + AllocGlobal>(
         Ok(kept) => kept,
         Err(why) => return Err(explain_unread(host, named, why)),
     };
-    let bytes = read_open(host, named, UpTo::End, file)?.bytes;
+    let bytes = read_to_put(host, named, edition, file)?;
     Ok(GivenFile { bytes, kept })
+}
+
+/// Reads an open file to put into a volume of an edition. If it can't be read, prints the fault and returns the status.
+fn read_to_put<R: Eprint + AllocGlobal, F: Read + Drop>(
+    host: &Surroundings<'_, R>,
+    named: NamedFile<'_>,
+    edition: Edition,
+    file: F,
+) -> Result<Vec<u8>, u8>
+    ensures given { IfOk result (λ bytes. GavePut edition F.remaining bytes.items) }
+    ensures fault { IfErr result (IsUnread F.remaining) }
+{
+    let most = edition.constants().greatest as usize + 1;
+    Ok(read_more(host, named, most, unread(host, file))?.bytes)
 }
 
 /// Returns what is kept of an open file, which has this stamp, besides its bytes.
@@ -287,6 +303,61 @@ fn read_source<R: Eprint + AllocGlobal, S: Source>(
             Err(explain_unread(host, named, io::Error::other(past(up_to))))
         }
         Err(FrontFault::NoMemory) => Err(explain_no_memory(host)),
+    }
+}
+
+/// Returns an open file of which nothing was read.
+fn unread<R: AllocGlobal, F>(host: &Surroundings<'_, R>, file: F) -> ReadFile<F>
+    ensures bytes { result.bytes.items ≡ [] }
+    ensures file { result.file ≡ file }
+{
+    ReadFile {
+        bytes: Vec::new(host.rt.alloc()),
+        file,
+    }
+}
+
+/// Reads on in an open file of which some bytes were read, until there are `most` bytes or the file ends. If it can't be read, prints the fault and
+/// returns the status.
+fn read_more<R: Eprint + AllocGlobal, F: Read + Drop>(
+    host: &Surroundings<'_, R>,
+    named: NamedFile<'_>,
+    most: usize,
+    read: ReadFile<F>,
+) -> Result<ReadFile<F>, u8>
+    ensures given { IfOk result (λ all. IsReadOn (F.remaining read.file) (F.remaining all.file) read.bytes.items all.bytes.items most) }
+    ensures fault { IfErr result (IsUnread F.remaining) }
+{
+    let mut source = noted_reader(read.file);
+    let bytes = read_more_of(host, named, read.bytes, most, &mut source)?;
+    Ok(ReadFile {
+        bytes,
+        file: source.into_inner().into_inner(),
+    })
+}
+
+/// Reads on in a source until there are `most` bytes or the source ends. If it can't be read, prints the fault and returns the status: the status of a
+/// file only if the source failed, and the status of memory only if it didn't.
+fn read_more_of<R: Eprint + AllocGlobal, S: Source>(
+    host: &Surroundings<'_, R>,
+    named: NamedFile<'_>,
+    bytes: Vec<u8>,
+    most: usize,
+    source: &mut Noted<S>,
+) -> Result<Vec<u8>, u8>
+    requires { ⟦<Noted<S> as Source>⟧.failed source.old ≡ false }
+    ensures given { IfOk result (λ all. IsReadOn (⟦<Noted<S> as Source>⟧.remaining source.old) (⟦<Noted<S> as Source>⟧.remaining source.new) bytes.items all.items most) }
+    ensures front { OnErr result (LosesFront (⟦<Noted<S> as Source>⟧.remaining source.old) (⟦<Noted<S> as Source>⟧.remaining source.new)) }
+    ensures device { IsErrOf result 3 → ⟦<Noted<S> as Source>⟧.failed source.new ≡ true }
+    ensures memory { IsErrOf result 4 → ⟦<Noted<S> as Source>⟧.failed source.new ≡ false }
+    ensures fault { IfErr result IsStatusOfFileOrMemory }
+{
+    match read_on(bytes, most, source) {
+        Ok(all) => Ok(all),
+        Err(FrontFault::NoMemory) => Err(explain_no_memory(host)),
+        Err(FrontFault::Device | FrontFault::Endless) => {
+            Err(explain_unread(host, named, reason_of(source.error())))
+        }
     }
 }
 

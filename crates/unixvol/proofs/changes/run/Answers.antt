@@ -1,7 +1,7 @@
 use Rattle.std.proofs.Common.{◌∙◌, inl, inr, refl, rules, sym}
 use Rattle.std.proofs.KnownBytes.{Keeps-refl}
 use Rattle.command_faults.specs.Streams.{still}
-use Rattle.unixvol.specs.Runs.{GaveArchive, GaveBytes, IsGivenTo, IsUngiven, IsUnread}
+use Rattle.unixvol.specs.Runs.{GaveArchive, GavePut, IsGivenTo, IsUngiven, IsUnread}
 use Rattle.unixvol.proofs.Concluded.{ends_remarked, ends_unread}
 use Rattle.unixvol.proofs.Done.{ends_change, ends_ungiven}
 use Rattle.unixvol.proofs.changes.run.Goals as goal
@@ -33,7 +33,7 @@ returns-in-Err-clause-runs g c known failed errors hears =
 pub returns-clause-runs : goal.returns-clause-runs
 returns-clause-runs g c known failed errors hears =
     let called = c.in-Ok.ensures.given in
-    let given : IsGivenTo (GaveBytes g.R.File.Read.remaining) (GaveArchive g.I.Read.remaining) c.args.change c.in-Ok.begun.given = search rules in
+    let given : IsGivenTo (GavePut c.args.volume.edition g.R.File.Read.remaining) (GaveArchive g.I.Read.remaining) c.args.change c.in-Ok.begun.given = search rules in
     inr (
       sym c.wants_terminal.ensures ∙ c.if-wants_terminal.false,
       inr (inr (

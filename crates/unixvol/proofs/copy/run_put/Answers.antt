@@ -2,7 +2,7 @@ use Rattle.std.proofs.Common.{arith, inl, inr, refl, rules}
 use Rattle.std.proofs.KnownBytes.{Keeps-refl}
 use Rattle.command_faults.specs.Streams.{says, still}
 use Rattle.unixvol.specs.Copies.{AreGiven}
-use Rattle.unixvol.specs.Runs.{GaveBytes, IsUnread}
+use Rattle.unixvol.specs.Runs.{GavePut, IsUnread}
 use Rattle.unixvol.proofs.Concluded.{ends_imported, ends_unread}
 use Rattle.unixvol.proofs.copy.run_put.Goals as goal
 
@@ -24,7 +24,7 @@ returns-in-Err-clause-runs g c known failed errors hears =
 pub returns-clause-runs : goal.returns-clause-runs
 returns-clause-runs g c known failed errors hears =
     let called = c.in-Ok.ensures.given in
-    let given : AreGiven (GaveBytes g.R.File.Read.remaining) c.args.keep _ c.in-Ok.begun.given.items = search rules in
+    let given : AreGiven (GavePut c.args.volume.edition g.R.File.Read.remaining) c.args.keep _ c.in-Ok.begun.given.items = search rules in
     inr (
       c.moment_file.ensures.none c.in_default.is,
       inr (

@@ -1,0 +1,39 @@
+-- Files of which only a front may be read.
+use Rattle.std.proofs.Common.{◌≡◌, ◌∙◌, ◌+◌, ◌<◌, ◌++◌, ℕ, List, [], length, Option, inl, inr, sym, ap, subst, arith}
+use Rattle.std.proofs.lemmas.Bool.{cases_lt}
+use Rattle.std.specs.Io.KnownBytes.{Consumes}
+use Rattle.vol_layout.specs.Edition.{constants}
+use Rattle.vol_layout.specs.declared.edition.Edition.{Edition}
+use Rattle.host_files.specs.ReadParts.{IsReadOn}
+use Rattle.unixvol.specs.Runs.{GaveBytes, GavePut, IsUnread}
+
+-- bytes that were read after none are the bytes that left the source
+none_before : (old new : Option (List ℕ)) (none bytes : List ℕ) (most : ℕ) → none ≡ [] → IsReadOn old new none bytes most → Consumes old new bytes
+none_before old new none bytes most empty on =
+    subst (Consumes old new) (sym (on.all ∙ ap (λ xs. xs ++ on.more) empty)) on.front
+
+-- bytes that were read up to some number are all of the file if there are fewer
+pub short_read : {F : Type 0} (remaining : F → Option (List ℕ)) (old new : F) (none bytes : List ℕ) (most : ℕ) → none ≡ []
+    → IsReadOn (remaining old) (remaining new) none bytes most → length bytes < most → GaveBytes remaining bytes
+short_read remaining old new none bytes most empty on short =
+    (old, new, (none_before (remaining old) (remaining new) none bytes most empty on, on.end short))
+
+-- bytes that were read up to one more than an edition's greatest size are a file to put
+pub put_read : {F : Type 0} (remaining : F → Option (List ℕ)) (edition : Edition) (old new : F) (none bytes : List ℕ) (most : ℕ)
+    → none ≡ [] → most ≡ (constants edition).greatest + 1 → IsReadOn (remaining old) (remaining new) none bytes most → GavePut edition remaining bytes
+put_read remaining edition old new none bytes most empty count on =
+    elim (cases_lt (length bytes) most) [
+      | inl short ↦ inl (short_read remaining old new none bytes most empty on short)
+      | inr all ↦ inr (
+        omega (arith, all, on.bound, ap length empty, count),
+        old,
+        new,
+        none_before (remaining old) (remaining new) none bytes most empty on,
+      )
+    ]
+
+-- if memory runs out after a file to put was read, bytes of some file were read
+pub put_unread : {F : Type 0} (remaining : F → Option (List ℕ)) (edition : Edition) (bytes : List ℕ) (status : ℕ) → status ≡ 4
+    → GavePut edition remaining bytes → IsUnread remaining status
+put_unread remaining edition bytes status is (inl whole) = inr (is, whole.0, whole.1, (bytes, whole.2.0))
+put_unread remaining edition bytes status is (inr (count, old, new, read)) = inr (is, old, new, (bytes, read))

@@ -192,6 +192,8 @@ unread '5 0 0 cut /a\n' ': the word `/a` at column 11 is one too many'
 unread '5 0 0 \033[31m\n' ": the word \`\\033[31m\` at column 7 isn't a call, a query or \`cut\`"
 unread '5 0 0 unlink /a' ' has no newline at its end'
 unread "5 0 0 $(printf '%041d' 0)\\n" ": the word \`$(printf '%040d' 0)..\` at column 7 isn't a call, a query or \`cut\`"
+yes '1 ' | head -70000 | tr -d '\n' > long_line
+explains 2 'unixvol: script 2 line 1' "unixvol: long_line: line 1: the word \`1\` at column 7 isn't a call, a query or \`cut\`" play 6 "$image" first long_line
 printf 'view\n5 0 0 unlink /a\n' > second
 explains 2 'unixvol: script 2 line 2' "unixvol: second: line 2: the word \`unlink\` at column 7 isn't a query, and a script for a view has no others" play 6 "$image" first second
 printf 'view\n' > seen

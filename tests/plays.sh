@@ -46,6 +46,20 @@ while IFS=$'\t' read -r status wanted text; do
         plays "$status" "$wanted" 6 script
     fi
 done < "$data/lines"
+# A first line that can't be read whatever follows: no more than 65,536 bytes are read. The script may go on without end.
+echo 'unixvol: script 1 line 1' > line
+(ulimit -v 100000; runs_within 20 play 6 kept /dev/zero)
+wants 'a script without end' 2 none line
+echo 'unixvol: script 2 line 1' > line
+(ulimit -v 100000; runs_within 20 play 6 kept create /dev/zero)
+wants 'a second script without end' 2 none line
+{ yes '1 ' | head -70000 | tr -d '\n' && echo && echo '5 0 0 cut'; } > long_line
+unread 'a long line' 1 1 long_line
+# A first line that may be read once it has ended, and good lines after which a bad one comes, are read to their ends.
+{ printf '5 0 0 create /a' && yes a | head -70000 | tr -d '\n' && echo; } > no_permissions
+unread 'a long line that ends too soon' 1 1 no_permissions
+{ yes '5 0 0 cut' | head -7000 && echo x; } > bad_end
+unread 'a bad line after many good ones' 1 7001 bad_end
 has 'the rows in lines' 52 "$(grep -c . "$data/lines")"
 
 # The fault of the first faulty script is reported, even if the image is faulty too.

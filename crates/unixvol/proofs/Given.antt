@@ -1,11 +1,12 @@
 -- Files of which only a front may be read.
 use Rattle.std.proofs.Common.{◌≡◌, ◌∙◌, ◌+◌, ◌<◌, ◌++◌, ℕ, List, [], length, Option, inl, inr, sym, ap, subst, arith}
+use Rattle.std.proofs.KnownBytes.{Consumes-trans}
 use Rattle.std.proofs.lemmas.Bool.{cases_lt}
 use Rattle.std.specs.Io.KnownBytes.{Consumes}
 use Rattle.vol_layout.specs.Edition.{constants}
 use Rattle.vol_layout.specs.declared.edition.Edition.{Edition}
 use Rattle.host_files.specs.ReadParts.{IsReadOn}
-use Rattle.unixvol.specs.Runs.{GaveBytes, GavePut, IsUnread}
+use Rattle.unixvol.specs.Runs.{GaveBytes, GavePut, GaveScript, IsUnread}
 
 -- bytes that were read after none are the bytes that left the source
 none_before : (old new : Option (List ℕ)) (none bytes : List ℕ) (most : ℕ) → none ≡ [] → IsReadOn old new none bytes most → Consumes old new bytes
@@ -37,3 +38,17 @@ pub put_unread : {F : Type 0} (remaining : F → Option (List ℕ)) (edition : E
     → GavePut edition remaining bytes → IsUnread remaining status
 put_unread remaining edition bytes status is (inl whole) = inr (is, whole.0, whole.1, (bytes, whole.2.0))
 put_unread remaining edition bytes status is (inr (count, old, new, read)) = inr (is, old, new, (bytes, read))
+
+-- bytes that were read in two steps, the second up to some number, are all of the file if there are fewer
+pub rest_read : {F : Type 0} (remaining : F → Option (List ℕ)) (a b c : F) (none front bytes : List ℕ) (first most : ℕ) → none ≡ []
+    → IsReadOn (remaining a) (remaining b) none front first → IsReadOn (remaining b) (remaining c) front bytes most → length bytes < most
+    → GaveBytes remaining bytes
+rest_read remaining a b c none front bytes first most empty one other short =
+    let read = Consumes-trans _ _ _ front other.more (none_before (remaining a) (remaining b) none front first empty one) other.front in
+    (a, c, (subst (Consumes (remaining a) (remaining c)) (sym other.all) read, other.end short))
+
+-- if memory runs out after a script was read, bytes of some file were read
+pub script_unread : {F : Type 0} (remaining : F → Option (List ℕ)) (script : List ℕ) (status : ℕ) → status ≡ 4 → GaveScript remaining script
+    → IsUnread remaining status
+script_unread remaining script status is (inl whole) = inr (is, whole.0, whole.1, (script, whole.2.0))
+script_unread remaining script status is (inr (front, old, new, read, count, bad, same)) = inr (is, old, new, (front, read))

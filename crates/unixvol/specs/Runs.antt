@@ -38,6 +38,7 @@ use Rattle.vol_layout.specs.declared.edition.Edition.{Edition}
 use Rattle.vol_layout.specs.declared.edition.Edition.TheVariants.{V6}
 use Rattle.std.specs.Global.{Vec}
 use Rattle.vol_play.specs.Play.{PlaysVolume}
+use Rattle.vol_scripts.specs.Scripts.{has_bad_start}
 use Rattle.command_faults.specs.declared.answer.Answer.{Answer}
 use Rattle.command_reads.specs.declared.cat.CatFault.{CatFault}
 use Rattle.command_reads.specs.declared.cat.CatFault.TheVariants.{Writer}
@@ -73,6 +74,14 @@ GavePut {F} edition remaining bytes =
     GaveBytes remaining bytes
     ⊎ ((length bytes ≡ (constants edition).greatest + 1) × (old : F) × (new : F) × Consumes (remaining old) (remaining new) bytes)
 
+-- this script was read from a file: all of it; or its first 65,536 bytes and a newline, if the first line of a script that begins with these bytes can't
+-- be read, whatever follows them (std::io::Read)
+abbrev pub GaveScript : {F : Type 0} → (F → Option (List ℕ)) → List ℕ → Type 0
+GaveScript {F} remaining script =
+    GaveBytes remaining script
+    ⊎ ((front : List ℕ) × (old : F) × (new : F) × Consumes (remaining old) (remaining new) front × (length front ≡ 65536)
+    × (has_bad_start front ≡ true) × (script ≡ front ++ 10 ∷ []))
+
 -- this archive, of at most `blocks` blocks, was read from some file; the bytes after it, if any, may not have been read (std::io::Read)
 abbrev pub GaveArchive : {F : Type 0} → (F → Option (List ℕ)) → List ℕ → Type 0
 GaveArchive remaining archive = (blocks : ℕ) × Gave (Archive blocks) remaining archive
@@ -87,12 +96,13 @@ abbrev pub IsUnread : {F : Type 0} → (F → Option (List ℕ)) → ℕ → Typ
 IsUnread {F} remaining status = (status ≡ 3) ⊎ ((status ≡ 4) × (old : F) × (new : F) × LosesFront (remaining old) (remaining new))
 
 -- the effects of files on the program: none could be read, with this status; these bytes were read from one; these bytes of a file to put
--- into a volume of an edition were read from it; this image of a volume of an edition was read from one; this image or the whole file was read from one; such an image was read from a file that will be changed and that had this stamp
+-- into a volume of an edition were read from it; this script was read from one; this image of a volume of an edition was read from one; this image or the whole file was read from one; such an image was read from a file that will be changed and that had this stamp
 -- before; these bytes were written to one; the file at some path had this stamp (this project)
 pub record HostFiles : Type 1 where
   pub unread : ℕ → Type 0
   pub given : List ℕ → Type 0
   pub put : Edition → List ℕ → Type 0
+  pub script : List ℕ → Type 0
   pub shown : Edition → List ℕ → Type 0
   pub checked : Edition → List ℕ → Type 0
   pub opened : Edition → List ℕ → Stamp → Type 0
@@ -106,6 +116,7 @@ host_files remaining contents had stood =
       unread = IsUnread remaining;
       given = GaveBytes remaining;
       put = λ edition. GavePut edition remaining;
+      script = GaveScript remaining;
       shown = λ edition. Gave (Volume edition) remaining;
       checked = λ edition. GaveImage edition remaining;
       opened = λ edition. IsOpened edition remaining had;
@@ -218,7 +229,7 @@ abbrev pub RunsPlay : Streams → HostFiles → Edition → ℕ → Bool → ℕ
 RunsPlay streams files edition count journal status =
     RunsNothing streams files status
     ⊎ ((image : List ℕ) × (stamp : Stamp) × (scripts : List (Vec ℕ)) × (answer : Answer) × files.opened edition image stamp
-    × All (λ script. files.given script.items) scripts × (length scripts ≡ count)
+    × All (λ script. files.script script.items) scripts × (length scripts ≡ count)
     × PlaysVolume edition image journal scripts streams answer × EndsPlayed (λ saved. files.taken saved × files.stood stamp) answer status)
 
 -- work with several threads runs (this project)

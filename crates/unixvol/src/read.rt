@@ -3,7 +3,7 @@ ghost use Rattle.std.specs.Prelude.{◌≡◌, ◌⊎◌, [], false, true, All, 
 ghost use Rattle.pdp_words.specs.Devices.{LosesFront};
 ghost use Rattle.host_files.specs.OpenedFiles.{IsOpened};
 ghost use Rattle.host_files.specs.ReadParts.{IsPast, IsReadOn, IsReadUpTo};
-ghost use Rattle.unixvol.specs.Runs.{Gave, GaveBytes, GaveImage, GavePut, IsKept, IsStatusOfFileOrMemory, IsUnread};
+ghost use Rattle.unixvol.specs.Runs.{Gave, GaveBytes, GaveImage, GavePut, GaveScript, IsKept, IsStatusOfFileOrMemory, IsUnread};
 
 use crate::explain::{NamedFile, explain_no_memory, explain_unread, explain_unwritten, reason_of};
 use crate::host::Surroundings;
@@ -18,12 +18,16 @@ use std::fs::{self, Files, OpenFile};
 use std::io::{self, Read};
 use std::rt::Clock;
 use vol_layout::Edition;
+use vol_scripts::has_bad_start;
 
 /// The message for a file that has more blocks than any volume of its edition, and whose super-block records more as well.
 const ENDLESS: &str = "it has more blocks than any volume, and its super-block says so";
 
 /// The message for an archive that is longer than is allowed for the image.
 const LONG: &str = "its archive has more bytes than an image of this size could take";
+
+/// The number of bytes at the start of a script that are read first.
+const SCRIPT_FRONT: usize = 64 * 1024;
 
 /// A file that was read.
 #[derive(Drop)]
@@ -147,23 +151,53 @@ fn read_so_far<R: Files + Eprint + AllocGlobal>(
     }
 }
 
-/// Reads several files, in the order of their paths. If one can't be read, prints the fault and returns the status.
-pub fn read_files<R: Files + Eprint + AllocGlobal>(
+/// Reads the scripts in several files, in the order of their paths. If one can't be read, prints the fault and returns the status.
+pub fn read_scripts<R: Files + Eprint + AllocGlobal>(
     host: &Surroundings<'_, R>,
     paths: &[&str],
 ) -> Result<Vec<Vec<u8>>, u8>
-    ensures given { IfOk result (λ files. All (λ file. GaveBytes R.File.remaining file.items) files.items) }
-    ensures count { IfOk result (λ files. length files.items ≡ length paths.now) }
+    ensures given { IfOk result (λ scripts. All (λ script. GaveScript R.File.remaining script.items) scripts.items) }
+    ensures count { IfOk result (λ scripts. length scripts.items ≡ length paths.now) }
     ensures fault { IfErr result (IsUnread R.File.remaining) }
 {
-    let mut files = Vec::new(host.rt.alloc());
-    'files: for path in paths {
-        let bytes = read_file(host, path)?;
-        let Ok(()) = files.push(bytes) else {
+    let mut scripts = Vec::new(host.rt.alloc());
+    'scripts: for path in paths {
+        let script = match fs::open(host.rt, path) {
+            Ok(file) => read_script(host, NamedFile::File(path), file)?,
+            Err(why) => return Err(explain_unread(host, NamedFile::File(path), why)),
+        };
+        let Ok(()) = scripts.push(script) else {
             return Err(explain_no_memory(host));
         };
     }
-    Ok(files)
+    Ok(scripts)
+}
+
+/// Reads the script in an open file. If the first bytes have a flaw that stays whatever follows, only these are read, and a newline is added, so that
+/// this flaw is reported and no missing newline. If it can't be read, prints the fault and returns the status.
+fn read_script<R: Eprint + AllocGlobal, F: Read + Drop>(
+    host: &Surroundings<'_, R>,
+    named: NamedFile<'_>,
+    file: F,
+) -> Result<Vec<u8>, u8>
+    ensures given { IfOk result (λ script. GaveScript F.remaining script.items) }
+    ensures fault { IfErr result (IsUnread F.remaining) }
+{
+    let front = read_more(host, named, SCRIPT_FRONT, unread(host, file))?;
+    if front.bytes.len() < SCRIPT_FRONT {
+        return Ok(front.bytes);
+    }
+    let Ok(is_bad) = has_bad_start(host.rt.alloc(), &front.bytes) else {
+        return Err(explain_no_memory(host));
+    };
+    if !is_bad {
+        return Ok(read_more(host, named, usize::MAX, front)?.bytes);
+    }
+    let mut script = front.bytes;
+    let Ok(()) = script.push(b'\n') else {
+        return Err(explain_no_memory(host));
+    };
+    Ok(script)
 }
 
 /// Reads the image of the volume in a file, and returns it with the file's stamp. If it can't be read, prints the fault and returns

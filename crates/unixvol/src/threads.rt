@@ -3,11 +3,11 @@ ghost use Rattle.std.specs.Prelude.{◌≡◌, ◌⊎◌, ◌≤◌, All, IfErr,
 ghost use Rattle.std.specs.Process.{exit_status};
 ghost use Rattle.command_words.specs.Invocations.{IsWorkable};
 ghost use Rattle.command_faults.specs.Streams.{ErrorStream, Hears, streams};
-ghost use Rattle.unixvol.specs.Runs.{GaveBytes, IsEnd, IsUnread, RunsCheck, RunsPlay, RunsWork, WorksToEnd, host_files};
+ghost use Rattle.unixvol.specs.Runs.{GaveScript, IsEnd, IsUnread, RunsCheck, RunsPlay, RunsWork, WorksToEnd, host_files};
 
 use crate::explain::{finish_printed, tell_fault};
 use crate::host::Surroundings;
-use crate::read::{Begun, begin, read_files, read_volume};
+use crate::read::{Begun, begin, read_scripts, read_volume};
 use crate::save::save_played;
 use crate::subject::Subject;
 use command_faults::Ending;
@@ -131,10 +131,10 @@ fn run_play<R: ImageFiles + Clock + Eprint + AllocGlobal + Threads + Wait + Sync
         → RunsPlay (streams O.contents O.failed output.old output.new errors) (host_files R.File.remaining R.File.contents R.had R.stood) volume.entry.edition (length scripts.now) journal result.status }
 {
     let read = ||
-        ensures given { IfOk result (λ files. All (λ file. GaveBytes R.File.remaining file.items) files.items) }
+        ensures given { IfOk result (λ files. All (λ script. GaveScript R.File.remaining script.items) files.items) }
         ensures count { IfOk result (λ files. length files.items ≡ length scripts.entry.now) }
         ensures fault { IfErr result (IsUnread R.File.remaining) }
-    { read_files(host, scripts) };
+    { read_scripts(host, scripts) };
     let begun = match begin(host, volume, read) {
         Ok(begun) => begun,
         Err(status) => {

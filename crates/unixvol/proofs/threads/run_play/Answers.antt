@@ -2,7 +2,7 @@ use Rattle.std.proofs.Common.{◌≡◌, ◌∙◌, All, ap, inl, inr, length, r
 use Rattle.std.specs.Global.{Vec}
 use Rattle.std.proofs.KnownBytes.{Keeps-refl}
 use Rattle.std.proofs.lemmas.List.Elements.{All-same}
-use Rattle.unixvol.specs.Runs.{GaveBytes, IsUnread}
+use Rattle.unixvol.specs.Runs.{GaveScript, IsUnread}
 use Rattle.unixvol.proofs.threads.run_play.Goals as goal
 
 pub returns-in-Err : goal.returns-in-Err
@@ -13,7 +13,7 @@ returns-in-Err g c errors hears =
 pub returns : goal.returns
 returns g c errors hears =
     let called = c.in-Ok.ensures.given in
-    let given : All (λ (script : Vec _). GaveBytes g.R.File.Read.remaining script.items) c.in-Ok.begun.given.items = search rules in
+    let given : All (λ (script : Vec _). GaveScript g.R.File.Read.remaining script.items) c.in-Ok.begun.given.items = search rules in
     let count : length c.in-Ok.begun.given.items ≡ length c.args.scripts.now = search rules in
     inr (
       c.in-Ok.begun.image.items,
@@ -21,7 +21,7 @@ returns g c errors hears =
       c.deref.result.now,
       c.perform-answer.result,
       c.in-Ok.ensures.image,
-      All-same (λ (script : Vec _). GaveBytes g.R.File.Read.remaining script.items) _ _ c.deref.ensures.value given,
+      All-same (λ (script : Vec _). GaveScript g.R.File.Read.remaining script.items) _ _ c.deref.ensures.value given,
       ap length c.deref.ensures.value ∙ count,
       c.perform-answer.ensures errors hears,
       c.save_played-status.ensures,

@@ -1,12 +1,15 @@
 -- Files of which only a front may be read.
-use Rattle.std.proofs.Common.{◌≡◌, ◌∙◌, ◌+◌, ◌<◌, ◌++◌, ℕ, List, [], length, Option, inl, inr, sym, ap, subst, arith}
+use Rattle.std.proofs.Common.{◌≡◌, ◌∙◌, ◌+◌, ◌<◌, ◌++◌, ℕ, true, List, [], length, Option, Result, Ok, Err, IfOk, inl, inr, sym, ap, subst, arith}
 use Rattle.std.proofs.KnownBytes.{Consumes-trans}
 use Rattle.std.proofs.lemmas.Bool.{cases_lt}
+use Rattle.std.specs.Global.{Vec}
 use Rattle.std.specs.Io.KnownBytes.{Consumes}
 use Rattle.vol_layout.specs.Edition.{constants}
 use Rattle.vol_layout.specs.declared.edition.Edition.{Edition}
-use Rattle.host_files.specs.ReadParts.{IsReadOn}
-use Rattle.unixvol.specs.Runs.{GaveBytes, GavePut, GaveScript, IsUnread}
+use Rattle.vol_findings.specs.Reports.{other_edition}
+use Rattle.host_files.specs.ReadParts.{IsReadOn, IsReadUpTo}
+use Rattle.host_files.specs.declared.volume_front.UpTo.TheVariants.{Volume}
+use Rattle.unixvol.specs.Runs.{Gave, GaveBytes, GaveImage, GavePut, GaveScript, IsUnread, is_other_longer}
 
 -- bytes that were read after none are the bytes that left the source
 none_before : (old new : Option (List ℕ)) (none bytes : List ℕ) (most : ℕ) → none ≡ [] → IsReadOn old new none bytes most → Consumes old new bytes
@@ -52,3 +55,11 @@ pub script_unread : {F : Type 0} (remaining : F → Option (List ℕ)) (script :
     → IsUnread remaining status
 script_unread remaining script status is (inl whole) = inr (is, whole.0, whole.1, (script, whole.2.0))
 script_unread remaining script status is (inr (front, old, new, read, count, bad, same)) = inr (is, old, new, (front, read))
+
+-- an image that was read up to the end of the other edition's volume is one for `check` if that one is longer
+pub other_read : {F : Type 0} (remaining : F → Option (List ℕ)) (edition other : Edition) (old new : F) (own : List ℕ) (result : Result (Vec ℕ) ℕ)
+    → other ≡ other_edition edition → IsReadUpTo (Volume edition) (remaining old) (remaining new) own → is_other_longer edition own ≡ true
+    → IfOk result (λ bytes. Gave (Volume other) remaining bytes.items) → IfOk result (λ image. GaveImage edition remaining image.items)
+other_read remaining edition other old new own (Ok image) is read longer gave =
+    inr ((own, (old, new, read), longer), subst (λ (edition : Edition). Gave (Volume edition) remaining image.items) is gave)
+other_read remaining edition other old new own (Err status) is read longer gave = tt

@@ -1,6 +1,7 @@
 -- The result of a run of the program, from the bytes that its files give.
-use Rattle.std.specs.Prelude.{All, length, map, codes, ◌≡◌, ◌≢◌, ◌⊎◌, ◌↔◌, ◌≤◌, ◌+◌, ◌++◌, ◌∷◌, ℕ, false, true, List, [], Option, None, Some, IsSome, IfSome, Result, Ok, Err, IsErrAnd, Bool, if◌then◌else◌}
+use Rattle.std.specs.Prelude.{All, length, nat_le, nat_lt, ◌≡◌, ◌≢◌, ◌⊎◌, ◌↔◌, ◌≤◌, ◌&&◌, ◌+◌, ◌*◌, ◌++◌, ◌∷◌, ℕ, false, true, List, [], Option, None, Some, IsSome, IfSome, Result, Ok, Err, IsErrAnd, Bool, if◌then◌else◌}
 use Rattle.std.specs.Io.KnownBytes.{Consumes, Keeps}
+use Rattle.std.specs.Result.{is_ok}
 use Rattle.clap.specs.Words.{kind_of}
 use Rattle.clap.specs.declared.error.Error.{Error}
 use Rattle.clap.specs.declared.error.kind.ErrorKind.{ErrorKind}
@@ -8,6 +9,7 @@ use Rattle.clap.specs.declared.error.kind.ErrorKind.TheVariants as kinds
 use Rattle.vol_mkfs.specs.Blank.{blank_of, IsMade}
 use Rattle.vol_mkfs.specs.Mkfs.{is_size}
 use Rattle.vol_layout.specs.Edition.{constants}
+use Rattle.vol_layout.specs.Geometry.{block_count, geometry_read}
 use Rattle.vol_layout.specs.Ids.{is_bad_id}
 use Rattle.pdp_words.specs.Devices.{LosesFront}
 use Rattle.command_reads.specs.Get.{GetsFile}
@@ -39,6 +41,7 @@ use Rattle.vol_layout.specs.declared.edition.Edition.TheVariants.{V6}
 use Rattle.std.specs.Global.{Vec}
 use Rattle.vol_play.specs.Play.{PlaysVolume}
 use Rattle.vol_scripts.specs.Scripts.{has_bad_start}
+use Rattle.vol_findings.specs.Reports.{other_edition}
 use Rattle.command_faults.specs.declared.answer.Answer.{Answer}
 use Rattle.command_reads.specs.declared.cat.CatFault.{CatFault}
 use Rattle.command_reads.specs.declared.cat.CatFault.TheVariants.{Writer}
@@ -86,9 +89,20 @@ GaveScript {F} remaining script =
 abbrev pub GaveArchive : {F : Type 0} → (F → Option (List ℕ)) → List ℕ → Type 0
 GaveArchive remaining archive = (blocks : ℕ) × Gave (Archive blocks) remaining archive
 
--- this image of a volume, or the whole rest of the file, was read from some file (std::io::Read)
+-- true if rule 1 or 2 doesn't hold for an image of an edition, and its super-block records more bytes for the other edition than it has, but no more than
+-- a volume can have (this project)
+abbrev pub is_other_longer : Edition → List ℕ → Bool
+is_other_longer edition image =
+    if is_ok (geometry_read edition image) then false else if nat_lt (length image) 1024 then false
+    else nat_le (block_count (other_edition edition) image) (constants (other_edition edition)).block_limit
+    && nat_lt (length image) (512 * block_count (other_edition edition) image)
+
+-- this image for `check` was read from a file: that of a volume; or, if rule 1 or 2 doesn't hold for that and the other edition's volume is longer, that
+-- of a volume of the other edition (std::io::Read)
 abbrev pub GaveImage : {F : Type 0} → Edition → (F → Option (List ℕ)) → List ℕ → Type 0
-GaveImage edition remaining image = Gave (Volume edition) remaining image ⊎ Gave End remaining image
+GaveImage edition remaining image =
+    Gave (Volume edition) remaining image
+    ⊎ (((own : List ℕ) × Gave (Volume edition) remaining own × (is_other_longer edition own ≡ true)) × Gave (Volume (other_edition edition)) remaining image)
 
 -- a file isn't read, with this status: 3 if it can't be opened, can't be read to the end, is longer than the largest volume, has an archive that is
 -- too long, or may not be changed; 4 if memory ran out, after some file was opened and at most a prefix of its bytes was read (this project)
@@ -96,7 +110,7 @@ abbrev pub IsUnread : {F : Type 0} → (F → Option (List ℕ)) → ℕ → Typ
 IsUnread {F} remaining status = (status ≡ 3) ⊎ ((status ≡ 4) × (old : F) × (new : F) × LosesFront (remaining old) (remaining new))
 
 -- the effects of files on the program: none could be read, with this status; these bytes were read from one; these bytes of a file to put
--- into a volume of an edition were read from it; this script was read from one; this image of a volume of an edition was read from one; this image or the whole file was read from one; such an image was read from a file that will be changed and that had this stamp
+-- into a volume of an edition were read from it; this script was read from one; this image of a volume of an edition was read from one; this image for `check` was read from one; such an image was read from a file that will be changed and that had this stamp
 -- before; these bytes were written to one; the file at some path had this stamp (this project)
 pub record HostFiles : Type 1 where
   pub unread : ℕ → Type 0
@@ -245,7 +259,7 @@ IsShownBy true screens.Stream = ⊥
 IsShownBy false (screens.Terminal columns colours) = ⊥
 IsShownBy false screens.Stream = Unit {0}
 
--- the image to show; for `check` it may be the whole file, since `check` also looks at the sizes of the other edition (this project)
+-- the image to show; for `check` it may be that of a volume of the other edition, since `check` also says if rules 1 and 2 hold for that (this project)
 abbrev pub IsSeen : HostFiles → Edition → Look → List ℕ → Type 0
 IsSeen files edition (looks.Check graded form) image = files.checked edition image
 IsSeen files edition (looks.List path listing) image = files.shown edition image

@@ -3,21 +3,23 @@ ghost use Rattle.std.specs.Prelude.{◌≡◌, ◌⊎◌, [], false, true, All, 
 ghost use Rattle.pdp_words.specs.Devices.{LosesFront};
 ghost use Rattle.host_files.specs.OpenedFiles.{IsOpened};
 ghost use Rattle.host_files.specs.ReadParts.{IsPast, IsReadOn, IsReadUpTo};
-ghost use Rattle.unixvol.specs.Runs.{Gave, GaveBytes, GaveImage, GavePut, GaveScript, IsKept, IsStatusOfFileOrMemory, IsUnread};
+ghost use Rattle.unixvol.specs.Runs.{Gave, GaveBytes, GaveImage, GavePut, GaveScript, IsKept, IsStatusOfFileOrMemory, IsUnread, is_other_longer};
 
 use crate::explain::{NamedFile, explain_no_memory, explain_unread, explain_unwritten, reason_of};
 use crate::host::Surroundings;
+use crate::sizes::HEAD;
 use command_changes::{GivenFile, Keep, Kept};
 use command_line::VolumeFile;
 use host_files::{
     FileKind, FrontFault, ImageFiles, Noted, OpenFault, Stamp, UpTo, expect_image, modified_in,
     noted_reader, open_image, open_stamped, permissions_of, read_on, read_up_to,
 };
-use pdp_words::Source;
+use pdp_words::{BLOCK, Image, Source};
 use std::fs::{self, Files, OpenFile};
 use std::io::{self, Read};
 use std::rt::Clock;
-use vol_layout::Edition;
+use vol_findings::other_edition;
+use vol_layout::{Edition, Geometry, Super};
 use vol_scripts::has_bad_start;
 
 /// The message for a file that has more blocks than any volume of its edition, and whose super-block records more as well.
@@ -116,8 +118,8 @@ pub fn read_volume<R: Files + Eprint + AllocGlobal>(
     read_so_far(host, UpTo::Volume(volume.edition), volume.image)
 }
 
-/// Reads the image for `check`. A regular file is read whole, since its volume may be of the other edition; of another file, only the image of the
-/// volume is read. If it can't be read, prints the fault and returns the status.
+/// Reads the image for `check`: that of the volume; or, if rules 1 and 2 don't hold for it and the super-block of a regular file records more blocks for
+/// the other edition than were read, that of a volume of the other edition. If it can't be read, prints the fault and returns the status.
 pub fn read_checked<R: ImageFiles + Eprint + AllocGlobal>(
     host: &Surroundings<'_, R>,
     volume: VolumeFile<'_>,
@@ -126,13 +128,30 @@ pub fn read_checked<R: ImageFiles + Eprint + AllocGlobal>(
     ensures fault { IfErr result (IsUnread R.File.remaining) }
 {
     let named = NamedFile::File(volume.image);
-    match open_stamped(host.rt, volume.image) {
-        Ok((file, stamp)) if stamp.kind == FileKind::Regular => {
-            Ok(read_open(host, named, UpTo::End, file)?.bytes)
-        }
-        Ok((file, _)) => Ok(read_open(host, named, UpTo::Volume(volume.edition), file)?.bytes),
-        Err(why) => Err(explain_unread(host, named, why)),
+    let (file, stamp) = match open_stamped(host.rt, volume.image) {
+        Ok(opened) => opened,
+        Err(why) => return Err(explain_unread(host, named, why)),
+    };
+    let read = read_open(host, named, UpTo::Volume(volume.edition), file)?;
+    let image = Image::from_bytes(read.bytes);
+    if stamp.kind != FileKind::Regular || !is_other_longer(volume.edition, &image) {
+        return Ok(image.into_bytes());
     }
+    drop(image);
+    let edition = other_edition(volume.edition);
+    read_so_far(host, UpTo::Volume(edition), volume.image)
+}
+
+/// True if rule 1 or 2 doesn't hold for an image of an edition, and its super-block records more bytes for the other edition than it has.
+fn is_other_longer(edition: Edition, image: &Image) -> bool
+    ensures { result ≡ is_other_longer edition image.now }
+{
+    if Geometry::read(edition, image).is_ok() || image.len() < HEAD {
+        return false;
+    }
+    let edition = other_edition(edition);
+    let blocks = Super { edition }.block_count(image);
+    blocks <= edition.constants().block_limit && image.len() < BLOCK * blocks as usize
 }
 
 /// Reads a file up to the end named by `up_to`. If it can't be read, prints the fault and returns the status.

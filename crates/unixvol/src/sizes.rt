@@ -9,7 +9,7 @@ use vol_identify::Guess;
 use vol_layout::{Edition, Geometry, Super};
 
 /// The number of bytes up to the end of the super-block.
-const HEAD: usize = 2 * BLOCK;
+pub const HEAD: usize = 2 * BLOCK;
 
 /// The sizes of an image in a file, and what the file seems to hold.
 #[derive(Clone, Copy)]

@@ -1,6 +1,6 @@
 //! Tests of public functions, for properties that no contract states and no command shows: devices that fail at each of their calls, headers of
-//! another program, and the words of faults; threads that wait for one another, with sessions, as checkers and as scripts; and the arguments of a log and a
-//! sweep.
+//! another program, and the words of faults; threads that wait for one another, with sessions, as checkers and as scripts; the arguments of a log and a
+//! sweep; and functions that no command calls.
 #![tactic(auto)]
 
 #[cfg(test)]
@@ -11,6 +11,8 @@ mod devices;
 mod fixtures;
 #[cfg(test)]
 mod headers;
+#[cfg(test)]
+mod layers;
 #[cfg(test)]
 mod ledgers;
 #[cfg(test)]

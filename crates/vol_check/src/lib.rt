@@ -19,7 +19,6 @@ mod seats;
 mod slots;
 mod sweep;
 mod sweeps;
-pub mod test_gate;
 
 pub use checker::Checker;
 pub use checkers::{MOST_WORKERS, dcheck, icheck, ncheck};

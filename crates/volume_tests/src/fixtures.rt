@@ -1,4 +1,6 @@
 //! Bytes and volumes that several test modules share.
+use pdp_words::IntoWrite;
+use pdp_words::test_streams::ScriptedWriter;
 use pdp_words::words::put_bytes;
 use std::alloc::Global;
 use std::process::Abort;
@@ -8,6 +10,9 @@ use vol_volume::{Bytes, Call, Volume, mkfs};
 
 /// Bytes at an offset.
 pub(crate) type Piece = (usize, &'static [u8]);
+
+/// A stream that takes all bytes.
+pub(crate) type Stream = IntoWrite<ScriptedWriter>;
 
 /// The time of the new volumes.
 const MADE: u32 = 0x0A0B_0C0D;
@@ -22,6 +27,16 @@ pub(crate) fn put_all(bytes: &mut [u8], pieces: &[Piece]) {
             put_bytes(bytes, *at, piece);
         }
     }
+}
+
+/// Returns a stream that takes all bytes.
+pub(crate) fn stream(alloc: Global) -> Stream {
+    IntoWrite::new(ScriptedWriter::new(alloc, 4096))
+}
+
+/// Returns the bytes that a stream took.
+pub(crate) fn taken(stream: Stream) -> Vec<u8> {
+    stream.into_inner().taken
 }
 
 /// Returns a copy of some bytes.

@@ -1,10 +1,12 @@
 //! Tests of public functions, for properties that no contract states and no command shows: devices that fail at each of their calls, headers of
-//! another program, and the words of faults; threads that wait for one another, with sessions, as checkers and as scripts; the arguments of a log and a
-//! sweep; and functions that no command calls.
+//! another program, and the words of faults; threads that wait for one another, with sessions, as checkers and as scripts; the arguments
+//! of a log and a sweep; a volume that is cut at each of its bytes; and functions that no command calls.
 #![tactic(auto)]
 
 #[cfg(test)]
 mod checkers;
+#[cfg(test)]
+mod cuts;
 #[cfg(test)]
 mod devices;
 #[cfg(test)]
@@ -15,6 +17,8 @@ mod headers;
 mod layers;
 #[cfg(test)]
 mod ledgers;
+#[cfg(test)]
+mod meeting;
 #[cfg(test)]
 mod play;
 #[cfg(test)]

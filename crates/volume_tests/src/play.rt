@@ -1,12 +1,9 @@
 //! Scripts that threads play at the same time.
-use crate::fixtures::{copied, new_bytes};
-use pdp_words::IntoWrite;
-use pdp_words::test_streams::ScriptedWriter;
-use std::alloc::Global;
+use crate::fixtures::{copied, new_bytes, stream, taken};
+use crate::meeting::Meeting;
 use std::rt::HostRuntime;
 use std::thread;
 use vol_check::Gate;
-use vol_check::test_gate::Meeting;
 use vol_layout::Edition;
 use vol_play::play;
 
@@ -46,16 +43,6 @@ impl Gate for Holding {
     fn after(&self, piece: u64) {
         self.meeting.after(piece);
     }
-}
-
-/// Returns a stream that takes all bytes.
-fn stream(alloc: Global) -> IntoWrite<ScriptedWriter> {
-    IntoWrite::new(ScriptedWriter::new(alloc, 4096))
-}
-
-/// Returns the bytes that a stream took.
-fn taken(stream: IntoWrite<ScriptedWriter>) -> Vec<u8> {
-    stream.into_inner().taken
 }
 
 #[test]

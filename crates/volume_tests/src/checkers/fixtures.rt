@@ -3,8 +3,8 @@ use crate::fixtures::new_bytes;
 use pdp_words::Image;
 use std::alloc::{AllocError, Global};
 use std::process::Abort;
+use vol_check::Report;
 use vol_layout::Edition;
-use vol_reports::Report;
 
 /// The block report of the image.
 pub(crate) const BLOCKS: &[u8] =

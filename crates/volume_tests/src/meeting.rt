@@ -1,14 +1,14 @@
-//! A gate for tests, which makes threads work on pieces at the same time.
-use crate::gate::Gate;
+//! A gate that makes threads work on pieces at the same time.
 use std::sync::atomic::{AtomicU64, Ordering};
 use std::thread;
+use vol_check::Gate;
 
 /// The number of times that a `Meeting` yields while it holds back a piece.
 const TURNS: u32 = 20_000_000;
 
 /// A gate that holds back the first pieces until all of them have arrived.
 #[derive(Drop)]
-pub struct Meeting {
+pub(crate) struct Meeting {
     pieces: u64,
     came: AtomicU64,
     missed: AtomicU64,
@@ -17,7 +17,7 @@ pub struct Meeting {
 
 impl Meeting {
     /// Returns a gate for the first `pieces` pieces. None has arrived yet.
-    pub fn of(pieces: u64) -> Meeting {
+    pub(crate) fn of(pieces: u64) -> Meeting {
         Meeting {
             pieces,
             came: AtomicU64::new(0),
@@ -27,12 +27,12 @@ impl Meeting {
     }
 
     /// Returns the number of these pieces that continued without the others.
-    pub fn missed(&self) -> u64 {
+    pub(crate) fn missed(&self) -> u64 {
         self.missed.load(Ordering::SeqCst)
     }
 
     /// Returns the number of pieces that are done.
-    pub fn left(&self) -> u64 {
+    pub(crate) fn left(&self) -> u64 {
         self.left.load(Ordering::SeqCst)
     }
 }

@@ -6,6 +6,8 @@
 #[cfg(test)]
 mod checkers;
 #[cfg(test)]
+mod commands;
+#[cfg(test)]
 mod cuts;
 #[cfg(test)]
 mod devices;

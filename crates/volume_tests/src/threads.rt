@@ -181,3 +181,29 @@ fn two_threads_wait_for_each_other(rt: HostRuntime) -> Result<(), Fail> {
     check_confirmed(&rt, alloc, &closed, &theirs);
     Ok(())
 }
+
+/// Makes a file on a volume of its own, and returns the closed volume and the receipt.
+fn made_on_its_own<R: Wait + Abort>(rt: &R, alloc: Global, path: &[u8]) -> (Closed, Receipt) {
+    let (shared, mut first, second) = open_two(rt, alloc, new_volume(rt, alloc, Edition::V6));
+    let receipt = make(rt, alloc, &shared, &mut first, create(rt, alloc, path));
+    (close_two(rt, alloc, shared, first, second), receipt)
+}
+
+/// Checks whether a receipt is confirmed.
+fn check_one(rt: &impl Abort, alloc: Global, closed: &Closed, receipt: &Receipt, wanted: bool) {
+    match closed.confirm(alloc, receipt) {
+        Ok(agrees) => assert_eq!(rt; agrees, wanted),
+        Err(_) => panic!(rt; "memory to confirm"),
+    }
+}
+
+#[test]
+fn a_receipt_of_another_volume_is_not_confirmed(rt: HostRuntime) {
+    let alloc = rt.alloc();
+    let (mine, my_receipt) = made_on_its_own(&rt, alloc, b"/a");
+    let (theirs, their_receipt) = made_on_its_own(&rt, alloc, b"/b");
+    check_one(&rt, alloc, &mine, &my_receipt, true);
+    check_one(&rt, alloc, &mine, &their_receipt, false);
+    check_one(&rt, alloc, &theirs, &my_receipt, false);
+    check_one(&rt, alloc, &theirs, &their_receipt, true);
+}

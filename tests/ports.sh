@@ -7,56 +7,19 @@ set -uo pipefail
 built=$(realpath "${1:?usage: $0 FOLDER}")
 cd "$(dirname "$0")/.." || exit 1
 . tools/machines.sh
+. tests/elsewhere.sh
 rows=${ROWS:-looks changes plays identify checks volumes}
 sources=$(tools/sources.sh ports)
-version=$(sed -n 's/^version = "\(.*\)"$/\1/p' bindings/python/pyproject.toml)
-room=$(mktemp -d)
-trap 'rm -rf "$room"' EXIT
-passed=0
-failed=0
-skipped=0
-
-# has LABEL WANTED TEXT: the two texts are equal
-has() {
-    if [ "$2" = "$3" ]; then
-        passed=$((passed + 1))
-    else
-        failed=$((failed + 1))
-        echo "failed: $1: $3, wanted $2"
-    fi
-}
-
-# skips WHAT: says that WHAT is skipped
-skips() {
-    skipped=$((skipped + 1))
-    echo "skipped: $1"
-    return 1
-}
 
 # runner MACHINE: what runs its programs here: nothing, or qemu-user
 runner() { [ "${1%%-*}" = "$(uname -m)" ] || echo "qemu-${1%%-*}"; }
 
-# runs LABEL SCRIPT PROGRAM: runs the rows of a script, and counts them
-runs() {
-    local last
-    "$2" "$3" >"$room/output" 2>&1 </dev/null
-    has "$1: the status" 0 $?
-    last=$(tail -n 1 "$room/output")
-    echo "$1: $last"
-    if [[ $last =~ ^([0-9]+)\ passed,\ ([0-9]+)\ failed ]]; then
-        passed=$((passed + BASH_REMATCH[1]))
-        failed=$((failed + BASH_REMATCH[2]))
-    fi
-    sed '$d; s/^/    /' "$room/output"
-}
-
 # test_program MACHINE: it is linked statically, and does what the rows say
 test_program() {
-    local program=$built/$1/unixvol script
+    local program=$built/$1/unixvol script run
     has "$1: what it needs of the system" '' "$(readelf -ldW "$program" | grep -E 'INTERP|NEEDED')"
-    # A script in the program's place, since the rows run one word.
-    printf '#!/bin/sh\nexec %s "%s" "$@"\n' "$(runner "$1")" "$program" >"$room/unixvol"
-    chmod +x "$room/unixvol"
+    read -ra run < <(runner "$1")
+    stands_for "${run[@]}" "$program"
     has "$1: --version" "unixvol $version" "$("$room/unixvol" --version)"
     for script in $rows; do runs "$1: $script" "tests/$script.sh" "$room/unixvol"; done
 }
@@ -93,5 +56,4 @@ for machine in $machines; do
     test_program "$machine"
     [ ! -d "$built/$machine/library" ] || test_library "$machine"
 done
-echo "$passed passed, $failed failed, $skipped skipped"
-[ "$failed" = 0 ]
+ends

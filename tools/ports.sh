@@ -6,12 +6,7 @@
 set -euo pipefail
 export LC_ALL=C
 cd "$(dirname "$0")/.."
-top=$PWD
-rt=$(realpath "$(command -v "${RT:-rt}")")
-kit=${rt%/bin/rt}
-clang=$kit/toolchain/bin/clang
-room=$(mktemp -d)
-trap 'rm -rf "$room"' EXIT
+. tools/module.sh
 
 # compiler MACHINE: the name of its C compiler
 compiler() { echo "${1%%-*}-linux-gnu-gcc"; }
@@ -27,41 +22,15 @@ compilers() {
     done
 }
 
-# Makes $room/toolchain: the toolchain's tools, with a clang that also keeps the module that it is given, as $room/module.bc.
-make_toolchain() {
-    mkdir -p "$room/toolchain/bin"
-    ln -s "$kit/toolchain/lib" "$room/toolchain/lib"
-    ln -s "$kit"/toolchain/bin/{ld.lld,llvm-ar} "$room/toolchain/bin"
-    printf '#!/bin/sh\n[ ! -e module.bc ] || cp module.bc "%s"\nexec "%s" "$@"\n' "$room" "$clang" >"$room/toolchain/bin/clang"
-    chmod +x "$room/toolchain/bin/clang"
-}
-
-# Sets `words` to those of `rattle build` for the program: its crate, and the libraries that `rt check` has built.
-take_words() {
-    local name
-    words=(--crate-name unixvol src/main.rt --links unixvol= --jobs 1 --backend llvm --toolchain "$room/toolchain" --incremental out/incremental)
-    words+=(--antt-project "$kit/rattle/logic/antt-project.json" --logic-built "$kit/logic_built")
-    words+=(--extern "std=$kit/rlibs/std.rlib" -L "dependency=$kit/rlibs")
-    for name in $(sed -n 's/^unixvol: //p' crates.txt); do
-        if [ -d "crates/$name" ]; then
-            words+=(--extern "$name=$top/crates/$name/out/rlib/$name.rlib")
-        else
-            words+=(--extern "$name=$kit/rlibs/$name.rlib")
-        fi
-    done
-    for name in $(awk -v crate=unixvol -f tools/crate_lines.awk crates.txt | sed 's/[: ].*//; /^unixvol$/d'); do
-        words+=(-L "dependency=$top/crates/$name/out/rlib")
-    done
-}
+for_riscv64=(--target=riscv64-linux-gnu -march=rv64gc -mabi=lp64d)
 
 # compiles MACHINE FLAG: proves the program and compiles it, as $room/unixvol.o
 compiles() {
-    (cd crates/unixvol && "$kit/bin/rattle" build "${words[@]}" "$2" -o "$room/unixvol.o")
+    build_program "$2"
     [ "$1" = riscv64-linux ] || return 0
-    "$clang" -x ir "$room/module.bc" -S -emit-llvm -Xclang -disable-llvm-passes -O1 -Wno-override-module -o "$room/x86_64.ll"
-    awk -f ports/riscv64.awk "$room/x86_64.ll" "$room/x86_64.ll" >"$room/riscv64.ll"
-    "$clang" --target=riscv64-linux-gnu -march=rv64gc -mabi=lp64d -O2 -fPIE -ffunction-sections -fdata-sections -Wno-override-module -c -x ir "$room/riscv64.ll" \
-        -o "$room/unixvol.o"
+    module_for "${for_riscv64[@]}" >"$room/module.ll"
+    awk -f ports/riscv64.awk "$room/module.ll" "$room/module.ll" >"$room/riscv64.ll"
+    "$clang" "${for_riscv64[@]}" -O2 -fPIE -ffunction-sections -fdata-sections -c -x ir "$room/riscv64.ll" -o "$room/unixvol.o"
 }
 
 # links MACHINE: links $room/unixvol.o with the functions that it needs beside the C library: the toolchain's for x86-64, else those of ports/
@@ -81,7 +50,6 @@ links() {
 }
 
 sources=$(tools/sources.sh ports)
-words=()
 while read -r -u 3 machine package flag; do
     case $machine in '' | '#'*) continue ;; esac
     out=ports/out/$machine
@@ -90,11 +58,7 @@ while read -r -u 3 machine package flag; do
         echo "skipped: $(compiler "$machine") and its C library are not here (Debian's $package): the builds for $machine"
         continue
     fi
-    if [ ${#words[@]} = 0 ]; then
-        (cd crates/unixvol && "$rt" check)
-        make_toolchain
-        take_words
-    fi
+    [ ${#words[@]} != 0 ] || prepare_program
     mkdir -p "$out"
     compiles "$machine" "$flag"
     links "$machine"

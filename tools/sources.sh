@@ -8,7 +8,7 @@ export LC_ALL=C
 cd "$(dirname "$0")/.."
 crate=${1:-unixvol}
 if [ "$crate" = ports ]; then
-    { tools/sources.sh unixvol && tools/sources.sh unixvol_c && sha256sum tools/ports.sh ports/machines ports/*.c ports/*.awk; } | sha256sum | cut -d' ' -f1
+    { tools/sources.sh unixvol && tools/sources.sh unixvol_c && sha256sum tools/{module,ports}.sh ports/machines ports/*.c ports/*.awk; } | sha256sum | cut -d' ' -f1
     exit
 fi
 lines=$(awk -v crate="$crate" -f tools/crate_lines.awk crates.txt)

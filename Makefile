@@ -5,7 +5,7 @@ RT ?= rt
 PREFIX ?= /usr/local
 
 .DEFAULT_GOAL := help
-.PHONY: help run install uninstall build rows library ports test library-test ports-test bench faults wrong-bodies manual figures release verify
+.PHONY: help run install uninstall build rows library ports page test library-test ports-test page-test bench faults wrong-bodies manual figures release verify
 
 # The scripts of rows, tests/NAME.sh, that the gate runs the built program through. Those that take longest come first.
 ROWS = many_trees saving checkers looks volumes icheck scripts checks archives release calls explaining examples manual mkfs cat changes trees plays migrations words \
@@ -26,10 +26,14 @@ help:
 	@echo 'make library                  proves and builds the library for C, Python and Rust, and leaves it in bindings/out'
 	@echo 'make ports                    builds the program from the proved crates for Linux on aarch64, riscv64 and any x86-64, and the library for aarch64, and leaves'
 	@echo '                              them in ports/out; a machine whose compiler is missing is skipped aloud'
-	@echo 'make test                     the whole gate: every proof and test from nothing, then the built program from the shell, and library-test and ports-test if'
-	@echo '                              these were built; then it compares what was built with dist/, if that is of the same sources'
+	@echo 'make page                     builds the program from the proved crates for WebAssembly, and leaves it in page/out: the page unixvol.html, for any browser,'
+	@echo '                              and the command unixvol.mjs, for Node'
+	@echo 'make test                     the whole gate: every proof and test from nothing, then the built program from the shell, and library-test, ports-test and'
+	@echo '                              page-test if these were built; then it compares what was built with dist/, if that is of the same sources'
 	@echo 'make library-test             tests that library, as two compilers make it, from each of the three; a tool that is missing is skipped aloud'
 	@echo 'make ports-test               runs rows of the tests through the programs for other machines, by qemu-user; what is missing is skipped aloud'
+	@echo 'make page-test                runs rows of the tests through the program for WebAssembly, compares it with ./unixvol in 2,000 runs, and drives the page;'
+	@echo '                              what is missing is skipped aloud'
 	@echo 'make bench                    times the program against one in plain Rust that does the same; needs rustc, and some minutes'
 	@echo 'make faults                   refuses each allocation in turn, of the libraries and of the program, and runs the program 10,000 times where memory, the'
 	@echo '                              stack, the disk or a descriptor fails it, or a signal ends it; needs rustc, and some minutes'
@@ -38,7 +42,7 @@ help:
 	@echo 'make manual                   builds the program, and makes the manual page and the completions anew from what it says of itself'
 	@echo 'make figures                  writes what is counted and measured into docs/FIGURES.md: the counts and the rows; PARTS="gate commands .." measures other'
 	@echo '                              parts, as tools/figures.sh says'
-	@echo 'make release                  packs what was built, the program and the library, with those for other machines, into dist/'
+	@echo 'make release                  packs what was built, the program and the library, with those for other machines and the page, into dist/'
 	@echo 'make verify                   proves and builds all of these, and compares them with those in dist/, byte for byte'
 
 run:
@@ -63,6 +67,7 @@ test:
 	@# The gate proves the library's crate, but builds no archive: rt would prove all crates below it once more for that.
 	@if [ -e bindings/out/libunixvol.a ]; then $(MAKE) library-test; else echo 'library-test: skipped, since `make library` has built no library here'; fi
 	@if [ -d ports/out ]; then $(MAKE) ports-test; else echo 'ports-test: skipped, since `make ports` has built nothing here'; fi
+	@if [ -d page/out ]; then $(MAKE) page-test; else echo 'page-test: skipped, since `make page` has built nothing here'; fi
 	@RT=$(RT) tools/compare.sh
 
 rows:
@@ -77,6 +82,13 @@ ports:
 
 ports-test:
 	RT=$(RT) tests/ports.sh ports/out
+
+# The same for WebAssembly.
+page:
+	RT=$(RT) tools/page.sh
+
+page-test:
+	RT=$(RT) tests/page.sh page/out
 
 library-test: library
 	tests/library.sh bindings/out
@@ -111,5 +123,5 @@ release:
 # The sources are compared first, since the proofs take long.
 verify:
 	@RT=$(RT) tools/compare.sh sources
-	$(MAKE) build library ports
+	$(MAKE) build library ports page
 	@RT=$(RT) tools/compare.sh all

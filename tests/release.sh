@@ -40,6 +40,10 @@ copies() {
     mkdir "$1/ports"
     cp "$top"/ports/{machines,*.c,*.awk} "$1/ports"
     for machine in $machines; do ported "$1" "$1/ports/out/$machine" "${machine%%-*}"; done
+    (cd "$top" && tar -cf - --exclude=page/out page) | tar -xf - -C "$1"
+    mkdir "$1/page/out"
+    for file in unixvol.{html,wasm,mjs,d.mts} node.mjs; do echo "$file" > "$1/page/out/$file"; done
+    "$1/tools/sources.sh" page > "$1/page/out/sources"
 }
 
 # ported FOLDER BUILT CPU: what `make ports` builds for a machine
@@ -120,12 +124,29 @@ done
 wheel_of_pi=unixvol-$version-aarch64-linux/${wheel/x86_64/aarch64}
 has 'the wheel for aarch64' 'Tag: py3-none-manylinux2014_aarch64' "$(unzip -p "$wheel_of_pi" "unixvol-$version.dist-info/WHEEL" | grep ^Tag)"
 
+# So has Node, and the page is a file of its own.
+has 'the checksum of the page' "unixvol-$version.html: OK" "$(cd one/dist && sha256sum -c SHA256SUMS | grep -x "unixvol-$version.html: OK")"
+has 'the page' unixvol.html "$(cat "one/dist/unixvol-$version.html")"
+tar -xJf "one/dist/unixvol-$version-node.tar.xz"
+has 'what Node runs' 'CHANGELOG.md LICENSE README.md SOURCES node.mjs unixvol.d.mts unixvol.mjs unixvol.wasm' \
+    "$(cd "unixvol-$version-node" && printf '%s\n' * | LC_ALL=C sort | paste -s -d ' ' -)"
+
 # What was built is compared with the release.
 says 'compare' 0 'dist/ has what was built, byte for byte: the program' one/tools/compare.sh
 says 'compare all' 0 'dist/ has what was built, byte for byte: the library' one/tools/compare.sh all
 for machine in $machines; do
     says "compare what is for $machine" 0 "dist/ has what was built, byte for byte: the builds for $machine" one/tools/compare.sh all
 done
+cp -r two paged
+says 'compare the page' 0 'dist/ has what was built, byte for byte: the page and what Node runs' one/tools/compare.sh all
+echo x >> paged/page/out/unixvol.wasm
+says 'a module that differs' 1 'unixvol.wasm' paged/tools/compare.sh
+echo x >> paged/page/out/sources
+says 'a page of other sources to pack' 1 'no release: the page was built from other sources; run `make page`' paged/tools/release.sh
+rm -r paged/page/out
+says 'no page' 0 'not built here from these sources: the page and what Node runs' paged/tools/compare.sh
+says 'no page to verify' 1 'not built here from these sources: the page and what Node runs' paged/tools/compare.sh all
+says 'no page to pack' 1 'no release: the page is not built; run `make page`' paged/tools/release.sh
 cp -r two other
 echo x >> other/ports/out/aarch64-linux/unixvol
 says 'a program for aarch64 that differs' 1 'bin/unixvol' other/tools/compare.sh

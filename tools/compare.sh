@@ -1,6 +1,6 @@
 #!/usr/bin/env bash
-# Compares what was built here, the program, the library and both for other machines, with the release in dist/, byte for byte, if dist/ was built from the
-# same sources with the same toolchain. It prints a line for each, and ends with status 1 if they differ.
+# Compares what was built here, the program, the library, both for other machines and the page, with the release in dist/, byte for byte, if dist/ was built
+# from the same sources with the same toolchain. It prints a line for each, and ends with status 1 if they differ.
 # Usage: tools/compare.sh [sources | all]. With `all` the status is 1 also if one of them can't be compared. With `sources` only the sources are compared.
 set -euo pipefail
 cd "$(dirname "$0")/.."
@@ -66,6 +66,20 @@ compares_port() {
     fi
 }
 
+# Compares the page, and the module with what runs it.
+compares_page() {
+    local name='page and what Node runs'
+    sources_of page "$name" || return 0
+    if [ "$what" = sources ]; then
+        echo "dist/ is of these sources: the $name"
+    elif ! unpacks node; then
+        left "dist/ has no archive: the $name"
+    elif built "$name" page/out/sources page/out/unixvol.html; then
+        cp dist/unixvol-*.html "$release/unixvol.html"
+        same "$name" page/out unixvol.{html,wasm,mjs,d.mts} node.mjs
+    fi
+}
+
 unpacks x86_64-linux || { echo 'dist/ has no archive for x86_64-linux' >&2; exit 1; }
 [ "$what" = sources ] || tools/lay_out.sh "$room/built"
 compares program unixvol crates/unixvol/out/sources "$room/built/bin/unixvol" bin/unixvol
@@ -80,4 +94,5 @@ else
         compares_port "$machine"
     done
 fi
+compares_page
 [ "$status" = 0 ]

@@ -1,14 +1,21 @@
 #!/usr/bin/env bash
 # Prints the SHA-256 checksum of the sources from which a crate is built, the program `unixvol` or the library `unixvol_c`: the crate and those that it needs,
 # their lines of crates.txt, HANDLES, and the name of the toolchain; for the library also what tools/library.sh puts beside it. For `ports` it is that of both,
-# and of what tools/ports.sh adds.
-# Usage: tools/sources.sh [CRATE | ports]. Without CRATE it is unixvol.
+# and of what tools/ports.sh adds; for `page` that of the program, and of what tools/page.sh adds and packs.
+# Usage: tools/sources.sh [CRATE | ports | page]. Without CRATE it is unixvol.
 set -euo pipefail
 export LC_ALL=C
 cd "$(dirname "$0")/.."
 crate=${1:-unixvol}
 if [ "$crate" = ports ]; then
     { tools/sources.sh unixvol && tools/sources.sh unixvol_c && sha256sum tools/{module,ports}.sh ports/machines ports/*.c ports/*.awk; } | sha256sum | cut -d' ' -f1
+    exit
+fi
+if [ "$crate" = page ]; then
+    {
+        tools/sources.sh unixvol
+        find tools/module.sh tools/page.sh page samples/lessons docs/LESSON.md -type f ! -path 'page/out/*' ! -name README.md ! -name differ.mjs | sort | xargs sha256sum
+    } | sha256sum | cut -d' ' -f1
     exit
 fi
 lines=$(awk -v crate="$crate" -f tools/crate_lines.awk crates.txt)

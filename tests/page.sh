@@ -1,0 +1,43 @@
+#!/usr/bin/env bash
+# Runs rows of the other tests through the program for WebAssembly that `make page` built, by Node, and compares it with the native program, by page/differ.mjs.
+# What is missing, or was built from other sources, is skipped with a message.
+# Usage: tests/page.sh FOLDER, which tools/page.sh built. ROWS names the scripts, if not those below; PROGRAM the native program, if it isn't ./unixvol; RUNS how
+# many runs are compared. It prints what fails, and ends with 'N passed, N failed, N skipped'.
+set -uo pipefail
+built=$(realpath "${1:?usage: $0 FOLDER}")
+cd "$(dirname "$0")/.." || exit 1
+. tests/elsewhere.sh
+rows=${ROWS:-words looks identify checks changes trees archives volumes}
+program=${PROGRAM:-./unixvol}
+
+# is_built: the folder has what these sources give
+is_built() {
+    [ -e "$built/unixvol.wasm" ] || skips 'not built here: the program for WebAssembly' || return
+    [ "$(tools/sources.sh page)" = "$(cat "$built/sources")" ] || skips 'built from other sources: the program for WebAssembly'
+}
+
+# test_command: the command for Node does what the rows say
+test_command() {
+    stands_for node "$built/unixvol.mjs"
+    has 'Node: --version' "unixvol $version" "$("$room/unixvol" --version)"
+    for script in $rows; do runs "Node: $script" "tests/$script.sh" "$room/unixvol"; done
+}
+
+# test_same: it does what the native program does
+test_same() {
+    [ -x "$program" ] || skips "$program is not here: the comparison with the native program" || return
+    node page/differ.mjs "$program" "${RUNS:-2000}" >"$room/output" 2>&1
+    has 'the native program: the status' 0 $?
+    echo "the native program: $(tail -n 1 "$room/output")"
+    sed '$d; s/^/    /' "$room/output"
+}
+
+if is_built; then
+    if command -v node >/dev/null; then
+        test_command
+        test_same
+    else
+        skips "node is not here (Debian's nodejs): the rows for WebAssembly"
+    fi
+fi
+ends

@@ -1,0 +1,128 @@
+// What changes a volume: files put in, directories made, names removed, and the archives that go in and out.
+import { Stopped, asks, chooseFiles, counted, save, say } from './dom.mjs';
+import { addFile, at, open, removeFile, run, state } from './shelf.mjs';
+import { reveal } from './tree.mjs';
+
+const ASKED = 1 << 28; // bytes of an archive after which the page asks
+const join = (up, name) => `${up === '/' ? '' : up}/${name}`;
+
+/** Runs a command that changes the volume, and says what came of it. Returns true if it succeeded. */
+async function changes(args, done, options) {
+  const ended = await run(args, options);
+  if (ended.status) say(ended.error.trim().split('\n').join(' '), true);
+  else say(done);
+  return ended.status === 0;
+}
+
+export async function putChosen(directory) {
+  await putFiles(await chooseFiles(), directory);
+}
+
+/** Puts files into a directory of the volume. */
+export async function putFiles(list, directory) {
+  if (!list.length) return;
+  if (!state.image.isSound) return say('Only a sound volume is changed: nothing was put into it.', true);
+  const names = [];
+  for (const it of list) names.push([it.name, await addFile(it.name, it)]);
+  let count = 0;
+  for (const [name, outside] of names) {
+    if (await changes(['put', ...at(), join(directory.word, name), outside], `${name} is in the volume.`)) count++;
+    else break;
+  }
+  for (const [, outside] of names) await removeFile(outside);
+  if (count > 1) say(`${counted(count, 'file')} of ${list.length} put into ${directory.path}.`);
+  if (count) await reveal(join(directory.path, names[count - 1][0].slice(0, 14)));
+}
+
+export async function makeDirectory(directory) {
+  const given = await asks('New directory', [{ name: 'name', label: `Name in ${directory.path}`, hint: 'At most 14 bytes.' }], { ok: 'Make' });
+  if (!given?.name) return;
+  if (await changes(['mkdir', ...at(), join(directory.word, given.name)], `${given.name} was made.`)) await reveal(join(directory.path, given.name.slice(0, 14)));
+}
+
+export async function move(entry) {
+  const given = await asks('Rename or move', [{ name: 'to', label: 'New path', value: entry.word }], { ok: 'Rename' });
+  if (!given?.to || given.to === entry.word) return;
+  if (await changes(['mv', ...at(), entry.word, given.to], `${entry.name} is now ${given.to}.`)) await reveal(given.to);
+}
+
+export async function changeMode(entry) {
+  const given = await asks('Permissions', [{ name: 'perm', label: 'Octal, as 0755', value: `0${(entry.permissions ?? 0).toString(8)}`, hint: '400, 200, 100: the owner reads, writes, executes; 40, 20, 10: the group; 4, 2, 1: everyone else.' }], { ok: 'Change' });
+  if (!given?.perm) return;
+  if (await changes(['chmod', ...at(), entry.word, given.perm], `${entry.path} has permissions ${given.perm}.`)) await reveal(entry.path);
+}
+
+export async function remove(entry) {
+  const isTree = entry.kind === 'directory';
+  const given = await asks(`Remove ${entry.path}?`, [], { ok: 'Remove', note: isTree ? 'The directory is removed with all that is in it. You can undo this in Changes.' : 'You can undo this in Changes.' });
+  if (!given) return;
+  if (await changes(['rm', ...(isTree ? ['-r'] : []), ...at(), entry.word], `${entry.path} was removed.`)) await reveal(entry.up);
+}
+
+/** Writes everything below a directory into an archive that the user saves. A very long one is asked for first. */
+export async function exportTree(entry, limit = ASKED) {
+  const name = `${state.image.name}${entry.path === '/' ? '' : entry.word.replaceAll('/', '_')}.tar`;
+  try {
+    const ended = await run(['export', ...at(), ...(entry.path === '/' ? [] : [entry.word])], { asBlob: true, into: name, limit });
+    if (ended.cut) {
+      const goesOn = await asks('A large archive', [], { ok: 'Go on', note: `The archive has more than ${limit / 1048576} MB. A damaged image can make one that is far larger than itself. Go on?` });
+      return goesOn ? exportTree(entry, limit * 8) : say('Nothing was saved.');
+    }
+    if (ended.length) save(name, ended.blob);
+    say(ended.error.trim() || `${name} was saved.`, Boolean(ended.status));
+  } catch (fault) {
+    if (!(fault instanceof Stopped)) throw fault;
+    say('Stopped: nothing was saved.');
+  }
+}
+
+/** Adds the files of a tar archive to a directory. */
+export async function importArchive(blob, name, directory) {
+  const stdin = new Uint8Array(await blob.arrayBuffer());
+  if (await changes(['import', ...at(), directory.word], `The files of ${name} are in ${directory.path}.`, { stdin, from: name })) await reveal(directory.path);
+}
+
+const DISKS = [['rk05', 4872], ['rl01', 10240], ['rl02', 20480], ['rp03', 81200], ['rp06', 340670]];
+
+export async function newVolume() {
+  const disks = DISKS.map(([value, blocks]) => ({ value, label: `${value}: ${blocks.toLocaleString('en')} blocks` }));
+  const given = await asks('New volume', [
+    { name: 'name', label: 'Name of the image', value: 'disk.img' },
+    { name: 'edition', label: 'Edition of Unix', value: '7', options: [{ value: '7', label: 'Seventh (1979)' }, { value: '6', label: 'Sixth (1975)' }] },
+    { name: 'disk', label: 'Disk', value: 'rk05', options: [...disks, { value: '', label: 'of as many blocks as said below' }] },
+    { name: 'blocks', label: 'Blocks of 512 bytes', value: '4000' },
+    { name: 'list', label: 'Blocks of the i-list', hint: 'Left empty, mkfs chooses.' },
+  ], { ok: 'Make' });
+  if (!given) return;
+  const ended = await run(['mkfs', '--new', given.edition, given.name || 'disk.img', given.disk || given.blocks, ...(given.list ? [given.list] : [])]);
+  if (ended.status) say(ended.error.trim(), true);
+  else say(`${given.name} was made.`);
+}
+
+/** Repairs the free list, after it is said how that would change. */
+export async function salvage() {
+  const tried = await run(['salvage', ...at(), '-n']);
+  if (tried.status) return say(tried.error.trim(), true);
+  const given = await asks('Repair the free list?', [], { ok: 'Repair', note: `${tried.text.trim()}. Files and directories stay as they are. You can undo this in Changes.` });
+  if (given) await changes(['salvage', ...at()], 'The free list was rebuilt.');
+}
+
+/** Opens what is inside another file: a volume in a pack, one with bytes exchanged, or one that is packed by gzip. */
+export const inside = (image) => {
+  const pack = /^looks like a larger pack: at block (\d+) begins .*edition (\d), with (\d+) blocks/.exec(image.said);
+  if (pack) {
+    const [, block, edition, blocks] = pack.map(Number);
+    return { label: `Open the volume of edition ${edition} at block ${block}`, open: () => open(`${image.name}.${block}`, image.source.slice(512 * block, 512 * (block + blocks)), String(edition)) };
+  }
+  if (image.said.includes('each pair of bytes exchanged')) return { label: 'Exchange each pair of bytes, and open that', open: async () => open(`swapped_${image.name}`, await swapped(image.source)) };
+  if (image.said.includes('packed by gzip')) {
+    return { label: 'Unpack it, and open that', open: async () => open(image.name.replace(/\.gz$/, ''), await new Response(image.source.stream().pipeThrough(new DecompressionStream('gzip'))).blob()) };
+  }
+  return null;
+};
+
+async function swapped(blob) {
+  const bytes = new Uint8Array(await blob.arrayBuffer());
+  for (let k = 0; k + 1 < bytes.length; k += 2) [bytes[k], bytes[k + 1]] = [bytes[k + 1], bytes[k]];
+  return new Blob([bytes]);
+}

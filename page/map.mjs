@@ -1,0 +1,100 @@
+// The map: the squares that `map --svg` draws, in as many columns as fit. A block's square says what uses it.
+import { button, does, el } from './dom.mjs';
+import { at, go, run, state } from './shelf.mjs';
+import { chooser, lines } from './views.mjs';
+
+const SVG = 'http://www.w3.org/2000/svg';
+const SIDE = 12;
+const SQUARES = 128 * 128; // the most that `map --svg` draws, beyond which a square is for several blocks
+const USES = { B: 'boot block', S: 'super-block', i: 'i-list', d: 'directory', f: 'file', p: 'indirect block', o: 'free', c: 'free, continues the free list', L: 'lost', T: 'named twice' };
+const LETTERED = 4096; // squares with letters in them, at most
+
+const shape = (name, props) => {
+  const made = document.createElementNS(SVG, name);
+  for (const [key, value] of Object.entries(props)) made.setAttribute(key, value);
+  return made;
+};
+
+/** Reads the letters of the squares out of the picture; the legend's squares follow a wider step down, so they are cut off. */
+function letters(svg, blocks) {
+  const each = Math.max(1, Math.ceil(blocks / SQUARES));
+  const all = [...svg.matchAll(/<path class='(.)'/g)].map((it) => it[1]);
+  return { each, squares: all.slice(0, Math.ceil(blocks / each)) };
+}
+
+/** Returns the blocks of the selected i-node, as ranges. */
+async function marked() {
+  if (!state.inode) return [];
+  const ended = await run(['inode', '--json', ...at(), state.inode]);
+  return ended.text ? JSON.parse(ended.text).extents.filter((it) => it.inside) : [];
+}
+
+function draw(squares, columns, each, ranges) {
+  const rows = Math.ceil(squares.length / columns);
+  const svg = shape('svg', { viewBox: `0 0 ${columns * SIDE} ${rows * SIDE}`, class: 'map', tabindex: 0, role: 'group', 'aria-label': `map of ${squares.length} squares; arrow keys move, Enter shows what uses the block` });
+  const isLettered = squares.length <= LETTERED;
+  squares.forEach((it, k) => {
+    const [x, y] = [(k % columns) * SIDE, Math.floor(k / columns) * SIDE];
+    svg.append(shape('rect', { class: `u-${it}`, x, y, width: SIDE - 1, height: SIDE - 1 }));
+    if (isLettered && it !== 'o') svg.append(Object.assign(shape('text', { class: `l-${it}`, x: x + (SIDE - 1) / 2, y: y + 8.5 }), { textContent: it }));
+  });
+  for (const { block, count } of ranges) {
+    for (let k = Math.floor(block / each); k <= Math.floor((block + count - 1) / each); k++) svg.append(shape('rect', { class: 'marked', x: (k % columns) * SIDE, y: Math.floor(k / columns) * SIDE, width: SIDE - 1, height: SIDE - 1 }));
+  }
+  return svg;
+}
+
+/** Makes the squares answer to clicks and arrow keys. */
+function answers(svg, { squares, columns, each, tells, uses }) {
+  const cursor = shape('rect', { class: 'cursor', width: SIDE - 1, height: SIDE - 1 });
+  let at = Math.min(squares.length - 1, Math.floor(state.block / each));
+  const moves = (k) => {
+    at = Math.max(0, Math.min(squares.length - 1, k));
+    cursor.setAttribute('x', (at % columns) * SIDE);
+    cursor.setAttribute('y', Math.floor(at / columns) * SIDE);
+    const first = at * each;
+    tells(`${each > 1 ? `blocks ${first} to ${first + each - 1}` : `block ${first}`}: ${USES[squares[at]]}`);
+  };
+  const steps = { ArrowRight: 1, ArrowLeft: -1, ArrowDown: columns, ArrowUp: -columns, Home: -Infinity, End: Infinity };
+  svg.addEventListener('click', (event) => {
+    const box = svg.getBoundingClientRect();
+    const step = box.width / columns;
+    moves(Math.floor((event.clientY - box.top) / step) * columns + Math.floor((event.clientX - box.left) / step));
+    does(() => uses(at * each));
+  });
+  svg.addEventListener('keydown', (event) => {
+    if (event.key in steps) moves(at + steps[event.key]);
+    else if (event.key === 'Enter') does(() => uses(at * each));
+    else return;
+    event.preventDefault();
+  });
+  svg.append(cursor);
+  moves(at);
+}
+
+const legend = (squares) => el('ul', { className: 'legend' }, Object.entries(USES).filter(([letter]) => squares.includes(letter)).map(([letter, use]) => {
+  const svg = shape('svg', { viewBox: `0 0 ${SIDE} ${SIDE}`, class: 'swatch', 'aria-hidden': 'true' });
+  svg.append(shape('rect', { class: `u-${letter}`, x: 0, y: 0, width: SIDE - 1, height: SIDE - 1 }), Object.assign(shape('text', { class: `l-${letter}`, x: 5.5, y: 8.5 }), { textContent: letter }));
+  return el('li', {}, svg, use);
+}));
+
+export async function showMap(panel) {
+  panel.append(el('h2', {}, 'Map'));
+  const ended = await run(['map', '--svg', ...at()]);
+  if (ended.status) return panel.append(el('pre', { className: 'bad' }, ended.error));
+  const { each, squares } = letters(ended.text, state.image.use.blocks);
+  const columns = Math.max(16, Math.min(128, Math.floor((panel.clientWidth || 600) / (squares.length > LETTERED ? 9 : 14))));
+  const told = el('p', { role: 'status', id: 'block-said' });
+  const use = el('div', { id: 'block-use', 'aria-live': 'polite' });
+  const uses = async (block) => {
+    state.block = block;
+    const said = await run(['block', ...at(), block]);
+    use.replaceChildren(lines((said.text || said.error).trim()), button('Show its bytes', () => go('bytes', { block })));
+  };
+  const ranges = await marked();
+  const svg = draw(squares, columns, each, ranges);
+  answers(svg, { squares, columns, each, tells: (it) => (told.textContent = it), uses });
+  const of = ranges.length ? `Outlined: the blocks of i-node ${state.inode}${state.entry ? `, ${state.entry.path}` : ''}.` : '';
+  panel.append(el('p', {}, `${state.image.use.blocks.toLocaleString('en')} blocks${each > 1 ? `, ${each} in each square` : ''}. Choose a square to see what uses the block. ${of}`), legend(squares), told, use, svg,
+    chooser('Block', state.block, 0, state.image.use.blocks - 1, (block) => go('map', { block }).then(() => uses(block))));
+}

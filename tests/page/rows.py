@@ -1,0 +1,442 @@
+#!/usr/bin/env python3
+"""Drives the page in headless Chromium, and compares what it shows and saves with what the native program prints and writes.
+
+Usage: rows.py PAGE.html PROGRAM [NAME..]. NAME is the end of a `check_` function here; by default, all run. It prints
+a line for each row that fails, and ends with 'N passed, N failed'. Without Chromium it says so, and nothing is run.
+"""
+import glob
+import os
+import re
+import shutil
+import subprocess
+import sys
+import tempfile
+import time
+
+sys.dont_write_bytecode = True
+from browser import Browser, find_chromium
+
+TOP = os.path.dirname(os.path.dirname(os.path.dirname(os.path.realpath(__file__))))
+LESSONS = os.path.join(TOP, "samples/lessons")
+LINUX_MADE = os.path.join(TOP, "samples/linux_made.v7")
+count = {"passed": 0, "failed": 0}
+
+
+def has(label, wanted, got):
+    """The two are equal."""
+    count["passed" if wanted == got else "failed"] += 1
+    if wanted != got:
+        print(f"failed: {label}\n    wanted {shown(wanted)}\n    came   {shown(got)}")
+
+
+def shown(it):
+    text = repr(it)
+    return text if len(text) < 600 else f"{text[:600]} .. ({len(text)} characters)"
+
+
+class Page(Browser):
+    """The page, as a user sees it."""
+
+    def __init__(self, path, **more):
+        super().__init__(**more)
+        self.go(f"file://{os.path.realpath(path)}")
+        self.wait("document.body.dataset.ready")
+
+    def click(self, selector):
+        self.js(f"const it = document.querySelector({selector!r}); if (!it) throw new Error('there is no ' + {selector!r}); it.click()")
+
+    def text(self, selector):
+        return self.js(f"return document.querySelector({selector!r})?.textContent ?? null")
+
+    def texts(self, selector):
+        return self.js(f"return [...document.querySelectorAll({selector!r})].map((it) => it.textContent)")
+
+    def button(self, words):
+        """Clicks the button with these words."""
+        self.js(f"const it = [...document.querySelectorAll('button')].find((one) => one.textContent === {words!r}); if (!it) throw new Error('no button ' + {words!r}); it.click()")
+
+    def tab(self, name, seconds=60):
+        self.click(f"#tab-{name}")
+        self.shows(name, seconds)
+
+    def rests(self, seconds=60):
+        """Waits until the page has done all that it was asked."""
+        self.wait("document.body.dataset.running === '0'", seconds)
+
+    def shows(self, name, seconds=60):
+        """Waits until a tab is shown whole."""
+        self.wait(f"document.getElementById('panel').dataset.shown === {name!r} && document.body.dataset.running === '0'", seconds)
+
+    def open(self, *paths, seconds=60):
+        before = self.js("return document.querySelectorAll('#image option').length")
+        self.choose_files("document.getElementById('open').click()", paths)
+        self.wait(f"document.querySelectorAll('#image option').length === {before + len(paths)}", seconds)
+        self.rests(seconds)
+
+    def lesson(self, name):
+        self.tab("lessons")
+        self.click(f"[data-lesson='{name}']")
+        self.shows("check")
+
+    def select(self, path):
+        self.click(f"[data-path='{path}'] > .line")
+        self.wait(f"document.querySelector('[aria-selected=true]')?.dataset.path === {path!r}")
+        self.shows("file")
+
+    def says(self, words, seconds=60):
+        """Waits until the status line has these words, and all is done."""
+        self.wait(f"document.getElementById('said').textContent.includes({words!r})", seconds)
+        self.rests(seconds)
+
+    def answers(self, button="submit", **fields):
+        """Fills in the dialog that is open, and ends it."""
+        self.wait("document.querySelector('dialog[open]')")
+        for name, value in fields.items():
+            self.js(f"document.getElementById('ask-{name}').value = {value!r}")
+        self.click("dialog [type=submit]" if button == "submit" else "dialog .row button[type=button]")
+
+    def types(self, line, seconds=60):
+        """Runs a line of the command line, and returns what it printed."""
+        self.tab("shell")
+        before = len(self.texts("#shell-log .entry"))
+        self.js(f"document.getElementById('line').value = {line!r}; document.querySelector('#panel form').requestSubmit()")
+        self.wait(f"document.querySelectorAll('#shell-log .entry').length === {before + 1}", seconds)
+        self.shows("shell", seconds)
+        return "".join(self.texts("#shell-log .entry:last-child pre"))
+
+    def image(self, name):
+        """The bytes of the image that is open, as the page saves it."""
+        self.click("#save")
+        return self.download(name)
+
+
+class Native:
+    """The native program, in a folder of its own."""
+
+    def __init__(self, program):
+        self.program = os.path.realpath(program)
+        self.room = tempfile.mkdtemp(prefix="page-rows-")
+
+    def path(self, name):
+        return os.path.join(self.room, name)
+
+    def run(self, *words, stdin=b""):
+        return subprocess.run([self.program, *map(str, words)], cwd=self.room, input=stdin, capture_output=True, check=False)
+
+    def out(self, *words):
+        return self.run(*words).stdout.decode()
+
+    def bytes(self, name):
+        with open(self.path(name), "rb") as file:
+            return file.read()
+
+    def write(self, name, data):
+        with open(self.path(name), "wb") as file:
+            file.write(data)
+        return self.path(name)
+
+
+def check_open(page, native):
+    """Opening, and the tree."""
+    page.open(LINUX_MADE)
+    has("the state of a sound image", "240 blocks, 198 free; ✓ sound", page.text("#state"))
+    items = page.js("return [...document.querySelectorAll('[role=treeitem]')].map((it) => it.dataset.path).filter((it) => it !== '/')")
+    has("the paths in the tree", sorted(native.out("find", 7, LINUX_MADE).splitlines()), sorted(items))
+    line = page.js("return [...document.querySelector('[data-path=\"/etc/passwd\"] > .line').children].map((it) => it.textContent)")
+    has("a line of the tree", [" passwd", "-rw-------", "0 0", "47", "2026-11-23 20:52:57"], line)
+    page.select("/etc/passwd")
+    has("a file as text", native.out("cat", 7, LINUX_MADE, "/etc/passwd"), page.text("#bytes-of-file"))
+    for form, words in ("octal", ["od"]), ("hexadecimal", ["od", "-A", "d", "-t", "x1z"]):
+        page.click(f"[name=form][value={form}]")
+        wanted = subprocess.run(words, input=native.run("cat", 7, LINUX_MADE, "/etc/passwd").stdout, capture_output=True, check=True).stdout.decode()
+        has(f"a file in {form}", wanted, page.text("#bytes-of-file"))
+    page.click("#download")
+    has("a file that is saved", native.run("cat", 7, LINUX_MADE, "/etc/passwd").stdout, page.download("passwd"))
+    page.click("#export-tar")
+    has("a tree that is saved", native.run("export", 7, LINUX_MADE).stdout, page.download("linux_made.v7.tar"))
+
+
+def check_views(page, native):
+    """The map, an i-node, a block, the free list, find and the manifest."""
+    page.open(LINUX_MADE)
+    page.select("/etc/passwd")
+    page.tab("map")
+    letters = page.js("return [...document.querySelectorAll('.map rect[class^=u-]')].map((it) => it.getAttribute('class').slice(2)).join('')")
+    has("the squares of the map", "".join(native.out("map", 7, LINUX_MADE).split("\n\n")[1].split()), letters)
+    for block in 0, 1, 2, 32, 239:
+        page.js(f"document.getElementById('block-use').replaceChildren(); const it = document.querySelector('.map'), box = it.getBoundingClientRect(), one = box.width / (it.viewBox.baseVal.width / 12), row = it.viewBox.baseVal.width / 12;"
+                f"it.dispatchEvent(new MouseEvent('click', {{ clientX: box.left + ({block} % row + .5) * one, clientY: box.top + (Math.floor({block} / row) + .5) * one }}))")
+        page.wait("document.querySelector('#block-use pre')")
+        has(f"the use of block {block}", native.out("block", 7, LINUX_MADE, block).strip(), page.text("#block-use pre"))
+    page.tab("inode")
+    has("the mode of an i-node", "0100600: file, -rw-------", page.text("#panel td"))
+    page.tab("volume")
+    free = page.texts(".free")
+    numbers = [int(it) for line in free for it in re.findall(r"\d+", line.split(": ")[1])]
+    wanted = [int(it) for line in native.out("free", 7, LINUX_MADE).splitlines() if line.startswith("free[") for it in line.split()[1:]]
+    has("the free list", wanted, numbers)
+    page.tab("find")
+    page.js("document.getElementById('pattern').value = 'f1*'; document.querySelector('#panel form').requestSubmit()")
+    page.wait("document.querySelector('#found li')")
+    has("what find finds", native.out("find", 7, LINUX_MADE, "--name", "f1*").splitlines(), page.texts("#found li"))
+    page.click("#sums")
+    page.wait("document.querySelector('#panel pre')")
+    has("the manifest", native.out("sums", 7, LINUX_MADE), page.text("#panel pre"))
+
+
+def check_lessons(page, _):
+    """What Check shows of each lesson is what its text has."""
+    for path in sorted(glob.glob(f"{LESSONS}/*.v[67]")):
+        name = os.path.basename(path)
+        with open(f"{path}.txt", encoding="utf-8") as text:
+            wanted = [it for it in text.read().split("unixvol check ")[1].splitlines()[1:] if re.match(r"\d+ [^:]*: ", it)][:12]
+        page.lesson(name)
+        rows = page.js("return [...document.querySelectorAll('#rules tbody tr')].map((it) => [...it.cells].map((one) => one.textContent))")
+        shown_rows = [f"{rule} {requires}: {re.sub(r' [(](holds|broken|not checked)[)]$', '', said)[2:]}" for rule, requires, said in rows]
+        has(f"the check of {name}", wanted, shown_rows)
+        broken = [it for it in wanted if not it.endswith((": holds", ": not asked"))]
+        has(f"{name}: what is broken is said at the top", True, broken[0].split(" ", 1)[1] in page.text("#state") if broken else "✓ sound" in page.text("#state"))
+
+
+def check_ten_steps(page, _):
+    """Each command of docs/LESSON.md prints in the page what the lesson has."""
+    page.tab("lessons")
+    steps = page.js("return document.querySelectorAll('.step .run').length")
+    for k in range(steps):
+        page.js(f"document.querySelectorAll('.step .run')[{k}].click()")
+        page.rests()
+    with open(os.path.join(TOP, "docs/LESSON.md"), encoding="utf-8") as lesson:
+        has("the commands of the ten steps", len(re.findall(r"^    \$ ", lesson.read(), re.M)), len(page.texts(".came .good")) + len(page.texts(".came .bad")))
+    has("the commands that print something else", [], page.texts(".came .bad"))
+
+
+def check_changes(page, native):
+    """Changes by the command line are those of the native program, byte for byte; undoing them; and changes by the buttons."""
+    shutil.copy(LINUX_MADE, native.path("work.v7"))
+    page.open(native.path("work.v7"))
+    letter = native.write("letter", b"Dear Ken,\n" * 300)
+    lines = ["mkdir 7 work.v7 /new 1000", "ln 7 work.v7 /etc/motd /new/motd 1001", "chmod 7 work.v7 /new 0700 1002", "rm -r 7 work.v7 /usr/games 1003", "mv 7 work.v7 /etc/passwd /new/p 1004"]
+    for line in lines:
+        has(f"the page's {line}", native.out(*line.split()), page.types(line))
+    changed = native.bytes("work.v7")
+    has("the image after five changes", changed, page.image("work.v7"))
+    page.tab("changes")
+    has("the changes that are listed", [f"unixvol {it}" for it in lines], page.texts("#changes code"))
+    for _ in lines:
+        page.click("#undo")
+        page.shows("changes")
+    with open(LINUX_MADE, "rb") as first:
+        has("the image with all undone", first.read(), page.image("work.v7"))
+    for _ in lines:
+        page.click("#redo")
+        page.shows("changes")
+    has("the image with all made again", changed, page.image("work.v7"))
+    check_buttons(page, native, letter)
+
+
+def check_buttons(page, native, letter):
+    page.tab("file")
+    page.select("/new")
+    page.click("#mkdir")
+    page.answers(name="sub")
+    page.says("sub was made")
+    page.select("/new/sub")
+    page.choose_files("document.getElementById('put').click()", [letter])
+    page.says("letter is in the volume")
+    page.wait("document.querySelector('[aria-selected=true]')?.dataset.path === '/new/sub/letter'")
+    page.shows("file")
+    has("a file that was put in", "Dear Ken,\n" * 300, page.text("#bytes-of-file"))
+    page.click("#chmod")
+    page.answers(perm="0600")
+    page.says("permissions 0600")
+    page.click("#mv")
+    page.answers(to="/new/sub/dear")
+    page.says("is now /new/sub/dear")
+    native.write("buttons.v7", page.image("work.v7"))
+    has("the volume is sound", 0, native.run("check", 7, "buttons.v7").returncode)
+    has("the file, as the native program reads it", "Dear Ken,\n" * 300, native.out("get", 7, "buttons.v7", "/new/sub/dear"))
+    has("its permissions", "-rw-------", native.out("ls", "-l", 7, "buttons.v7", "/new/sub/dear").split()[1])
+    page.select("/new/sub")
+    page.click("#rm")
+    page.answers()
+    page.says("/new/sub was removed")
+    native.write("buttons.v7", page.image("work.v7"))
+    has("a tree that was removed", "/new\n/new/motd\n/new/p\n", "".join(f"{it}\n" for it in native.out("find", 7, "buttons.v7").splitlines() if it.startswith("/new")))
+
+
+def check_new(page, native):
+    """A new volume by a disk's name, an archive that goes in, and the drop of a file on the tree."""
+    page.click("#new")
+    page.answers(name="new.img", edition="6", disk="rk05")
+    page.says("new.img was made")
+    has("a new volume", "4,872 blocks", page.text("#state").split(",  ")[0].split(", ")[0])
+    archive = native.write("tree.tar", native.run("export", 7, LINUX_MADE, "/etc").stdout)
+    page.choose_files("document.getElementById('import-tar').click()", [archive])
+    page.says("The files of tree.tar are in /")
+    native.write("new.img", page.image("new.img"))
+    has("what was imported", "/empty\n/motd\n/passwd\n", native.out("find", 6, "new.img"))
+    page.js("""const data = new DataTransfer(); data.items.add(new File(['dropped\\n'], 'drop'));
+        document.querySelector('[data-path="/"] > .line').dispatchEvent(new DragEvent('drop', { bubbles: true, dataTransfer: data }))""")
+    page.says("drop is in the volume")
+    native.write("new.img", page.image("new.img"))
+    has("a file that was dropped", "dropped\n", native.out("get", 6, "new.img", "/drop"))
+
+
+def check_bytes(page, _):
+    """A byte that is changed breaks a rule at once, and undoing mends it."""
+    page.lesson("sound.v7")
+    page.tab("bytes")
+    page.js("const it = document.getElementById('number'); it.value = 2; it.dispatchEvent(new Event('change'))")
+    page.wait("document.querySelector('.hex th')?.textContent === '1024' && document.getElementById('panel').dataset.shown === 'bytes'")
+    page.click(f"[data-at='{1410 - 1024}']")
+    has("what a byte is", "Byte 1410 is 02, octal 002: i-node 7: links, byte 0 of 2", page.text("#byte-is"))
+    page.js("document.getElementById('new-byte').value = '01'; document.querySelector('#byte form').requestSubmit()")
+    page.wait("document.querySelector('#broke .bad')")
+    has("the rule that it breaks", "✗ Rule 12 breaks: each link count is the number of entries: a wrong link count: i-node 7, entries 2, links 1", page.text("#broke .bad"))
+    with open(f"{LESSONS}/rule_12.v7", "rb") as wanted:
+        has("the image with this byte", wanted.read(), page.image(page.js("return document.getElementById('image').value")))
+    page.click("#undo-last")
+    page.wait("document.getElementById('state').textContent.includes('✓ sound')")
+
+
+def check_damaged(page, _):
+    """What can be read of a damaged image is shown, and nothing is put into it."""
+    page.lesson("rule_12.v7")
+    has("the tree of a damaged image", ["/", "/etc", "/etc/motd", "/usr", "/usr/letter", "/welcome"], page.js("return [...document.querySelectorAll('[role=treeitem]')].map((it) => it.dataset.path)"))
+    page.select("/welcome")
+    has("a file of a damaged image", "hello, disk\n", page.text("#bytes-of-file"))
+    has("what changes it is off", [True] * 3, page.js("return ['put-files', 'import-tar', 'rm'].map((it) => document.getElementById(it).disabled)"))
+    page.lesson("rule_01.v7")
+    has("the tree of a cut image", ["/"], page.js("return [...document.querySelectorAll('[role=treeitem]')].map((it) => it.dataset.path)"))
+    page.lesson("rule_08.v7")
+    page.click("#salvage")
+    page.answers()
+    page.wait("document.getElementById('state').textContent.includes('✓ sound')")
+    has("a free list that is repaired", True, "✓ sound" in page.text("#state"))
+
+
+def check_several(page, native):
+    """Two images, the table of all, and a volume within a pack."""
+    with open(LINUX_MADE, "rb") as volume:
+        pack = native.write("pack.img", b"\0" * 51200 + b"boot" * 128 + b"\0" * 512 + volume.read() + b"\1" * 5120)
+    page.open(f"{LESSONS}/sound.v6", f"{LESSONS}/rule_09.v7", pack)
+    page.shows("images")
+    rows = page.js("return [...document.querySelectorAll('#images tbody tr')].map((it) => [...it.cells].slice(0, 5).map((one) => one.textContent))")[-3:]
+    has("a sound image in the table", ["6", "sound", "24", "7"], rows[0][1:])
+    has("a broken one", ["7", "breaks rule 9: each entry has a name of its own and an i-node: a free i-node: directory 2, slot 5", "16", "7"], rows[1][1:])
+    has("a pack", native.out("identify", "pack.img").strip().split(": ", 1)[1], rows[2][2].split(";")[0])
+    page.click("#csv")
+    lines = page.download("images.csv").decode().split("\r\n")
+    has("the table's head", "Image,Edition,State,Blocks,Free,Bytes", lines[0])
+    has("a line of the table", "6,sound,24,7,12288", lines[-4].split(",", 1)[1])
+    offered = [it for it in page.texts("#images button") if it.startswith("Open the volume")]
+    has("what is offered of a pack", 1, len(offered))
+    if offered:
+        page.button(offered[0])
+        page.wait("document.getElementById('state').textContent.startsWith('240 blocks')")
+        has("the volume within it", True, "✓ sound" in page.text("#state"))
+
+
+def check_keys(page, _):
+    """The tree, the tabs and the map by keys."""
+    page.lesson("sound.v7")
+    page.js("document.querySelector('[role=treeitem][tabindex=\"0\"]').focus()")
+    here = "return document.activeElement.dataset.path ?? document.activeElement.id"
+    went = []
+    for key in "ArrowDown", "ArrowLeft", "ArrowDown", "ArrowUp", "ArrowRight", "ArrowRight", "End", "Home", "w":
+        page.press(key, text=key if len(key) == 1 else None)
+        went.append(page.js(here))
+    has("keys in the tree", ["/etc", "/etc", "/usr", "/etc", "/etc", "/etc/motd", "/welcome", "/", "/welcome"], went)
+    page.press("Enter", text="\r")
+    page.shows("file")
+    has("Enter shows the file", "/welcome", page.text("#panel h2"))
+    page.js("document.getElementById('tab-file').focus()")
+    page.press("ArrowRight")
+    page.shows("map")
+    has("keys in the tabs", "tab-map", page.js(here))
+    page.js("document.querySelector('.map').focus()")
+    page.press("Home")
+    page.press("ArrowRight")
+    has("keys in the map", "block 1: super-block", page.text("#block-said"))
+    page.press("Enter", text="\r")
+    page.wait("document.querySelector('#block-use pre')")
+    has("Enter shows the use", "block 1: super-block", page.text("#block-use pre"))
+    names = page.js("return [...document.querySelectorAll('button, input, select, [role=tab], [role=treeitem]')].filter((it) => !(it.ariaLabel || it.textContent.trim() || it.labels?.length || it.getAttribute('aria-labelledby'))).map((it) => it.outerHTML)")
+    has("what has no name for a screen reader", [], names)
+
+
+def sparse(native, name, size):
+    """A sound volume with a file /big of `size` bytes, all of them a hole."""
+    native.run("mkfs", 7, name, 60, 2, 0, 0, 1000)
+    native.write("nothing", b"")
+    native.run("put", 7, name, "/big", "nothing", 1000)
+    data = bytearray(native.bytes(name))
+    inode = int(re.search(r"i-node (\d+)", native.out("inode", 7, name, "/big"))[1])
+    at = 1024 + 64 * (inode - 1) + 8
+    data[at:at + 4] = (size >> 16).to_bytes(2, "little") + (size & 0xFFFF).to_bytes(2, "little")
+    return native.write(name, bytes(data))
+
+
+def check_bounds(page, native):
+    """A hostile archive is asked for first, a long command can be stopped, and the page goes on."""
+    page.open(sparse(native, "hostile.img", 1000000000))
+    has("a volume with a hole of 1 GB", True, "✓ sound" in page.text("#state"))
+    page.click("#export-tar")
+    page.answers(button="cancel")
+    page.says("Nothing was saved")
+    page.tab("find")
+    page.click("#sums")
+    page.wait("!document.getElementById('busy').hidden && document.getElementById('stop')")
+    page.click("#stop")
+    page.says("Stopped")
+    page.wait("document.getElementById('busy').hidden")
+    has("the image after a stop", native.bytes("hostile.img"), page.image("hostile.img"))
+    has("a command after a stop", native.out("df", 7, "hostile.img"), page.types("df 7 hostile.img"))
+
+
+def check_large(page, native):
+    """100 MB: open, check, change, save."""
+    native.run("mkfs", 7, "large.img", 204800, 2000, 0, 0, 1000)
+    native.write("body", os.urandom(1 << 20) * 20)
+    for k in range(3):
+        native.run("put", 7, "large.img", f"/file{k}", "body", 1000)
+    begun = time.time()
+    page.open(native.path("large.img"))
+    has("100 MB", "204,800 blocks", page.text("#state").split(", ")[0].replace(", ", ""))
+    print(f"100 MB opened in {time.time() - begun:.1f} s")
+    native.run("mkdir", 7, "large.img", "/d", 2000)
+    page.types("mkdir 7 large.img /d 2000")
+    has("100 MB, changed", True, native.bytes("large.img") == page.image("large.img"))
+
+
+def check_quiet(page, _):
+    """Nothing was requested, and nothing failed."""
+    has("what the page requested", [], page.requests())
+    has("faults of the page", [], page.faults())
+    blocked = page.js("return await fetch('https://example.com/').then(() => 'sent', (it) => it.name)")
+    has("a request of the page", "TypeError", blocked)
+
+
+ROWS = check_open, check_views, check_lessons, check_ten_steps, check_changes, check_new, check_bytes, check_damaged, check_several, check_keys, check_bounds, check_large, check_quiet
+
+
+def main():
+    path, program, *names = sys.argv[1:]
+    if not find_chromium():
+        print("skipped: no Chromium is here (Debian's chromium): the page in a browser")
+        return 0
+    native = Native(program)
+    page = Page(path)
+    try:
+        for row in ROWS:
+            if not names or row.__name__.removeprefix("check_") in names:
+                row(page, native)
+    finally:
+        page.close()
+        shutil.rmtree(native.room, ignore_errors=True)
+    print(f"{count['passed']} passed, {count['failed']} failed")
+    return 1 if count["failed"] else 0
+
+
+if __name__ == "__main__":
+    sys.exit(main())

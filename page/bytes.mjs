@@ -28,8 +28,10 @@ export async function showBytesOfBlock(panel) {
 
 function gridRow(view, row) {
   const part = view.bytes.subarray(16 * row, 16 * row + 16);
-  const cells = [...part].map((byte, k) => el('td', { role: 'gridcell', tabIndex: -1, 'data-at': 16 * row + k, onclick: () => choose(view, 16 * row + k) }, hex(byte)));
-  return el('tr', { role: 'row' }, el('th', { scope: 'row' }, String(512 * view.block + 16 * row)), cells, el('td', { className: 'chars', 'aria-hidden': 'true' }, [...part].map((it) => (it >= 32 && it < 127 ? String.fromCharCode(it) : '.')).join('')));
+  const cells = [...part].map((byte, k) => el('td', { role: 'gridcell', tabIndex: -1, 'data-at': 16 * row + k, onclick: () => choose(view, 16 * row + k) },
+    hex(byte)));
+  return el('tr', { role: 'row' }, el('th', { scope: 'row' }, String(512 * view.block + 16 * row)), cells,
+    el('td', { className: 'chars', 'aria-hidden': 'true' }, [...part].map((it) => (it >= 32 && it < 127 ? String.fromCharCode(it) : '.')).join('')));
 }
 
 const cellAt = (view, k) => view.grid.querySelector(`[data-at="${k}"]`);
@@ -48,8 +50,10 @@ function choose(view, k, isFocused = true) {
   state.byte = where;
   const input = el('input', { id: 'new-byte', value: hex(view.bytes[k]), size: 4, maxLength: 4, autocomplete: 'off', 'aria-describedby': 'byte-is' });
   const form = el('form', { className: 'row', onsubmit: doing(() => change(view, where, input.value)) },
-    el('label', { htmlFor: 'new-byte' }, 'Hexadecimal'), input, el('button', { type: 'submit', id: 'set-byte' }, 'Change it'), button('Undo', () => undo(view.image), { disabled: !view.image.done.length }));
-  view.chosen.replaceChildren(el('p', { id: 'byte-is' }, el('b', {}, `Byte ${where}`), ` is ${hex(view.bytes[k])}, octal ${octal(view.bytes[k])}: `, byteOf(view.image.edition, where, view.use)), form);
+    el('label', { htmlFor: 'new-byte' }, 'Hexadecimal'), input, el('button', { type: 'submit', id: 'set-byte' }, 'Change it'),
+      button('Undo', () => undo(view.image), { disabled: !view.image.done.length }));
+  view.chosen.replaceChildren(el('p', { id: 'byte-is' }, el('b', {}, `Byte ${where}`), ` is ${hex(view.bytes[k])}, octal ${octal(view.bytes[k])}: `,
+    byteOf(view.image.edition, where, view.use)), form);
 }
 
 function gridKeys(view, event) {
@@ -72,8 +76,10 @@ async function change(view, where, text) {
   await poke(image, where, Uint8Array.of(value), `printf '\\${octal(value)}' | dd of=${image.name} bs=1 seek=${where} conv=notrunc`);
   const broke = image.rules.filter((it, k) => it.holds === false && before[k] !== false);
   const mended = image.rules.filter((it, k) => it.holds && before[k] === false);
-  const said = [...broke.map((it) => el('p', { className: 'bad' }, `✗ Rule ${it.rule} breaks: ${it.requires}: ${it.says}`)), ...mended.map((it) => el('p', { className: 'good' }, `✓ Rule ${it.rule} holds again: ${it.requires}`))];
-  state.broke = el('div', {}, said.length ? said : el('p', {}, image.isSound ? 'All twelve rules still hold.' : 'No rule changes.'), image.isSound ? '' : rulesTable(image));
+  const said = [...broke.map((it) => el('p', { className: 'bad' }, `✗ Rule ${it.rule} breaks: ${it.requires}: ${it.says}`)),
+    ...mended.map((it) => el('p', { className: 'good' }, `✓ Rule ${it.rule} holds again: ${it.requires}`))];
+  state.broke = el('div', {}, said.length ? said : el('p', {}, image.isSound ? 'All twelve rules still hold.' : 'No rule changes.'), image.isSound ? ''
+    : rulesTable(image));
   await go('bytes', { byte: where });
   state.broke = null;
 }

@@ -14,6 +14,12 @@ export function el(tag, props = {}, ...kids) {
   return fill(made, ...kids);
 }
 
+/** Takes everything out of an element, and returns it. */
+export function clear(box) {
+  box.replaceChildren();
+  return box;
+}
+
 /** Appends to an element what is there: text, elements, and lists of them. Returns it. */
 export function fill(box, ...kids) {
   box.append(...kids.flat(2).filter((kid) => kid !== null && kid !== undefined && kid !== ''));
@@ -98,7 +104,8 @@ export function asks(title, fields, { ok = 'OK', note = '' } = {}) {
   return new Promise((done) => {
     const inputs = fields.map(({ name, label, value = '', options, hint }) => {
       const input = options
-        ? el('select', { name, id: `ask-${name}` }, options.map((it) => el('option', { value: it.value ?? it, selected: (it.value ?? it) === value }, it.label ?? it)))
+        ? el('select', { name, id: `ask-${name}` }, options.map((it) =>
+          el('option', { value: it.value ?? it, selected: (it.value ?? it) === value }, it.label ?? it)))
         : el('input', { name, id: `ask-${name}`, value, autocomplete: 'off', spellcheck: false });
       return el('p', {}, el('label', { htmlFor: `ask-${name}` }, label), input, hint ? el('small', {}, hint) : null);
     });

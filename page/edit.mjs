@@ -37,7 +37,8 @@ export async function putFiles(list, directory) {
 export async function makeDirectory(directory) {
   const given = await asks('New directory', [{ name: 'name', label: `Name in ${directory.path}`, hint: 'At most 14 bytes.' }], { ok: 'Make' });
   if (!given?.name) return;
-  if (await changes(['mkdir', ...at(), join(directory.word, given.name)], `${given.name} was made.`)) await reveal(join(directory.path, given.name.slice(0, 14)));
+  if (await changes(['mkdir', ...at(), join(directory.word, given.name)], `${given.name} was made.`)) await reveal(join(directory.path,
+    given.name.slice(0, 14)));
 }
 
 export async function move(entry) {
@@ -47,14 +48,17 @@ export async function move(entry) {
 }
 
 export async function changeMode(entry) {
-  const given = await asks('Permissions', [{ name: 'perm', label: 'Octal, as 0755', value: `0${(entry.permissions ?? 0).toString(8)}`, hint: '400, 200, 100: the owner reads, writes, executes; 40, 20, 10: the group; 4, 2, 1: everyone else.' }], { ok: 'Change' });
+  const given = await asks('Permissions',
+    [{ name: 'perm', label: 'Octal, as 0755', value: `0${(entry.permissions ?? 0).toString(8)}`,
+    hint: '400, 200, 100: the owner reads, writes, executes; 40, 20, 10: the group; 4, 2, 1: everyone else.' }], { ok: 'Change' });
   if (!given?.perm) return;
   if (await changes(['chmod', ...at(), entry.word, given.perm], `${entry.path} has permissions ${given.perm}.`)) await reveal(entry.path);
 }
 
 export async function remove(entry) {
   const isTree = entry.kind === 'directory';
-  const given = await asks(`Remove ${entry.path}?`, [], { ok: 'Remove', note: isTree ? 'The directory is removed with all that is in it. You can undo this in Changes.' : 'You can undo this in Changes.' });
+  const given = await asks(`Remove ${entry.path}?`, [], { ok: 'Remove', note: isTree
+    ? 'The directory is removed with all that is in it. You can undo this in Changes.' : 'You can undo this in Changes.' });
   if (!given) return;
   if (await changes(['rm', ...(isTree ? ['-r'] : []), ...at(), entry.word], `${entry.path} was removed.`)) await reveal(entry.up);
 }
@@ -63,9 +67,11 @@ export async function remove(entry) {
 export async function exportTree(entry, limit = ASKED) {
   const name = `${state.image.name}${entry.path === '/' ? '' : entry.word.replaceAll('/', '_')}.tar`;
   try {
-    const ended = await run(['export', ...at(), ...(entry.path === '/' ? [] : [entry.word])], { asBlob: true, into: name, limit });
+    const lost = state.image.isSound || entry.path !== '/' ? [] : ['--lost'];
+    const ended = await run(['export', ...lost, ...at(), ...(entry.path === '/' ? [] : [entry.word])], { asBlob: true, into: name, limit });
     if (ended.cut) {
-      const goesOn = await asks('A large archive', [], { ok: 'Go on', note: `The archive has more than ${limit / 1048576} MB. A damaged image can make one that is far larger than itself. Go on?` });
+      const goesOn = await asks('A large archive', [], { ok: 'Go on',
+        note: `The archive has more than ${limit / 1048576} MB. A damaged image can make one that is far larger than itself. Go on?` });
       return goesOn ? exportTree(entry, limit * 8) : say('Nothing was saved.');
     }
     if (ended.length) save(name, ended.blob);
@@ -103,7 +109,8 @@ export async function newVolume() {
 export async function salvage() {
   const tried = await run(['salvage', ...at(), '-n']);
   if (tried.status) return say(tried.error.trim(), true);
-  const given = await asks('Repair the free list?', [], { ok: 'Repair', note: `${tried.text.trim()}. Files and directories stay as they are. You can undo this in Changes.` });
+  const given = await asks('Repair the free list?', [], { ok: 'Repair',
+    note: `${tried.text.trim()}. Files and directories stay as they are. You can undo this in Changes.` });
   if (given) await changes(['salvage', ...at()], 'The free list was rebuilt.');
 }
 
@@ -112,11 +119,14 @@ export const inside = (image) => {
   const pack = /^looks like a larger pack: at block (\d+) begins .*edition (\d), with (\d+) blocks/.exec(image.said);
   if (pack) {
     const [, block, edition, blocks] = pack.map(Number);
-    return { label: `Open the volume of edition ${edition} at block ${block}`, open: () => open(`${image.name}.${block}`, image.source.slice(512 * block, 512 * (block + blocks)), String(edition)) };
+    return { label: `Open the volume of edition ${edition} at block ${block}`, open: () =>
+      open(`${image.name}.${block}`, image.source.slice(512 * block, 512 * (block + blocks)), String(edition)) };
   }
-  if (image.said.includes('each pair of bytes exchanged')) return { label: 'Exchange each pair of bytes, and open that', open: async () => open(`swapped_${image.name}`, await swapped(image.source)) };
+  if (image.said.includes('each pair of bytes exchanged')) return { label: 'Exchange each pair of bytes, and open that', open: async () =>
+    open(`swapped_${image.name}`, await swapped(image.source)) };
   if (image.said.includes('packed by gzip')) {
-    return { label: 'Unpack it, and open that', open: async () => open(image.name.replace(/\.gz$/, ''), await new Response(image.source.stream().pipeThrough(new DecompressionStream('gzip'))).blob()) };
+    return { label: 'Unpack it, and open that', open: async () => open(image.name.replace(/\.gz$/, ''),
+      await new Response(image.source.stream().pipeThrough(new DecompressionStream('gzip'))).blob()) };
   }
   return null;
 };

@@ -53,8 +53,8 @@ export function ask(what, message = {}, label = '') {
   });
 }
 
-/** Ends what runs, and begins with a new worker that has the same files. */
-export async function stop() {
+/** Ends what runs, and begins with a new worker that has the same files. This also gives back the old one's memory. */
+export async function renew() {
   worker.terminate();
   fail(new Stopped('stopped'));
   begin();
@@ -99,7 +99,7 @@ function show() {
   if (!isLong) return;
   const seconds = Math.floor((performance.now() - first.begun) / 1000);
   const made = first.progress ? `, ${(first.progress / 1048576).toFixed(1)} MB of output` : '';
-  if (!box.firstChild) box.append(el('progress', { 'aria-label': 'a command runs' }), el('span'), button('Stop', stop, { id: 'stop' }));
+  if (!box.firstChild) box.append(el('progress', { 'aria-label': 'a command runs' }), el('span'), button('Stop', renew, { id: 'stop' }));
   box.children[1].textContent = `${first.label || 'reading'}: ${seconds} s${made}`;
   clearTimeout(show.again);
   show.again = setTimeout(show, 250);

@@ -37,7 +37,8 @@ export function byteOf(edition, at, use) {
 }
 
 /** The number in `length` bytes: words with the low byte first, and of two words the high one first. */
-const number = (bytes, at, length) => (length === 1 ? bytes[at] : length === 2 ? bytes[at] + 256 * bytes[at + 1] : 65536 * number(bytes, at, 2) + number(bytes, at + 2, 2));
+const number = (bytes, at, length) => (length === 1 ? bytes[at] : length === 2 ? bytes[at] + 256 * bytes[at + 1] : 65536 * number(bytes, at, 2)
+  + number(bytes, at + 2, 2));
 
 const KINDS = {
   6: (mode) => (mode & 0o100000 ? ['file', 'character', 'directory', 'block'][(mode & 0o60000) >> 13] : 'odd'),
@@ -55,7 +56,8 @@ export function readInode(edition, list, ino) {
   const mode = of('mode');
   if (mode === 0) return { kind: 'free i-node' };
   const high = edition === '6' ? 65536 * list[from + 5] : 0;
-  return { kind: KINDS[edition](mode), permissions: mode & 0o7777, links: of('links'), uid: of('user'), gid: of('group'), size: high + of('size'), modified: of('modified') };
+  return { kind: KINDS[edition](mode), permissions: mode & 0o7777, links: of('links'), uid: of('user'), gid: of('group'), size: high + of('size'),
+    modified: of('modified') };
 }
 
 /** Returns the first byte of an i-node. */

@@ -52,7 +52,8 @@ async function runStep(list, place) {
     const ended = await runLine(line);
     const came = ended.text + ended.error.split('\n').filter((it, k) => k === 0).map((it) => (it ? `${it}\n` : '')).join('');
     const isSame = came === prints;
-    out.append(el('b', {}, `$ ${line}\n`), came, isSame ? el('span', { className: 'good' }, '✓ as the lesson has it\n') : el('span', { className: 'bad' }, '✗ the lesson has something else: begin again at step 1\n'));
+    out.append(el('b', {}, `$ ${line}\n`), came, isSame ? el('span', { className: 'good' }, '✓ as the lesson has it\n')
+      : el('span', { className: 'bad' }, '✗ the lesson has something else: begin again at step 1\n'));
   }
 }
 
@@ -72,7 +73,8 @@ async function openLesson(name) {
 }
 
 /** What was done to a lesson's image, for the tab that checks it. */
-export const lessonText = () => (state.image?.lesson ? el('details', { id: 'lesson-text' }, el('summary', {}, 'What was done to this volume'), lines(state.image.lesson)) : null);
+export const lessonText = () => (state.image?.lesson ? el('details', { id: 'lesson-text' }, el('summary', {}, 'What was done to this volume'),
+  lines(state.image.lesson)) : null);
 
 let shown = null;
 
@@ -86,8 +88,11 @@ function makeLessons() {
   const { lesson, images } = lessons();
   const isSound = ([name]) => name.startsWith('sound');
   const all = Object.entries(images);
-  const list = [...all.filter(isSound), ...all.filter((it) => !isSound(it))].map(([name, [, text]]) => el('li', {}, button(name, () => openLesson(name), { 'data-lesson': name }), ' ', words(text.split('\n')[0])));
-  return el('div', {}, el('h2', {}, 'Lessons'), el('h3', {}, 'A broken volume for each rule'), el('p', {}, 'Open one, look at Check, find the bytes, and mend them under Bytes.'), el('ul', { className: 'lessons' }, list),
-    el('hr'), ...blocks(lesson).map((it) => (it.title ? el('h3', {}, it.title) : it.heading ? el('h4', {}, it.heading) : it.code ? step(it.code) : el('p', {}, words(it.paragraph)))),
+  const list = [...all.filter(isSound), ...all.filter((it) => !isSound(it))].map(([name, [, text]]) =>
+    el('li', {}, button(name, () => openLesson(name), { 'data-lesson': name }), ' ', words(text.split('\n')[0])));
+  return el('div', {}, el('h2', {}, 'Lessons'), el('h3', {}, 'A broken volume for each rule'),
+    el('p', {}, 'Open one, look at Check, find the bytes, and mend them under Bytes.'), el('ul', { className: 'lessons' }, list),
+    el('hr'), ...blocks(lesson).map((it) => (it.title ? el('h3', {}, it.title) : it.heading ? el('h4', {}, it.heading) : it.code ? step(it.code)
+      : el('p', {}, words(it.paragraph)))),
     el('p', {}, button('Begin the ten steps again', beginAgain)));
 }

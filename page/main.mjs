@@ -29,7 +29,8 @@ const TABS = {
 const tabList = () => [...$('tabs').querySelectorAll('[role=tab]')];
 
 function makeTabs() {
-  $('tabs').append(...Object.entries(TABS).map(([id, { name }]) => el('button', { type: 'button', role: 'tab', id: `tab-${id}`, 'aria-controls': 'panel', onclick: doing(() => go(id)) }, name)));
+  $('tabs').append(...Object.entries(TABS).map(([id, { name }]) => el('button',
+    { type: 'button', role: 'tab', id: `tab-${id}`, 'aria-controls': 'panel', onclick: doing(() => go(id)) }, name)));
   $('tabs').addEventListener('keydown', (event) => {
     const all = tabList();
     const k = all.indexOf(document.activeElement);
@@ -56,7 +57,8 @@ async function render() {
   $('panel').replaceChildren(shown);
   $('panel').dataset.shown = '';
   if (tab.needs && !state.image) shown.append(el('p', {}, 'No image is open. Choose one, make a new volume, or open one of the lessons.'));
-  else if (tab.needs === 'volume' && !state.image.isReadable) shown.append(el('p', { className: 'bad' }, `${state.image.name} can't be read as a volume of edition ${state.image.edition}. Check says more, and Bytes shows what is there.`));
+  else if (tab.needs === 'volume' && !state.image.isReadable) shown.append(el('p', { className: 'bad' },
+    `${state.image.name} can't be read as a volume of edition ${state.image.edition}. Check says more, and Bytes shows what is there.`));
   else await tab.show(shown);
   if ($('panel').firstChild === shown) $('panel').dataset.shown = state.tab;
 }
@@ -70,8 +72,9 @@ function showHead() {
   $('image').replaceChildren(...state.images.map((it) => el('option', { value: it.name, selected: it === image }, it.name)));
   $('edition').value = image.edition;
   const use = image.use ? `${counted(image.use.blocks, 'block')}, ${image.use['free blocks'].toLocaleString('en')} free; ` : '';
+  const what = image.isReadable ? 'What can be read is shown; commands that change a volume refuse this one.' : 'Nothing of it can be read as files.';
   $('state').className = image.isSound ? 'good' : 'bad';
-  $('state').textContent = image.isSound ? `${use}✓ sound` : `${use}✗ ${verdict(image)}. ${image.isReadable ? 'What can be read is shown; commands that change a volume refuse this one.' : 'Nothing of it can be read as files.'}`;
+  $('state').textContent = image.isSound ? `${use}✓ sound` : `${use}✗ ${verdict(image)}. ${what}`;
   $('undo-last').disabled = !image.done.length;
   $('salvage').hidden = !image.broken.length || image.broken.some((it) => it.rule !== 6 && it.rule !== 8);
   for (const id of ['import-tar', 'put-files']) $(id).disabled = !image.isSound;
@@ -120,11 +123,13 @@ function makeDrops() {
     const intoVolume = event.target.closest?.('#tree') && state.image?.isSound;
     document.body.dataset.drop = intoVolume ? 'put' : 'open';
   });
-  for (const event of ['dragleave', 'dragend', 'drop']) addEventListener(event, (it) => (it.type === 'dragleave' && it.relatedTarget ? null : delete document.body.dataset.drop));
+  for (const event of ['dragleave', 'dragend', 'drop']) addEventListener(event, (it) => (it.type === 'dragleave' && it.relatedTarget ? null
+    : delete document.body.dataset.drop));
   addEventListener('drop', (event) => {
     event.preventDefault();
     const files = [...event.dataTransfer.files];
-    const item = event.target.closest?.('#tree') && state.image?.isSound ? (event.target.closest('[data-path]') ?? $('tree').querySelector('[data-path]')) : null;
+    const item = event.target.closest?.('#tree') && state.image?.isSound ? (event.target.closest('[data-path]') ?? $('tree').querySelector('[data-path]'))
+      : null;
     does(() => (item ? dropInto(item.dataset.path, files) : openFiles(files)));
   });
 }
@@ -135,7 +140,9 @@ async function dropInto(path, files) {
   const directory = node.kids ? node : root.all.get(node.up);
   const [first] = files;
   if (files.length === 1 && first.name.endsWith('.tar')) {
-    const given = await asks(first.name, [{ name: 'how', label: 'Put it in', value: 'import', options: [{ value: 'import', label: 'the files that are in it' }, { value: 'put', label: 'the archive itself' }] }]);
+    const given = await asks(first.name,
+      [{ name: 'how', label: 'Put it in', value: 'import', options: [{ value: 'import', label: 'the files that are in it' },
+      { value: 'put', label: 'the archive itself' }] }]);
     if (!given) return;
     if (given.how === 'import') return importArchive(first, first.name, directory);
   }

@@ -1,4 +1,4 @@
-// The map: the squares that `map --svg` draws, in as many columns as fit. A block's square says what uses it.
+// The map: the squares that `map --svg` draws, in as many columns as fit, one path for all squares of a use. A block's square says what uses it.
 import { button, does, el } from './dom.mjs';
 import { at, go, run, state } from './shelf.mjs';
 import { chooser, lines } from './views.mjs';
@@ -6,7 +6,9 @@ import { chooser, lines } from './views.mjs';
 const SVG = 'http://www.w3.org/2000/svg';
 const SIDE = 12;
 const SQUARES = 128 * 128; // the most that `map --svg` draws, beyond which a square is for several blocks
-const USES = { B: 'boot block', S: 'super-block', i: 'i-list', d: 'directory', f: 'file', p: 'indirect block', o: 'free', c: 'free, continues the free list', L: 'lost', T: 'named twice' };
+const USES = { B: 'boot block', S: 'super-block', i: 'i-list', d: 'directory', f: 'file', p: 'indirect block', o: 'free', c: 'free, continues the free list',
+  L: 'lost', T: 'named twice' };
+const SQUARE = `h${SIDE - 1}v${SIDE - 1}h${1 - SIDE}z`;
 const LETTERED = 4096; // squares with letters in them, at most
 
 const shape = (name, props) => {
@@ -14,6 +16,8 @@ const shape = (name, props) => {
   for (const [key, value] of Object.entries(props)) made.setAttribute(key, value);
   return made;
 };
+
+const letterAt = (letter, x, y) => Object.assign(shape('text', { class: `l-${letter}`, x: x + (SIDE - 1) / 2, y: y + 8.5 }), { textContent: letter });
 
 /** Reads the letters of the squares out of the picture; the legend's squares follow a wider step down, so they are cut off. */
 function letters(svg, blocks) {
@@ -31,20 +35,26 @@ async function marked() {
 
 function draw(squares, columns, each, ranges) {
   const rows = Math.ceil(squares.length / columns);
-  const svg = shape('svg', { viewBox: `0 0 ${columns * SIDE} ${rows * SIDE}`, class: 'map', tabindex: 0, role: 'group', 'aria-label': `map of ${squares.length} squares; arrow keys move, Enter shows what uses the block` });
-  const isLettered = squares.length <= LETTERED;
+  const svg = shape('svg', { viewBox: `0 0 ${columns * SIDE} ${rows * SIDE}`, class: 'map', tabindex: 0, role: 'group',
+    'aria-label': `map of ${squares.length} squares; arrow keys move, Enter shows what uses the block` });
+  const place = (k) => [(k % columns) * SIDE, Math.floor(k / columns) * SIDE];
+  for (const use of Object.keys(USES)) {
+    const d = squares.map((it, k) => (it === use ? `M${place(k).join(' ')}${SQUARE}` : '')).join('');
+    if (d) svg.append(shape('path', { class: `u-${use}`, d }));
+  }
   squares.forEach((it, k) => {
-    const [x, y] = [(k % columns) * SIDE, Math.floor(k / columns) * SIDE];
-    svg.append(shape('rect', { class: `u-${it}`, x, y, width: SIDE - 1, height: SIDE - 1 }));
-    if (isLettered && it !== 'o') svg.append(Object.assign(shape('text', { class: `l-${it}`, x: x + (SIDE - 1) / 2, y: y + 8.5 }), { textContent: it }));
+    if (it === 'o' || squares.length > LETTERED) return;
+    const [x, y] = place(k);
+    svg.append(letterAt(it, x, y));
   });
   for (const { block, count } of ranges) {
-    for (let k = Math.floor(block / each); k <= Math.floor((block + count - 1) / each); k++) svg.append(shape('rect', { class: 'marked', x: (k % columns) * SIDE, y: Math.floor(k / columns) * SIDE, width: SIDE - 1, height: SIDE - 1 }));
+    const [first, last] = [block, block + count - 1].map((it) => Math.floor(it / each));
+    for (let k = first; k <= last; k++) svg.append(shape('path', { class: 'marked', d: `M${place(k).join(' ')}${SQUARE}` }));
   }
   return svg;
 }
 
-/** Makes the squares answer to clicks and arrow keys. */
+/** Makes the squares answer to clicks and arrow keys. Returns what moves the cursor to a square. */
 function answers(svg, { squares, columns, each, tells, uses }) {
   const cursor = shape('rect', { class: 'cursor', width: SIDE - 1, height: SIDE - 1 });
   let at = Math.min(squares.length - 1, Math.floor(state.block / each));
@@ -70,20 +80,36 @@ function answers(svg, { squares, columns, each, tells, uses }) {
   });
   svg.append(cursor);
   moves(at);
+  return moves;
 }
 
-const legend = (squares) => el('ul', { className: 'legend' }, Object.entries(USES).filter(([letter]) => squares.includes(letter)).map(([letter, use]) => {
-  const svg = shape('svg', { viewBox: `0 0 ${SIDE} ${SIDE}`, class: 'swatch', 'aria-hidden': 'true' });
-  svg.append(shape('rect', { class: `u-${letter}`, x: 0, y: 0, width: SIDE - 1, height: SIDE - 1 }), Object.assign(shape('text', { class: `l-${letter}`, x: 5.5, y: 8.5 }), { textContent: letter }));
-  return el('li', {}, svg, use);
-}));
+/** The uses that the map shows, each with its square. */
+function legend(squares) {
+  const shown = Object.entries(USES).filter(([letter]) => squares.includes(letter));
+  const items = shown.map(([letter, use]) => {
+    const svg = shape('svg', { viewBox: `0 0 ${SIDE} ${SIDE}`, class: 'swatch', 'aria-hidden': 'true' });
+    svg.append(shape('path', { class: `u-${letter}`, d: `M0 0${SQUARE}` }), letterAt(letter, 0, 0));
+    return el('li', {}, svg, use);
+  });
+  return el('ul', { className: 'legend' }, items);
+}
+
+/** What the map shows, in words. */
+function heading(each, ranges) {
+  const { image, inode, entry } = state;
+  const blocks = `${image.use.blocks.toLocaleString('en')} blocks${each > 1 ? `, ${each} in each square` : ''}.`;
+  const of = ranges.length ? ` Outlined: the blocks of i-node ${inode}${entry?.inode === inode ? `, ${entry.path}` : ''}.` : '';
+  return `${blocks} Choose a square to see what uses the block.${of}`;
+}
 
 export async function showMap(panel) {
+  const { image } = state;
   panel.append(el('h2', {}, 'Map'));
   const ended = await run(['map', '--svg', ...at()]);
   if (ended.status) return panel.append(el('pre', { className: 'bad' }, ended.error));
-  const { each, squares } = letters(ended.text, state.image.use.blocks);
-  const columns = Math.max(16, Math.min(128, Math.floor((panel.clientWidth || 600) / (squares.length > LETTERED ? 9 : 14))));
+  const { each, squares } = letters(ended.text, image.use.blocks);
+  const side = squares.length > LETTERED ? 9 : 14;
+  const columns = Math.max(16, Math.min(128, Math.floor((panel.clientWidth || 600) / side)));
   const told = el('p', { role: 'status', id: 'block-said' });
   const use = el('div', { id: 'block-use', 'aria-live': 'polite' });
   const uses = async (block) => {
@@ -93,8 +119,7 @@ export async function showMap(panel) {
   };
   const ranges = await marked();
   const svg = draw(squares, columns, each, ranges);
-  answers(svg, { squares, columns, each, tells: (it) => (told.textContent = it), uses });
-  const of = ranges.length ? `Outlined: the blocks of i-node ${state.inode}${state.entry ? `, ${state.entry.path}` : ''}.` : '';
-  panel.append(el('p', {}, `${state.image.use.blocks.toLocaleString('en')} blocks${each > 1 ? `, ${each} in each square` : ''}. Choose a square to see what uses the block. ${of}`), legend(squares), told, use, svg,
-    chooser('Block', state.block, 0, state.image.use.blocks - 1, (block) => go('map', { block }).then(() => uses(block))));
+  const moves = answers(svg, { squares, columns, each, tells: (it) => (told.textContent = it), uses });
+  panel.append(el('p', {}, heading(each, ranges)), legend(squares), told, use, svg);
+  panel.append(chooser('Block', state.block, 0, image.use.blocks - 1, (block) => (moves(Math.floor(block / each)), uses(block))));
 }

@@ -85,7 +85,10 @@ def replaced(page, old, new):
 
 def pack(module):
     style, script = read("page.css"), bundle("main")
-    policy = f"default-src 'none'; script-src {allowed(script)} 'wasm-unsafe-eval'; worker-src blob:; style-src {allowed(style)}; img-src data:; form-action 'none'; base-uri 'none'"
+    policy = "; ".join([
+        "default-src 'none'", f"script-src {allowed(script)} 'wasm-unsafe-eval'", "worker-src blob:", f"style-src {allowed(style)}", "img-src data:",
+        "form-action 'none'", "base-uri 'none'",
+    ])
     parts = [
         f'<script type="text/plain" id="module">{base64_of(gzip.compress(module, 9, mtime=0))}</script>',
         f'<script type="text/plain" id="worker">{bundle("worker")}</script>',

@@ -1,8 +1,9 @@
 // The images that are open, the changes made to them, and what is selected.
 import { say } from './dom.mjs';
-import { ask, runs, shellWords } from './engine.mjs';
+import { ask, renew, runs, shellWords } from './engine.mjs';
 
 export const LARGEST = 512 * 1048576;
+const LARGE = 16 * 1048576;
 const KEPT = 256 * 1048576; // bytes of changes that can be undone
 export const state = { images: [], files: [], image: null, entry: null, inode: 2, block: 1, tab: 'lessons' };
 const listeners = new Map();
@@ -126,10 +127,13 @@ export async function addFile(name, blob) {
   return fresh;
 }
 
-export const removeFile = async (name) => {
+/** Forgets a file. The memory of a large one is given back with the worker's. */
+export async function removeFile(name) {
+  const size = found(name)?.size ?? 0;
   await ask('remove', { name });
   await drop(name);
-};
+  if (size > LARGE) await renew();
+}
 
 export async function choose(image) {
   Object.assign(state, { image, entry: null, inode: image?.edition === '6' ? 1 : 2, block: 1 });

@@ -96,7 +96,8 @@ async function tar(words, input) {
   const bytes = await inputOf(found.f?.[0] ?? rest[0], input);
   const field = (at, length) => text.decode(bytes.subarray(at, at + length)).replace(/\0.*$/s, '');
   const names = [];
-  for (let at = 0; bytes[at]; at += 512 + 512 * Math.ceil(parseInt(field(at + 124, 12), 8) / 512)) names.push([field(at + 345, 155), field(at, 100)].filter(Boolean).join('/'));
+  for (let at = 0; bytes[at]; at += 512 + 512 * Math.ceil(parseInt(field(at + 124, 12), 8) / 512)) names.push([field(at + 345, 155),
+    field(at, 100)].filter(Boolean).join('/'));
   return joined(names);
 }
 

@@ -14,33 +14,58 @@ export function verdict(image) {
   return image.isVolume ? broken : `${image.said}; as edition ${image.edition} it ${broken}`;
 }
 
-const column = (image) => [image.name, image.isVolume ? image.edition : '', verdict(image), image.use?.blocks ?? '', image.use?.['free blocks'] ?? '', image.size];
+const column = (image) => {
+  const { blocks = '', 'free blocks': free = '' } = image.use ?? {};
+  return [image.name, image.isVolume ? image.edition : '', verdict(image), blocks, free, image.size];
+};
 const HEADS = ['Image', 'Edition', 'State', 'Blocks', 'Free', 'Bytes'];
 const quoted = (cell) => (/[",\n]/.test(String(cell)) ? `"${String(cell).replaceAll('"', '""')}"` : String(cell));
 
 /** The table of all images, as comma-separated values. */
 export const csv = (images) => [HEADS, ...images.map(column)].map((row) => row.map(quoted).join(',')).join('\r\n').concat('\r\n');
 
+/** What can be done with an image, beside looking at it. */
 function offers(image) {
   const made = [];
   const within = inside(image);
   if (within) made.push(button(within.label, within.open));
   const into = state.images.find((it) => it !== image && it.isSound);
-  if (image.said.includes('archive of tar') && into) made.push(button(`Import its files into ${into.name}`, async () => (await choose(into), importArchive(image.source, image.name, into.tree ?? { word: '/', path: '/' }))));
+  if (image.said.includes('archive of tar') && into) made.push(button(`Import its files into ${into.name}`, () => importsInto(into, image)));
   return [...made, button('Close', () => removeFile(image.name), { 'aria-label': `close ${image.name}` })];
 }
 
+async function importsInto(into, archive) {
+  await choose(into);
+  await importArchive(archive.source, archive.name, { word: '/', path: '/' });
+}
+
+function imageRow(image) {
+  const [name, edition, what, ...numbers] = column(image);
+  const shows = async () => {
+    await choose(image);
+    await go('check');
+  };
+  return [
+    link(name, shows, { 'aria-current': image === state.image ? 'true' : null }), edition, el('span', { className: image.isSound ? 'good' : 'bad' }, what),
+    ...numbers.map((it) => it.toLocaleString('en')), el('span', { className: 'row' }, offers(image)),
+  ];
+}
+
+function fileRow({ name, blob }) {
+  const buttons = [button('Download', () => save(name, blob)), button('Remove', () => removeFile(name))];
+  return [name, blob.size.toLocaleString('en'), el('span', { className: 'row' }, buttons)];
+}
+
 export async function showImages(panel) {
+  const { images, files } = state;
   panel.append(el('h2', {}, 'Images'));
-  if (!state.images.length) panel.append(el('p', {}, 'No image is open. Choose some, or drop them on this page.'));
+  if (!images.length) panel.append(el('p', {}, 'No image is open. Choose some, or drop them on this page.'));
   else {
-    const rows = state.images.map((image) => {
-      const [name, edition, state_, ...numbers] = column(image);
-      return [link(name, () => choose(image).then(() => go('check')), { 'aria-current': image === state.image ? 'true' : null }), edition, el('span', { className: image.isSound ? 'good' : 'bad' }, state_), ...numbers.map((it) => it.toLocaleString('en')), el('span', { className: 'row' }, offers(image))];
-    });
-    panel.append(table(counted(rows.length, 'image'), [...HEADS, 'What to do'], rows, { id: 'images' }), button('Download this table as CSV', () => save('images.csv', new Blob([csv(state.images)])), { id: 'csv' }));
+    const saves = () => save('images.csv', new Blob([csv(images)]));
+    panel.append(table(counted(images.length, 'image'), [...HEADS, 'What to do'], images.map(imageRow), { id: 'images' }));
+    panel.append(button('Download this table as CSV', saves, { id: 'csv' }));
   }
-  if (state.files.length) panel.append(table('Other files in this page', ['File', 'Bytes', ''], state.files.map(({ name, blob }) => [name, blob.size.toLocaleString('en'), el('span', { className: 'row' }, button('Download', () => save(name, blob)), button('Remove', () => removeFile(name)))])));
+  if (files.length) panel.append(table('Other files in this page', ['File', 'Bytes', ''], files.map(fileRow)));
 }
 
 const RANGES = 24; // ranges of changed blocks that are named
@@ -58,9 +83,12 @@ function blocksOf(change) {
 export async function showChanges(panel) {
   const { image } = state;
   const rows = image.done.map((it, k) => [String(k + 1), el('code', {}, it.line), blocksOf(it)]);
-  panel.append(el('h2', {}, 'Changes'), rows.length ? table(`Changes to ${image.name}`, ['', 'By', 'Blocks'], rows, { id: 'changes' }) : el('p', {}, 'Nothing was changed.'), el('p', { className: 'row' },
-    button('Undo the last', () => undo(image), { disabled: !image.done.length, id: 'undo' }), button('Make it again', () => undo(image, true), { disabled: !image.undone.length, id: 'redo' }),
-    button('Download the image', () => saveImage(image))), el('p', { className: 'dim' }, 'The image on your disk stays as it is, until you save the changed one in its place.'));
+  panel.append(el('h2', {}, 'Changes'), rows.length ? table(`Changes to ${image.name}`, ['', 'By', 'Blocks'], rows, { id: 'changes' })
+    : el('p', {}, 'Nothing was changed.'), el('p', { className: 'row' },
+    button('Undo the last', () => undo(image), { disabled: !image.done.length, id: 'undo' }),
+      button('Make it again', () => undo(image, true), { disabled: !image.undone.length, id: 'redo' }),
+    button('Download the image', () => saveImage(image))), el('p', { className: 'dim' },
+      'The image on your disk stays as it is, until you save the changed one in its place.'));
 }
 
 export async function saveImage(image) {
@@ -73,16 +101,22 @@ const typed = [];
 /** The command line. Up and down go through what was typed. */
 export async function showShell(panel) {
   const out = el('div', { id: 'shell-log', role: 'log', tabIndex: 0, 'aria-label': 'output' }, state.shell ?? '');
-  const input = el('input', { id: 'line', spellcheck: false, autocomplete: 'off', autocapitalize: 'off', 'aria-label': 'command line', placeholder: state.image ? `icheck ${state.image.edition} ${state.image.name} 1` : 'help' });
+  const input = el('input', { id: 'line', spellcheck: false, autocomplete: 'off', autocapitalize: 'off', 'aria-label': 'command line',
+    placeholder: state.image ? `icheck ${state.image.edition} ${state.image.name} 1` : 'help' });
   let k = typed.length;
   const moves = (step) => {
     k = Math.max(0, Math.min(typed.length, k + step));
     input.value = typed[k] ?? '';
   };
-  input.addEventListener('keydown', (event) => ['ArrowUp', 'ArrowDown'].includes(event.key) && (event.preventDefault(), moves(event.key === 'ArrowUp' ? -1 : 1)));
-  const form = el('form', { className: 'row', onsubmit: doing(() => typeLine(input.value.trim())) }, el('span', { className: 'code' }, '$ unixvol'), input, el('button', { type: 'submit' }, 'Run'));
-  panel.append(el('h2', {}, 'Command line'), el('p', { className: 'dim' }, 'All of unixvol: ', el('code', {}, 'help'), ' lists its commands, ', el('code', {}, 'mkfs --help'), ' explains one. The files are those of this page: ', [...state.images, ...state.files].map((it) => it.name).join(', ') || 'none yet', '. | < and > work, with head, tail, grep, sed -n, od, dd, wc.'), out, form,
-    el('details', { id: 'log' }, el('summary', {}, `All ${counted(log.length, 'command')} that this page ran`), el('pre', {}, log.map((it) => `$ ${it.line}    (status ${it.status}, ${it.ms.toFixed(0)} ms)`).join('\n'))));
+  input.addEventListener('keydown', (event) => ['ArrowUp', 'ArrowDown'].includes(event.key)
+    && (event.preventDefault(), moves(event.key === 'ArrowUp' ? -1 : 1)));
+  const form = el('form', { className: 'row', onsubmit: doing(() => typeLine(input.value.trim())) }, el('span', { className: 'code' }, '$ unixvol'), input,
+    el('button', { type: 'submit' }, 'Run'));
+  panel.append(el('h2', {}, 'Command line'), el('p', { className: 'dim' }, 'All of unixvol: ', el('code', {}, 'help'), ' lists its commands, ',
+    el('code', {}, 'mkfs --help'), ' explains one. The files are those of this page: ', [...state.images, ...state.files].map((it) => it.name).join(', ')
+    || 'none yet', '. | < and > work, with head, tail, grep, sed -n, od, dd, wc.'), out, form,
+    el('details', { id: 'log' }, el('summary', {}, `All ${counted(log.length, 'command')} that this page ran`),
+      el('pre', {}, log.map((it) => `$ ${it.line}    (status ${it.status}, ${it.ms.toFixed(0)} ms)`).join('\n'))));
   out.scrollTop = out.scrollHeight;
 }
 
@@ -94,7 +128,8 @@ async function typeLine(line) {
   state.shell.append(entry);
   try {
     const ended = await runLine(line);
-    entry.append(ended.text ? lines(ended.text.slice(0, 1 << 18)) : '', ended.error ? el('pre', { className: 'bad' }, ended.error) : '', ended.status ? el('p', { className: 'dim' }, `status ${ended.status}`) : '');
+    entry.append(ended.text ? lines(ended.text.slice(0, 1 << 18)) : '', ended.error ? el('pre', { className: 'bad' }, ended.error) : '', ended.status
+      ? el('p', { className: 'dim' }, `status ${ended.status}`) : '');
   } catch (fault) {
     if (!(fault instanceof Stopped)) throw fault;
     entry.append(el('p', { className: 'bad' }, 'stopped'));

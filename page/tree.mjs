@@ -52,7 +52,8 @@ function grow(root, entry) {
   const isRootItself = entry.path === '/.';
   if (isRootItself) Object.assign(root, { ...entry, path: '/', name: '/', kids: root.kids });
   if (name === '.' || name === '..') return;
-  const node = { ...entry, name, word: entry.path.startsWith('/...') ? null : plainPath(entry.path), up: entry.path.slice(0, cut) || '/', kids: entry.kind === 'directory' ? [] : null };
+  const node = { ...entry, name, word: entry.path.startsWith('/...') ? null : plainPath(entry.path), up: entry.path.slice(0, cut) || '/',
+    kids: entry.kind === 'directory' ? [] : null };
   root.all.set(entry.path, node);
   root.all.get(node.up)?.kids?.push(node);
 }
@@ -94,7 +95,8 @@ function group(node, level, opened) {
     list.append(...node.kids.slice(from, from + MANY).map((it) => item(it, level, opened)));
     const left = node.kids.length - from - MANY;
     if (left <= 0) return;
-    const last = el('li', { role: 'treeitem', 'aria-level': level, tabIndex: -1, className: 'more' }, el('div', { className: 'line' }, `${counted(left, 'more name')} …`));
+    const last = el('li', { role: 'treeitem', 'aria-level': level, tabIndex: -1, className: 'more' },
+      el('div', { className: 'line' }, `${counted(left, 'more name')} …`));
     last.show = () => (last.remove(), more(from + MANY));
     last.addEventListener('click', last.show);
     list.append(last);
@@ -168,7 +170,8 @@ function keys(event) {
     ' ': () => does(() => pick(here)),
   };
   const letter = event.key.length === 1 && event.key !== ' ' && !event.ctrlKey && !event.metaKey && !event.altKey;
-  if (letter) focus([...items.slice(k + 1), ...items.slice(0, k)].find((it) => it.dataset.path && nodeOf(it).name.toLowerCase().startsWith(event.key.toLowerCase())));
+  if (letter) focus([...items.slice(k + 1), ...items.slice(0, k)].find((it) => it.dataset.path
+    && nodeOf(it).name.toLowerCase().startsWith(event.key.toLowerCase())));
   else if (steps[event.key]) steps[event.key]();
   else return;
   event.preventDefault();

@@ -1,5 +1,5 @@
 // The tabs that show what the program says of a volume: check, i-node, volume, find.
-import { button, counted, doing, el, fill, link, modeText, moment, save, table } from './dom.mjs';
+import { button, clear, counted, doing, el, fill, link, modeText, moment, save, table } from './dom.mjs';
 import { inodeAt } from './layout.mjs';
 import { at, go, run, state } from './shelf.mjs';
 import { plainPath, readTree, reveal } from './tree.mjs';
@@ -18,7 +18,8 @@ export function linked(line) {
   return [...made, line.slice(from)];
 }
 
-const place = (text, kind, number) => (kind.startsWith('block') ? link(text, () => go('bytes', { block: number })) : link(text, () => go('inode', { inode: number })));
+const place = (text, kind, number) => (kind.startsWith('block') ? link(text, () => go('bytes', { block: number }))
+  : link(text, () => go('inode', { inode: number })));
 
 /** Shows lines of text, with links in them. */
 export const lines = (text, props = {}) => el('pre', props, text.split('\n').flatMap((it, k) => [k ? '\n' : '', ...linked(it)]));
@@ -32,31 +33,64 @@ const MARKS = new Map([[true, ['✓', 'holds', 'good']], [false, ['✗', 'broken
 export function rulesTable(image) {
   const rows = image.rules.map((it) => {
     const [mark, word, look] = MARKS.get(it.holds);
-    return [String(it.rule), it.requires, el('span', { className: look }, el('span', { 'aria-hidden': 'true' }, `${mark} `), it.holds === false ? linked(it.says) : it.says, it.holds === false ? '' : el('span', { className: 'unseen' }, ` (${word})`))];
+    return [String(it.rule), it.requires, el('span', { className: look }, el('span', { 'aria-hidden': 'true' }, `${mark} `), it.holds === false
+      ? linked(it.says) : it.says, it.holds === false ? '' : el('span', { className: 'unseen' }, ` (${word})`))];
   });
   return table('The twelve rules of a sound volume', ['Rule', 'Requires', 'Result'], rows, { id: 'rules' });
 }
 
 export async function showCheck(panel) {
   const { image } = state;
-  const verdict = image.isSound ? 'This volume is sound: all twelve rules hold.' : `This volume breaks ${counted(image.broken.length, 'rule')}: ${image.broken.map((it) => it.rule).join(', ')}.`;
+  const verdict = image.isSound ? 'This volume is sound: all twelve rules hold.'
+    : `This volume breaks ${counted(image.broken.length, 'rule')}: ${image.broken.map((it) => it.rule).join(', ')}.`;
   const note = image.check.split('\n').filter((it) => it.startsWith('note:')).join(' ');
   const report = el('div', { 'aria-live': 'polite' });
   const asks = async (command) => report.replaceChildren(el('h3', {}, command), printed(await run([command, ...at(), 1])));
-  fill(panel, el('h2', {}, 'Check'), image.rules.length ? el('p', { className: image.isSound ? 'good' : 'bad', id: 'verdict' }, verdict) : null, note ? el('p', {}, note) : null,
+  fill(panel, el('h2', {}, 'Check'), image.rules.length ? el('p', { className: image.isSound ? 'good' : 'bad', id: 'verdict' }, verdict) : null, note
+    ? el('p', {}, note) : null,
     image.rules.length ? rulesTable(image) : el('pre', { className: 'bad' }, image.check),
     el('p', {}, 'The old checkers: ', ['icheck', 'dcheck', 'ncheck'].flatMap((it) => [button(it, () => asks(it)), ' '])), report);
 }
 
-/** A field for a number, with the numbers before and after it. */
+/** A field for a number, with buttons for the one before and the next. */
 export function chooser(label, value, least, most, choose) {
   const input = el('input', { type: 'number', value, min: least, max: most, id: 'number' });
-  input.addEventListener('change', doing(() => choose(Math.min(most, Math.max(least, Number(input.value) || least)))));
-  return el('p', { className: 'row' }, el('label', { htmlFor: 'number' }, label), button('◂', () => choose(value - 1), { disabled: value <= least, 'aria-label': 'the one before' }), input,
-    button('▸', () => choose(value + 1), { disabled: value >= most, 'aria-label': 'the next one' }));
+  const takes = (number) => {
+    input.value = Math.min(most, Math.max(least, number || least));
+    return choose(Number(input.value));
+  };
+  input.addEventListener('change', doing(() => takes(Number(input.value))));
+  return el('p', { className: 'row' }, el('label', { htmlFor: 'number' }, label),
+    button('◂', () => takes(Number(input.value) - 1), { 'aria-label': 'the one before' }), input,
+    button('▸', () => takes(Number(input.value) + 1), { 'aria-label': 'the next one' }));
 }
 
 const time = (seconds) => (seconds === null ? 'none' : `${seconds}: ${moment(seconds)} UTC`);
+
+/** The fields of an i-node, with links to its bytes and to the files that have it. */
+function fields(it, names) {
+  const from = inodeAt(state.image.edition, state.inode);
+  const block = Math.floor(from / 512);
+  return table('Fields', [], [
+    ['mode', `0${it.mode.toString(8)}: ${it.kind}, ${modeText(it.kind, it.permissions)}`],
+    ['links', String(it.nlink)],
+    ['user', String(it.uid)],
+    ['group', String(it.gid)],
+    ['size', it.size === undefined ? '' : counted(it.size, 'byte')],
+    ['addr', el('span', { className: 'code' }, it.addr.join(' '))],
+    ['accessed', time(it.atime)],
+    ['modified', time(it.mtime)],
+    ['changed', time(it.ctime)],
+    ['its bytes', link(`bytes ${from} on, block ${block}`, () => go('bytes', { block, byte: from }))],
+    ['names', el('span', {}, names.flatMap((node) => [link(node.path, () => shows(node.path)), ' ']), names.length ? '' : 'none')],
+  ]);
+}
+
+/** Selects a path, and shows the file. */
+async function shows(path) {
+  await reveal(path);
+  await go('file');
+}
 
 export async function showInode(panel) {
   const most = state.image.use?.['i-nodes'] ?? 65535;
@@ -65,13 +99,8 @@ export async function showInode(panel) {
   if (!ended.text) return panel.append(printed(ended));
   const it = JSON.parse(ended.text);
   const names = [...(await readTree(state.image)).all.values()].filter((node) => node.inode === state.inode);
-  const from = inodeAt(state.image.edition, state.inode);
-  panel.append(table('Fields', [], [
-    ['mode', `0${it.mode.toString(8)}: ${it.kind}, ${modeText(it.kind, it.permissions)}`], ['links', String(it.nlink)], ['user', String(it.uid)], ['group', String(it.gid)],
-    ['size', it.size === undefined ? '' : counted(it.size, 'byte')], ['addr', el('span', { className: 'code' }, it.addr.join(' '))], ['accessed', time(it.atime)], ['modified', time(it.mtime)], ['changed', time(it.ctime)],
-    ['its bytes', link(`bytes ${from} on, block ${Math.floor(from / 512)}`, () => go('bytes', { block: Math.floor(from / 512), byte: from }))],
-    ['names', el('span', {}, names.flatMap((node) => [link(node.path, () => reveal(node.path).then(() => go('file'))), ' ']), names.length ? '' : 'none')],
-  ]), table('Its blocks', ['Blocks', 'Hold'], it.extents.map(extent)), el('p', {}, button('Mark them on the map', () => go('map'))));
+  panel.append(fields(it, names), table('Its blocks', ['Blocks', 'Hold'], it.extents.map(extent)));
+  panel.append(el('p', {}, button('Mark them on the map', () => go('map'))));
 }
 
 function extent({ block, count, inside, level, logical }) {
@@ -81,6 +110,9 @@ function extent({ block, count, inside, level, logical }) {
 }
 
 const LINKS = 12; // links of the free list that are shown at once
+const SHOWN = 2000; // paths that find shows
+
+const SUPER = ['isize', 'fsize', 'nfree', 'ninode', 'flock', 'ilock', 'fmod', 'ronly', 'time'];
 
 /** The super-block, what is used, and the free list link by link. */
 export async function showVolume(panel) {
@@ -89,11 +121,16 @@ export async function showVolume(panel) {
   if (!ended.text) return panel.append(printed(ended));
   const it = JSON.parse(ended.text);
   const { use } = state.image;
-  const rows = ['blocks', 'data blocks', 'i-nodes'].map((kind) => [kind, use[kind], use[`used ${kind}`], use[`free ${kind === 'i-nodes' ? kind : 'blocks'}`]].map((one) => one.toLocaleString('en')));
-  panel.append(table('How full it is', ['', 'All', 'Used', 'Free'], rows), table('The super-block', [], ['isize', 'fsize', 'nfree', 'ninode', 'flock', 'ilock', 'fmod', 'ronly', 'time']
-    .map((name) => [name, name === 'time' ? time(it.time) : String(it[name])])), el('p', {}, link('its bytes', () => go('bytes', { block: 1, byte: 512 }))),
-  el('details', {}, el('summary', {}, `i-numbers kept as free: ${it.inode.length}`), el('p', { className: 'code' }, it.inode.flatMap((one) => [link(String(one), () => go('inode', { inode: one })), ' ']))));
-  panel.append(await freeList());
+  const uses = [['blocks', 'free blocks'], ['data blocks', 'free blocks'], ['i-nodes', 'free i-nodes']];
+  const rows = uses.map(([all, free]) => [all, ...[use[all], use[`used ${all}`], use[free]].map((one) => one.toLocaleString('en'))]);
+  const inodes = it.inode.flatMap((one) => [link(String(one), () => go('inode', { inode: one })), ' ']);
+  panel.append(
+    table('How full it is', ['', 'All', 'Used', 'Free'], rows),
+    table('The super-block', [], SUPER.map((name) => [name, name === 'time' ? time(it.time) : String(it[name])])),
+    el('p', {}, link('its bytes', () => go('bytes', { block: 1, byte: 512 }))),
+    el('details', {}, el('summary', {}, `i-numbers kept as free: ${it.inode.length}`), el('p', { className: 'code' }, inodes)),
+    await freeList(),
+  );
 }
 
 async function freeList() {
@@ -110,8 +147,13 @@ async function freeList() {
   return box;
 }
 
-const freeLink = ({ block, free, nfree }) => el('div', { className: 'free' }, el('b', {}, block === 1 ? 'super-block' : link(`block ${block}`, () => go('bytes', { block }))), ` nfree ${nfree}: `,
-  el('span', { className: 'code' }, free.flatMap((one, k) => [k === 0 ? el('span', { title: 'the next link of the chain' }, '→ ', numberLink(one)) : numberLink(one), ' '])));
+/** A link of the free list: its block, and the numbers in it. The first leads to the next link. */
+function freeLink({ block, free, nfree }) {
+  const [next, ...others] = free.map(numberLink);
+  const place = block === 1 ? 'super-block' : link(`block ${block}`, () => go('bytes', { block }));
+  const numbers = el('span', { className: 'code' }, el('span', { title: 'the next link of the chain' }, '→ ', next ?? ''), others.flatMap((it) => [' ', it]));
+  return el('div', { className: 'free' }, el('b', {}, place), ` nfree ${nfree}: `, numbers);
+}
 
 const numberLink = (one) => (one === 0 ? '0' : link(String(one), () => go('bytes', { block: one })));
 
@@ -123,15 +165,18 @@ export async function showFind(panel) {
     state.pattern = input.value;
     const ended = await run(['find', ...at(), '--name', input.value], { limit: 1 << 22 });
     const paths = (ended.text ?? '').split('\n').filter(Boolean);
-    found.replaceChildren(el('p', {}, counted(paths.length, 'path')), el('ul', { className: 'code', id: 'found' }, paths.slice(0, 2000).map((path) => el('li', {}, link(path, () => reveal(escaped(path)).then(() => go('file')))))),
-      paths.length > 2000 ? el('p', {}, 'The first 2,000 are shown.') : '', ended.error ? el('pre', { className: 'bad' }, ended.error) : '');
+    const list = paths.slice(0, SHOWN).map((path) => el('li', {}, link(path, () => shows(escaped(path)))));
+    fill(clear(found), el('p', {}, counted(paths.length, 'path'), paths.length > SHOWN ? `, of which the first ${SHOWN} are shown` : ''),
+      el('ul', { className: 'code', id: 'found' }, list), ended.error ? el('pre', { className: 'bad' }, ended.error) : '');
   };
   const sums = async () => {
     const name = `${state.image.name}.sums`;
     const ended = await run(['sums', ...at()], { into: name });
-    found.replaceChildren(el('p', {}, button('Download the manifest', () => save(name, new Blob([ended.output])))), printed({ text: ended.text.slice(0, 1 << 18), error: ended.error }));
+    found.replaceChildren(el('p', {}, button('Download the manifest', () => save(name, new Blob([ended.output])))),
+      printed({ text: ended.text.slice(0, 1 << 18), error: ended.error }));
   };
-  panel.append(el('h2', {}, 'Find'), el('form', { className: 'row', onsubmit: doing(find) }, el('label', { htmlFor: 'pattern' }, 'Names like'), input, el('button', { type: 'submit' }, 'Find'),
+  panel.append(el('h2', {}, 'Find'), el('form', { className: 'row', onsubmit: doing(find) }, el('label', { htmlFor: 'pattern' }, 'Names like'), input,
+    el('button', { type: 'submit' }, 'Find'),
     button('SHA-256 of every file', sums, { id: 'sums' })), el('p', { className: 'dim' }, 'A * stands for any bytes or none, a ? for one byte.'), found);
 }
 

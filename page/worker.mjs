@@ -98,7 +98,8 @@ function runs({ id, args, stdin, limit = Infinity, asBlob = false }) {
   return { status, cut, blob, length: output.length, asBlob, errors: new Blob(output.errors), ms: performance.now() - begun, changes: changes(before) };
 }
 
-/** Makes a file whose bytes are those of `blob`, with changes made to it. Returns a copy that stays even if a file on the disk changes, if that is asked for. */
+/** Makes a file whose bytes are those of `blob`, with changes made to it. Returns a copy that stays even if a file on the disk changes,
+  if that is asked for. */
 async function add({ name, blob, ranges = [], size = blob.size, isKept = false }) {
   files.delete(name);
   let bytes = new Uint8Array(await blob.arrayBuffer());

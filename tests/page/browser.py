@@ -10,7 +10,10 @@ import tempfile
 import time
 
 NAMES = "chromium", "chromium-browser", "google-chrome"
-FLAGS = "--headless", "--disable-gpu", "--disable-dev-shm-usage", "--no-first-run", "--disable-background-networking", "--disable-component-update", "--remote-debugging-pipe"
+FLAGS = [
+    "--headless", "--disable-gpu", "--disable-dev-shm-usage", "--no-first-run", "--disable-background-networking", "--disable-component-update",
+    "--remote-debugging-pipe",
+]
 
 
 def find_chromium():

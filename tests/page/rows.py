@@ -1,8 +1,8 @@
 #!/usr/bin/env python3
 """Drives the page in headless Chromium, and compares what it shows and saves with what the native program prints and writes.
 
-Usage: rows.py PAGE.html PROGRAM [NAME..]. NAME is the end of a `check_` function here; by default, all run. It prints
-a line for each row that fails, and ends with 'N passed, N failed'. Without Chromium it says so, and nothing is run.
+Usage: rows.py PROGRAM [NAME..]. PAGE names the page, if it isn't page/out/unixvol.html. NAME is the end of a `check_` function here; by default,
+all run. It prints a line for each row that fails, and ends with 'N passed, N failed'. Without Chromium it says so, and nothing is run.
 """
 import glob
 import os
@@ -53,7 +53,7 @@ class Page(Browser):
 
     def button(self, words):
         """Clicks the button with these words."""
-        self.js(f"const it = [...document.querySelectorAll('button')].find((one) => one.textContent === {words!r}); if (!it) throw new Error('no button ' + {words!r}); it.click()")
+        self.js(f"[...document.querySelectorAll('button')].find((it) => it.textContent === {words!r}).click()")
 
     def tab(self, name, seconds=60):
         self.click(f"#tab-{name}")
@@ -77,6 +77,10 @@ class Page(Browser):
         self.tab("lessons")
         self.click(f"[data-lesson='{name}']")
         self.shows("check")
+
+    def paths(self):
+        """The paths that the tree shows."""
+        return self.js("return [...document.querySelectorAll('[role=treeitem]')].map((it) => it.dataset.path)")
 
     def select(self, path):
         self.click(f"[data-path='{path}'] > .line")
@@ -140,8 +144,7 @@ def check_open(page, native):
     """Opening, and the tree."""
     page.open(LINUX_MADE)
     has("the state of a sound image", "240 blocks, 198 free; ✓ sound", page.text("#state"))
-    items = page.js("return [...document.querySelectorAll('[role=treeitem]')].map((it) => it.dataset.path).filter((it) => it !== '/')")
-    has("the paths in the tree", sorted(native.out("find", 7, LINUX_MADE).splitlines()), sorted(items))
+    has("the paths in the tree", sorted(["/", *native.out("find", 7, LINUX_MADE).splitlines()]), sorted(page.paths()))
     line = page.js("return [...document.querySelector('[data-path=\"/etc/passwd\"] > .line').children].map((it) => it.textContent)")
     has("a line of the tree", [" passwd", "-rw-------", "0 0", "47", "2026-11-23 20:52:57"], line)
     page.select("/etc/passwd")
@@ -156,16 +159,31 @@ def check_open(page, native):
     has("a tree that is saved", native.run("export", 7, LINUX_MADE).stdout, page.download("linux_made.v7.tar"))
 
 
+# Clicks the middle of the square of `block`.
+CLICK_SQUARE = """
+    document.getElementById('block-use').replaceChildren();
+    const map = document.querySelector('.map');
+    const box = map.getBoundingClientRect();
+    const columns = map.viewBox.baseVal.width / 12;
+    const side = box.width / columns;
+    const [x, y] = [block % columns, Math.floor(block / columns)].map((it) => (it + 0.5) * side);
+    map.dispatchEvent(new MouseEvent('click', { clientX: box.left + x, clientY: box.top + y }));
+"""
+
+
 def check_views(page, native):
     """The map, an i-node, a block, the free list, find and the manifest."""
     page.open(LINUX_MADE)
     page.select("/etc/passwd")
     page.tab("map")
-    letters = page.js("return [...document.querySelectorAll('.map rect[class^=u-]')].map((it) => it.getAttribute('class').slice(2)).join('')")
+    letters = page.js("""const squares = [];
+        const columns = document.querySelector('.map').viewBox.baseVal.width / 12;
+        for (const it of document.querySelectorAll('.map path[class^=u-]'))
+            for (const [, x, y] of it.getAttribute('d').matchAll(/M([0-9]+) ([0-9]+)/g)) squares[y / 12 * columns + x / 12] = it.getAttribute('class').slice(2);
+        return squares.join('')""")
     has("the squares of the map", "".join(native.out("map", 7, LINUX_MADE).split("\n\n")[1].split()), letters)
     for block in 0, 1, 2, 32, 239:
-        page.js(f"document.getElementById('block-use').replaceChildren(); const it = document.querySelector('.map'), box = it.getBoundingClientRect(), one = box.width / (it.viewBox.baseVal.width / 12), row = it.viewBox.baseVal.width / 12;"
-                f"it.dispatchEvent(new MouseEvent('click', {{ clientX: box.left + ({block} % row + .5) * one, clientY: box.top + (Math.floor({block} / row) + .5) * one }}))")
+        page.js(f"const block = {block}; {CLICK_SQUARE}")
         page.wait("document.querySelector('#block-use pre')")
         has(f"the use of block {block}", native.out("block", 7, LINUX_MADE, block).strip(), page.text("#block-use pre"))
     page.tab("inode")
@@ -195,7 +213,8 @@ def check_lessons(page, _):
         shown_rows = [f"{rule} {requires}: {re.sub(r' [(](holds|broken|not checked)[)]$', '', said)[2:]}" for rule, requires, said in rows]
         has(f"the check of {name}", wanted, shown_rows)
         broken = [it for it in wanted if not it.endswith((": holds", ": not asked"))]
-        has(f"{name}: what is broken is said at the top", True, broken[0].split(" ", 1)[1] in page.text("#state") if broken else "✓ sound" in page.text("#state"))
+        said = broken[0].split(" ", 1)[1] if broken else "✓ sound"
+        has(f"{name}: what is broken is said at the top", True, said in page.text("#state"))
 
 
 def check_ten_steps(page, _):
@@ -215,7 +234,10 @@ def check_changes(page, native):
     shutil.copy(LINUX_MADE, native.path("work.v7"))
     page.open(native.path("work.v7"))
     letter = native.write("letter", b"Dear Ken,\n" * 300)
-    lines = ["mkdir 7 work.v7 /new 1000", "ln 7 work.v7 /etc/motd /new/motd 1001", "chmod 7 work.v7 /new 0700 1002", "rm -r 7 work.v7 /usr/games 1003", "mv 7 work.v7 /etc/passwd /new/p 1004"]
+    lines = [
+        "mkdir 7 work.v7 /new 1000", "ln 7 work.v7 /etc/motd /new/motd 1001", "chmod 7 work.v7 /new 0700 1002", "rm -r 7 work.v7 /usr/games 1003",
+        "mv 7 work.v7 /etc/passwd /new/p 1004",
+    ]
     for line in lines:
         has(f"the page's {line}", native.out(*line.split()), page.types(line))
     changed = native.bytes("work.v7")
@@ -261,7 +283,7 @@ def check_buttons(page, native, letter):
     page.answers()
     page.says("/new/sub was removed")
     native.write("buttons.v7", page.image("work.v7"))
-    has("a tree that was removed", "/new\n/new/motd\n/new/p\n", "".join(f"{it}\n" for it in native.out("find", 7, "buttons.v7").splitlines() if it.startswith("/new")))
+    has("a tree that was removed", ["/new/motd", "/new/p"], native.out("find", 7, "buttons.v7", "/new").splitlines())
 
 
 def check_new(page, native):
@@ -292,7 +314,8 @@ def check_bytes(page, _):
     has("what a byte is", "Byte 1410 is 02, octal 002: i-node 7: links, byte 0 of 2", page.text("#byte-is"))
     page.js("document.getElementById('new-byte').value = '01'; document.querySelector('#byte form').requestSubmit()")
     page.wait("document.querySelector('#broke .bad')")
-    has("the rule that it breaks", "✗ Rule 12 breaks: each link count is the number of entries: a wrong link count: i-node 7, entries 2, links 1", page.text("#broke .bad"))
+    broken = "✗ Rule 12 breaks: each link count is the number of entries: a wrong link count: i-node 7, entries 2, links 1"
+    has("the rule that it breaks", broken, page.text("#broke .bad"))
     with open(f"{LESSONS}/rule_12.v7", "rb") as wanted:
         has("the image with this byte", wanted.read(), page.image(page.js("return document.getElementById('image').value")))
     page.click("#undo-last")
@@ -302,12 +325,12 @@ def check_bytes(page, _):
 def check_damaged(page, _):
     """What can be read of a damaged image is shown, and nothing is put into it."""
     page.lesson("rule_12.v7")
-    has("the tree of a damaged image", ["/", "/etc", "/etc/motd", "/usr", "/usr/letter", "/welcome"], page.js("return [...document.querySelectorAll('[role=treeitem]')].map((it) => it.dataset.path)"))
+    has("the tree of a damaged image", ["/", "/etc", "/etc/motd", "/usr", "/usr/letter", "/welcome"], page.paths())
     page.select("/welcome")
     has("a file of a damaged image", "hello, disk\n", page.text("#bytes-of-file"))
     has("what changes it is off", [True] * 3, page.js("return ['put-files', 'import-tar', 'rm'].map((it) => document.getElementById(it).disabled)"))
     page.lesson("rule_01.v7")
-    has("the tree of a cut image", ["/"], page.js("return [...document.querySelectorAll('[role=treeitem]')].map((it) => it.dataset.path)"))
+    has("the tree of a cut image", ["/"], page.paths())
     page.lesson("rule_08.v7")
     page.click("#salvage")
     page.answers()
@@ -361,8 +384,11 @@ def check_keys(page, _):
     page.press("Enter", text="\r")
     page.wait("document.querySelector('#block-use pre')")
     has("Enter shows the use", "block 1: super-block", page.text("#block-use pre"))
-    names = page.js("return [...document.querySelectorAll('button, input, select, [role=tab], [role=treeitem]')].filter((it) => !(it.ariaLabel || it.textContent.trim() || it.labels?.length || it.getAttribute('aria-labelledby'))).map((it) => it.outerHTML)")
-    has("what has no name for a screen reader", [], names)
+    nameless = """return [...document.querySelectorAll('button, input, select, [role=tab], [role=treeitem]')]
+        .filter((it) => !(it.ariaLabel || it.textContent.trim() || it.labels?.length)).map((it) => it.outerHTML)"""
+    for tab in page.js("return [...document.querySelectorAll('[role=tab]')].map((it) => it.id.slice(4))"):
+        page.tab(tab)
+        has(f"{tab}: what has no name for a screen reader", [], page.js(nameless))
 
 
 def sparse(native, name, size):
@@ -417,14 +443,20 @@ def check_quiet(page, _):
     has("a request of the page", "TypeError", blocked)
 
 
-ROWS = check_open, check_views, check_lessons, check_ten_steps, check_changes, check_new, check_bytes, check_damaged, check_several, check_keys, check_bounds, check_large, check_quiet
+ROWS = [
+    check_open, check_views, check_lessons, check_ten_steps, check_changes, check_new, check_bytes, check_damaged, check_several, check_keys, check_bounds,
+    check_large, check_quiet,
+]
 
 
 def main():
-    path, program, *names = sys.argv[1:]
+    program, *names = sys.argv[1:]
+    path = os.environ.get("PAGE", os.path.join(TOP, "page/out/unixvol.html"))
     if not find_chromium():
         print("skipped: no Chromium is here (Debian's chromium): the page in a browser")
         return 0
+    if not os.path.exists(path):
+        sys.exit(f"{path} is not here; `make page` builds it")
     native = Native(program)
     page = Page(path)
     try:

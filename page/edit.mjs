@@ -1,6 +1,6 @@
 // What changes a volume: files put in, directories made, names removed, and the archives that go in and out.
 import { Stopped, asks, chooseFiles, counted, save, say } from './dom.mjs';
-import { addFile, at, open, removeFile, run, state } from './shelf.mjs';
+import { addFile, at, choose, open, removeFile, run, state } from './shelf.mjs';
 import { reveal } from './tree.mjs';
 
 const ASKED = 1 << 28; // bytes of an archive after which the page asks
@@ -24,14 +24,22 @@ export async function putFiles(list, directory) {
   if (!state.image.isSound) return say('Only a sound volume is changed: nothing was put into it.', true);
   const names = [];
   for (const it of list) names.push([it.name, await addFile(it.name, it)]);
-  let count = 0;
-  for (const [name, outside] of names) {
-    if (await changes(['put', ...at(), join(directory.word, name), outside], `${name} is in the volume.`)) count++;
-    else break;
-  }
+  const count = await putNamed(names, directory);
   for (const [, outside] of names) await removeFile(outside);
-  if (count > 1) say(`${counted(count, 'file')} of ${list.length} put into ${directory.path}.`);
+  if (count > 1) say(`${counted(count, 'file')} put into ${directory.path}.`);
   if (count) await reveal(join(directory.path, names[count - 1][0].slice(0, 14)));
+}
+
+/** Puts files by one command, if they have their names outside too, else one by one. Returns how many went in. */
+async function putNamed(names, directory) {
+  if (names.length > 1 && names.every(([name, outside]) => name === outside)) {
+    const isDone = await changes(['put', ...at(), '-t', directory.word, ...names.map(([name]) => name)], '');
+    return isDone ? names.length : 0;
+  }
+  for (const [k, [name, outside]] of names.entries()) {
+    if (!(await changes(['put', ...at(), join(directory.word, name), outside], `${name} is in the volume.`))) return k;
+  }
+  return names.length;
 }
 
 export async function makeDirectory(directory) {
@@ -114,22 +122,29 @@ export async function salvage() {
   if (given) await changes(['salvage', ...at()], 'The free list was rebuilt.');
 }
 
-/** Opens what is inside another file: a volume in a pack, one with bytes exchanged, or one that is packed by gzip. */
-export const inside = (image) => {
+/** What is inside a file that is no volume itself: a volume in a pack, one with bytes exchanged, or one that is packed by gzip. */
+export function inside(image) {
   const pack = /^looks like a larger pack: at block (\d+) begins .*edition (\d), with (\d+) blocks/.exec(image.said);
   if (pack) {
-    const [, block, edition, blocks] = pack.map(Number);
-    return { label: `Open the volume of edition ${edition} at block ${block}`, open: () =>
-      open(`${image.name}.${block}`, image.source.slice(512 * block, 512 * (block + blocks)), String(edition)) };
+    const [block, edition, blocks] = pack.slice(1).map(Number);
+    const cut = () => image.source.slice(512 * block, 512 * (block + blocks));
+    return { label: `Open the volume of edition ${edition} at block ${block}`, open: () => opens(`${image.name}.${block}`, cut(), String(edition)) };
   }
-  if (image.said.includes('each pair of bytes exchanged')) return { label: 'Exchange each pair of bytes, and open that', open: async () =>
-    open(`swapped_${image.name}`, await swapped(image.source)) };
+  if (image.said.includes('each pair of bytes exchanged')) {
+    return { label: 'Exchange each pair of bytes, and open that', open: async () => opens(`swapped_${image.name}`, await swapped(image.source)) };
+  }
   if (image.said.includes('packed by gzip')) {
-    return { label: 'Unpack it, and open that', open: async () => open(image.name.replace(/\.gz$/, ''),
-      await new Response(image.source.stream().pipeThrough(new DecompressionStream('gzip'))).blob()) };
+    return { label: 'Unpack it, and open that', open: async () => opens(image.name.replace(/\.gz$/, ''), await unpacked(image.source)) };
   }
   return null;
-};
+}
+
+async function opens(name, blob, edition) {
+  const image = await open(name, blob, edition);
+  if (image) await choose(image);
+}
+
+const unpacked = (blob) => new Response(blob.stream().pipeThrough(new DecompressionStream('gzip'))).blob();
 
 async function swapped(blob) {
   const bytes = new Uint8Array(await blob.arrayBuffer());

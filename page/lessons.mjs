@@ -1,6 +1,6 @@
 // The lessons: the ten steps of docs/LESSON.md, whose commands run here, and a broken volume for each rule.
 import { $, button, el, say } from './dom.mjs';
-import { go, open, removeFile, state } from './shelf.mjs';
+import { choose, go, open, removeFile, state } from './shelf.mjs';
 import { runLine } from './shell.mjs';
 import { lines } from './views.mjs';
 
@@ -69,6 +69,7 @@ async function openLesson(name) {
   const [base64, text] = lessons().images[name];
   const image = await open(name, new Blob([bytesOf(base64)]), name.endsWith('6') ? '6' : '7');
   image.lesson = text;
+  await choose(image);
   await go('check');
 }
 

@@ -53,6 +53,7 @@ async function render() {
     if (isChosen) it.scrollIntoView({ block: 'nearest', inline: 'nearest' });
   }
   const shown = el('div', { className: 'shown' });
+  const focused = $('panel').contains(document.activeElement) ? document.activeElement.id : '';
   $('panel').setAttribute('aria-labelledby', `tab-${state.tab}`);
   $('panel').replaceChildren(shown);
   $('panel').dataset.shown = '';
@@ -60,7 +61,9 @@ async function render() {
   else if (tab.needs === 'volume' && !state.image.isReadable) shown.append(el('p', { className: 'bad' },
     `${state.image.name} can't be read as a volume of edition ${state.image.edition}. Check says more, and Bytes shows what is there.`));
   else await tab.show(shown);
-  if ($('panel').firstChild === shown) $('panel').dataset.shown = state.tab;
+  if ($('panel').firstChild !== shown) return;
+  $('panel').dataset.shown = state.tab;
+  if (focused && document.activeElement === document.body) $(focused)?.focus();
 }
 
 /** Shows which image is open, and at once what is broken. */
@@ -76,13 +79,19 @@ function showHead() {
   $('state').className = image.isSound ? 'good' : 'bad';
   $('state').textContent = image.isSound ? `${use}✓ sound` : `${use}✗ ${verdict(image)}. ${what}`;
   $('undo-last').disabled = !image.done.length;
+  $('save').textContent = image.isChanged ? 'Download changed image' : 'Download image';
   $('salvage').hidden = !image.broken.length || image.broken.some((it) => it.rule !== 6 && it.rule !== 8);
   for (const id of ['import-tar', 'put-files']) $(id).disabled = !image.isSound;
   $('export-tar').disabled = !image.isReadable;
 }
 
 async function openFiles(list) {
-  for (const file of list) await open(file.name, file);
+  let last = null;
+  for (const [k, file] of list.entries()) {
+    if (list.length > 1) say(`Opening ${k + 1} of ${list.length}: ${file.name}`);
+    last = (await open(file.name, file)) ?? last;
+  }
+  if (last) await choose(last);
   if (list.length) await go(list.length > 1 ? 'images' : state.tab === 'lessons' || state.tab === 'images' ? 'check' : state.tab);
 }
 
@@ -108,12 +117,20 @@ function makeButtons() {
   clicked('put-files', async () => putFiles(await chooseFiles(), await here()));
   clicked('undo-last', () => undo(state.image));
   clicked('salvage', salvage);
-  clicked('copy', async () => {
-    await navigator.clipboard.writeText($('last').textContent);
-    say('The command was copied.');
-  });
+  clicked('copy', copyCommand);
   $('image').addEventListener('change', doing(() => choose(state.images.find((it) => it.name === $('image').value))));
   $('edition').addEventListener('change', doing(() => setEdition(state.image, $('edition').value)));
+}
+
+/** Copies the last command; where a page may not, selects it. */
+async function copyCommand() {
+  try {
+    await navigator.clipboard.writeText($('last').textContent);
+    say('The command was copied.');
+  } catch {
+    getSelection().selectAllChildren($('last'));
+    say('The command is selected: copy it by Ctrl-C.');
+  }
 }
 
 /** Files that are dropped on the tree go into the volume; elsewhere they are opened. */
@@ -170,4 +187,5 @@ async function begin() {
 }
 
 does(begin);
+addEventListener('beforeunload', (event) => state.images.some((it) => it.isChanged) && event.preventDefault());
 addEventListener('unhandledrejection', (event) => doing(() => Promise.reject(event.reason))(event));

@@ -49,8 +49,7 @@ const weight = (change) => change.ranges.reduce((sum, it) => sum + it.old.length
 
 async function noteChange(image, change) {
   image.done.push(change);
-  image.undone = [];
-  image.size = change.after;
+  Object.assign(image, { undone: [], size: change.after, isChanged: true });
   if (image.done.reduce((sum, it) => sum + weight(it), 0) > KEPT) {
     Object.assign(image, { source: (await ask('whole', { name: image.name })).blob, done: [] });
     say('The changes so far are too large to be undone.');
@@ -60,7 +59,7 @@ async function noteChange(image, change) {
 }
 
 async function replace(image, blob) {
-  Object.assign(image, { source: blob, size: blob.size, done: [], undone: [] });
+  Object.assign(image, { source: blob, size: blob.size, done: [], undone: [], isChanged: true });
   await inspect(image);
   await tell('bytes');
 }
@@ -70,7 +69,7 @@ async function keepFile(name, blob) {
   const image = newImage(name, blob);
   await inspect(image);
   if (image.isVolume) {
-    state.images.push(image);
+    state.images.push(Object.assign(image, { isChanged: true }));
     await choose(image);
   } else {
     state.files = [...state.files.filter((it) => it.name !== name), { name, blob }];
@@ -106,7 +105,7 @@ function freshName(name) {
   for (let k = 2; ; k++) if (!isTaken(`${k}_${tidy}`)) return `${k}_${tidy}`;
 }
 
-/** Opens an image; returns it. */
+/** Opens an image; returns it, or null if it is too large. The caller chooses it. */
 export async function open(name, blob, edition) {
   if (blob.size > LARGEST) {
     say(`${name} has more than 512 MB, which this page doesn't take. The program on your own machine does.`, true);
@@ -116,7 +115,6 @@ export async function open(name, blob, edition) {
   image.source = (await ask('add', { name: image.name, blob, isKept: true }, `reading ${name}`)).blob;
   state.images.push(image);
   await inspect(image, edition);
-  await choose(image);
   return image;
 }
 
@@ -181,7 +179,7 @@ export async function undo(image, isAgain = false) {
   if (!change) return;
   const size = isAgain ? change.after : change.before;
   await ask('patch', { name: image.name, size, ranges: change.ranges.map((it) => ({ at: it.at, bytes: isAgain ? it.now : it.old })) });
-  image.size = size;
+  Object.assign(image, { size, isChanged: true });
   to.push(change);
   await judge(image);
   await tell('bytes');

@@ -2,7 +2,7 @@
 import { $, Stopped, button, counted, doing, el, link, save, say, table } from './dom.mjs';
 import { importArchive, inside } from './edit.mjs';
 import { log } from './engine.mjs';
-import { choose, go, removeFile, state, undo, wholeImage } from './shelf.mjs';
+import { choose, go, removeFile, state, tell, undo, wholeImage } from './shelf.mjs';
 import { runLine } from './shell.mjs';
 import { lines } from './views.mjs';
 
@@ -93,6 +93,8 @@ export async function showChanges(panel) {
 
 export async function saveImage(image) {
   save(image.name, await wholeImage(image));
+  image.isChanged = false;
+  await tell('images');
   say(`${image.name} was saved as a download.`);
 }
 

@@ -67,9 +67,16 @@ export async function showTree() {
   image.opened ??= new Set(root.all.size <= FEW ? root.all.keys() : ['/']);
   const list = el('ul', { role: 'tree', 'aria-label': `files of ${image.name}`, onkeydown: keys }, item(root, 1, image.opened));
   list.querySelector('[role=treeitem]').tabIndex = 0;
+  const focused = box.contains(document.activeElement) ? document.activeElement.dataset.path : null;
   box.replaceChildren(list);
-  if (state.entry) mark(root.all.get(state.entry.path) ? state.entry.path : '/');
+  if (state.entry) {
+    state.entry = root.all.get(state.entry.path) ?? root;
+    mark(state.entry.path);
+  }
+  if (focused) focus(itemOf(focused) ?? itemOf('/'));
 }
+
+const itemOf = (path) => [...$('tree').querySelectorAll('[role=treeitem]')].find((it) => it.dataset.path === path);
 
 function item(node, level, opened) {
   const { kids } = node;
@@ -128,7 +135,7 @@ function focus(it) {
 
 function mark(path) {
   for (const old of $('tree').querySelectorAll('[aria-selected=true]')) old.setAttribute('aria-selected', 'false');
-  const it = [...$('tree').querySelectorAll('[role=treeitem]')].find((one) => one.dataset.path === path);
+  const it = itemOf(path);
   it?.setAttribute('aria-selected', 'true');
   return it;
 }

@@ -279,6 +279,12 @@ def check_buttons(page, native, letter):
     has("the file, as the native program reads it", "Dear Ken,\n" * 300, native.out("get", 7, "buttons.v7", "/new/sub/dear"))
     has("its permissions", "-rw-------", native.out("ls", "-l", 7, "buttons.v7", "/new/sub/dear").split()[1])
     page.select("/new/sub")
+    others = [native.write(name, name.encode()) for name in ("one", "two", "three")]
+    page.choose_files("document.getElementById('put').click()", others)
+    page.says("3 files put into /new/sub")
+    native.write("buttons.v7", page.image("work.v7"))
+    has("three files that were put in", ["/new/sub/dear", "/new/sub/one", "/new/sub/three", "/new/sub/two"], native.out("find", 7, "buttons.v7", "/new/sub").split())
+    page.select("/new/sub")
     page.click("#rm")
     page.answers()
     page.says("/new/sub was removed")

@@ -3,7 +3,7 @@ import { say } from './dom.mjs';
 import { ask, renew, runs, shellWords } from './engine.mjs';
 
 export const LARGEST = 512 * 1048576;
-const LARGE = 16 * 1048576;
+const LARGE = 16 * 1048576; // from here on an image isn't kept twice, and its memory is given back at once
 const KEPT = 256 * 1048576; // bytes of changes that can be undone
 export const state = { images: [], files: [], image: null, entry: null, inode: 2, block: 1, tab: 'lessons' };
 const listeners = new Map();
@@ -112,7 +112,7 @@ export async function open(name, blob, edition) {
     return null;
   }
   const image = newImage(freshName(name), blob);
-  image.source = (await ask('add', { name: image.name, blob, isKept: true }, `reading ${name}`)).blob;
+  image.source = (await ask('add', { name: image.name, blob, isKept: blob.size <= LARGE }, `reading ${name}`)).blob ?? blob;
   state.images.push(image);
   await inspect(image, edition);
   return image;
@@ -196,11 +196,18 @@ export async function poke(image, from, bytes, line) {
   await noteChange(image, { line, ranges: [{ at: start, old, now }], before: image.size, after: image.size });
 }
 
-/** Gives a new worker all files. */
+/** Gives a new worker all files. A large image is read again; if its file on the disk is another by now, it is closed. */
 export async function refill() {
-  for (const { name, source, done, size } of state.images) await ask('add', { name, blob: source, ranges: done.flatMap((it) => it.ranges), size });
+  for (const { name, source, done, size } of [...state.images]) {
+    try {
+      await ask('add', { name, blob: source, ranges: done.flatMap((it) => it.ranges), size });
+    } catch {
+      await drop(name);
+      say(`${name} was closed: its file on the disk was changed or removed, and so it could not be read again.`, true);
+    }
+  }
   for (const { name, blob } of state.files) await ask('add', { name, blob });
 }
 
 /** Returns the image's bytes, as they are now, as a Blob. */
-export const wholeImage = async (image) => (image.done.length ? (await ask('whole', { name: image.name })).blob : image.source);
+export const wholeImage = async (image) => (await ask('whole', { name: image.name })).blob;

@@ -39,7 +39,8 @@ class Page(Browser):
 
     def __init__(self, path, **more):
         super().__init__(**more)
-        self.go(f"file://{os.path.realpath(path)}")
+        self.path = os.path.realpath(path)
+        self.go(f"file://{self.path}")
         self.wait("document.body.dataset.ready")
 
     def click(self, selector):
@@ -283,13 +284,40 @@ def check_buttons(page, native, letter):
     page.choose_files("document.getElementById('put').click()", others)
     page.says("3 files put into /new/sub")
     native.write("buttons.v7", page.image("work.v7"))
-    has("three files that were put in", ["/new/sub/dear", "/new/sub/one", "/new/sub/three", "/new/sub/two"], native.out("find", 7, "buttons.v7", "/new/sub").split())
+    names = [os.path.basename(it) for it in native.out("find", 7, "buttons.v7", "/new/sub").split()]
+    has("three files that were put in", ["dear", "one", "three", "two"], names)
     page.select("/new/sub")
     page.click("#rm")
     page.answers()
     page.says("/new/sub was removed")
     native.write("buttons.v7", page.image("work.v7"))
     has("a tree that was removed", ["/new/motd", "/new/p"], native.out("find", 7, "buttons.v7", "/new").splitlines())
+
+
+def check_scripts(page, native):
+    """Two scripts of calls, that the command line writes and plays, and their receipts."""
+    shutil.copy(f"{LESSONS}/sound.v7", native.path("played.v7"))
+    page.open(native.path("played.v7"))
+    scripts = {"first": "1000 0 0 mkdir /a 755\n1001 0 0 create /a/b 644\n", "second": "1002 0 0 stat /etc/motd\n1003 0 0 unlink /none\n"}
+    for name, text in scripts.items():
+        native.write(name, text.encode())
+        page.types(f"printf '{text}' > {name}".replace("\n", "\\n"))
+    wanted = native.out("play", "--journal", 7, "played.v7", "first", "second")
+    has("the receipts", sorted(wanted.splitlines()), sorted(page.types("play --journal 7 played.v7 first second").splitlines()))
+    has("the image after two scripts", native.bytes("played.v7"), page.image("played.v7"))
+    has("a line that can't be read", "this line cannot be read: a quote or a name is missing\n", page.types("ls 7 'played.v7"))
+    has("a pipe", native.out("ls", 7, "played.v7").splitlines()[-1] + "\n", page.types("ls 7 played.v7 | tail -n 1"))
+
+
+def check_packed(page, _):
+    """The page is what pack.py makes of these files, byte for byte."""
+    module = os.path.join(os.path.dirname(page.path), "unixvol.wasm")
+    if not os.path.exists(module):
+        return
+    again = os.path.join(page.room, "again.html")
+    subprocess.run([sys.executable, os.path.join(TOP, "page/pack.py"), module, again], check=True)
+    with open(page.path, "rb") as one, open(again, "rb") as other:
+        has("the page, packed again", True, one.read() == other.read())
 
 
 def check_new(page, native):
@@ -450,8 +478,8 @@ def check_quiet(page, _):
 
 
 ROWS = [
-    check_open, check_views, check_lessons, check_ten_steps, check_changes, check_new, check_bytes, check_damaged, check_several, check_keys, check_bounds,
-    check_large, check_quiet,
+    check_packed, check_open, check_views, check_lessons, check_ten_steps, check_changes, check_scripts, check_new, check_bytes, check_damaged, check_several,
+    check_keys, check_bounds, check_large, check_quiet,
 ]
 
 

@@ -173,6 +173,7 @@ async function begin() {
   $('version').textContent = (await unixvol('--version')).text.trim();
   on('images', showHead);
   on('images', showTree);
+  on('images', () => state.tab === 'images' && render());
   on('bytes', showHead);
   on('bytes', showTree);
   on('bytes', () => state.tab !== 'lessons' && render());

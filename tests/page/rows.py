@@ -392,6 +392,11 @@ def check_several(page, native):
         page.button(offered[0])
         page.wait("document.getElementById('state').textContent.startsWith('240 blocks')")
         has("the volume within it", True, "✓ sound" in page.text("#state"))
+    page.tab("images")
+    before = page.texts("#images tbody .link")
+    page.click(f"[aria-label='close {before[0]}']")
+    page.rests()
+    has("the images after one is closed", before[1:], page.texts("#images tbody .link"))
 
 
 def check_keys(page, _):

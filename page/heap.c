@@ -1,5 +1,5 @@
-// The heap of the program: the three functions that the toolchain's crate `libc` declares, over the memory of the module, which grows as it is needed. Nothing
-// proves this file.
+// The heap of the program: the functions that the toolchain's crate `libc` declares, over the memory of the module, which grows as it is needed. Nothing proves
+// this file.
 //
 // Memory is a row of chunks, each with its size and that of the chunk before it, so that a freed chunk is joined to free ones beside it. Free chunks are in
 // lists by their size, but for the last one, `top`, which reaches to the end of the memory.
@@ -207,3 +207,11 @@ struct tried rattle_realloc(void *block, uint64_t kept, uint64_t size, uint64_t 
 }
 
 void rattle_dealloc(void *block) { give_back(block); }
+
+// C's own, for what is given to C.
+
+void *malloc(uint64_t size) { return get(size == 0 ? 1 : size); }
+
+void free(void *block) {
+    if (block != NULL) give_back(block);
+}

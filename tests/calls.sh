@@ -164,8 +164,10 @@ refuses 1 'unixvol: 27 TooBig' put 6 volumes/small /f1 great 1
 echo 'unixvol: 27 TooBig' > line
 (ulimit -v 200000; runs_within 20 put 6 volumes/small /f1 /dev/zero 1)
 wants 'put of a file without end' 1 none line
-echo 'unixvol: 27 TooBig: /zero' > line
-(ulimit -v 200000; runs_within 20 put 6 volumes/small -t / /dev/zero none 1)
+mkdir endless
+ln -s /dev/zero endless/f1
+echo 'unixvol: 27 TooBig: /f1' > line
+(ulimit -v 200000; runs_within 20 put 6 volumes/small -t / endless/f1 none 1)
 wants 'put -t of a file without end' 1 none line
 prints none mkfs 6 volumes/special 20 2 0 0 0
 prints none put 6 volumes/special /tty none 1

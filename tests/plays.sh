@@ -53,12 +53,12 @@ wants 'a script without end' 2 none line
 echo 'unixvol: script 2 line 1' > line
 (ulimit -v 100000; runs_within 20 play 6 kept create /dev/zero)
 wants 'a second script without end' 2 none line
-{ yes '1 ' | head -70000 | tr -d '\n' && echo && echo '5 0 0 cut'; } > long_line
+{ yes '1 ' | head -70000 | tr -d '\n'; echo; echo '5 0 0 cut'; } > long_line
 unread 'a long line' 1 1 long_line
 # A first line that may be read once it has ended, and good lines after which a bad one comes, are read to their ends.
-{ printf '5 0 0 create /a' && yes a | head -70000 | tr -d '\n' && echo; } > no_permissions
+{ printf '5 0 0 create /a'; yes a | head -70000 | tr -d '\n'; echo; } > no_permissions
 unread 'a long line that ends too soon' 1 1 no_permissions
-{ yes '5 0 0 cut' | head -7000 && echo x; } > bad_end
+{ yes '5 0 0 cut' | head -7000; echo x; } > bad_end
 unread 'a bad line after many good ones' 1 7001 bad_end
 has 'the rows in lines' 52 "$(grep -c . "$data/lines")"
 

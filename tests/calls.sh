@@ -162,12 +162,12 @@ body great 16777216
 refuses 1 'unixvol: 27 TooBig' put 6 volumes/small /f1 great 1
 # Of a file without end, no more is read than one byte above the greatest size.
 echo 'unixvol: 27 TooBig' > line
-(ulimit -v 200000; runs_within 20 put 6 volumes/small /f1 /dev/zero 1)
+(in_memory 200000 runs_within 20 put 6 volumes/small /f1 /dev/zero 1)
 wants 'put of a file without end' 1 none line
 mkdir endless
 ln -s /dev/zero endless/f1
 echo 'unixvol: 27 TooBig: /f1' > line
-(ulimit -v 200000; runs_within 20 put 6 volumes/small -t / endless/f1 none 1)
+(in_memory 200000 runs_within 20 put 6 volumes/small -t / endless/f1 none 1)
 wants 'put -t of a file without end' 1 none line
 prints none mkfs 6 volumes/special 20 2 0 0 0
 prints none put 6 volumes/special /tty none 1

@@ -88,7 +88,7 @@ alike names ED4101000000000081400014
 for block in 1024 1025 1026; do put names $((512 * block)) "$(printf "0000$(printf %02X $((block - 1023)))04%.0s" {1..128})"; done
 put names $((512 * 1027)) "$(printf '02007800000000000000000000000000%.0s' {1..32})"
 echo 'unixvol: 12 NoMemory' > line
-(ulimit -v 4000000; runs_within 20 ncheck 7 names 1)
+(in_memory 4000000 runs_within 20 ncheck 7 names 1)
 wants 'ncheck of an image that was made to fill the memory' 4 none line
 
 # One for dcheck: 24 of these directories, whose 1.6 billion entries are for the root.

@@ -117,17 +117,17 @@ wants 'check of a volume of the seventh edition as one of the sixth' 1 wanted no
 reported > wanted
 cp new.7 long
 truncate -s 1500M long
-(ulimit -v 100000; runs_within 20 check 7 long)
+(in_memory 100000 runs_within 20 check 7 long)
 wants 'check of a volume in a long file' 0 wanted none
 { echo "2 the sizes are no volume's" && printf '%d not asked\n' {3..12}; } > lines
 { reported && echo 'note: rules 1 and 2 hold for edition 7'; } > wanted
-(ulimit -v 100000; runs_within 20 check 6 long)
+(in_memory 100000 runs_within 20 check 6 long)
 wants 'check of a volume of the seventh edition as one of the sixth, in a long file' 1 wanted none
 "$program" mkfs 6 long 300 2 0 0 1
 truncate -s 1500M long
 { echo '1 the image is too short' && printf '%d not asked\n' {2..12}; } > lines
 { reported && echo 'note: rules 1 and 2 hold for edition 6'; } > wanted
-(ulimit -v 100000; runs_within 60 check 7 long)
+(in_memory 100000 runs_within 60 check 7 long)
 wants 'check of a volume of the sixth edition as one of the seventh, in a long file' 1 wanted none
 rm long
 

@@ -3,6 +3,7 @@
 room=$(mktemp -d)
 trap 'rm -rf "$room"' EXIT
 version=$(sed -n 's/^version = "\(.*\)"$/\1/p' bindings/python/pyproject.toml)
+export ELSEWHERE=yes
 passed=0
 failed=0
 skipped=0

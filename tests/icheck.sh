@@ -73,7 +73,7 @@ for volume in made damaged; do
 done
 truncate -s 400M great_image
 put great_image 512 '03 00 03 00 40 0D' # 200,000 blocks
-(ulimit -v 60000; runs icheck 7 great_image 1)
+(in_memory 60000 runs icheck 7 great_image 1)
 echo 'unixvol: 12 NoMemory' > line
 wants 'icheck in less memory than the image takes' 4 none line
 rm great_image

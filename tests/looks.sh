@@ -160,7 +160,7 @@ put slots.img $((1024 + 64 + 8)) 81400014
 prints wanted ls --slots 7 slots.img /
 # One whose triple indirect block leads to one block of entries everywhere: 8 million lines, none of which is kept.
 shared wide.v7 4
-(ulimit -v 60000; "$program" ls --slots 7 wide.v7 / 2> error; echo $? > status) | awk 'END { print NR ": " $0 }' > output
+(in_memory 60000 "$program" ls --slots 7 wide.v7 / 2> error; echo $? > status) | awk 'END { print NR ": " $0 }' > output
 echo '8388608: 67637539     5 n3' > line
 wants 'the slots of a root that names one block everywhere' 0 line none
 refuses 1 'unixvol: 20 NotDirectory' ls --slots 7 "$linux" /etc/motd

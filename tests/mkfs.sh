@@ -60,7 +60,7 @@ refuses 1 'unixvol: 104 BadId' mkfs 7 volumes/kept 100 2 32768 0 0
 saves 'a file where no volume was made' volumes/kept hello
 refuses 1 'unixvol: bounds' mkfs 6 volumes/none 4 2 0 0 0
 has 'a file where none was made' no "$([ -e volumes/none ] && echo yes || echo no)"
-(ulimit -v 40000; runs mkfs 7 volumes/large 131072 2 0 0 0)
+(in_memory 40000 runs mkfs 7 volumes/large 131072 2 0 0 0)
 wants 'mkfs of 64 MiB in less memory' 0 none none
 has 'the size of a volume that was greater than memory' 67108864 "$(stat -c %s volumes/large)"
 printf '%5d %s\n' 2 . 2 .. > listed

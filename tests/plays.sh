@@ -48,10 +48,10 @@ while IFS=$'\t' read -r status wanted text; do
 done < "$data/lines"
 # A first line that can't be read whatever follows: no more than 65,536 bytes are read. The script may go on without end.
 echo 'unixvol: script 1 line 1' > line
-(ulimit -v 100000; runs_within 20 play 6 kept /dev/zero)
+(in_memory 100000 runs_within 20 play 6 kept /dev/zero)
 wants 'a script without end' 2 none line
 echo 'unixvol: script 2 line 1' > line
-(ulimit -v 100000; runs_within 20 play 6 kept create /dev/zero)
+(in_memory 100000 runs_within 20 play 6 kept create /dev/zero)
 wants 'a second script without end' 2 none line
 { yes '1 ' | head -70000 | tr -d '\n'; echo; echo '5 0 0 cut'; } > long_line
 unread 'a long line' 1 1 long_line

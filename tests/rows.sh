@@ -174,6 +174,13 @@ runs_within() {
     echo $? > status
 }
 
+# in_memory KB COMMAND WORD..: in parentheses, runs a command that may take this many KB of memory. If another program runs the program (tests/elsewhere.sh), there
+# is no limit, since that one takes more.
+in_memory() {
+    [ -n "${ELSEWHERE:-}" ] || ulimit -v "$1"
+    "${@:2}"
+}
+
 # prints FILE WORD..: the program prints exactly the bytes of FILE, with status 0
 prints() {
     local file=$1

@@ -1,6 +1,7 @@
 //! Operations of requests.
 ghost use Rattle.std.specs.Prelude.{◌≡◌, ◌≤◌, true, false, length, Some};
 ghost use Rattle.fuse_words.specs.Requests.{number, struct_size, is_named, is_rename, named, renamed, write_of, fields_of, operation_of};
+ghost use Rattle.fuse_words.specs.declared.operation.Operation.TheVariants as operations;
 
 use crate::attribute_changes::{AttributeChanges, read_changes};
 use crate::name::{Content, Name};
@@ -282,14 +283,7 @@ fn read_fields(opcode: u32, body: &[u8]) -> Operation<'_>
         OPEN => Operation::Open {
             flags: u32_at(body, 0),
         },
-        READ => {
-            let (handle, offset, size) = part(body);
-            Operation::Read {
-                handle,
-                offset,
-                size,
-            }
-        }
+        READ => read_part(body),
         STATFS => Operation::StatFs,
         RELEASE => Operation::Release {
             handle: u64_at(body, 0),
@@ -298,21 +292,9 @@ fn read_fields(opcode: u32, body: &[u8]) -> Operation<'_>
             handle: u64_at(body, 0),
         },
         FLUSH => Operation::Flush,
-        INIT => Operation::Init {
-            major: u32_at(body, 0),
-            minor: u32_at(body, 4),
-            max_readahead: u32_at(body, 8),
-            flags: u32_at(body, 12),
-        },
+        INIT => read_init(body),
         OPENDIR => Operation::OpenDir,
-        READDIR => {
-            let (handle, offset, size) = part(body);
-            Operation::ReadDir {
-                handle,
-                offset,
-                size,
-            }
-        }
+        READDIR => read_directory_part(body),
         RELEASEDIR => Operation::ReleaseDir {
             handle: u64_at(body, 0),
         },
@@ -326,10 +308,39 @@ fn read_fields(opcode: u32, body: &[u8]) -> Operation<'_>
     }
 }
 
-/// Returns the handle, the offset and the size of READ and READDIR (`fuse_read_in`).
-fn part(body: &[u8]) -> (u64, u64, u32)
-    requires { 20 ≤ length body.now }
-    ensures { result ≡ (number 8 0 body.now, number 8 8 body.now, number 4 16 body.now) }
+/// Reads INIT (`fuse_init_in`).
+fn read_init(body: &[u8]) -> Operation<'_>
+    requires { 16 ≤ length body.now }
+    ensures { result ≡ operations.Init (number 4 0 body.now) (number 4 4 body.now) (number 4 8 body.now) (number 4 12 body.now) }
 {
-    (u64_at(body, 0), u64_at(body, 8), u32_at(body, 16))
+    Operation::Init {
+        major: u32_at(body, 0),
+        minor: u32_at(body, 4),
+        max_readahead: u32_at(body, 8),
+        flags: u32_at(body, 12),
+    }
+}
+
+/// Reads READ (`fuse_read_in`).
+fn read_part(body: &[u8]) -> Operation<'_>
+    requires { 20 ≤ length body.now }
+    ensures { result ≡ operations.Read (number 8 0 body.now) (number 8 8 body.now) (number 4 16 body.now) }
+{
+    Operation::Read {
+        handle: u64_at(body, 0),
+        offset: u64_at(body, 8),
+        size: u32_at(body, 16),
+    }
+}
+
+/// Reads READDIR (`fuse_read_in`).
+fn read_directory_part(body: &[u8]) -> Operation<'_>
+    requires { 20 ≤ length body.now }
+    ensures { result ≡ operations.ReadDir (number 8 0 body.now) (number 8 8 body.now) (number 4 16 body.now) }
+{
+    Operation::ReadDir {
+        handle: u64_at(body, 0),
+        offset: u64_at(body, 8),
+        size: u32_at(body, 16),
+    }
 }

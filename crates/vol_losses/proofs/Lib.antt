@@ -1,0 +1,4 @@
+pub mod Agreement
+pub mod LostPaths
+pub mod RangeLists
+pub mod SureNames

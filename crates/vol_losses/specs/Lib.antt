@@ -1,0 +1,4 @@
+pub mod Losses
+pub mod Laws
+pub mod Names
+pub mod Ranges

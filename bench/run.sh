@@ -6,6 +6,8 @@
 # The last column, if a row has it, is that memory divided by two copies of the image and one of the file that is put; for the shared volume, the number of
 # images' worth of memory that a view adds.
 # A row ends with a note if it is above its limit.
+# With INSTRUCTIONS=1, valgrind counts the instructions of rows that run one thread too: three more columns, in millions, and there the limit of TIMES holds
+# for these and not for the times. A count hardly depends on what else the machine does; it says nothing of the system's part.
 # FOLDER names another folder for the files than bench/out: one in memory shows the programs without the disk.
 set -uo pipefail
 export LC_ALL=C
@@ -21,7 +23,7 @@ mkdir -p "$bench/out" "${FOLDER:=$bench/out}"
 plain=$bench/out/plain
 rustc -O --edition 2021 "$bench/plain/main.rs" -o "$plain" || exit 1
 cd "$FOLDER" || exit 1
-trap 'rm -f ours theirs output made.img work.img full.img six.img seven.img sparse.img plain.img wide.img big script.* archive.tar' EXIT
+trap 'rm -f ours theirs output counts counting made.img work.img full.img six.img seven.img sparse.img plain.img wide.img big script.* archive.tar' EXIT
 
 # reset: restores the files that a command changes; `base` names the image that it gets a copy of, if any
 base=
@@ -47,6 +49,25 @@ microseconds() {
     taken=$((end - begin))
 }
 
+# instructions WORD..: counts the instructions of a command, with the file `input` as standard input, and leaves the count in `counted`; 0 if none are
+# counted. Memory is copied and cleared without string instructions, of which valgrind counts one for each byte.
+counting=
+if [ "${INSTRUCTIONS:-0}" = 1 ]; then
+    if command -v valgrind > /dev/null; then
+        counting=yes
+    else
+        echo 'bench: valgrind is not there, which counts instructions' >&2
+    fi
+fi
+instructions() {
+    counted=0
+    [ -n "$counting" ] || return 0
+    GLIBC_TUNABLES=glibc.cpu.x86_rep_movsb_threshold=1000000000:glibc.cpu.x86_rep_stosb_threshold=1000000000 \
+        valgrind --tool=callgrind --callgrind-out-file=/dev/null --log-file=counts "$@" < "$input" > counting
+    [ $? -le "$highest" ] || exit 1
+    counted=$(awk '/Collected/ { print $NF }' counts)
+}
+
 # kilobytes WORD..: runs a command, with the file `input` as standard input, and leaves its greatest resident size, in kilobytes, in `resident`
 kilobytes() {
     if [ -x /usr/bin/time ]; then
@@ -60,9 +81,9 @@ print(os.wait4(child, 0)[2].ru_maxrss)' "$@" < "$input")
 }
 
 # compare LABEL TIMES COPIES RESULT WORD..: both programs do a job, whose result is in the file RESULT; a row of the table. The limits are TIMES plain Rust's
-# time, and memory for COPIES bytes plus a tenth (0 for no limit).
+# time, or its instructions, and memory for COPIES bytes plus a tenth (0 for no limit).
 compare() {
-    local label=$1 times=$2 copies=$3 result=$4 ours=999999999 theirs=999999999 ours_resident
+    local label=$1 times=$2 copies=$3 result=$4 ours=999999999 theirs=999999999 ours_resident ours_counted
     shift 4
     for _ in 1 2 3 4 5; do
         reset
@@ -83,28 +104,39 @@ compare() {
     ours_resident=$resident
     reset
     kilobytes "$plain" "$@"
+    reset
+    instructions "$program" "$@"
+    ours_counted=$counted
+    reset
+    instructions "$plain" "$@"
     awk -v label="$label" -v times="$times" -v copies="$copies" -v ours="$ours" -v theirs="$theirs" \
-        -v a="$ours_resident" -v b="$resident" 'BEGIN {
-        printf "%-38s %9.1f %9.1f %6.2f %9.1f %9.1f %6.2f", label,
-            ours / 1000, theirs / 1000, ours / theirs, a / 1024, b / 1024, a / b
+        -v a="$ours_resident" -v b="$resident" -v c="$ours_counted" -v d="$counted" 'BEGIN {
+        printf "%-38s %9.1f %9.1f %6.2f", label, ours / 1000, theirs / 1000, ours / theirs
+        if (d > 0) printf " %9.1f %9.1f %6.2f", c / 1000000, d / 1000000, c / d
+        printf " %9.1f %9.1f %6.2f", a / 1024, b / 1024, a / b
         if (copies > 0) printf " %6.2f", a * 1024 / copies
-        if (times > 0 && ours > times * theirs) printf "  time above %s", times
+        if (times > 0 && d > 0 && c > times * d) printf "  instructions above %s", times
+        if (times > 0 && !d && ours > times * theirs) printf "  time above %s", times
         if (copies > 0 && a * 1024 > 1.1 * copies) printf "  memory above 1.1"
         printf "\n" }'
 }
 
-# row LABEL TIMES FIRST SECOND: a row of the table, for two times in microseconds; the second is printed in plain Rust's column. The limit of the first is TIMES
-# the second.
+# row LABEL TIMES FIRST SECOND [COUNT COUNT]: a row of the table, for two times in microseconds, and two numbers of instructions if they were counted; the
+# second is printed in plain Rust's column. The limit of the first is TIMES the second.
 row() {
-    awk -v label="$1" -v times="$2" -v first="$3" -v second="$4" 'BEGIN {
+    awk -v label="$1" -v times="$2" -v first="$3" -v second="$4" -v c="${5:-0}" -v d="${6:-0}" 'BEGIN {
         printf "%-38s %9.1f %9.1f %6.2f", label, first / 1000, second / 1000, first / second
-        if (first > times * second) printf "  time above %s", times
+        if (d > 0) printf " %9.1f %9.1f %6.2f", c / 1000000, d / 1000000, c / d
+        if (d > 0 && c > times * d) printf "  instructions above %s", times
+        if (!d && first > times * second) printf "  time above %s", times
         printf "\n" }'
 }
 
-# side_by_side LABEL TIMES WORD.. -- WORD..: two of the program's own jobs; a row of the table. A job that changes `work.img` gets a new copy.
+# side_by_side LABEL TIMES WORD.. -- WORD..: two of the program's own jobs; a row of the table. A job that changes `work.img` gets a new copy. Instructions
+# are counted if both run one thread, which `threads` says.
+threads=1
 side_by_side() {
-    local label=$1 times=$2 first=999999999 second=999999999 one=()
+    local label=$1 times=$2 first=999999999 second=999999999 first_counted=0 one=()
     shift 2
     while [ "$1" != -- ]; do
         one+=("$1")
@@ -119,7 +151,15 @@ side_by_side() {
         microseconds output "$program" "$@"
         [ "$taken" -lt "$second" ] && second=$taken
     done
-    row "$label" "$times" "$first" "$second"
+    counted=0
+    if [ "$threads" = 1 ]; then
+        reset
+        instructions "$program" "${one[@]}"
+        first_counted=$counted
+        reset
+        instructions "$program" "$@"
+    fi
+    row "$label" "$times" "$first" "$second" "$first_counted" "$counted"
 }
 
 # quickest WORD..: runs a command five times, and leaves the microseconds of its quickest run in `best`
@@ -154,7 +194,7 @@ asking() {
 # many DIRECTORIES NAMES: makes DIRECTORIES directories with NAMES files each, and then writes a byte into each file; two rows of the table. Both programs leave
 # the same volume.
 many() {
-    local directories=$1 names=$2 none theirs_none created theirs_created written theirs_written
+    local directories=$1 names=$2 none theirs_none created theirs_created written theirs_written counts=()
     "$library" calls "$directories" "$names" write image > ours || exit 1
     "$plain" calls "$directories" "$names" write image > theirs || exit 1
     if ! cmp ours theirs; then
@@ -173,12 +213,22 @@ many() {
     written=$best
     quickest "$plain" calls "$directories" "$names" write
     theirs_written=$best
-    row "10,000 Creates, $names names each" 1.3 $((created - none)) $((theirs_created - theirs_none))
-    row "10,000 Writes, $names names each" 1.3 $((written - created)) $((theirs_written - theirs_created))
+    for words in '0 0 create' "$directories $names create" "$directories $names write"; do
+        # shellcheck disable=SC2086
+        instructions "$library" calls $words
+        counts+=("$counted")
+        # shellcheck disable=SC2086
+        instructions "$plain" calls $words
+        counts+=("$counted")
+    done
+    row "10,000 Creates, $names names each" 1.3 $((created - none)) $((theirs_created - theirs_none)) \
+        $((counts[2] - counts[0])) $((counts[3] - counts[1]))
+    row "10,000 Writes, $names names each" 1.3 $((written - created)) $((theirs_written - theirs_created)) \
+        $((counts[4] - counts[2])) $((counts[5] - counts[3]))
 }
 
 echo "load before: $(cut -d ' ' -f 1-3 /proc/loadavg)"
-printf '%-38s %9s %9s %6s %9s %9s %6s %6s\n' job 'ms' 'plain ms' ratio 'MiB' 'plain MiB' ratio copies
+printf '%-38s %9s %9s %6s%s %9s %9s %6s %6s\n' job 'ms' 'plain ms' ratio "${counting:+ 10^6 instr     plain  ratio}" 'MiB' 'plain MiB' ratio copies
 
 # Calls on files in directories of 100 and of 5,000 names.
 many 100 100
@@ -281,7 +331,9 @@ rm -f sparse.img plain.img
 
 # Four workers against one, on a volume whose files name 300,000 blocks: the whole command, and ten checks in memory.
 "$plain" fill 7 wide.img 380000 4500 28000 || exit 1
+threads=4
 side_by_side 'icheck, 300,000 blocks, 4 workers' 1 icheck 7 wide.img 4 -- icheck 7 wide.img 1
+threads=1
 checking icheck 1 wide.img
 one=$best
 checking icheck 4 wide.img
@@ -300,8 +352,10 @@ compare 'play, 100,000 calls' 1.5 0 work.img play 7 work.img script.all
 compare 'play, 100,000 calls, its lines' 1.5 0 output play 7 work.img script.all
 for number in $(seq 4); do "$plain" script "four$number" 25000 whole > "script.four$number"; done
 for number in $(seq 64); do "$plain" script "many$number" 1562 whole > "script.many$number"; done
+threads=64
 side_by_side 'play, 4 scripts against one' 1.5 play 7 work.img script.four* -- play 7 work.img script.all
 side_by_side 'play, 64 scripts against one' 1.5 play 7 work.img script.many* -- play 7 work.img script.all
+threads=1
 "$plain" script half 100000 half > script.half
 highest=1
 compare 'play, half of it refused or asked' 3 0 output play 7 work.img script.half

@@ -8,6 +8,7 @@ Usage: changes.py session PROGRAM EDITION IMAGE      an empty volume of 6,000 bl
        changes.py gone PROGRAM EDITION IMAGE         the image's folder is removed meanwhile
        changes.py lost PROGRAM EDITION IMAGE         the same, and no other file can be written either
        changes.py full PROGRAM EDITION IMAGE         writes until the volume is full
+       changes.py known PROGRAM EDITION IMAGE        what the server remembers of a node between two requests
 It prints a line for each thing that is wrong. Structs and numbers are those of Linux's include/uapi/linux/fuse.h."""
 import fcntl, os, struct, subprocess, sys, time
 import kernel as k
@@ -295,6 +296,66 @@ def full(volume):
     check("rm of all", (0, True), (volume.remove(k.UNLINK, k.ROOT, b"f"), volume.free()[0] > 1000))
 
 
+def known(volume):
+    """What the server remembers of a node between two requests: no name is looked up again, as a kernel that has the node doesn't."""
+    d, e = volume.mkdir(k.ROOT, b"d")[0], volume.mkdir(k.ROOT, b"e")[0]
+    node = volume.mknod(d, b"a")[0]
+    check("mv to another directory", 0, volume.rename(d, b"a", e, b"b"))
+    check("a write after mv", 5, volume.write(node, 0, b"moved"))
+    check("a second name", node, volume.link(node, d, b"c")[0])
+    check("rm of the first name", 0, volume.remove(k.UNLINK, e, b"b"))
+    check("a write by the second name", 3, volume.write(node, 5, b" on"))
+    check("rm of a name that was found last", (node, 0), (volume.link(node, e, b"x")[0], volume.remove(k.UNLINK, e, b"x")))
+    check("the size by the name that is left", 10, volume.set(node, SIZE, size=10).size)
+    check("its bytes", b"moved on" + bytes(2), volume.read(volume.lookup(d, b"c")[0]))
+    check("rm of it", 0, volume.remove(k.UNLINK, d, b"c"))
+    check("then it is gone", (ESTALE, ESTALE), (error_of(volume.attributes(node)), volume.write(node, 0, b"x")))
+    again = volume.mknod(d, b"n")[0]
+    check("the i-number again, under another number", (node & 0xFFFF, True), (again & 0xFFFF, again != node))
+    check("the old number", (ESTALE, ESTALE), (volume.write(node, 0, b"old"), volume.read(node)))
+    check("nothing in the new file", b"", volume.read(again))
+    closed(volume, d)
+    middle(volume, d)
+
+
+def closed(volume, d):
+    """Files that are closed when they are removed take no room, however many there were: together twice the image's size."""
+    most, piece, removed = 2 * os.path.getsize(volume.image), bytes(131072), 0
+    while removed < most:
+        node = volume.mknod(d, b"o")[0]
+        for offset in range(0, 1 << 20, len(piece)):
+            volume.write(node, offset, piece)
+        volume.open(node)
+        volume.open(node)
+        volume.release(node)
+        volume.release(node)
+        check("rm of a file that was closed", 0, volume.remove(k.UNLINK, d, b"o"))
+        check("and no byte of it", ESTALE, volume.read(node, 0, 1))
+        removed += 1 << 20
+
+
+def middle(volume, d):
+    """A removed file that is open is cut, made longer and written in its middle like any other."""
+    node = volume.mknod(d, b"m")[0]
+    volume.write(node, 0, b"0123456789")
+    volume.open(node)
+    volume.open(node)
+    check("rm of an open file", 0, volume.remove(k.UNLINK, d, b"m"))
+    check("a write in its middle", 2, volume.write(node, 4, b"xy"))
+    check("its bytes", b"0123xy6789", volume.read(node))
+    check("a smaller size", 5, volume.set(node, SIZE, size=5).size)
+    check("its bytes then", b"0123x", volume.read(node))
+    check("a greater size", 8, volume.set(node, SIZE, size=8).size)
+    check("zeros at its end", b"0123x" + bytes(3), volume.read(node))
+    check("bytes past its end", 3, volume.write(node, 10, b"end"))
+    check("zeros before them", b"0123x" + bytes(5) + b"end", volume.read(node))
+    check("a part of them", b"x" + bytes(2), volume.read(node, 4, 3))
+    volume.release(node)
+    check("it is still open once", b"0123x" + bytes(5) + b"end", volume.read(node))
+    volume.release(node)
+    check("then it is gone", ESTALE, volume.read(node))
+
+
 def main():
     kind, program, edition, image = sys.argv[1:5]
     if kind in ("gone", "lost"):
@@ -306,8 +367,8 @@ def main():
         with open(image + ".unixvol-rescue-0", "wb") as file:
             file.write(b"earlier")
     volume = Changing(program, edition, image, *{"mine": ["--mine"], "rescued": ["--rescue", image + ".kept"]}.get(kind, []))
-    {"session": session, "linux": linux, "mine": mine, "replaced": replaced, "rescued": replaced, "gone": gone, "lost": gone, "full": full}[kind](volume)
-    if kind in ("session", "linux", "mine", "full"):
+    {"session": session, "linux": linux, "mine": mine, "replaced": replaced, "rescued": replaced, "gone": gone, "lost": gone, "full": full, "known": known}[kind](volume)
+    if kind in ("session", "linux", "mine", "full", "known"):
         check("the status and the lines", (0, ""), volume.end())
         is_sound("the end", volume)
     if kind == "session":

@@ -1,3 +1,4 @@
+pub mod CutLaws
 pub mod Agreement
 pub mod LostPaths
 pub mod RangeLists

@@ -1,3 +1,4 @@
+pub mod CutImages
 pub mod Losses
 pub mod Laws
 pub mod Names

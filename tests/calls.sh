@@ -164,6 +164,9 @@ refuses 1 'unixvol: 27 TooBig' put 6 volumes/small /f1 great 1
 echo 'unixvol: 27 TooBig' > line
 (in_memory 200000 runs_within 20 put 6 volumes/small /f1 /dev/zero 1)
 wants 'put of a file without end' 1 none line
+prints none mkfs 7 volumes/seventh 100 10 0 0 1
+(in_memory 4000000 runs_within 60 put 7 volumes/seventh /x /dev/zero 1)
+wants 'put of a file without end into the seventh edition' 1 none line
 mkdir endless
 ln -s /dev/zero endless/f1
 echo 'unixvol: 27 TooBig: /f1' > line

@@ -4,6 +4,7 @@ pub mod Finds
 pub mod Owned
 pub mod Pointers
 pub mod Found
+pub mod HolderLaws
 pub mod Tallies
 pub mod UseLaws
 pub mod LostNames

@@ -1,5 +1,5 @@
 -- The i-numbers that have entries, as each entry is read.
-use Rattle.std.proofs.Common.{◌≡◌, ℕ, ◌+◌, ◌<◌, ◌≤◌, ◌&&◌, ◌∙◌, ◌⊎◌, All, nat_lt, subst, inl, inr, Bool, true, false, List, Option, None, Some, length, get_or, refl, sym, ap, arith}
+use Rattle.std.proofs.Common.{◌≡◌, ℕ, ◌+◌, ◌<◌, ◌&&◌, ◌∙◌, ◌⊎◌, All, nat_lt, subst, inl, inr, Bool, true, false, List, Option, None, Some, length, get_or, refl, sym, ap, arith}
 use Rattle.std.specs.Prelude.{◌||◌, nat_le, if◌then◌else◌}
 use Rattle.std.specs.List.{filter, range_with_len}
 use Rattle.std.proofs.lemmas.Bool.{cases_eq, cases_lt, true≢false}

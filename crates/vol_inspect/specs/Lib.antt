@@ -14,6 +14,7 @@ pub mod SharedBlocks
 pub mod Space
 pub mod FreeListStatus
 pub mod FreeChain
+pub mod Holders
 pub mod Owners
 pub mod OwnerTexts
 pub mod Uses

@@ -8,6 +8,7 @@ mod extents;
 mod fault;
 pub mod free_chain;
 mod free_list;
+pub mod holders;
 mod inode_report;
 pub mod laws;
 mod lost;

@@ -1,7 +1,6 @@
 use Rattle.std.proofs.Common.{◌+◌, arith}
-use Rattle.vol_judge.proofs.Decisions.{holds, fails}
-use Rattle.vol_inspect.specs.Lost.{KnowsNamed}
-use Rattle.vol_inspect.proofs.LostNames.{NotesBelow, below_first, below_noted, below_other, below_all}
+use Rattle.vol_judge.proofs.Decisions.{fails}
+use Rattle.vol_inspect.proofs.LostNames.{below_first, below_noted, below_other, below_all}
 use Rattle.vol_inspect.proofs.lost.note_directories.Goals as goal
 use Rattle.vol_inspect.proofs.lost.note_directories.Goals.{then-is_directory, else-is_directory}
 

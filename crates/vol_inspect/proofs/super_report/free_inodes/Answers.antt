@@ -1,9 +1,8 @@
-use Rattle.std.proofs.Common.{◌+◌, ◌-◌, ◌≡◌, ◌≤◌, true, false, ap, sym, arith, refl, ◌∙◌}
+use Rattle.std.proofs.Common.{◌+◌, ◌-◌, ◌≡◌, ◌≤◌, true, false, ap, arith, refl, ◌∙◌}
 use mir.Val.{bool_byte}
 use Rattle.std.specs.List.{count_by, range_with_len}
 use Rattle.vol_layout.specs.declared.mode.Kind.TheVariants as kinds
 use Rattle.vol_file.specs.Rules.{kind_at}
-use Rattle.vol_file.proofs.StoredNames.{root_first}
 use Rattle.vol_judge.specs.Directories.{root_of}
 use Rattle.vol_reports.specs.Icheck.{is_kind}
 use Rattle.vol_reports.proofs.Ranges.{counted_more}

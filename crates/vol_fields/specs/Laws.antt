@@ -1,5 +1,5 @@
 -- Laws of the field map.
-use Rattle.std.specs.Prelude.{◌≡◌, ℕ, ◌+◌, ◌-◌, ◌*◌, ◌<◌, ◌≤◌, ◌↔◌, List, length}
+use Rattle.std.specs.Prelude.{◌≡◌, ℕ, ◌+◌, ◌*◌, ◌<◌, ◌≤◌, ◌↔◌, List, length}
 use Rattle.vol_layout.specs.Geometry.{Fits}
 use Rattle.vol_layout.specs.Edition.{constants}
 use Rattle.vol_layout.specs.Inode.{inode_place}
@@ -8,7 +8,7 @@ use Rattle.vol_layout.specs.declared.edition.Edition.{Edition}
 use Rattle.vol_layout.specs.declared.edition.Edition.TheVariants.{V6, V7}
 use Rattle.vol_layout.specs.declared.geometry.Geometry.{Geometry}
 use Rattle.vol_layout.specs.declared.super_block.Flag.TheVariants as flags
-use Rattle.vol_fields.specs.Fields.{field_at, part_at}
+use Rattle.vol_fields.specs.Fields.{field_at}
 use Rattle.vol_fields.specs.Runs.{spot_at, total}
 use Rattle.vol_fields.specs.Tables.{parts, super_runs, node_runs}
 use Rattle.vol_fields.specs.declared.names.Name.{Name}

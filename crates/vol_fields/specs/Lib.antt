@@ -3,5 +3,7 @@ pub use Rattle.vol_layout.specs.Geometry
 pub mod Changes
 pub mod Fields
 pub mod Laws
+pub mod Roles
+pub mod Rows
 pub mod Runs
 pub mod Tables

@@ -27,6 +27,7 @@ pub fn field_at(image: &Image, geometry: &Geometry, roles: &[Role], n: usize) ->
     requires fits { Fits geometry.now image.now }
     requires within { n < length image.now }
     ensures exact { result ≡ field_at geometry.now roles.now (length image.now) n }
+    ensures has { n < result.spot.start + result.spot.bytes }
     ensures end { result.spot.start + result.spot.bytes ≤ length image.now }
 {
     image.fits_in_memory();

@@ -1,5 +1,6 @@
 //! Laws about the definitions of fields. These functions do nothing: their purpose is the contract, which is proved.
 ghost use Rattle.vol_fields.specs.Laws.{CoversImage, FollowsLayout, PartsImage};
+ghost use Rattle.vol_fields.specs.Rows.{RowsHaveBytes};
 
 /// The parts of an image have all its bytes.
 pub fn parts_cover_the_image()
@@ -14,4 +15,9 @@ pub fn fields_part_the_image()
 /// Parts and fields are where the layout stores them.
 pub fn fields_follow_the_layout()
     ensures { FollowsLayout }
+{}
+
+/// The bytes of the rows of a dump, in order, are the bytes that are dumped.
+pub fn rows_have_the_bytes()
+    ensures { RowsHaveBytes }
 {}

@@ -6,6 +6,8 @@ pub mod field;
 pub mod laws;
 mod names;
 mod role;
+mod role_table;
+mod rows;
 mod runs;
 mod tables;
 
@@ -13,4 +15,6 @@ pub use changes::changed_fields;
 pub use field::{Field, field_at};
 pub use names::Name;
 pub use role::Role;
+pub use role_table::block_roles;
+pub use rows::{Row, rows_of};
 pub use runs::Spot;

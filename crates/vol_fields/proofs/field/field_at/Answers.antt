@@ -1,9 +1,9 @@
 use Rattle.std.proofs.Common.{◌≡◌, ◌+◌, ◌<◌, ◌≤◌, ◌∙◌, length, ap, sym, subst, arith, ◌^◌}
 use Rattle.vol_fields.specs.Fields.{part_at, outer_in, inner_in, field_at}
-use Rattle.vol_fields.specs.Runs.{total, spot_at}
+use Rattle.vol_fields.specs.Runs.{total}
 use Rattle.vol_fields.specs.Tables.{part_runs, inner_runs, role_at}
 use Rattle.vol_fields.specs.declared.runs.Spot.{Spot}
-use Rattle.vol_fields.proofs.FieldLaws.{part_bounds, part_fills, outer_bounds, inner_fills, field_ends}
+use Rattle.vol_fields.proofs.FieldLaws.{part_bounds, part_fills, outer_bounds, inner_fills, field_bounds, field_ends}
 use Rattle.vol_fields.proofs.field.field_at.Goals as goal
 
 pub outer_in-outer-requires-clause-before : goal.outer_in-outer-requires-clause-before
@@ -43,17 +43,26 @@ inner_in-spot-requires-clause-room c =
     c.outer_in-outer.ensures ∙ ap (λ p. outer_in g.edition role p c.args.n) c.part_at-part.ensures.exact in
     subst (λ (o : Spot). o.start + total (inner_runs o.name o.index o.bytes) < 2 ^ 64) (sym is) (omega (arith, inside.3, bounds.3, fills, small))
 
-pub returns-clause-end : goal.returns-clause-end
+-- the field found is that of the definition
+is_field : (c : goal.After-inner_in-spot) → c.inner_in-spot.result ≡ (field_at c.args.geometry.now c.args.roles.now (length c.args.image.now) c.args.n).spot
 unfolding field_at
-returns-clause-end c =
+is_field c =
     let g = c.args.geometry.now in
     let image = c.args.image.now in
     let table = c.args.roles.now in
     let n = c.args.n in
-    let ends = field_ends g image table n c.requires.fits c.requires.within in
     let outer : c.outer_in-outer.result ≡ outer_in g.edition (role_at table (part_at g (length image) n).index) (part_at g (length image) n) n =
     c.outer_in-outer.ensures
     ∙ (ap (λ r. outer_in g.edition r c.part_at-part.result n) c.role_at-role.ensures
     ∙ ap (λ (p : Spot). outer_in g.edition (role_at table p.index) p n) c.part_at-part.ensures.exact) in
-    let spot : c.inner_in-spot.result ≡ (field_at g table (length image) n).spot = c.inner_in-spot.ensures ∙ ap (λ o. inner_in o n) outer in
-    subst (λ (s : Spot). s.start + s.bytes ≤ length image) (sym spot) ends
+    c.inner_in-spot.ensures ∙ ap (λ o. inner_in o n) outer
+
+pub returns-clause-end : goal.returns-clause-end
+returns-clause-end c =
+    subst (λ (s : Spot). s.start + s.bytes ≤ length c.args.image.now) (sym (is_field c))
+    (field_ends c.args.geometry.now c.args.image.now c.args.roles.now c.args.n c.requires.fits c.requires.within)
+
+pub returns-clause-has : goal.returns-clause-has
+returns-clause-has c =
+    subst (λ (s : Spot). c.args.n < s.start + s.bytes) (sym (is_field c))
+    (field_bounds c.args.geometry.now c.args.image.now c.args.roles.now c.args.n c.requires.fits c.requires.within).2

@@ -1,6 +1,6 @@
 //! Tests of public functions, for properties that no contract states and no command shows: devices that fail at each of their calls, headers of
 //! another program, and the words of faults; threads that wait for one another, with sessions, as checkers and as scripts; the arguments
-//! of a log and a sweep; a volume that is cut at each of its bytes; and functions that no command calls.
+//! of a log and a sweep; a volume that is cut at each of its bytes; what is left of a cut image; and functions that no command calls.
 #![tactic(auto)]
 
 #[cfg(test)]
@@ -19,6 +19,8 @@ mod headers;
 mod layers;
 #[cfg(test)]
 mod ledgers;
+#[cfg(test)]
+mod lost_blocks;
 #[cfg(test)]
 mod meeting;
 #[cfg(test)]

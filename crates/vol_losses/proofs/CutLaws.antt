@@ -1,5 +1,5 @@
 -- Lemmas on images that were cut off.
-use Rattle.std.proofs.Common.{◌≡◌, ℕ, ◌+◌, ◌-◌, ◌*◌, ◌/◌, ◌<◌, ◌≤◌, ◌∙◌, sym, ap, subst, Bool, true, false, not, nat_le, List, [], ◌++◌, length, replicate, get_or, refl, arith, inl, inr}
+use Rattle.std.proofs.Common.{◌≡◌, ℕ, ◌+◌, ◌-◌, ◌*◌, ◌/◌, ◌<◌, ◌≤◌, ◌∙◌, sym, ap, Bool, true, false, not, nat_le, List, [], ◌++◌, length, replicate, get_or, refl, arith, inl, inr}
 use Rattle.std.proofs.lemmas.Bool.{cases_lt, lt-leb, le-leb, leb-true, true≢false}
 use Rattle.std.proofs.lemmas.List.{append-nil, get_or_append_left}
 use Rattle.vol_layout.specs.declared.geometry.Geometry.{Geometry}
